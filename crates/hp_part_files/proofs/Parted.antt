@@ -1,14 +1,16 @@
 -- From what the search of a part says to what its text promises.
-use Rattle.std.proofs.Common.{◌≡◌, ℕ, ◌<◌, ◌≤◌, ◌*◌, ◌^◌, List, Option, Some, None, Result, Err, drop, take, refl, subst, ap}
+use Rattle.std.proofs.Common.{◌≡◌, ℕ, ◌<◌, ◌≤◌, ◌*◌, ◌^◌, List, length, Option, Some, None, Result, Err, drop, take, refl, subst, ap}
 use Rattle.std.specs.Str.{IsUtf8}
 use Rattle.hp_explore.specs.declared.exploring.Exploration.{Exploration}
+use Rattle.hp_explore.specs.declared.exploring.ExploreFault.{ExploreFault}
+use Rattle.hp_explore.specs.declared.exploring.ExploreFault.TheVariants as explore
 use Rattle.hp_schedules.specs.declared.multinomials.HowMany.{HowMany}
 use Rattle.hp_schedules.specs.Ends.{AreCounted}
 use Rattle.hp_schedules.specs.Orders.{HasMoreThan}
 use Rattle.hp_explore.specs.Fronts.{AreFirstInPart, IfFirst, IfWhole}
 use Rattle.hp_schedules.specs.Schedules.{Setting}
 use Rattle.hp_units.specs.LayoutParts.{LayoutParts}
-use Rattle.hp_explore.specs.Faults.{FillsPart, IsCause}
+use Rattle.hp_explore.specs.Faults.{FillsPart, IsCause, IsCausePartWithin}
 use Rattle.hp_prepared.specs.Ends.{IsMore}
 use Rattle.hp_prepared.specs.Faults.{IsFaultOf, IsFaultWith, IsFull}
 use Rattle.hp_prepared.specs.Holding.{HoldsAfter, InScenario, IsStoppedAfter}
@@ -22,7 +24,7 @@ use Rattle.hp_scenario.specs.declared.fault.ScenarioFault.{ScenarioFault}
 use Rattle.hp_scenario.specs.declared.fault.ScenarioFault.TheVariants.{NotJson}
 use Rattle.hp_scenario.proofs.Json.{json_refused}
 use Rattle.serde_json.specs.Data.{Data}
-use Rattle.hp_part_lines.specs.Numbers.{NumberValue}
+use Rattle.hp_schedules.specs.PartNumbers.{NumberValue, part_by}
 use Rattle.hp_part_files.specs.Parts.{ArePartEnds, FillsPartOf, IsCallsFor, IsFullPart, IsPartCause}
 
 -- the ends are all of the part, or its first ones
@@ -45,6 +47,13 @@ calls_known processors scripts parts of calls all is one alone enough fewest =
     (subst (λ (n : ℕ). IsCallsFor processors n calls) is
     (record { one = one; alone = alone; enough = enough; fewest = fewest }))
 
+-- why a part is not searched
+pub part_cause : (n : NumberValue) (limit : ℕ) (g : Setting) (calls : ℕ) (fault : ExploreFault)
+    → IsCallsFor (length g.scripts) n.of calls → IsCausePartWithin g (part_by n calls) limit fault
+    → IsPartCause n limit g fault
+part_cause n limit g calls explore.HistoryFull by cause = (calls, by, cause)
+part_cause n limit g calls explore.OutOfMemory by cause = tt
+
 refused : (input : List ℕ) → (IsUtf8 input → ⊥) → scenario_in input ≡ Err NotJson
 unfolding scenario_in
 refused input none =
@@ -66,7 +75,7 @@ stopped_weaker P Q input setup f h = (
 
 -- what fills the history in a part's search fills it in that of all
 pub part_fault : (n : NumberValue) (input : List ℕ) (setup limit : ℕ) (fault : LabFault)
-    → IsFaultWith (λ g. ⊥) (IsPartCause n) input setup limit fault → IsFaultOf input setup limit fault
+    → IsFaultWith (λ g. ⊥) (IsPartCause n limit) input setup limit fault → IsFaultOf input setup limit fault
 part_fault n input setup limit lab.NotJson h = h
 part_fault n input setup limit lab.BadShape h = h
 part_fault n input setup limit (lab.Layout f) h = h
@@ -74,13 +83,14 @@ part_fault n input setup limit (lab.BadLine line) h = h
 part_fault n input setup limit (lab.NotForScript line why) h = h
 part_fault n input setup limit (lab.TooMany most) h = absurd (h.1.2.1.holds)
 part_fault n input setup limit (lab.HistoryFull needed) h =
-    stopped_weaker (IsFull (IsPartCause n) needed) (IsFull IsCause needed) input setup
-    (λ g x. ((x.0.2.0, x.0.2.1), x.1)) h
+    stopped_weaker (IsFull (IsPartCause n limit) needed) (IsFull IsCause needed) input setup
+    (λ g x. ((x.0.2.place, x.0.2.call), x.1)) h
 part_fault n input setup limit lab.OutOfMemory h = tt
 
 -- and a schedule of the part does
 pub full_part : (n : NumberValue) (input : List ℕ) (setup limit : ℕ) (fault : LabFault)
-    → IsFaultWith (λ g. ⊥) (IsPartCause n) input setup limit fault → IsFullPart n input setup fault
+    → IsFaultWith (λ g. ⊥) (IsPartCause n limit) input setup limit fault
+    → IsFullPart n input setup limit fault
 full_part n input setup limit lab.NotJson h = tt
 full_part n input setup limit lab.BadShape h = tt
 full_part n input setup limit (lab.Layout f) h = tt
@@ -88,7 +98,7 @@ full_part n input setup limit (lab.BadLine line) h = tt
 full_part n input setup limit (lab.NotForScript line why) h = tt
 full_part n input setup limit (lab.TooMany most) h = tt
 full_part n input setup limit (lab.HistoryFull needed) h =
-    stopped_weaker (IsFull (IsPartCause n) needed) (FillsPartOf n) input setup (λ g x. x.0) h
+    stopped_weaker (IsFull (IsPartCause n limit) needed) (FillsPartOf n limit) input setup (λ g x. x.0) h
 full_part n input setup limit lab.OutOfMemory h = tt
 
 -- bytes that are no text are no scenario

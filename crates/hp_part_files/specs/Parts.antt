@@ -16,8 +16,8 @@ use Rattle.hp_lab_faults.specs.declared.fault.LabFault.{LabFault}
 use Rattle.hp_lab_faults.specs.declared.fault.LabFault.TheVariants.{HistoryFull}
 use Rattle.hp_explore.specs.Fronts.{AreFirstInPart}
 use Rattle.hp_schedules.specs.Parts.{EndsInPart, IsCompleteInPart, PartValue}
-use Rattle.hp_explore.specs.Faults.{FillsPart}
-use Rattle.hp_part_lines.specs.Numbers.{NumberValue, part_by}
+use Rattle.hp_explore.specs.Faults.{FillsPart, FillsPartWithin}
+use Rattle.hp_schedules.specs.PartNumbers.{NumberValue, part_by}
 use Rattle.hp_part_lines.specs.Heads.{SearchValue}
 use Rattle.hp_part_files.specs.Texts.{part_text}
 
@@ -64,14 +64,15 @@ IsToldPart names g s number x text found =
     (more : Option HowMany) × IsMore g.scripts x.is_whole more
     × (text ≡ part_text names g s number x.ends.items more) × (found ≡ is_none more)
 
--- a schedule of the part fills the history
-abbrev pub FillsPartOf : NumberValue → Setting → Type 0
-FillsPartOf n g = (calls : ℕ) × IsCallsFor (length g.scripts) n.of calls × FillsPart g (part_by n calls)
+-- a schedule of the part fills the history, within the limit
+abbrev pub FillsPartOf : NumberValue → (limit : ℕ) → Setting → Type 0
+FillsPartOf n limit g =
+    (calls : ℕ) × IsCallsFor (length g.scripts) n.of calls × FillsPartWithin g (part_by n calls) limit
 
 -- why a part is not told
-abbrev pub IsPartCause : NumberValue → Setting → ExploreFault → Type 0
-IsPartCause n g explore.HistoryFull = FillsPartOf n g
-IsPartCause n g explore.OutOfMemory = Unit {0}
+abbrev pub IsPartCause : NumberValue → (limit : ℕ) → Setting → ExploreFault → Type 0
+IsPartCause n limit g explore.HistoryFull = FillsPartOf n limit g
+IsPartCause n limit g explore.OutOfMemory = Unit {0}
 
 -- in a scenario
 abbrev pub IsPartOf : NumberValue → (input : List ℕ) → (setup limit : ℕ) → (text : List ℕ) → (found : Bool)
@@ -79,7 +80,8 @@ abbrev pub IsPartOf : NumberValue → (input : List ℕ) → (setup limit : ℕ)
 IsPartOf n input setup limit text found =
     HoldsIn (λ names before g. IsPartOn n setup input limit text found names g) input setup
 
--- and of a full history there is said that a schedule of the part fills it
-abbrev pub IsFullPart : NumberValue → (input : List ℕ) → (setup : ℕ) → LabFault → Type 0
-IsFullPart n input setup (HistoryFull needed) = InScenario input (IsStoppedAfter (FillsPartOf n) setup)
-IsFullPart n input setup fault = Unit {0}
+-- and of a full history there is said that a schedule of the part fills it, within the limit
+abbrev pub IsFullPart : NumberValue → (input : List ℕ) → (setup limit : ℕ) → LabFault → Type 0
+IsFullPart n input setup limit (HistoryFull needed) =
+    InScenario input (IsStoppedAfter (FillsPartOf n limit) setup)
+IsFullPart n input setup limit fault = Unit {0}

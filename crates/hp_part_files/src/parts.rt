@@ -9,10 +9,10 @@ use crate::writing::write_part;
 use hp_ends::write_more;
 use hp_explore::{Exploration, ExploreFault, Watch, explore_part};
 use hp_lab_faults::LabFault;
-use hp_part_lines::{PartNumber, Search};
+use hp_part_lines::Search;
 use hp_parts::calls_for;
 use hp_prepared::{Finding, Prepared, prepare};
-use hp_schedules::total_of;
+use hp_schedules::{PartNumber, total_of};
 use simdutf8::basic::from_utf8;
 use std::alloc::Global;
 
@@ -26,7 +26,7 @@ use std::alloc::Global;
 /// The watch is told while the search runs how many interleavings are counted so far.
 ///
 /// Errors: those of `explore_text`; HistoryFull where the history has no room for a call to which this
-/// part's search comes.
+/// part's search comes, before it comes to more interleavings than the limit.
 pub fn part_text<W: Watch>(
     alloc: Global,
     input: &[u8],
@@ -38,7 +38,7 @@ pub fn part_text<W: Watch>(
     ensures ok { IfOk result
         (λ f. IsPartOf number input.now setup limit (string_bytes f.text) f.is_found) }
     ensures err { IfErr result (IsFaultOf input.now setup limit) }
-    ensures full { IfErr result (IsFullPart number input.now setup) }
+    ensures full { IfErr result (IsFullPart number input.now setup limit) }
 {
     let Ok(scenario) = from_utf8(input) else {
         return Err(LabFault::NotJson);
@@ -62,7 +62,7 @@ fn part_on<W: Watch>(
     requires { length prepared.now.start.scripts.items < 2 ^ 32 }
     ensures ok { IfOk result (λ f. IsPartOn number prepared.now.setup scenario.now limit
         (string_bytes f.text) f.is_found (names_of prepared.now) (setting_of prepared.now)) }
-    ensures err { IfErr result (IsPartCause number (setting_of prepared.now)) }
+    ensures err { IfErr result (IsPartCause number limit (setting_of prepared.now)) }
 {
     let machine = &prepared.start.machine;
     let scripts = prepared.start.scripts.as_slice();

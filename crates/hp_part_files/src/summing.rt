@@ -32,9 +32,9 @@ use std::alloc::Global;
 ///
 /// Errors: that of the first line that is none of a part, is changed, begins a part of another search,
 /// or says that a part stopped at its limit; OtherCount with the number of a part, counted from 1, that
-/// has fewer ends than its head names, or more; Twice or Missing with a part's number; TooMany where
-/// there are 2^64 interleavings or more; those of the scenario, as `explore_text` has them; OutOfMemory,
-/// which may come in place of any answer.
+/// has fewer ends than its head names, or more; Twice or Missing with the first number that is so;
+/// TooMany where there are 2^64 interleavings or more; those of the scenario, as `explore_text` has
+/// them; OutOfMemory, which may come in place of any answer.
 pub fn sum_text(alloc: Global, input: &[u8], form: EndsForm) -> Result<Finding, PartFault>
     ensures ok { IfOk result (λ f. IsSumOf form input.now (string_bytes f.text) f.is_found) }
     ensures err { IfErr result (IsSumFault input.now) }

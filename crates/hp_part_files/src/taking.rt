@@ -15,11 +15,10 @@ use crate::telling::told_fault;
 use crate::writing::write_end;
 use hp_lab_faults::PartFault;
 use hp_part_lines::{
-    Gathering, Head, PartEnds, PartLine, PartNumber, Search, end_of, is_head, line_at, line_in,
-    line_number,
+    Gathering, Head, PartEnds, PartLine, Search, end_of, is_head, line_at, line_in, line_number,
 };
 use hp_prepared::Prepared;
-use hp_schedules::{Ending, Outcome};
+use hp_schedules::{Ending, Outcome, PartNumber};
 use hp_units::Cpu;
 use std::alloc::Global;
 

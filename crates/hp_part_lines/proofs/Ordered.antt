@@ -5,44 +5,48 @@ use Rattle.std.proofs.lemmas.List.{get_or_default}
 use Rattle.hp_part_lines.specs.Ordering.{AreInPlace, ArePlacedBelow, AreRising, AreWithin, IsMissing, IsTwice}
 use Rattle.hp_part_lines.specs.Gathering.{PartEndsValue}
 
--- the number at a place is that of a place before it
+-- the part at a place has the number of the place before it
 pub comes_twice : (of : ℕ) (parts : List PartEndsValue) (index number : ℕ) (p : PartEndsValue)
     → index < length parts → p ≡ get_or parts index p → number ≡ p.number → AreWithin of parts
-    → ArePlacedBelow index parts → number < index + 1 → IsTwice parts number
-comes_twice of parts index number p lt here is within placed less =
-    let at : (d : PartEndsValue) → (get_or parts index d).number ≡ number =
-    λ d. ap (λ (q : PartEndsValue). q.number) (same d) ∙ sym is in
-    let some : 1 ≤ number = subst (λ (n : ℕ). 1 ≤ n) (at p) (within index p lt).0 in
-    record {
-      i = number - 1;
-      j = index;
-      apart = omega (arith, some, less);
-      within = lt;
-      one = λ d. placed (number - 1) d (omega (arith, some, less)) ∙ omega (arith, some);
-      other = at;
-    }
+    → AreRising parts → ArePlacedBelow index parts → number < index + 1 → IsTwice parts number
+comes_twice of parts index number p lt here is within rising placed less = record {
+  some = some;
+  before = subst (λ (n : ℕ). ArePlacedBelow n parts) own placed;
+  within = subst (λ (n : ℕ). n < length parts) own lt;
+  again = λ d. subst (λ (n : ℕ). (get_or parts n d).number ≡ number) own (at d);
+  beyond = λ k d from k_lt. omega (arith, rising index k d (omega (arith, own, from)) k_lt, at d);
+}
   where
-    same : (d : PartEndsValue) → get_or parts index d ≡ p
-    same d = get_or_default parts index d p lt ∙ sym here
+    at : (d : PartEndsValue) → (get_or parts index d).number ≡ number
+    at d = ap (λ (q : PartEndsValue). q.number) (get_or_default parts index d p lt ∙ sym here) ∙ sym is
+
+    some : 1 ≤ number
+    some = subst (λ (n : ℕ). 1 ≤ n) (at p) (within index p lt).0
+
+    own : index ≡ number
+    own =
+        omega (
+          arith,
+          some,
+          less,
+          placed (index - 1) p (omega (arith, some, less)),
+          rising (index - 1) index p (omega arith) lt,
+          at p,
+        )
 
 -- a number is passed over
 pub is_missing : (of : ℕ) (parts : List PartEndsValue) (index number : ℕ) (p : PartEndsValue)
     → index < length parts → p ≡ get_or parts index p → number ≡ p.number → AreWithin of parts
     → AreRising parts → ArePlacedBelow index parts → index + 1 < number → IsMissing parts of (index + 1)
-is_missing of parts index number p lt here is within rising placed more = (
-  omega arith,
-  within_of,
-  λ k d less same. elim (cases_lt k index) [
-    | inl before ↦ absurd (omega (arith, placed k d before, same))
-    | inr after ↦ absurd (omega (arith, rising index k d after less, same, at d, more))
-  ],
-)
+is_missing of parts index number p lt here is within rising placed more = record {
+  some = omega arith;
+  within = omega (arith, (within index p lt).1, at p, more);
+  before = λ k d less. placed k d (omega (arith, less));
+  beyond = λ k d from k_lt. omega (arith, rising index k d (omega (arith, from)) k_lt, at d, more);
+}
   where
     at : (d : PartEndsValue) → (get_or parts index d).number ≡ number
     at d = ap (λ (q : PartEndsValue). q.number) (get_or_default parts index d p lt ∙ sym here) ∙ sym is
-
-    within_of : index + 1 ≤ of
-    within_of = omega (arith, (within index p lt).1, at p, more)
 
 -- all places have theirs
 pub none_missing : (of : ℕ) (parts : List PartEndsValue) → AreWithin of parts

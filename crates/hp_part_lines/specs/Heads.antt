@@ -8,7 +8,7 @@ use Rattle.hp_escapes.specs.declared.escapes.Brackets.TheVariants.{Kept}
 use Rattle.hp_schedules.specs.Parts.{PartValue}
 use Rattle.hp_scenario.specs.Form.{◌>>=◌, number_at}
 use Rattle.hp_scenario.specs.Scenario.{json_of}
-use Rattle.hp_part_lines.specs.Numbers.{part_by}
+use Rattle.hp_schedules.specs.PartNumbers.{part_by}
 use Rattle.hp_part_lines.specs.Reading.{narrow, text_at}
 
 -- what the parts are parts of: how many there are, and by how many first calls they go; how many

@@ -2,7 +2,6 @@ pub mod Cuts
 pub mod Ends
 pub mod Gathering
 pub mod Heads
-pub mod Numbers
 pub mod Ordering
 pub mod Processors
 pub mod Reading

@@ -1,5 +1,5 @@
 -- All parts by their numbers, and why they are not all there once.
-use Rattle.std.specs.Prelude.{◌≡◌, ℕ, ◌+◌, ◌≤◌, ◌<◌, List, length, map, slice_index_or}
+use Rattle.std.specs.Prelude.{◌≡◌, ℕ, ◌+◌, ◌-◌, ◌≤◌, ◌<◌, List, length, map, slice_index_or}
 use Rattle.std.specs.Global.{Vec}
 use Rattle.std.specs.List.{All}
 use Rattle.std.specs.List.Sorted.{IsNonDecreasingBy, IsPermutation}
@@ -38,18 +38,22 @@ pub record AreAll (parts : List PartEndsValue) (of : ℕ) (lists : List (List En
 
 -- ---- why they are not
 
-abbrev pub IsMissing : List PartEndsValue → (of number : ℕ) → Type 0
-IsMissing parts of number =
-    (1 ≤ number) × (number ≤ of)
-    × All (λ p. p.number ≡ number → ⊥) parts
+-- the first number that is missing: each below it is there once, and all other parts have later ones
+pub record IsMissing (parts : List PartEndsValue) (of number : ℕ) : Type 0 where
+  pub some : 1 ≤ number
+  pub within : number ≤ of
+  pub before : ArePlacedBelow (number - 1) parts
+  pub beyond : (k : ℕ) (d : PartEndsValue) → number ≤ k + 1 → k < length parts
+      → number < (slice_index_or parts k d).number
 
+-- the first number that comes twice: each below it is there once, and no other part has one of those
 pub record IsTwice (parts : List PartEndsValue) (number : ℕ) : Type 0 where
-  pub i : ℕ
-  pub j : ℕ
-  pub apart : i < j
-  pub within : j < length parts
-  pub one : (d : PartEndsValue) → (slice_index_or parts i d).number ≡ number
-  pub other : (d : PartEndsValue) → (slice_index_or parts j d).number ≡ number
+  pub some : 1 ≤ number
+  pub before : ArePlacedBelow number parts
+  pub within : number < length parts
+  pub again : (d : PartEndsValue) → (slice_index_or parts number d).number ≡ number
+  pub beyond : (k : ℕ) (d : PartEndsValue) → number ≤ k → k < length parts
+      → number ≤ (slice_index_or parts k d).number
 
 abbrev pub IsMisplaced : List PartEndsValue → (of : ℕ) → OrderFault → Type 0
 IsMisplaced parts of (Missing number) = IsMissing parts of number

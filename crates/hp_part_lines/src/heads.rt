@@ -3,10 +3,9 @@ ghost use Rattle.std.specs.Prelude.{◌≡◌, ◌++◌, ◌↔◌, IfOk, IfSome
 ghost use Rattle.serde_json.specs.View.{view};
 ghost use Rattle.hp_part_lines.specs.Heads.{IsNumber, head_calls, head_counts, head_ends, head_from as head, head_line, head_numbers, head_of, head_part, head_setup, head_with as with_numbers, part_in};
 
-use crate::numbers::PartNumber;
 use crate::reading::{narrow, number_at, text_at};
 use hp_escapes::{Brackets, write_escaped};
-use hp_schedules::Part;
+use hp_schedules::{Part, PartNumber};
 use serde_json::Value;
 use std::alloc::{AllocError, Global};
 use std::marker::Model;

@@ -10,6 +10,7 @@ pub mod Numbers
 pub mod Openings
 pub mod Orders
 pub mod Outcomes
+pub mod PartNumbers
 pub mod Parts
 pub mod Rows
 pub mod Schedules

@@ -18,6 +18,7 @@ mod laws;
 mod likeness;
 mod multinomials;
 mod outcomes;
+mod part_numbers;
 mod parts;
 mod positions;
 mod rows;
@@ -35,6 +36,7 @@ pub use laws::{
 };
 pub use multinomials::{HowMany, call_count, interleavings_of};
 pub use outcomes::{Answers, Outcome, all_answers};
+pub use part_numbers::PartNumber;
 pub use parts::Part;
 pub use positions::Positions;
 pub use rows::{Rows, Share};

@@ -5,7 +5,7 @@ use hp_explore::Silent;
 use hp_lab::explore_text;
 use hp_lab_faults::PartFault;
 use hp_part_files::{part_text, sum_text};
-use hp_part_lines::PartNumber;
+use hp_schedules::PartNumber;
 use std::alloc::{AllocError, Global};
 use std::test::Fail;
 

@@ -1,13 +1,26 @@
 use Rattle.std.proofs.Common.{ℕ, List, length, ap, sym, subst, ◌∙◌}
 use Rattle.hp_schedules.specs.declared.scripts.Line.{Line as Step}
+use Rattle.std.proofs.lemmas.Result.{err_from_is_err_and}
+use Rattle.hp_explore.specs.Faults.{IsCausePartWithin}
 use Rattle.hp_explore.specs.Settings.{setting}
 use Rattle.hp_prepared.specs.Ends.{IsMore}
 use Rattle.hp_prepared.specs.Prepared.{names_of, setting_of}
 use Rattle.hp_schedules.specs.Parts.{PartValue}
-use Rattle.hp_part_files.specs.Parts.{ArePartEnds, search_of}
+use Rattle.hp_part_files.specs.Parts.{ArePartEnds, IsCallsFor, search_of}
 use Rattle.hp_part_files.specs.Texts.{part_text}
-use Rattle.hp_part_files.proofs.Parted.{calls_known, part_explored}
+use Rattle.hp_part_files.proofs.Parted.{calls_known, part_cause, part_explored}
+use Rattle.hp_part_files.proofs.parts.part_on.Given.{Over}
 use Rattle.hp_part_files.proofs.parts.part_on.Goals as goal
+use Rattle.hp_part_files.proofs.parts.part_on.Goals.{After-calls_for-calls}
+
+by_calls : (g : Over) (c : After-calls_for-calls g)
+    → IsCallsFor (length c.args.prepared.now.start.scripts.items) c.args.number.of c.calls_for-calls.result
+by_calls g c =
+    calls_known (length c.as_slice-scripts.result.now) (length c.args.prepared.now.start.scripts.items)
+    c.of.result c.args.number.of c.calls_for-calls.result
+    (ap (λ (l : List (List Step)). length l) c.as_slice-scripts.ensures.value) c.of.ensures
+    c.calls_for-calls.ensures.one c.calls_for-calls.ensures.alone c.calls_for-calls.ensures.enough
+    c.calls_for-calls.ensures.fewest
 
 pub returns-clause-ok : goal.returns-clause-ok
 returns-clause-ok g c =
@@ -21,11 +34,7 @@ returns-clause-ok g c =
       calls = calls;
       ends = x.ends.items;
       more = told.0;
-      by =
-          calls_known (length seen) (length p.start.scripts.items) c.of.result n.of calls
-          (ap (λ (l : List (List Step)). length l) c.as_slice-scripts.ensures.value) c.of.ensures
-          c.calls_for-calls.ensures.one c.calls_for-calls.ensures.alone c.calls_for-calls.ensures.enough
-          c.calls_for-calls.ensures.fewest;
+      by = by_calls g (goal.at.returns-clause-ok g c).After-calls_for-calls;
       are =
           subst (λ (q : PartValue). ArePartEnds (setting_of p) q c.args.limit x.ends.items told.0)
           c.part.ensures
@@ -47,3 +56,17 @@ returns-clause-ok g c =
           (search_of n calls p.setup c.args.scenario.now) k x.ends.items told.0) c.number.ensures);
       is_found = told.3;
     }
+
+pub returns-in_err-explored-clause-err : goal.returns-in_err-explored-clause-err
+returns-in_err-explored-clause-err g c =
+    let p = c.args.prepared.now in
+    let fault = c.in_err-explored.field-0.0 in
+    let is =
+    err_from_is_err_and c.from_residual.result c.from_residual.ensures.1 in
+    rw (is.1, is.2)
+    (part_cause c.args.number c.args.limit (setting_of p) c.calls_for-calls.result fault
+    (by_calls g (goal.at.returns-in_err-explored-clause-err g c).After-calls_for-calls)
+    (subst (λ (q : PartValue). IsCausePartWithin (setting_of p) q c.args.limit fault) c.part.ensures
+    (subst (λ (ss : List (List Step)). IsCausePartWithin (setting p.start.machine ss) c.part.result
+    c.args.limit fault)
+    c.as_slice-scripts.ensures.value c.in_err-explored.ensures.full)))

@@ -17,7 +17,8 @@ returns-in_err-prepared-clause-err g c =
     let p =
     err_from_is_err_and c.from_residual.result c.from_residual.ensures.1 in
     rw (p.1, p.2)
-    (unprepared_known (λ (s : Setting). ⊥) IsCause c.args.input.now c.args.setup c.args.limit _ c.in_err-prepared.ensures.err)
+    (unprepared_known (λ (s : Setting). ⊥) IsCause c.args.input.now c.args.setup c.args.limit _
+    c.in_err-prepared.ensures.err)
 
 pub returns-in_err-prepared-clause-full : goal.returns-in_err-prepared-clause-full
 returns-in_err-prepared-clause-full g c =
@@ -25,8 +26,8 @@ returns-in_err-prepared-clause-full g c =
     err_from_is_err_and c.from_residual.result c.from_residual.ensures.1 in
     rw (p.1, p.2)
     (full_part c.args.number c.args.input.now c.args.setup c.args.limit _
-    (unprepared_known (λ (s : Setting). ⊥) (IsPartCause c.args.number) c.args.input.now c.args.setup c.args.limit _
-    c.in_err-prepared.ensures.err))
+    (unprepared_known (λ (s : Setting). ⊥) (IsPartCause c.args.number c.args.limit) c.args.input.now
+    c.args.setup c.args.limit _ c.in_err-prepared.ensures.err))
 
 pub returns-in-Ok-part_on-clause-ok : goal.returns-in-Ok-part_on-clause-ok
 returns-in-Ok-part_on-clause-ok g c =
@@ -48,9 +49,10 @@ returns-clause-err g c =
     let p = c.in_ok-prepared.prepared in
     let told = c.told_fault.result in
     part_fault n c.args.input.now c.args.setup c.args.limit told
-    (untold_in (λ (s : Setting). ⊥) (IsPartCause n) c.args.input.now c.args.setup c.args.limit p told
+    (untold_in (λ (s : Setting). ⊥) (IsPartCause n c.args.limit) c.args.input.now c.args.setup
+    c.args.limit p told
     c.in_ok-prepared.ensures.ok
-    (untold (IsPartCause n) (setting_of p) c.in-Err.fault told c.told_fault.ensures
+    (untold (IsPartCause n c.args.limit) (setting_of p) c.in-Err.fault told c.told_fault.ensures
     c.in-Err.ensures.err))
 
 pub returns-clause-full : goal.returns-clause-full
@@ -59,7 +61,8 @@ returns-clause-full g c =
     let p = c.in_ok-prepared.prepared in
     let told = c.told_fault.result in
     full_part n c.args.input.now c.args.setup c.args.limit told
-    (untold_in (λ (s : Setting). ⊥) (IsPartCause n) c.args.input.now c.args.setup c.args.limit p told
+    (untold_in (λ (s : Setting). ⊥) (IsPartCause n c.args.limit) c.args.input.now c.args.setup
+    c.args.limit p told
     c.in_ok-prepared.ensures.ok
-    (untold (IsPartCause n) (setting_of p) c.in-Err.fault told c.told_fault.ensures
+    (untold (IsPartCause n c.args.limit) (setting_of p) c.in-Err.fault told c.told_fault.ensures
     c.in-Err.ensures.err))

@@ -1,6 +1,6 @@
 use Rattle.std.proofs.Common.{◌≡◌, ℕ, false, true, ap, sym, ◌∙◌, arith, inr, refl}
 use Rattle.hp_prepared.specs.Prepared.{names_of, setting_of}
-use Rattle.hp_part_lines.specs.Numbers.{NumberValue}
+use Rattle.hp_schedules.specs.PartNumbers.{NumberValue}
 use Rattle.hp_part_lines.specs.Heads.{SearchValue, head_line}
 use Rattle.hp_part_files.proofs.Read.{head_taken}
 use Rattle.hp_part_files.proofs.taking.take_head.Goals as goal

@@ -5,8 +5,8 @@ use Rattle.hp_part_lines.proofs.ordering.check_number.Goals as goal
 pub returns-then-number-next-clause-err : goal.returns-then-number-next-clause-err
 returns-then-number-next-clause-err c =
     comes_twice c.args.of c.args.parts.now c.args.index _ c.index-parts-index.result c.requires.index
-    c.index-parts-index.is (c.from-number.ensures ∙ c.number.ensures) c.requires.within c.requires.placed
-    c.if-number-next.true
+    c.index-parts-index.is (c.from-number.ensures ∙ c.number.ensures) c.requires.within c.requires.rising
+    c.requires.placed c.if-number-next.true
 
 pub returns-then-number-next-2-clause-err : goal.returns-then-number-next-2-clause-err
 returns-then-number-next-2-clause-err c =

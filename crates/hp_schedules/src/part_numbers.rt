@@ -1,15 +1,15 @@
 //! The numbers of parts.
 ghost use Rattle.std.specs.Prelude.{◌≡◌, ◌↔◌, ◌≤◌, IfSome, IsSome};
-ghost use Rattle.hp_part_lines.specs.Numbers.{part_by};
+ghost use Rattle.hp_schedules.specs.PartNumbers.{part_by};
 
-use hp_schedules::Part;
+use crate::parts::Part;
 use std::marker::Model;
 
 /// The most parts of a search (own rule).
 const MOST: u64 = 1_000_000;
 
 /// One of so many parts of a search: its number, from 1 on, and how many there are, at most 1,000,000.
-#[derive(Clone, Copy, Debug, PartialEq, Eq, Drop)]
+#[derive(Clone, Copy, Drop)]
 pub struct PartNumber {
     number: u32,
     of: u32,
@@ -17,7 +17,7 @@ pub struct PartNumber {
 
 impl Model for PartNumber {
     ghost use Rattle.std.specs.Prelude.{◌≤◌};
-    ghost use Rattle.hp_part_lines.specs.Numbers.{NumberValue};
+    ghost use Rattle.hp_schedules.specs.PartNumbers.{NumberValue};
 
     ghost Value = { NumberValue };
 
