@@ -1,40 +1,25 @@
 -- The faults of what answers a word are the word's.
 use Rattle.std.proofs.Common.{◌≡◌, ℕ, List, refl, sym, subst}
 use Rattle.hp_trace.specs.declared.view.View.{View}
-use Rattle.hp_shown.specs.Faults.{IsUnread}
+use Rattle.hp_lab_shell.specs.Faults.{IsUnread}
 use Rattle.hp_lab_faults.specs.declared.fault.LabFault.TheVariants.{OutOfMemory}
 use Rattle.hp_lab_faults.specs.declared.program_fault.ProgramFault.{ProgramFault}
-use Rattle.hp_lab_faults.specs.declared.program_fault.ProgramFault.TheVariants.{Lab, NoPart, NotOpened, Parts, PastEnd, ReadFailed, Scenario, TooLong, WriteFailed}
-use Rattle.hp_lab_words.specs.declared.words.Drawing.{Drawing}
-use Rattle.hp_lab_words.specs.declared.words.Word.{Word}
-use Rattle.hp_lab_words.specs.declared.words.Word.TheVariants.{Check, Explore, Find, Never, Part, Picture, Sum, Trace}
-use Rattle.hp_lab_shell.specs.Needs.{IsLineFault}
+use Rattle.hp_lab_faults.specs.declared.program_fault.ProgramFault.TheVariants.{Lab, NotOpened, Parts, PastEnd, ReadFailed, Scenario, TooLong, WriteFailed}
+use Rattle.hp_lab_shell.specs.declared.words.Drawing.{Drawing}
+use Rattle.hp_lab_shell.specs.declared.words.Word.{Word}
+use Rattle.hp_lab_shell.specs.declared.words.Word.TheVariants.{Check, Explore, Find, Never, Part, Picture, Sum, Trace}
 use Rattle.hotplug_lab.specs.Words.{IsUnanswered}
 
 -- out of memory is a fault of each word
 pub no_memory : (word : Word) (input : List ℕ) → IsUnanswered word input (Lab OutOfMemory)
 no_memory (Check setup) input = refl
 no_memory (Explore asked form jobs) input = tt
-no_memory (Part asked number of) input = tt
+no_memory (Part asked part) input = (tt, tt)
 no_memory (Sum form) input = refl
 no_memory (Find asked wanted form) input = tt
 no_memory (Never asked wanted form) input = tt
 no_memory (Trace view) input = refl
 no_memory (Picture drawing) input = refl
-
--- and so is that the scenario is too short for it
-pub too_short : (word : Word) (input : List ℕ) (fault : ProgramFault) → IsLineFault word input fault
-    → IsUnanswered word input fault
-too_short word input NotOpened h = absurd h
-too_short word input ReadFailed h = absurd h
-too_short word input TooLong h = absurd h
-too_short word input (Lab fault) h =
-    subst (λ f. IsUnanswered word input (Lab f)) (sym h) (no_memory word input)
-too_short word input NoPart h = absurd h
-too_short word input (Parts fault) h = absurd h
-too_short word input (Scenario fault) h = absurd h
-too_short word input (PastEnd asked lines) h = h
-too_short word input WriteFailed h = absurd h
 
 -- the bytes are no scenario
 unread : (view : View) (input : List ℕ) (fault : ProgramFault) → IsUnread input fault
@@ -43,7 +28,6 @@ unread view input NotOpened h = absurd h
 unread view input ReadFailed h = absurd h
 unread view input TooLong h = absurd h
 unread view input (Lab fault) h = h
-unread view input NoPart h = absurd h
 unread view input (Parts fault) h = absurd h
 unread view input (Scenario fault) h = h
 unread view input (PastEnd asked lines) h = absurd h
@@ -60,7 +44,6 @@ undrawn drawing input NotOpened h = absurd h
 undrawn drawing input ReadFailed h = absurd h
 undrawn drawing input TooLong h = absurd h
 undrawn drawing input (Lab fault) h = h
-undrawn drawing input NoPart h = absurd h
 undrawn drawing input (Parts fault) h = absurd h
 undrawn drawing input (Scenario fault) h = h
 undrawn drawing input (PastEnd asked lines) h = absurd h

@@ -9,8 +9,8 @@ use Rattle.hp_lab_faults.specs.Faults.{read_fault_from}
 use Rattle.hp_lab_shell.specs.Needs.{IsPastEnd}
 use Rattle.hotplug_lab.specs.Words.{Answers, IsLabCause, IsPartCause, IsScenarioCause, IsServeFault, IsUnanswered, Serves}
 use Rattle.hp_lab_faults.specs.declared.program_fault.ProgramFault.{ProgramFault}
-use Rattle.hp_lab_faults.specs.declared.program_fault.ProgramFault.TheVariants.{Lab, NoPart, NotOpened, Parts, PastEnd, ReadFailed, Scenario, TooLong, WriteFailed}
-use Rattle.hp_lab_words.specs.declared.words.Word.{Word}
+use Rattle.hp_lab_faults.specs.declared.program_fault.ProgramFault.TheVariants.{Lab, NotOpened, Parts, PastEnd, ReadFailed, Scenario, TooLong, WriteFailed}
+use Rattle.hp_lab_shell.specs.declared.words.Word.{Word}
 
 -- a fault of reading is one of the program
 pub read_fault : (word : Word) (known : Option (List ℕ)) (read written : Type 0) (fault : ReadFault)
@@ -28,7 +28,6 @@ unanswered_of word a b input read written ReadFailed p end h = absurd h
 unanswered_of word a b input read written TooLong p end h = absurd h
 unanswered_of word a b input read written (Lab fault) p end h =
     inr (given a b input p end (λ i. IsLabCause word i fault) h)
-unanswered_of word a b input read written NoPart p end h = h
 unanswered_of word a b input read written (Parts fault) p end h =
     given a b input p end (λ i. IsPartCause word i fault) h
 unanswered_of word a b input read written (Scenario fault) p end h =

@@ -2,9 +2,10 @@
 use Rattle.std.specs.Prelude.{◌≡◌, ◌⊎◌, ℕ, ◌<◌, ◌≤◌, Bool, List, length, Option, IfSome, if◌then◌else◌}
 use Rattle.std.specs.Io.KnownBytes.{Appends}
 use Rattle.hp_wanted.specs.declared.wanted.Wanted.{Wanted}
-use Rattle.hp_lab.specs.Explorations.{IsExplorationOf}
+use Rattle.hp_lab.specs.Explorations.{IsExplorationOf, IsFaultWithin}
 use Rattle.hp_lab.specs.Findings.{IsFindFaultOf, IsFindingOf}
 use Rattle.hp_prepared.specs.Faults.{IsFaultOf}
+use Rattle.hp_schedules.specs.PartNumbers.{NumberValue}
 use Rattle.hp_ends.specs.declared.forms.EndsForm.{EndsForm}
 use Rattle.hp_ends.specs.declared.forms.ScheduleForm.{ScheduleForm}
 use Rattle.hp_scenario.specs.Gives.{Fails}
@@ -12,19 +13,19 @@ use Rattle.hp_scenario.specs.Scenario.{scenario_in}
 use Rattle.hp_scenario.specs.declared.fault.ScenarioFault.{ScenarioFault}
 use Rattle.hp_streams.specs.Reading.{limit}
 use Rattle.hp_part_files.specs.Faults.{IsSumFault}
-use Rattle.hp_part_files.specs.Parts.{IsPartOf}
+use Rattle.hp_part_files.specs.Parts.{IsFullPart, IsPartOf}
 use Rattle.hp_part_files.specs.Sums.{IsSumOf}
-use Rattle.hp_shown.specs.Checks.{IsCheckOf}
-use Rattle.hp_shown.specs.Pictures.{IsPictureOf}
+use Rattle.hp_lab_shell.specs.Checks.{IsCheckOf}
+use Rattle.hp_lab_shell.specs.Pictures.{IsPictureOf}
 use Rattle.hp_trace.specs.Traces.{IsTraceOf}
 use Rattle.hp_lab_faults.specs.declared.fault.LabFault.{LabFault}
 use Rattle.hp_lab_faults.specs.declared.fault.LabFault.TheVariants.{OutOfMemory}
 use Rattle.hp_lab_faults.specs.declared.part_fault.PartFault.{PartFault}
 use Rattle.hp_lab_faults.specs.declared.program_fault.ProgramFault.{ProgramFault}
-use Rattle.hp_lab_faults.specs.declared.program_fault.ProgramFault.TheVariants.{Lab, NoPart, NotOpened, Parts, PastEnd, ReadFailed, Scenario, TooLong, WriteFailed}
-use Rattle.hp_lab_words.specs.declared.words.Exploration.{Exploration}
-use Rattle.hp_lab_words.specs.declared.words.Word.{Word}
-use Rattle.hp_lab_words.specs.declared.words.Word.TheVariants.{Check, Explore, Find, Never, Part, Picture, Sum, Trace}
+use Rattle.hp_lab_faults.specs.declared.program_fault.ProgramFault.TheVariants.{Lab, NotOpened, Parts, PastEnd, ReadFailed, Scenario, TooLong, WriteFailed}
+use Rattle.hp_lab_shell.specs.declared.words.Exploration.{Exploration}
+use Rattle.hp_lab_shell.specs.declared.words.Word.{Word}
+use Rattle.hp_lab_shell.specs.declared.words.Word.TheVariants.{Check, Explore, Find, Never, Part, Picture, Sum, Trace}
 use Rattle.hp_lab_shell.specs.Needs.{HasLines, IsPastEnd}
 
 -- the text of an exploration; the status is 0 where what is asked for is found, and 3 where it is not
@@ -34,9 +35,9 @@ IsExploringOf asked form input text status =
     × (status ≡ (if found then 0 else 3))
 
 -- the text of one part; and of the sum of all
-abbrev pub IsPartialOf : Exploration → (number of : ℕ) → (input text : List ℕ) → (status : ℕ) → Type 0
-IsPartialOf asked number of input text status =
-    (found : Bool) × IsPartOf (record { number = number; of = of }) input asked.setup asked.limit text found
+abbrev pub IsPartialOf : Exploration → NumberValue → (input text : List ℕ) → (status : ℕ) → Type 0
+IsPartialOf asked part input text status =
+    (found : Bool) × IsPartOf part input asked.setup asked.limit text found
     × (status ≡ (if found then 0 else 3))
 
 abbrev pub IsAddedOf : EndsForm → (input text : List ℕ) → (status : ℕ) → Type 0
@@ -53,7 +54,7 @@ IsSearchOf asked wanted form found_status absent_status input text status =
 abbrev pub IsAnswerOf : Word → (input text : List ℕ) → (status : ℕ) → Type 0
 IsAnswerOf (Check setup) input text status = IsCheckOf setup input text status
 IsAnswerOf (Explore asked form jobs) input text status = IsExploringOf asked form input text status
-IsAnswerOf (Part asked number of) input text status = IsPartialOf asked number of input text status
+IsAnswerOf (Part asked part) input text status = IsPartialOf asked part.now input text status
 IsAnswerOf (Sum form) input text status = IsAddedOf form input text status
 IsAnswerOf (Find asked wanted form) input text status = IsSearchOf asked wanted.now form 0 3 input text status
 IsAnswerOf (Never asked wanted form) input text status =
@@ -70,8 +71,9 @@ Answers word input text status = HasLines word input × IsAnswerOf word input te
 -- to be traced; else out of memory alone
 abbrev pub IsLabCause : Word → (input : List ℕ) → LabFault → Type 0
 IsLabCause (Check setup) input fault = fault ≡ OutOfMemory
-IsLabCause (Explore asked form jobs) input fault = IsFaultOf input asked.setup asked.limit fault
-IsLabCause (Part asked number of) input fault = IsFaultOf input asked.setup asked.limit fault
+IsLabCause (Explore asked form jobs) input fault = IsFaultWithin input asked.setup asked.limit fault
+IsLabCause (Part asked part) input fault =
+    IsFaultOf input asked.setup asked.limit fault × IsFullPart part.now input asked.setup asked.limit fault
 IsLabCause (Sum form) input fault = fault ≡ OutOfMemory
 IsLabCause (Find asked wanted form) input fault = IsFindFaultOf input asked.setup asked.limit wanted.now fault
 IsLabCause (Never asked wanted form) input fault =
@@ -82,7 +84,7 @@ IsLabCause (Picture drawing) input fault = fault ≡ OutOfMemory
 abbrev pub IsScenarioCause : Word → (input : List ℕ) → ScenarioFault → Type 0
 IsScenarioCause (Check setup) input fault = ⊥
 IsScenarioCause (Explore asked form jobs) input fault = ⊥
-IsScenarioCause (Part asked number of) input fault = ⊥
+IsScenarioCause (Part asked part) input fault = ⊥
 IsScenarioCause (Sum form) input fault = ⊥
 IsScenarioCause (Find asked wanted form) input fault = ⊥
 IsScenarioCause (Never asked wanted form) input fault = ⊥
@@ -94,17 +96,11 @@ abbrev pub IsPartCause : Word → (input : List ℕ) → PartFault → Type 0
 IsPartCause (Sum form) input fault = IsSumFault input fault
 IsPartCause word input fault = ⊥
 
--- there is no such part
-abbrev pub IsNoPart : Word → Type 0
-IsNoPart (Part asked number of) = (1 ≤ number) × (number ≤ of) × (of ≤ 1000000) → ⊥
-IsNoPart word = ⊥
-
 abbrev pub IsUnanswered : Word → (input : List ℕ) → ProgramFault → Type 0
 IsUnanswered word input NotOpened = ⊥
 IsUnanswered word input ReadFailed = ⊥
 IsUnanswered word input TooLong = ⊥
 IsUnanswered word input (Lab fault) = IsLabCause word input fault
-IsUnanswered word input NoPart = IsNoPart word
 IsUnanswered word input (Parts fault) = IsPartCause word input fault
 IsUnanswered word input (Scenario fault) = IsScenarioCause word input fault
 IsUnanswered word input (PastEnd asked lines) = IsPastEnd word input asked lines
@@ -125,7 +121,6 @@ IsServeFault word known read written ReadFailed = read
 IsServeFault word known read written TooLong = IfSome known (λ input. limit < length input)
 IsServeFault word known read written (Lab fault) =
     (fault ≡ OutOfMemory) ⊎ IfSome known (λ input. IsLabCause word input fault)
-IsServeFault word known read written NoPart = IsNoPart word
 IsServeFault word known read written (Parts fault) = IfSome known (λ input. IsPartCause word input fault)
 IsServeFault word known read written (Scenario fault) =
     IfSome known (λ input. IsScenarioCause word input fault)

@@ -2,17 +2,16 @@
 
 ghost use Rattle.std.specs.Prelude.{◌≡◌, if◌then◌else◌, IfErr, IfOk, string_bytes};
 ghost use Rattle.hotplug_lab.specs.Words.{IsAddedOf, IsAnswerOf, IsExploringOf, IsPartialOf, IsSearchOf, IsUnanswered};
-ghost use Rattle.hp_lab_words.specs.declared.words.Word.TheVariants.{Explore, Find, Never, Part, Sum};
+ghost use Rattle.hp_lab_shell.specs.declared.words.Word.TheVariants.{Explore, Find, Never, Part, Sum};
 
 use hp_ends::{EndsForm, ScheduleForm};
 use hp_lab::{explore_text_with_jobs, find_text};
 use hp_lab_faults::ProgramFault;
-use hp_lab_words::{Exploration, Word};
+use hp_lab_shell::{Answer, Exploration, Word, checked, drawn, traced};
 use hp_part_files::{part_text, sum_text};
-use hp_part_lines::PartNumber;
 use hp_places::Watch;
 use hp_prepared::Finding;
-use hp_shown::{Answer, checked, drawn, traced};
+use hp_schedules::PartNumber;
 use hp_wanted::Wanted;
 use std::alloc::Global;
 use std::thread::Threads;
@@ -34,7 +33,7 @@ pub(crate) fn answer_to<W: Watch>(
         Word::Explore { asked, form, jobs } => {
             explored(rt, alloc, input, asked, form, jobs, watch)
         }
-        Word::Part { asked, number, of } => partial(alloc, input, asked, number, of, watch),
+        Word::Part { asked, part } => partial(alloc, input, asked, part, watch),
         Word::Sum(form) => summed(alloc, input, form),
         Word::Find {
             asked,
@@ -70,23 +69,19 @@ fn explored<W: Watch>(
     Ok(answer_with(finding, 0, 3))
 }
 
-/// The part of an exploration with a number, of so many.
+/// A part of an exploration.
 fn partial<W: Watch>(
     alloc: Global,
     input: &[u8],
     asked: Exploration,
-    number: u64,
-    of: u64,
+    part: &PartNumber,
     watch: &mut W,
 ) -> Result<Answer, ProgramFault>
     ensures ok { IfOk result
-        (λ answer. IsPartialOf asked number of input.now (string_bytes answer.text) answer.status) }
-    ensures err { IfErr result (IsUnanswered (Part asked number of) input.now) }
+        (λ answer. IsPartialOf asked part.now input.now (string_bytes answer.text) answer.status) }
+    ensures err { IfErr result (IsUnanswered (Part asked part.entry) input.now) }
 {
-    let Some(part) = PartNumber::new(number, of) else {
-        return Err(ProgramFault::NoPart);
-    };
-    let finding = part_text(alloc, input, asked.setup, asked.limit, part, watch)?;
+    let finding = part_text(alloc, input, asked.setup, asked.limit, *part, watch)?;
     Ok(answer_with(finding, 0, 3))
 }
 

@@ -15,8 +15,7 @@ mod answering;
 mod serving;
 
 use hp_lab_faults::ProgramFault;
-use hp_lab_shell::{Laboratory, Served, run_program};
-use hp_lab_words::Word;
+use hp_lab_shell::{Laboratory, Served, Word, run_program};
 use hp_places::Watch;
 use hp_streams::{Sink, Source};
 use serving::serve;

@@ -24,8 +24,6 @@ pub enum ProgramFault {
     TooLong,
     /// The exploration failed.
     Lab(LabFault),
-    /// There is no part with the number, or there are more than 1,000,000.
-    NoPart,
     /// The parts have no sum.
     Parts(PartFault),
     /// The scenario is none.
@@ -73,7 +71,6 @@ impl fmt::Display for ProgramFault {
             ProgramFault::ReadFailed => write!(f, "reading failed"),
             ProgramFault::TooLong => write!(f, "input too long"),
             ProgramFault::Lab(fault) => write!(f, "{fault}"),
-            ProgramFault::NoPart => write!(f, "there is no such part"),
             ProgramFault::Parts(fault) => write!(f, "{fault}"),
             ProgramFault::Scenario(fault) => write!(f, "{fault}"),
             ProgramFault::PastEnd { asked, lines } => {

@@ -1,10 +1,10 @@
 -- Whether a scenario has the line that a word names.
 use Rattle.std.proofs.Common.{◌≡◌, ℕ, ◌<◌, true, List, Option, Some, None, refl, subst, sym, ◌∙◌, arith, le-leb}
 use Rattle.hp_scenario.specs.Scenario.{scenario_in}
-use Rattle.hp_shown.specs.Scripts.{count_of}
+use Rattle.hp_lab_shell.specs.Scripts.{count_of}
 use Rattle.hp_lab_faults.specs.declared.program_fault.ProgramFault.{ProgramFault}
-use Rattle.hp_lab_faults.specs.declared.program_fault.ProgramFault.TheVariants.{Lab, NoPart, NotOpened, Parts, PastEnd, ReadFailed, Scenario, TooLong, WriteFailed}
-use Rattle.hp_lab_words.specs.declared.words.Word.{Word}
+use Rattle.hp_lab_faults.specs.declared.program_fault.ProgramFault.TheVariants.{Lab, NotOpened, Parts, PastEnd, ReadFailed, Scenario, TooLong, WriteFailed}
+use Rattle.hp_lab_shell.specs.declared.words.Word.{Word}
 use Rattle.hp_lab_shell.specs.Needs.{HasLines, IsLineFault, IsPast, has_line, last_named}
 
 any_has : (count : Option ℕ) → has_line 0 count ≡ true
@@ -24,7 +24,6 @@ past_is_fault word input asked count NotOpened named is h = absurd h
 past_is_fault word input asked count ReadFailed named is h = absurd h
 past_is_fault word input asked count TooLong named is h = absurd h
 past_is_fault word input asked count (Lab fault) named is h = absurd h
-past_is_fault word input asked count NoPart named is h = absurd h
 past_is_fault word input asked count (Parts fault) named is h = absurd h
 past_is_fault word input asked count (Scenario fault) named is h = absurd h
 past_is_fault word input asked count (PastEnd number lines) named is h =

@@ -1,1 +1,5 @@
+pub mod Checks
+pub mod Faults
 pub mod Needs
+pub mod Pictures
+pub mod Scripts

@@ -4,19 +4,19 @@ use Rattle.hp_scenario.specs.Scenario.{ScenarioValue, scenario_in}
 use Rattle.hp_scenario.specs.declared.fault.ScenarioFault.{ScenarioFault}
 use Rattle.hp_scripts.specs.declared.unbegun.Unbegun.{Unbegun}
 use Rattle.hp_trace.specs.declared.view.View.{View}
-use Rattle.hp_shown.specs.Scripts.{count_of, unbegun_in}
+use Rattle.hp_lab_shell.specs.Scripts.{count_of, unbegun_in}
 use Rattle.hp_lab_faults.specs.declared.fault.LabFault.TheVariants.{OutOfMemory}
 use Rattle.hp_lab_faults.specs.declared.program_fault.ProgramFault.{ProgramFault}
 use Rattle.hp_lab_faults.specs.declared.program_fault.ProgramFault.TheVariants.{Lab, PastEnd}
-use Rattle.hp_lab_words.specs.declared.words.Word.{Word}
-use Rattle.hp_lab_words.specs.declared.words.Word.TheVariants.{Check, Explore, Find, Never, Part, Picture, Sum, Trace}
+use Rattle.hp_lab_shell.specs.declared.words.Word.{Word}
+use Rattle.hp_lab_shell.specs.declared.words.Word.TheVariants.{Check, Explore, Find, Never, Part, Picture, Sum, Trace}
 
 -- the lines that work on operation 0 where their processor has begun none, of the scripts that a word
 -- searches
 abbrev pub unbegun_of : Word → Result ScenarioValue ScenarioFault → List Unbegun
 unbegun_of (Check setup) read = []
 unbegun_of (Explore asked form jobs) read = unbegun_in asked.setup read
-unbegun_of (Part asked number of) read = unbegun_in asked.setup read
+unbegun_of (Part asked part) read = unbegun_in asked.setup read
 unbegun_of (Sum form) read = []
 unbegun_of (Find asked wanted form) read = unbegun_in asked.setup read
 unbegun_of (Never asked wanted form) read = unbegun_in asked.setup read
@@ -35,7 +35,7 @@ setup_named setup = if setup == 2 ^ 64 - 1 then 0 else setup
 abbrev pub last_named : Word → ℕ
 last_named (Check setup) = setup_named setup
 last_named (Explore asked form jobs) = asked.setup
-last_named (Part asked number of) = asked.setup
+last_named (Part asked part) = asked.setup
 last_named (Sum form) = 0
 last_named (Find asked wanted form) = asked.setup
 last_named (Never asked wanted form) = asked.setup

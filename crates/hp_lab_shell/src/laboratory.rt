@@ -2,8 +2,8 @@
 ghost use Rattle.std.specs.Prelude.{◌<◌, ◌-◌, ◌^◌};
 ghost use Rattle.std.specs.Thread.{IsSync};
 
+use crate::words::Word;
 use hp_lab_faults::ProgramFault;
-use hp_lab_words::Word;
 use hp_places::Watch;
 use hp_scripts::Unbegun;
 use hp_streams::{Sink, Source};

@@ -1,15 +1,32 @@
-//! The program `hotplug_lab` around whatever answers its words: the command line, the files that it
-//! names, what is said of faults, and what a word needs of the scenario before it is answered.
+//! The program `hotplug_lab` around the words that search: the command line and what its words ask
+//! for, the files that it names, what is shown of a scenario without a search, and what standard error
+//! has of warnings, of faults, and of how far a search has come.
 //!
-//! A `Laboratory` answers the words. So all but the answers is proved beside the crates that search.
-//! The crate owns the exit status where nothing is answered, and which lines of a scenario a word needs
-//! or warns of. Read src/laboratory.rt first, and then specs/Needs.
+//! A `Laboratory` answers the words. The crate stands on no search, and so is proved beside the crates
+//! that do. It owns each word's defaults and limits, what a word needs of a scenario, and the exit
+//! status where nothing is answered. hp_check, hp_trace and hp_svg make the texts of `check` and
+//! `trace`; it joins them, each with its status. What clap parsed, and what a file or a stream gives or
+//! takes, no contract can say: that is tried on the built program.
+//!
+//! Read src/words.rt and src/laboratory.rt first, then specs/Needs, specs/Checks and specs/Pictures.
 #![tactic(auto)]
 
+mod answer;
+mod checks;
+mod files;
 mod laboratory;
+mod messages;
 mod needs;
+mod pictures;
+mod progress;
+mod scripts;
 mod shell;
+mod words;
 
+pub use answer::Answer;
+pub use checks::checked;
 pub use laboratory::{Laboratory, Served};
 pub use needs::{look_for_line, unbegun_of};
+pub use pictures::{drawn, traced};
 pub use shell::run_program;
+pub use words::{Drawing, Exploration, Word};

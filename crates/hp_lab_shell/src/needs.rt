@@ -3,10 +3,11 @@ ghost use Rattle.std.specs.Prelude.{◌≡◌, IfErr, IfOk, OnOk, true};
 ghost use Rattle.hp_scenario.specs.Scenario.{scenario_in};
 ghost use Rattle.hp_lab_shell.specs.Needs.{HasLines, IsLineFault, IsPast, first_shown, has_line, last_named, setup_named, unbegun_of};
 
+use crate::checks::ALL;
+use crate::scripts::{line_count, unbegun_in};
+use crate::words::Word;
 use hp_lab_faults::ProgramFault;
-use hp_lab_words::Word;
 use hp_scripts::Unbegun;
-use hp_shown::{ALL, line_count, unbegun_in};
 use hp_trace::View;
 use std::alloc::{AllocError, Global};
 

@@ -1,15 +1,14 @@
 //! The command line, from its words to the exit status.
 
+use crate::files::bytes_of;
 use crate::laboratory::Laboratory;
+use crate::messages::{only_name, say_fault, say_unbegun, say_words};
+use crate::progress::{Progress, Shown, shown_on};
+use crate::words::{Request, Word, is_past_the_found, part_from, request_from, texts_from};
 use clap::ArgMatches;
 use clap::error::ErrorKind;
 use hp_lab_command::lab_command;
 use hp_lab_faults::ProgramFault;
-use hp_lab_io::{
-    Progress, Shown, bytes_of, only_name, say_fault, say_unbegun, say_words, shown_on,
-};
-use hp_lab_words::{Request, Word, contradiction, is_past_the_found, request_from, texts_from};
-use hp_part_lines::PartNumber;
 use hp_streams::Counted;
 use hp_wanted::{Wanted, wanted_line};
 use std::alloc::{AllocError, Global};
@@ -123,7 +122,14 @@ fn serve_matches<L: Laboratory, T: Threads + Sync>(
     let Some(wanted) = wanted_from(rt, matches)? else {
         return Ok(2);
     };
-    Ok(answered(rt, lab, threads, request_from(matches, &wanted)))
+    let part = part_from(matches);
+    match request_from(matches, &wanted, part.as_ref()) {
+        Ok(request) => Ok(status_of(rt, lab, threads, request)),
+        Err(text) => {
+            let _ = eprintln!(rt; "hotplug_lab: {text}");
+            Ok(2)
+        }
+    }
 }
 
 /// Does what a request asks for, or says what failed, and answers the exit status.
@@ -154,35 +160,6 @@ fn run<L: Laboratory, T: Threads + Sync>(
         Ok(matches) => serve_matches(rt, lab, threads, &matches),
         Err(error) if error.kind() == ErrorKind::OutOfMemory => Err(ProgramFault::from(AllocError)),
         Err(error) => say_words(rt, &error),
-    }
-}
-
-/// Why a word asks for nothing, whatever the scenario.
-fn refusal(word: Word<'_>) -> Option<&'static str> {
-    match word {
-        Word::Part { number, of, .. } if PartNumber::new(number, of).is_none() => {
-            Some("--part may be I/N, with I from 1 to N, and N at most 1000000")
-        }
-        _ => contradiction(word),
-    }
-}
-
-/// Does what the words ask for, where they ask for something and do not contradict one another.
-fn answered<L: Laboratory, T: Threads + Sync>(
-    rt: &HostRuntime,
-    lab: &L,
-    threads: &T,
-    request: Option<Request<'_, '_, '_>>,
-) -> u8 {
-    let Some(request) = request else {
-        return 2;
-    };
-    match refusal(request.word) {
-        Some(text) => {
-            let _ = eprintln!(rt; "hotplug_lab: {text}");
-            2
-        }
-        None => status_of(rt, lab, threads, request),
     }
 }
 

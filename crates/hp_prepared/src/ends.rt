@@ -14,8 +14,8 @@ use hp_units::Cpu;
 use std::alloc::Global;
 
 impl Prepared {
-    /// An exploration of the scripts in a form, as hp_lab's `explore_text` tells it. A fault is that of a call: the first
-    /// interleaving of each end is played once more.
+    /// An exploration of the scripts in a form, as hp_lab's `explore_text` tells it. A fault is that of
+    /// a call: the first interleaving of each end is played once more.
     pub fn exploration_told(
         &self,
         alloc: Global,

@@ -7,7 +7,7 @@ use Rattle.hp_scenario.specs.Scenario.{ScenarioValue, scenario_in}
 use Rattle.hp_scenario.specs.declared.fault.ScenarioFault.{ScenarioFault}
 use Rattle.hp_scenario.specs.declared.fault.ScenarioFault.TheVariants.{NotJson, BadShape, Layout, BadLine, NotForRun, OutOfMemory}
 use Rattle.hp_scenario.specs.declared.lines.Line.{Line}
-use Rattle.hp_shown.specs.Checks.{IsCountIn, IsCountOf, usual_limit}
+use Rattle.hp_lab_shell.specs.Checks.{IsCountIn, IsCountOf, usual_limit}
 
 -- all lines are the setup
 pub none_asked : (setup : ℕ) (input text : List ℕ) → setup ≡ 2 ^ 64 - 1 → text ≡ []

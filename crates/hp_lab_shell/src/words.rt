@@ -1,22 +1,26 @@
 //! The words that the program is called with.
 
+use crate::checks::{ALL, LIMIT};
 use clap::ArgMatches;
 use hp_ends::{EndsForm, ScheduleForm};
 use hp_lab_command::{FILE, FIND, JOBS, JSON, NEVER, PART, PROGRESS, SCENARIO};
-use hp_shown::{ALL, LIMIT};
+use hp_schedules::PartNumber;
 use hp_trace::View;
 use hp_wanted::Wanted;
 
 /// The pixels of a cell where no number is given, and the most there may be.
 const CELL: u64 = 8;
 
-const WIDEST_CELL: u8 = 32;
+const WIDEST_CELL: u64 = 32;
 
 /// The columns of a trace's row where no width is given.
 const WIDTH: u64 = 200;
 
+/// What is said where no word, or another word, is named; clap asks for one of them.
+const NO_WORD: &str = "there is no such word";
+
 /// The most threads.
-const MOST_JOBS: u32 = 256;
+const MOST_JOBS: u64 = 256;
 
 /// What is asked of an exploration.
 #[derive(Clone, Copy)]
@@ -48,11 +52,10 @@ pub enum Word<'a> {
         form: EndsForm,
         jobs: u32,
     },
-    /// One part of these, by its number, of so many; part 0 of 0 where the words name none.
+    /// One part of these.
     Part {
         asked: Exploration,
-        number: u64,
-        of: u64,
+        part: &'a PartNumber,
     },
     /// All of these, in a form, where the text is no scenario, but those of all parts.
     Sum(EndsForm),
@@ -76,7 +79,7 @@ pub enum Word<'a> {
 
 /// What the program is asked for, and the files that are named.
 #[derive(Clone, Copy)]
-pub struct Request<'m, 'a, 'w> {
+pub(crate) struct Request<'m, 'a, 'w> {
     /// What is to be made of the scenario.
     pub word: Word<'w>,
     /// The names of the files, one after another; none for standard input.
@@ -86,29 +89,32 @@ pub struct Request<'m, 'a, 'w> {
 }
 
 /// The lines that parsed words want of an end, as texts; none where they want none.
-pub fn texts_from<'m, 'a>(matches: &'m ArgMatches<'a>) -> Option<&'m [&'a str]> {
+pub(crate) fn texts_from<'m, 'a>(matches: &'m ArgMatches<'a>) -> Option<&'m [&'a str]> {
     let (_name, words) = matches.subcommand()?;
     words.get_strs(FIND).or(words.get_strs(NEVER))
 }
 
 /// Whether parsed words ask a search, which tells one interleaving, for the scenario of another.
-pub fn is_past_the_found(matches: &ArgMatches<'_>) -> bool {
+pub(crate) fn is_past_the_found(matches: &ArgMatches<'_>) -> bool {
     let Some((_name, words)) = matches.subcommand() else {
         return false;
     };
     texts_from(matches).is_some() && words.get_one::<u64>(SCENARIO).unwrap_or(1) != 1
 }
 
-/// The number of the part that is asked for as `I/N`, and how many there are.
-fn part_from(words: &ArgMatches<'_>) -> Option<(u64, u64)> {
-    let (number, of) = words.get_str(PART)?.split_once('/')?;
-    Some((number64(number)?, number64(of)?))
+/// What is said of a part that there is not.
+const NO_PART: &str = "--part may be I/N, with I from 1 to N, and N at most 1000000";
+
+/// The part that a text asks for as `I/N`.
+fn part_named(text: &str) -> Option<PartNumber> {
+    let (number, of) = text.split_once('/')?;
+    PartNumber::new(number64(number)?, number64(of)?)
 }
 
-/// The word that asks for it.
-fn part_word<'a>(asked: Exploration, words: &ArgMatches<'_>) -> Word<'a> {
-    let (number, of) = part_from(words).unwrap_or((0, 0));
-    Word::Part { asked, number, of }
+/// The part that parsed words ask for; none where they name none, or one that there is not.
+pub(crate) fn part_from(matches: &ArgMatches<'_>) -> Option<PartNumber> {
+    let (_name, words) = matches.subcommand()?;
+    part_named(words.get_str(PART)?)
 }
 
 /// The names of files; none where no file is named.
@@ -127,83 +133,107 @@ fn number64(text: &str) -> Option<u64> {
     }
 }
 
-/// What parsed words ask for, with the lines that they want of an end.
-pub fn request_from<'m, 'a, 'w>(
+/// What parsed words ask for, with the lines that they want of an end and the part that they name; or
+/// why they ask for nothing, whatever the scenario.
+pub(crate) fn request_from<'m, 'a, 'w>(
     matches: &'m ArgMatches<'a>,
     wanted: &'w [Wanted],
-) -> Option<Request<'m, 'a, 'w>> {
-    let (name, words) = matches.subcommand()?;
-    Some(Request {
-        word: word_from(name, words, wanted)?,
-        files: files_of(words.get_strs(FILE)),
-        progress: name == "explore" && words.get_flag(PROGRESS),
+    part: Option<&'w PartNumber>,
+) -> Result<Request<'m, 'a, 'w>, &'static str> {
+    match matches.subcommand() {
+        Some((name, words)) => Ok(Request {
+            word: word_from(name, words, wanted, part)?,
+            files: files_of(words.get_strs(FILE)),
+            progress: name == "explore" && words.get_flag(PROGRESS),
+        }),
+        None => Err(NO_WORD),
+    }
+}
+
+/// What a word asks for with the words after it, or why it asks for nothing.
+fn word_from<'a>(
+    name: &str,
+    words: &ArgMatches<'_>,
+    wanted: &'a [Wanted],
+    part: Option<&'a PartNumber>,
+) -> Result<Word<'a>, &'static str> {
+    match name {
+        "check" => Ok(Word::Check(words.get_one::<u64>("setup").unwrap_or(ALL))),
+        "explore" => exploring_word(words, wanted, part),
+        "sum" => Ok(Word::Sum(ends_form_from(words))),
+        "trace" => tracing_word(words),
+        _ => Err(NO_WORD),
+    }
+}
+
+/// What the words of `explore` ask for: a search, a part, or all.
+fn exploring_word<'a>(
+    words: &ArgMatches<'_>,
+    wanted: &'a [Wanted],
+    part: Option<&'a PartNumber>,
+) -> Result<Word<'a>, &'static str> {
+    let asked = exploration_from(words);
+    let form = schedule_form_from(words);
+    if words.get_strs(FIND).is_some() {
+        return Ok(Word::Find {
+            asked,
+            wanted,
+            form,
+        });
+    }
+    if words.get_strs(NEVER).is_some() {
+        return Ok(Word::Never {
+            asked,
+            wanted,
+            form,
+        });
+    }
+    if words.get_str(PART).is_none() {
+        return whole_word(asked, words);
+    }
+    match part {
+        Some(part) => Ok(Word::Part { asked, part }),
+        None => Err(NO_PART),
+    }
+}
+
+/// The word that asks for every interleaving.
+fn whole_word<'a>(asked: Exploration, words: &ArgMatches<'_>) -> Result<Word<'a>, &'static str> {
+    let jobs = words.get_one::<u64>(JOBS).unwrap_or(1);
+    if jobs == 0 || jobs > MOST_JOBS {
+        return Err("--jobs may be 1 to 256");
+    }
+    Ok(Word::Explore {
+        asked,
+        form: ends_form_from(words),
+        jobs: jobs as u32,
     })
 }
 
-/// Why a word asks for nothing, whatever the scenario.
-pub fn contradiction(word: Word<'_>) -> Option<&'static str> {
-    match word {
-        Word::Trace(view) => empty_view(view),
-        Word::Picture(drawing) if drawing.cell == 0 || drawing.cell > WIDEST_CELL => {
-            Some("--cell may be 1 to 32")
-        }
-        Word::Picture(drawing) => empty_view(drawing.view),
-        Word::Explore { jobs, .. } if jobs == 0 || jobs > MOST_JOBS => {
-            Some("--jobs may be 1 to 256")
-        }
-        _ => None,
+/// What the words of `trace` ask for.
+fn tracing_word<'a>(words: &ArgMatches<'_>) -> Result<Word<'a>, &'static str> {
+    let view = view_from(words);
+    let cell = words.get_one::<u64>("cell").unwrap_or(CELL);
+    let is_picture = words.get_flag("svg");
+    if is_picture && (cell == 0 || cell > WIDEST_CELL) {
+        return Err("--cell may be 1 to 32");
     }
-}
-
-/// Why a view shows nothing, whatever the scenario.
-fn empty_view(view: View) -> Option<&'static str> {
     if view.from > view.to {
-        Some("--from is past --to")
-    } else {
-        None
+        return Err("--from is past --to");
     }
+    if is_picture {
+        let cell = cell as u8;
+        return Ok(Word::Picture(Drawing { view, cell }));
+    }
+    Ok(Word::Trace(view))
 }
 
-/// What a word asks for with the words after it.
-fn word_from<'a>(name: &str, words: &ArgMatches<'_>, wanted: &'a [Wanted]) -> Option<Word<'a>> {
-    let asked = exploration_from(words);
-    match name {
-        "check" => Some(Word::Check(words.get_one::<u64>("setup").unwrap_or(ALL))),
-        "explore" if words.get_strs(FIND).is_some() => Some(Word::Find {
-            asked,
-            wanted,
-            form: schedule_form_from(words),
-        }),
-        "explore" if words.get_strs(NEVER).is_some() => Some(Word::Never {
-            asked,
-            wanted,
-            form: schedule_form_from(words),
-        }),
-        "explore" if words.get_str(PART).is_some() => Some(part_word(asked, words)),
-        "explore" => Some(Word::Explore {
-            asked,
-            form: ends_form_from(words),
-            jobs: jobs_from(words),
-        }),
-        "sum" => Some(Word::Sum(ends_form_from(words))),
-        "trace" if words.get_flag("svg") => Some(Word::Picture(drawing_from(words))),
-        "trace" => Some(Word::Trace(view_from(words))),
-        _ => None,
-    }
-}
-
-/// What the words of `explore` ask for.
+/// What is asked of an exploration.
 fn exploration_from(words: &ArgMatches<'_>) -> Exploration {
     Exploration {
         setup: words.get_one::<u64>("setup").unwrap_or(0),
         limit: words.get_one::<u64>("limit").unwrap_or(LIMIT),
     }
-}
-
-/// By how many threads is searched; a number that does not fit is too many, too.
-fn jobs_from(words: &ArgMatches<'_>) -> u32 {
-    let jobs = words.get_one::<u64>(JOBS).unwrap_or(1);
-    jobs.min(u64::from(u32::MAX)) as u32
 }
 
 /// How the ends are to be written.
@@ -224,7 +254,7 @@ fn schedule_form_from(words: &ArgMatches<'_>) -> ScheduleForm {
     }
 }
 
-/// What the words of `trace` ask for.
+/// What a trace shows.
 fn view_from(words: &ArgMatches<'_>) -> View {
     View {
         from: words.get_one::<u64>("from").unwrap_or(1),
@@ -232,14 +262,5 @@ fn view_from(words: &ArgMatches<'_>) -> View {
         every: words.get_one::<u64>("every").unwrap_or(1),
         width: words.get_one::<u64>("width").unwrap_or(WIDTH),
         orders: words.get_flag("orders"),
-    }
-}
-
-/// What the words of `trace` ask for, where that is a picture.
-fn drawing_from(words: &ArgMatches<'_>) -> Drawing {
-    let cell = words.get_one::<u64>("cell").unwrap_or(CELL);
-    Drawing {
-        view: view_from(words),
-        cell: cell.min(u64::from(u8::MAX)) as u8,
     }
 }

@@ -2,8 +2,8 @@
 use Rattle.std.proofs.Common.{string_bytes}
 use Rattle.std.proofs.lemmas.Result.{IfOk-weaker}
 use Rattle.hp_scenario.specs.Seen.{scenario_seen}
-use Rattle.hp_shown.proofs.Counted.{counted_none, read_count}
-use Rattle.hp_shown.proofs.checks.count_in.Goals as goal
+use Rattle.hp_lab_shell.proofs.Counted.{counted_none, read_count}
+use Rattle.hp_lab_shell.proofs.checks.count_in.Goals as goal
 
 pub returns-in-Ok : goal.returns-in-Ok
 returns-in-Ok c =

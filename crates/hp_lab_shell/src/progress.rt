@@ -9,7 +9,7 @@ const SILENT: u32 = 1024;
 
 /// Where it is shown how far a search has come.
 #[derive(Clone, Copy, Drop)]
-pub enum Shown {
+pub(crate) enum Shown {
     /// Nowhere.
     Nowhere,
     /// In one line of a terminal, which is written over and over.
@@ -19,7 +19,7 @@ pub enum Shown {
 }
 
 /// Where it is shown how far a search has come, on a terminal or on what is none.
-pub fn shown_on(is_terminal: bool, is_wanted: bool) -> Shown {
+pub(crate) fn shown_on(is_terminal: bool, is_wanted: bool) -> Shown {
     if is_terminal {
         Shown::InPlace
     } else if is_wanted {
@@ -30,7 +30,7 @@ pub fn shown_on(is_terminal: bool, is_wanted: bool) -> Shown {
 }
 
 /// Shows how far a search has come.
-pub struct Progress<W: Write + Drop> {
+pub(crate) struct Progress<W: Write + Drop> {
     out: W,
     shown: Shown,
     is_open: bool,
@@ -39,7 +39,7 @@ pub struct Progress<W: Write + Drop> {
 
 impl<W: Write + Drop> Progress<W> {
     /// Nothing is shown yet.
-    pub fn new(out: W, shown: Shown) -> Progress<W> {
+    pub(crate) fn new(out: W, shown: Shown) -> Progress<W> {
         Progress {
             out,
             shown,

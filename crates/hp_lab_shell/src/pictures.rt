@@ -1,8 +1,8 @@
 //! The trace of a scenario, as a text and as a picture.
 ghost use Rattle.std.specs.Prelude.{◌≡◌, IfErr, IfOk, string_bytes};
 ghost use Rattle.hp_trace.specs.Traces.{IsTraceOf};
-ghost use Rattle.hp_shown.specs.Faults.{IsUnread};
-ghost use Rattle.hp_shown.specs.Pictures.{IsDrawnWith, IsPictureOf};
+ghost use Rattle.hp_lab_shell.specs.Faults.{IsUnread};
+ghost use Rattle.hp_lab_shell.specs.Pictures.{IsDrawnWith, IsPictureOf};
 
 use crate::answer::Answer;
 use hp_lab_faults::ProgramFault;

@@ -3,7 +3,7 @@ ghost use Rattle.std.specs.Prelude.{◌≡◌, ◌≢◌, ◌-◌, ◌^◌, ◌=
 ghost use Rattle.hp_scenario.specs.Scenario.{scenario_in};
 ghost use Rattle.hp_lab_faults.specs.declared.fault.LabFault.TheVariants.{OutOfMemory};
 ghost use Rattle.hp_lab_faults.specs.declared.program_fault.ProgramFault.TheVariants.{Lab};
-ghost use Rattle.hp_shown.specs.Checks.{IsCheckOf, IsCountIn, IsCountOf};
+ghost use Rattle.hp_lab_shell.specs.Checks.{IsCheckOf, IsCountIn, IsCountOf};
 
 use crate::answer::Answer;
 use hp_check::{check, fault_count, write_report};
@@ -13,10 +13,10 @@ use hp_scripts::interleavings_line;
 use std::alloc::{AllocError, Global};
 
 /// The most interleavings that are counted where no limit is given.
-pub const LIMIT: u64 = 10_000_000;
+pub(crate) const LIMIT: u64 = 10_000_000;
 
 /// The lines of a setup that is all of a scenario.
-pub const ALL: u64 = u64::MAX;
+pub(crate) const ALL: u64 = u64::MAX;
 
 /// What is wrong with the scenario that the bytes are to be, of whose lines so many are the setup, and
 /// how many interleavings the scripts after it have. The status is 0 where nothing is wrong but

@@ -6,7 +6,7 @@ use hp_scripts::Unbegun;
 use std::alloc::{AllocError, Global};
 
 /// Says on standard error which lines of scripts work on no operation.
-pub fn say_unbegun(rt: &HostRuntime, unbegun: &[Unbegun]) {
+pub(crate) fn say_unbegun(rt: &HostRuntime, unbegun: &[Unbegun]) {
     for lost in unbegun {
         let (cpu, line) = (lost.cpu, lost.line);
         let _ = eprintln!(rt;
@@ -16,7 +16,7 @@ pub fn say_unbegun(rt: &HostRuntime, unbegun: &[Unbegun]) {
 }
 
 /// The name of the file where only one is named, and it is not standard input.
-pub fn only_name<'a>(names: &[&'a str]) -> Option<&'a str> {
+pub(crate) fn only_name<'a>(names: &[&'a str]) -> Option<&'a str> {
     match names {
         [name] if *name != "-" => Some(name),
         _ => None,
@@ -25,7 +25,7 @@ pub fn only_name<'a>(names: &[&'a str]) -> Option<&'a str> {
 
 /// Says on standard error what failed, by the name of the file where that was not read, and what says
 /// more where the input is no scenario.
-pub fn say_fault(rt: &HostRuntime, file: Option<&str>, fault: ProgramFault) {
+pub(crate) fn say_fault(rt: &HostRuntime, file: Option<&str>, fault: ProgramFault) {
     let _ = match unread_name(rt.alloc(), file, fault) {
         Some(name) => eprintln!(rt; "hotplug_lab: {name}: {fault}"),
         None => eprintln!(rt; "hotplug_lab: {fault}"),
@@ -48,7 +48,7 @@ fn unread_name(alloc: Global, file: Option<&str>, fault: ProgramFault) -> Option
 }
 
 /// Says what the words may be, or what the program is, and answers the exit status.
-pub fn say_words(rt: &HostRuntime, error: &clap::Error) -> Result<u8, ProgramFault> {
+pub(crate) fn say_words(rt: &HostRuntime, error: &clap::Error) -> Result<u8, ProgramFault> {
     let status = error.exit_code() as u8;
     match error.print(rt) {
         Err(_) if status == 0 => Err(ProgramFault::WriteFailed),

@@ -7,7 +7,7 @@ use std::fs;
 use std::io::Read;
 
 /// The bytes of files, one after another; `-` names standard input.
-pub fn bytes_of(rt: &HostRuntime, names: &[&str]) -> Result<Vec<u8>, ProgramFault> {
+pub(crate) fn bytes_of(rt: &HostRuntime, names: &[&str]) -> Result<Vec<u8>, ProgramFault> {
     let mut bytes = Vec::new(rt.alloc());
     for name in names {
         push_file(rt, &mut bytes, name)?;

@@ -1,14 +1,14 @@
 //! What a scenario has before anything is searched.
 ghost use Rattle.std.specs.Prelude.{◌≡◌, IfOk};
 ghost use Rattle.hp_scenario.specs.Scenario.{scenario_in};
-ghost use Rattle.hp_shown.specs.Scripts.{count_of, unbegun_in};
+ghost use Rattle.hp_lab_shell.specs.Scripts.{count_of, unbegun_in};
 
 use hp_scenario::{Scenario, ScenarioFault};
 use hp_scripts::{Unbegun, unbegun_lines};
 use std::alloc::{AllocError, Global};
 
 /// How many lines the scenario has; none where the bytes are no scenario. An error is out of memory.
-pub fn line_count(alloc: Global, input: &[u8]) -> Result<Option<u64>, AllocError>
+pub(crate) fn line_count(alloc: Global, input: &[u8]) -> Result<Option<u64>, AllocError>
     ensures { IfOk result (λ count. count ≡ count_of (scenario_in input.now)) }
 {
     match Scenario::read(alloc, input) {
@@ -20,7 +20,11 @@ pub fn line_count(alloc: Global, input: &[u8]) -> Result<Option<u64>, AllocError
 
 /// The lines after so many lines of setup that work on operation 0 where their processor has begun none;
 /// none where the bytes are no scenario. An error is out of memory.
-pub fn unbegun_in(alloc: Global, input: &[u8], setup: u64) -> Result<Vec<Unbegun>, AllocError>
+pub(crate) fn unbegun_in(
+    alloc: Global,
+    input: &[u8],
+    setup: u64,
+) -> Result<Vec<Unbegun>, AllocError>
     ensures { IfOk result (λ found. found.items ≡ unbegun_in setup (scenario_in input.now)) }
 {
     match Scenario::read(alloc, input) {

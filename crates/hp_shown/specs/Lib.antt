@@ -1,4 +1,0 @@
-pub mod Checks
-pub mod Faults
-pub mod Pictures
-pub mod Scripts
