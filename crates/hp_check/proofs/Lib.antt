@@ -6,6 +6,7 @@ mod Fronts
 mod Json
 mod Pieces
 mod RangesAgree
+mod Regrouped
 mod Reported
 mod ShapeParts
 mod Shapes

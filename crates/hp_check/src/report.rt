@@ -11,8 +11,6 @@ use crate::finding::{Finding, Hint, Key, OutOfRange, Place, Shape, Warning, What
 use crate::quotes::write_quoted;
 use crate::shape::keys_of;
 use hp_call_lines::call_lines;
-use hp_requests::ControlFault;
-use hp_scenario::Unfit;
 use std::alloc::{AllocError, Global};
 
 /// Writes findings on a scenario, one a line, and how many faults and warnings there are (own
@@ -48,8 +46,7 @@ fn write_counts(out: &mut String, findings: &[Finding]) -> Result<(), AllocError
 {
     let faults = fault_count(findings);
     let warnings = warning_count(findings);
-    write!(out, "faults: {faults}, ")?;
-    writeln!(out, "warnings: {warnings}")
+    writeln!(out, "faults: {faults}, warnings: {warnings}")
 }
 
 /// How many of the findings are warnings.
@@ -92,8 +89,7 @@ fn write_no_json(out: &mut String, hint: Hint, line: u64, column: u64) -> Result
         (string_bytes out.new ≡ string_bytes out.old ++ says.no_json_text hint line column) }
 {
     let reason = hint_text(hint);
-    write!(out, "line {line}, ")?;
-    writeln!(out, "column {column}: not JSON{reason}")
+    writeln!(out, "line {line}, column {column}: not JSON{reason}")
 }
 
 /// Why a text is likely to be no JSON, in words.
@@ -123,11 +119,10 @@ fn write_call(out: &mut String, text: &str) -> Result<(), AllocError>
 fn write_head(out: &mut String, lines: &[u64], number: u64) -> Result<(), AllocError>
     ensures { OnOk result (string_bytes out.new ≡ string_bytes out.old ++ says.head_text lines.now number) }
 {
-    write!(out, "calls {number}")?;
-    if let Some(line) = line_of(lines, number) {
-        write!(out, " (line {line})")?;
+    match line_of(lines, number) {
+        Some(line) => write!(out, "calls {number} (line {line}): "),
+        None => write!(out, "calls {number}: "),
     }
-    out.push_str(": ")
 }
 
 /// The line in which a text of `calls` stands, by its number.
@@ -235,27 +230,12 @@ fn write_range(out: &mut String, part: OutOfRange) -> Result<(), AllocError>
     }
 }
 
-/// Writes a number of the layout, before what it may be.
-fn write_bound_front(out: &mut String, key: Key, n: u64) -> Result<(), AllocError>
-    ensures { OnOk result (string_bytes out.new ≡ string_bytes out.old ++ says.bound_front key n) }
-{
-    let name = key.name();
-    write!(out, "layout: `{name}` is {n}, and may be ")
-}
-
 /// Writes a number of the layout, and what it may be.
 fn write_bound(out: &mut String, key: Key, n: u64, range: &str) -> Result<(), AllocError>
     ensures { OnOk result (string_bytes out.new ≡ string_bytes out.old ++ says.bound_text key n range.now) }
 {
-    write_bound_front(out, key, n)?;
-    writeln!(out, "{range}")
-}
-
-/// Writes a text.
-fn write_line(out: &mut String, text: &str) -> Result<(), AllocError>
-    ensures { OnOk result (string_bytes out.new ≡ string_bytes out.old ++ (text.now ++ says.newline)) }
-{
-    writeln!(out, "{text}")
+    let name = key.name();
+    writeln!(out, "layout: `{name}` is {n}, and may be {range}")
 }
 
 /// Writes a number in a text.
@@ -278,16 +258,17 @@ fn write_numbers(
     ensures { OnOk result (string_bytes out.new
         ≡ string_bytes out.old ++ says.numbers_text before.now n between.now m after.now) }
 {
-    write!(out, "{before}{n}{between}")?;
-    writeln!(out, "{m}{after}")
+    writeln!(out, "{before}{n}{between}{m}{after}")
 }
 
 /// Writes that `batch` is not 1 to `high`.
 fn write_batch(out: &mut String, batch: u64, high: u64) -> Result<(), AllocError>
     ensures { OnOk result (string_bytes out.new ≡ string_bytes out.old ++ says.batch_text batch high) }
 {
-    write_bound_front(out, Key::Batch, batch)?;
-    writeln!(out, "1 to `high`, which is {high}")
+    writeln!(
+        out,
+        "layout: `batch` is {batch}, and may be 1 to `high`, which is {high}"
+    )
 }
 
 /// Writes a warning.
@@ -320,9 +301,9 @@ fn write_warning(out: &mut String, warning: Warning) -> Result<(), AllocError>
             history,
             " records",
         ),
-        Warning::Echo(fault) => write_echo_fault(out, fault),
-        Warning::NoFile => write_line(out, "warning: cat: fault NoFile"),
-        Warning::NotForScript(why) => write_unfit(out, why),
+        Warning::Echo(fault) => writeln!(out, "warning: echo: fault {fault}"),
+        Warning::NoFile => out.push_str("warning: cat: fault NoFile\n"),
+        Warning::NotForScript(why) => writeln!(out, "warning: not for a script: {why}"),
     }
 }
 
@@ -330,29 +311,8 @@ fn write_warning(out: &mut String, warning: Warning) -> Result<(), AllocError>
 fn write_past(out: &mut String, what: What, number: u64, count: u64) -> Result<(), AllocError>
     ensures { OnOk result (string_bytes out.new ≡ string_bytes out.old ++ says.past_text what number count) }
 {
-    write!(out, "warning: {what}")?;
-    write_numbers(
+    writeln!(
         out,
-        " ",
-        number,
-        " is past the layout, which has ",
-        count,
-        ", counted from 0",
+        "warning: {what} {number} is past the layout, which has {count}, counted from 0"
     )
-}
-
-/// Writes that a control file does not take what is written to it.
-fn write_echo_fault(out: &mut String, fault: ControlFault) -> Result<(), AllocError>
-    ensures { OnOk result
-        (string_bytes out.new ≡ string_bytes out.old ++ says.warning_text (Warning.Echo fault)) }
-{
-    writeln!(out, "warning: echo: fault {fault}")
-}
-
-/// Writes why a line cannot stand in a script.
-fn write_unfit(out: &mut String, why: Unfit) -> Result<(), AllocError>
-    ensures { OnOk result
-        (string_bytes out.new ≡ string_bytes out.old ++ says.warning_text (Warning.NotForScript why)) }
-{
-    writeln!(out, "warning: not for a script: {why}")
 }

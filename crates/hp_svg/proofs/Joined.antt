@@ -1,5 +1,7 @@
 -- Texts, one after the other.
-use Rattle.std.proofs.Common.{◌≡◌, ℕ, List, [], ◌++◌, Bool, true, false, Result, Ok, Err, OnOk, is_ok, if◌then◌else◌, sym, ap, ◌∙◌, append_assoc}
+use Rattle.std.proofs.Common.{◌≡◌, ℕ, List, [], ◌++◌, Bool, true, false, Result, Ok, Err, OnOk, codes, is_ok, if◌then◌else◌, sym, ap, ◌∙◌, append_assoc, arith}
+use Rattle.std.specs.Fmt.{decimal}
+use Rattle.std.proofs.lemmas.Fmt.{decimal-digits_of}
 
 pub joined : (first second old mid new : List ℕ) → mid ≡ old ++ first → new ≡ mid ++ second
     → new ≡ old ++ (first ++ second)
@@ -35,3 +37,15 @@ pub shown : (test : Bool) (text old new : List ℕ) → test ≡ true → new �
     → new ≡ old ++ (if test then text else [])
 shown true text old new holds written = written
 shown false text old new holds written = cc
+
+-- parts that were written at once
+pub regrouped : {apart at_once : List ℕ} (old new : List ℕ) → apart ≡ at_once → new ≡ old ++ at_once
+    → new ≡ old ++ apart
+regrouped old new same written = written ∙ ap (λ (text : List ℕ). old ++ text) (sym same)
+
+-- heights that a picture names
+pub decimal_10 : decimal 10 ≡ codes "10"
+decimal_10 = decimal-digits_of 10 (omega arith) (omega arith)
+
+pub decimal_14 : decimal 14 ≡ codes "14"
+decimal_14 = decimal-digits_of 14 (omega arith) (omega arith)

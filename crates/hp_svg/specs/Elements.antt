@@ -38,6 +38,11 @@ narrowed is_narrow room =
     if is_narrow then codes " textLength='" ++ decimal (6 * room)
     ++ codes "' lengthAdjust='spacingAndGlyphs'" else []
 
+-- how a text begins
+unfoldable pub text_start : (x y : ℕ) → (is_narrow : Bool) → (room : ℕ) → List ℕ
+text_start x y is_narrow room =
+    codes "<text" ++ position x y ++ narrowed is_narrow room ++ codes ">"
+
 unfoldable pub text_element : (x y : ℕ) → (is_narrow : Bool) → (room : ℕ) → (text : List ℕ) → List ℕ
 text_element x y is_narrow room text =
     codes "<text" ++ position x y ++ narrowed is_narrow room ++ codes ">" ++ escaped_text text

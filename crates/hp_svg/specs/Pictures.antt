@@ -8,6 +8,8 @@ use Rattle.hp_svg.specs.Marks.{label_of, marks_in}
 use Rattle.hp_svg.specs.Moves.{moves_text}
 use Rattle.hp_svg.specs.Rows.{newline, rows_text}
 use Rattle.hp_svg.specs.Sheets.{cells_at, cells_width, first_frame, has_grid, height_of, legend_left, legend_top, number_at, rows_at, sheet_of, width_of}
+use Rattle.hp_svg.specs.declared.pictures.Sign.{Sign}
+use Rattle.hp_svg.specs.declared.pictures.Sign.TheVariants.{Outline, Movable, Unmovable, Move}
 use Rattle.hp_svg.specs.declared.sheets.Sheet.{Sheet}
 
 -- ---- above and over the rows
@@ -23,6 +25,13 @@ entry_text names entry =
 unfoldable pub note_text : (place : ℕ) → (text : List ℕ) → List ℕ
 note_text place text =
     text_element (legend_left place + 18) (legend_top place + 10) false 0 text ++ newline
+
+-- what the legend shows besides characters, where it stands
+abbrev pub sign_element : (left top : ℕ) → Sign → List ℕ
+sign_element left top Outline = outline_element left (top + 1) 12
+sign_element left top Movable = strip_element left (top + 5) 12 77
+sign_element left top Unmovable = strip_element left (top + 5) 12 85
+sign_element left top Move = move_element left (top + 2) (left + 12) (top + 10)
 
 -- what outlines, strips and lines mean, after so many entries
 unfoldable pub outline_note : (place : ℕ) → List ℕ

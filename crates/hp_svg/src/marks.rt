@@ -1,7 +1,7 @@
 //! The characters of cells: their colours, and what they mean.
-ghost use Rattle.std.specs.Prelude.{◌≡◌, ◌<◌, ◌≤◌, [], ◌∷◌, ◌++◌, IfOk, IsTrue, OnOk, map, string_bytes};
+ghost use Rattle.std.specs.Prelude.{◌≡◌, ◌<◌, ◌≤◌, [], ◌++◌, IfOk, IsTrue, OnOk, codes, if◌then◌else◌, map, string_bytes};
 ghost use Rattle.hp_pictures.specs.Counts.{known_marks};
-ghost use Rattle.hp_svg.specs.Marks.{all_differ, bright_fill, fill_of, has_mark, ink_of, is_lettered, label_of, letter_label, list_fill, list_label, marks_in, muted_fill, name_label, occurs, okabe_fill, owner_label, plain_fill, plain_label, row_has_mark};
+ghost use Rattle.hp_svg.specs.Marks.{all_differ, fill_of, ink_of, is_lettered, label_of, marks_in, occurs, owner_label, plain_label, row_has_mark};
 
 use hp_numbers::Text;
 use hp_pictures::{BlockPicture, MARKS, RowPicture};
@@ -43,65 +43,15 @@ pub(crate) fn is_lettered(mark: u8) -> bool
 }
 
 /// The colour of a character.
-#[tactic(auto, unfolding(crate::specs::Marks::fill_of))]
+#[tactic(auto, unfolding(crate::specs::Marks::fill_of, crate::specs::Marks::okabe_fill, crate::specs::Marks::muted_fill, crate::specs::Marks::bright_fill, crate::specs::Marks::list_fill, crate::specs::Marks::plain_fill))]
 pub(crate) fn fill_of(mark: u8) -> &'static str
     ensures { result.now ≡ fill_of mark }
 {
     match mark {
-        b'a'..=b'g' => okabe_fill(mark),
-        b'h'..=b'p' => muted_fill(mark),
-        b'q'..=b'z' => bright_fill(mark),
-        b'0'..=b'9' => list_fill(mark),
-        _ => plain_fill(mark),
-    }
-}
-
-/// The colour of an owner's letter from a to g.
-#[tactic(auto, unfolding(crate::specs::Marks::okabe_fill))]
-fn okabe_fill(mark: u8) -> &'static str
-    requires first { 97 ≤ mark }
-    requires last { mark ≤ 103 }
-    ensures { result.now ≡ okabe_fill mark }
-{
-    OKABE[(mark - b'a') as usize]
-}
-
-/// The colour of an owner's letter from h to p.
-#[tactic(auto, unfolding(crate::specs::Marks::muted_fill))]
-fn muted_fill(mark: u8) -> &'static str
-    requires first { 104 ≤ mark }
-    requires last { mark ≤ 112 }
-    ensures { result.now ≡ muted_fill mark }
-{
-    MUTED[(mark - b'h') as usize]
-}
-
-/// The colour of an owner's letter from q to z.
-#[tactic(auto, unfolding(crate::specs::Marks::bright_fill))]
-fn bright_fill(mark: u8) -> &'static str
-    requires first { 113 ≤ mark }
-    requires last { mark ≤ 122 }
-    ensures { result.now ≡ bright_fill mark }
-{
-    BRIGHT[(mark - b'q') as usize]
-}
-
-/// The colour of a processor's digit.
-#[tactic(auto, unfolding(crate::specs::Marks::list_fill))]
-fn list_fill(mark: u8) -> &'static str
-    requires first { 48 ≤ mark }
-    requires last { mark ≤ 57 }
-    ensures { result.now ≡ list_fill mark }
-{
-    LISTS[(mark - b'0') as usize]
-}
-
-/// The colour of a character that is neither an owner's nor a processor's.
-#[tactic(auto, unfolding(crate::specs::Marks::plain_fill))]
-fn plain_fill(mark: u8) -> &'static str
-    ensures { result.now ≡ plain_fill mark }
-{
-    match mark {
+        b'a'..=b'g' => OKABE[(mark - b'a') as usize],
+        b'h'..=b'p' => MUTED[(mark - b'h') as usize],
+        b'q'..=b'z' => BRIGHT[(mark - b'q') as usize],
+        b'0'..=b'9' => LISTS[(mark - b'0') as usize],
         b'.' => "#7fbf7b",
         b':' => "url(#isolated)",
         b'K' => "#3d3d3d",
@@ -134,21 +84,13 @@ pub(crate) fn write_label(
 {
     match mark {
         b'a'..=b'z' => write_owner_label(out, names, mark),
-        b'0'..=b'9' => write_list_label(out, mark),
+        b'0'..=b'9' => write!(out, "list of processor {}", char::from(mark)),
         _ => out.push_str(plain_label(mark)),
     }
 }
 
-/// Writes a character.
-#[tactic(auto, using(std::proofs::lemmas::Str::encode_ascii))]
-pub(crate) fn write_mark(out: &mut String, mark: u8) -> Result<(), AllocError>
-    requires { mark < 128 }
-    ensures { OnOk result (string_bytes out.new ≡ string_bytes out.old ++ mark ∷ []) }
-{
-    out.push(char::from(mark))
-}
-
-/// Writes what an owner's letter means: the name of the first owner that has it.
+/// Writes what an owner's letter means: the name of the first owner that has it, and whether there
+/// are others.
 #[tactic(auto, unfolding(crate::specs::Marks::owner_label))]
 fn write_owner_label(out: &mut String, names: &IndexSet<Text>, mark: u8) -> Result<(), AllocError>
     requires first { 97 ≤ mark }
@@ -156,43 +98,18 @@ fn write_owner_label(out: &mut String, names: &IndexSet<Text>, mark: u8) -> Resu
     ensures { OnOk result (string_bytes out.new ≡ string_bytes out.old ++ owner_label names.now.keys mark) }
 {
     let owner = (mark - b'a') as usize;
-    match names.get_index(owner) {
-        Some(name) => write_name(out, name.as_str(), names.len() > owner + 26),
-        None => write_letter_label(out, mark),
-    }
+    let Some(name) = names.get_index(owner) else {
+        return write!(out, "page of owner {}", char::from(mark));
+    };
+    let others = others_text(names.len() > owner + 26);
+    write!(out, "page of {}{others}", name.as_str())
 }
 
-/// Writes whose pages they are, of an owner who has a name, and maybe of others.
-#[tactic(auto, unfolding(crate::specs::Marks::name_label))]
-fn write_name(out: &mut String, name: &str, has_others: bool) -> Result<(), AllocError>
-    ensures { OnOk result (string_bytes out.new ≡ string_bytes out.old ++ name_label name.now has_others) }
+/// What is said where other owners have the same letter.
+fn others_text(has_others: bool) -> &'static str
+    ensures { result.now ≡ (if has_others then codes ", others" else []) }
 {
-    out.push_str("page of ")?;
-    out.push_str(name)?;
-    if has_others {
-        out.push_str(", others")?;
-    }
-    Ok(())
-}
-
-/// Writes whose pages they are, of an owner who has no name.
-#[tactic(auto, unfolding(crate::specs::Marks::letter_label))]
-fn write_letter_label(out: &mut String, mark: u8) -> Result<(), AllocError>
-    requires { mark < 128 }
-    ensures { OnOk result (string_bytes out.new ≡ string_bytes out.old ++ letter_label mark) }
-{
-    out.push_str("page of owner ")?;
-    write_mark(out, mark)
-}
-
-/// Writes what a processor's digit means.
-#[tactic(auto, unfolding(crate::specs::Marks::list_label))]
-fn write_list_label(out: &mut String, mark: u8) -> Result<(), AllocError>
-    requires { mark < 128 }
-    ensures { OnOk result (string_bytes out.new ≡ string_bytes out.old ++ list_label mark) }
-{
-    out.push_str("list of processor ")?;
-    write_mark(out, mark)
+    if has_others { ", others" } else { "" }
 }
 
 /// What a character means that is neither an owner's nor a processor's.
@@ -210,18 +127,13 @@ fn plain_label(mark: u8) -> &'static str
     }
 }
 
-/// Whether a character is one of the cells of a block.
-fn has_mark(mark: u8, block: &BlockPicture) -> bool
-    ensures { result ≡ has_mark mark block.now }
-{
-    block.cells().as_bytes().contains(&mark)
-}
-
 /// Whether a character is one of the cells of a row.
 fn row_has_mark(mark: u8, row: &RowPicture) -> bool
     ensures { result ≡ row_has_mark mark row.now }
 {
-    row.blocks().iter().any(|block| has_mark(mark, block))
+    row.blocks()
+        .iter()
+        .any(|block| block.cells().as_bytes().contains(&mark))
 }
 
 /// Whether a character is one of the cells of these rows.
@@ -232,16 +144,17 @@ fn occurs(rows: &[RowPicture], mark: u8) -> bool
 }
 
 /// The characters that are cells of these rows, in the order of the legend.
-#[tactic(auto, unfolding(crate::specs::Marks::marks_in))]
+#[tactic(auto, using(std::proofs::lemmas::List::Elements::filter_more), unfolding(crate::specs::Marks::marks_in))]
 pub(crate) fn marks_in(alloc: Global, rows: &[RowPicture]) -> Result<Vec<u8>, AllocError>
     ensures { IfOk result (λ marks. marks.items ≡ marks_in rows.now) }
 {
-    MARKS
-        .as_bytes()
-        .iter()
-        .copied()
-        .filter(|mark| occurs(rows, *mark))
-        .collect(alloc)
+    let mut marks = Vec::new(alloc);
+    for mark in MARKS.as_bytes() {
+        if occurs(rows, *mark) {
+            marks.push(*mark)?;
+        }
+    }
+    Ok(marks)
 }
 
 /// No two characters that have a meaning have the same colour.

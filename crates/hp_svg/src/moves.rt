@@ -1,8 +1,8 @@
 //! Pages that moved: a line from where each was, in the row above, to where it is.
 ghost use Rattle.std.specs.Prelude.{◌≡◌, ◌++◌, ◌+◌, ◌<◌, ◌≤◌, ◌^◌, OnOk, string_bytes};
-ghost use Rattle.hp_svg.specs.Moves.{last_blocks, move_text, moves_from, moves_shown, moves_text};
+ghost use Rattle.hp_svg.specs.Moves.{last_blocks, move_text, moves_text};
 
-use crate::elements::{write_move_look, write_path};
+use crate::elements::{MOVE_LOOK, write_path};
 use crate::sheets::{Sheet, texts_height};
 use hp_pictures::{Move, RowPicture};
 use std::alloc::AllocError;
@@ -27,8 +27,7 @@ fn write_move(
     let top = sheet.frame_top(above, from);
     let to_left = sheet.frame_left(to);
     let to_top = sheet.frame_top(here, to);
-    write_path(out, left, top, to_left, to_top)?;
-    out.push_str("/>")
+    write_path(out, left, top, to_left, to_top, "")
 }
 
 /// Where the blocks of the last row stand that has any, down to this one.
@@ -45,10 +44,21 @@ fn last_blocks(above: u128, top: u128, row: &RowPicture) -> u128
     }
 }
 
-/// Writes the lines of rows one under another.
-fn write_moves(out: &mut String, sheet: Sheet, rows: &[RowPicture]) -> Result<(), AllocError>
-    ensures { OnOk result (string_bytes out.new ≡ string_bytes out.old ++ moves_from sheet 0 0 rows.now) }
+/// Writes the lines of all moves, for rows that begin here: each twice, the lower one in white.
+pub(crate) fn write_moves(
+    out: &mut String,
+    sheet: Sheet,
+    start: u128,
+    rows: &[RowPicture],
+) -> Result<(), AllocError>
+    ensures { OnOk result (string_bytes out.new ≡ string_bytes out.old ++ moves_text sheet start rows.now) }
 {
+    write!(
+        out,
+        "<marker id='arrow' viewBox='0 0 6 6' refX='5' refY='3' markerWidth='5' markerHeight='5' \
+         orient='auto'><path d='M0 0L6 3L0 6Z' fill='#b91c1c'/></marker>\
+         <defs><g id='moves' transform='translate(0 {start})'>"
+    )?;
     let mut above = 0u128;
     let mut top = 0u128;
     for row in rows {
@@ -56,37 +66,9 @@ fn write_moves(out: &mut String, sheet: Sheet, rows: &[RowPicture]) -> Result<()
         above = last_blocks(above, top, row);
         top += sheet.row_height(row);
     }
-    Ok(())
-}
-
-/// Writes the end of the lines, and that they are shown.
-#[tactic(auto, unfolding(crate::specs::Moves::moves_shown))]
-fn write_moves_shown(out: &mut String) -> Result<(), AllocError>
-    ensures { OnOk result (string_bytes out.new ≡ string_bytes out.old ++ moves_shown) }
-{
-    out.push_str(
+    write!(
+        out,
         "</g></defs><use href='#moves' stroke='#ffffff' stroke-width='3' stroke-opacity='0.6'/>\
-         <use href='#moves'",
-    )?;
-    write_move_look(out)
-}
-
-/// Writes the lines of all moves, for rows that begin here.
-#[tactic(auto, unfolding(crate::specs::Moves::moves_text))]
-pub(crate) fn write_all_moves(
-    out: &mut String,
-    sheet: Sheet,
-    top: u128,
-    rows: &[RowPicture],
-) -> Result<(), AllocError>
-    ensures { OnOk result (string_bytes out.new ≡ string_bytes out.old ++ moves_text sheet top rows.now) }
-{
-    out.push_str(
-        "<marker id='arrow' viewBox='0 0 6 6' refX='5' refY='3' markerWidth='5' markerHeight='5' \
-         orient='auto'><path d='M0 0L6 3L0 6Z' fill='#b91c1c'/></marker>",
-    )?;
-    write!(out, "<defs><g id='moves' transform='translate(0 {top})'>")?;
-    write_moves(out, sheet, rows)?;
-    write_moves_shown(out)?;
-    out.push_str("\n")
+         <use href='#moves'{MOVE_LOOK}/>\n"
+    )
 }

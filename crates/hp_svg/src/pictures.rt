@@ -1,19 +1,26 @@
 //! Rows as one picture.
-ghost use Rattle.std.specs.Prelude.{◌≡◌, ◌++◌, ◌<◌, ◌≤◌, ◌^◌, IfOk, OnOk, string_bytes};
+ghost use Rattle.std.specs.Prelude.{◌≡◌, ◌++◌, ◌<◌, ◌^◌, IfOk, OnOk, string_bytes};
 ghost use Rattle.std.specs.List.{enumerate_from, flat_map, range_with_len};
-ghost use Rattle.hp_svg.specs.Pictures.{block_text, entry_text, grid, line_path, line_size, move_note, note_text, notes_text, opening, outline_note, picture_of, picture_with, strip_note, strip_notes, style, view};
+ghost use Rattle.hp_svg.specs.Pictures.{block_text, entry_text, grid, note_text, notes_text, opening, picture_of, picture_with, sign_element, style};
+ghost use Rattle.hp_svg.specs.Sheets.{legend_left, legend_top, width_of};
 
-use crate::elements::{
-    write_cell, write_extent, write_move_element, write_outline, write_strip, write_text,
-};
+use crate::elements::{MOVE_LOOK, write_cell, write_outline, write_path, write_strip, write_text};
 use crate::marks::{marks_in, write_label};
-use crate::moves::write_all_moves;
-use crate::rows::write_all_rows;
+use crate::moves::write_moves;
+use crate::rows::write_rows;
 use crate::sheets::{Sheet, legend_left, legend_top};
 use hp_numbers::Text;
 use hp_pictures::RowPicture;
 use indexmap::IndexSet;
 use std::alloc::{AllocError, Global};
+
+/// The title, and that spaces count in texts.
+const TITLE: &str = "<title>Trace of a memory</title><style>text{white-space:pre}</style>";
+
+/// How isolated cells are hatched.
+const HATCHING: &str = "<pattern id='isolated' width='4' height='4' patternUnits='userSpaceOnUse'>\
+     <rect width='4' height='4' fill='#eef5ee'/>\
+     <path d='M-1 1L1 -1M0 4L4 0M3 5L5 3' stroke='#4f9d69'/></pattern>";
 
 /// The picture of rows as SVG (own rule), where the cell of a frame is so many pixels wide: one row
 /// under another, with its texts and the heads of its memory blocks as text, a rectangle for each run
@@ -35,101 +42,70 @@ pub fn picture_of(
     ensures { IfOk result (λ picture. string_bytes picture ≡ picture_of names.now.keys cell rows.now) }
 {
     let marks = marks_in(alloc, rows)?;
-    picture_with(alloc, Sheet::of(rows, cell), names, marks.as_slice(), rows)
+    let sheet = Sheet::of(rows, cell);
+    let mut out = String::new(alloc);
+    write_picture(&mut out, alloc, sheet, names, marks.as_slice(), rows)?;
+    Ok(out)
 }
 
-/// The picture of rows, with these characters in the legend.
+/// Writes the picture of rows, with these characters in the legend.
 #[tactic(auto, unfolding(crate::specs::Pictures::picture_with))]
-fn picture_with(
+fn write_picture(
+    out: &mut String,
     alloc: Global,
     sheet: Sheet,
     names: &IndexSet<Text>,
     marks: &[u8],
     rows: &[RowPicture],
-) -> Result<String, AllocError>
-    ensures { IfOk result
-        (λ picture. string_bytes picture ≡ picture_with sheet names.now.keys marks.now rows.now) }
+) -> Result<(), AllocError>
+    ensures { OnOk result (string_bytes out.new ≡ string_bytes out.old
+        ++ picture_with sheet names.now.keys marks.now rows.now) }
 {
     let entries = marks.len() + 4;
-    let mut out = String::new(alloc);
-    write_opening(&mut out, sheet.width(), sheet.height(entries, rows))?;
-    write_style(&mut out, sheet)?;
-    write_legend(&mut out, alloc, names, marks)?;
-    write_notes(&mut out, marks.len())?;
-    write_all_rows(&mut out, alloc, sheet, sheet.rows_at(entries), rows)?;
-    write_all_moves(&mut out, sheet, sheet.rows_at(entries), rows)?;
-    write_blocks(&mut out, alloc, sheet, entries)?;
-    out.push_str("</svg>\n")?;
-    Ok(out)
+    let start = sheet.rows_at(entries);
+    write_front(out, sheet, sheet.height(entries, rows))?;
+    write_legend(out, alloc, names, marks)?;
+    write_notes(out, marks.len())?;
+    write_rows(out, alloc, sheet, start, rows)?;
+    write_moves(out, sheet, start, rows)?;
+    write_blocks(out, alloc, sheet, entries)?;
+    out.push_str("</svg>\n")
 }
 
-/// Writes which part of the plane is seen.
-#[tactic(auto, unfolding(crate::specs::Pictures::view))]
-fn write_view(out: &mut String, width: u128, height: u128) -> Result<(), AllocError>
-    ensures { OnOk result (string_bytes out.new ≡ string_bytes out.old ++ view width height) }
+/// Writes how a picture of this height begins, and what all rows use: how cells are hatched, lines
+/// between them, and a white ground.
+#[tactic(auto, unfolding(crate::specs::Pictures::style))]
+fn write_front(out: &mut String, sheet: Sheet, height: u128) -> Result<(), AllocError>
+    ensures { OnOk result (string_bytes out.new ≡ string_bytes out.old
+        ++ (opening (width_of sheet) height ++ style sheet)) }
 {
-    write!(out, " viewBox='0 0 {width} {height}'")
-}
-
-/// Writes how the picture begins.
-#[tactic(auto, unfolding(crate::specs::Pictures::opening))]
-fn write_opening(out: &mut String, width: u128, height: u128) -> Result<(), AllocError>
-    ensures { OnOk result (string_bytes out.new ≡ string_bytes out.old ++ opening width height) }
-{
-    out.push_str("<svg xmlns='http://www.w3.org/2000/svg'")?;
-    write_extent(out, width, height)?;
-    write_view(out, width, height)?;
-    out.push_str(" font-family='monospace' font-size='10' xml:space='preserve'>")
-}
-
-/// Writes where the lines between cells of this width begin anew.
-#[tactic(auto, unfolding(crate::specs::Pictures::line_size))]
-fn write_line_size(out: &mut String, cell: u8) -> Result<(), AllocError>
-    ensures { OnOk result (string_bytes out.new ≡ string_bytes out.old ++ line_size cell) }
-{
-    write!(out, "<pattern id='grid' width='{cell}' height='14'")
-}
-
-/// Writes the lines at both ends of a cell of this width.
-#[tactic(auto, unfolding(crate::specs::Pictures::line_path))]
-fn write_line_path(out: &mut String, cell: u8) -> Result<(), AllocError>
-    ensures { OnOk result (string_bytes out.new ≡ string_bytes out.old ++ line_path cell) }
-{
+    let width = sheet.width();
     write!(
         out,
-        " patternUnits='userSpaceOnUse'><path d='M0 0V14M{cell} 0V14'"
-    )
+        "<svg xmlns='http://www.w3.org/2000/svg' width='{width}' height='{height}' \
+         viewBox='0 0 {width} {height}' font-family='monospace' font-size='10' \
+         xml:space='preserve'>{TITLE}{HATCHING}"
+    )?;
+    write_grid(out, sheet)?;
+    out.push_str("<rect width='100%' height='100%' fill='#ffffff'/>\n")
 }
 
 /// Writes the lines between the cells of a block, as its rows use them, where cells are wide enough.
 #[tactic(auto, unfolding(crate::specs::Pictures::grid))]
-fn write_grid_lines(out: &mut String, sheet: Sheet) -> Result<(), AllocError>
+fn write_grid(out: &mut String, sheet: Sheet) -> Result<(), AllocError>
     ensures { OnOk result (string_bytes out.new ≡ string_bytes out.old ++ grid sheet) }
 {
     if !sheet.has_grid() {
         return Ok(());
     }
-    write_line_size(out, sheet.cell)?;
-    write_line_path(out, sheet.cell)?;
-    out.push_str(" stroke='#ffffff'/></pattern><defs><rect id='lines'")?;
-    write_extent(out, sheet.cells_width(), 14)?;
-    out.push_str(" fill='url(#grid)'/></defs>")
-}
-
-/// Writes what all rows use: the title, how cells are hatched, lines between them, and a white ground.
-#[tactic(auto, unfolding(crate::specs::Pictures::style))]
-fn write_style(out: &mut String, sheet: Sheet) -> Result<(), AllocError>
-    ensures { OnOk result (string_bytes out.new ≡ string_bytes out.old ++ style sheet) }
-{
-    out.push_str("<title>Trace of a memory</title><style>text{white-space:pre}</style>")?;
-    out.push_str(
-        "<pattern id='isolated' width='4' height='4' patternUnits='userSpaceOnUse'>\
-         <rect width='4' height='4' fill='#eef5ee'/>\
-         <path d='M-1 1L1 -1M0 4L4 0M3 5L5 3' stroke='#4f9d69'/></pattern>",
-    )?;
-    write_grid_lines(out, sheet)?;
-    out.push_str("<rect width='100%' height='100%' fill='#ffffff'/>")?;
-    out.push_str("\n")
+    let cell = sheet.cell;
+    let width = sheet.cells_width();
+    write!(
+        out,
+        "<pattern id='grid' width='{cell}' height='14' patternUnits='userSpaceOnUse'>\
+         <path d='M0 0V14M{cell} 0V14' stroke='#ffffff'/></pattern>\
+         <defs><rect id='lines' width='{width}' height='14' fill='url(#grid)'/></defs>"
+    )
 }
 
 /// Writes the legend of characters.
@@ -170,71 +146,53 @@ fn write_entry(
     out.push_str("\n")
 }
 
+/// What the legend shows besides characters.
+#[derive(Clone, Copy)]
+pub(crate) enum Sign {
+    Outline,
+    Movable,
+    Unmovable,
+    Move,
+}
+
 /// Writes what outlines, strips and lines mean, after so many entries of the legend.
 #[tactic(auto, unfolding(crate::specs::Pictures::notes_text))]
 fn write_notes(out: &mut String, place: usize) -> Result<(), AllocError>
     requires { place < 2 ^ 63 }
     ensures { OnOk result (string_bytes out.new ≡ string_bytes out.old ++ notes_text place) }
 {
-    write_outline_note(out, place)?;
-    write_strip_notes(out, place + 1)?;
-    write_move_note(out, place + 3)
+    write_note(out, place, Sign::Outline, "free block, its order")?;
+    write_note(out, place + 1, Sign::Movable, "movable pageblock")?;
+    write_note(out, place + 2, Sign::Unmovable, "unmovable pageblock")?;
+    write_note(out, place + 3, Sign::Move, "page that moved")
 }
 
-/// Writes what strips mean, at two places of the legend.
-#[tactic(auto, unfolding(crate::specs::Pictures::strip_notes))]
-fn write_strip_notes(out: &mut String, place: usize) -> Result<(), AllocError>
-    requires { place ≤ 2 ^ 63 }
-    ensures { OnOk result (string_bytes out.new ≡ string_bytes out.old ++ strip_notes place) }
-{
-    write_strip_note(out, place, b'M', "movable pageblock")?;
-    write_strip_note(out, place + 1, b'U', "unmovable pageblock")
-}
-
-/// Writes what a line from row to row means, at a place of the legend.
-#[tactic(auto, unfolding(crate::specs::Pictures::move_note))]
-fn write_move_note(out: &mut String, place: usize) -> Result<(), AllocError>
-    ensures { OnOk result (string_bytes out.new ≡ string_bytes out.old ++ move_note place) }
+/// Writes a sign and its meaning at a place of the legend.
+#[tactic(auto, unfolding(crate::specs::Pictures::note_text))]
+fn write_note(out: &mut String, place: usize, sign: Sign, text: &str) -> Result<(), AllocError>
+    ensures { OnOk result (string_bytes out.new ≡ string_bytes out.old
+        ++ (sign_element (legend_left place) (legend_top place) sign ++ note_text place text.now)) }
 {
     let left = legend_left(place);
     let top = legend_top(place);
-    write_move_element(out, left, top + 2, left + 12, top + 10)?;
-    write_note(out, place, "page that moved")
-}
-
-/// Writes what outlines mean, at a place of the legend.
-#[tactic(auto, unfolding(crate::specs::Pictures::outline_note))]
-fn write_outline_note(out: &mut String, place: usize) -> Result<(), AllocError>
-    ensures { OnOk result (string_bytes out.new ≡ string_bytes out.old ++ outline_note place) }
-{
-    write_outline(out, legend_left(place), legend_top(place) + 1, 12)?;
-    write_note(out, place, "free block, its order")
-}
-
-/// Writes what a strip means, at a place of the legend.
-#[tactic(auto, unfolding(crate::specs::Pictures::strip_note))]
-fn write_strip_note(
-    out: &mut String,
-    place: usize,
-    letter: u8,
-    text: &str,
-) -> Result<(), AllocError>
-    ensures { OnOk result
-        (string_bytes out.new ≡ string_bytes out.old ++ strip_note place letter text.now) }
-{
-    write_strip(out, legend_left(place), legend_top(place) + 5, 12, letter)?;
-    write_note(out, place, text)
-}
-
-/// Writes the text at a place of the legend.
-#[tactic(auto, unfolding(crate::specs::Pictures::note_text))]
-fn write_note(out: &mut String, place: usize, text: &str) -> Result<(), AllocError>
-    ensures { OnOk result (string_bytes out.new ≡ string_bytes out.old ++ note_text place text.now) }
-{
-    let left = legend_left(place) + 18;
-    let top = legend_top(place) + 10;
-    write_text(out, left, top, false, 0, text)?;
+    write_sign(out, left, top, sign)?;
+    write_text(out, left + 18, top + 10, false, 0, text)?;
     out.push_str("\n")
+}
+
+/// Writes a sign of the legend.
+#[tactic(auto, unfolding(crate::specs::Elements::move_element, crate::specs::Elements::move_look))]
+fn write_sign(out: &mut String, left: u128, top: u128, sign: Sign) -> Result<(), AllocError>
+    requires left { left < 2 ^ 100 }
+    requires top { top < 2 ^ 100 }
+    ensures { OnOk result (string_bytes out.new ≡ string_bytes out.old ++ sign_element left top sign) }
+{
+    match sign {
+        Sign::Outline => write_outline(out, left, top + 1, 12),
+        Sign::Movable => write_strip(out, left, top + 5, 12, b'M'),
+        Sign::Unmovable => write_strip(out, left, top + 5, 12, b'U'),
+        Sign::Move => write_path(out, left, top + 2, left + 12, top + 10, MOVE_LOOK),
+    }
 }
 
 /// Writes the numbers of the blocks and of their first frames.

@@ -1,45 +1,31 @@
 //! The rows of a picture.
 ghost use Rattle.std.specs.Prelude.{◌≡◌, ◌++◌, ◌<◌, ◌^◌, OnOk, string_bytes};
 ghost use Rattle.std.specs.List.{enumerate_from, flat_map};
-ghost use Rattle.hp_svg.specs.Rows.{block_text, blocks_text, column_text, frames_text, free_text, head_text, lines_text, row_text, rows_from, rows_text, size_of, words_text};
+ghost use Rattle.hp_svg.specs.Rows.{block_text, blocks_text, column_text, frames_text, free_text, head_text, lines_text, row_text, rows_text, size_of, words_text};
 
-use crate::elements::{cells_of, write_grid, write_order, write_outline, write_text};
+use crate::elements::{cells_of, write_order, write_outline, write_text};
 use crate::runs::{Layer, write_cells};
 use crate::sheets::{ANSWER, ASKED, Sheet, lines_above};
 use hp_pictures::{BlockPicture, FreeBlock, RowPicture};
 use std::alloc::{AllocError, Global};
 
 /// Writes rows, one under another from some place on.
-#[tactic(auto, unfolding(crate::specs::Rows::rows_text))]
-pub(crate) fn write_all_rows(
+pub(crate) fn write_rows(
     out: &mut String,
     alloc: Global,
     sheet: Sheet,
-    top: u128,
+    start: u128,
     rows: &[RowPicture],
 ) -> Result<(), AllocError>
-    ensures { OnOk result (string_bytes out.new ≡ string_bytes out.old ++ rows_text sheet top rows.now) }
+    ensures { OnOk result (string_bytes out.new ≡ string_bytes out.old ++ rows_text sheet start rows.now) }
 {
-    write!(out, "<g transform='translate(0 {top})'>")?;
-    write_rows(out, alloc, sheet, rows)?;
-    out.push_str("\n</g>\n")
-}
-
-/// Writes rows, one under another.
-fn write_rows(
-    out: &mut String,
-    alloc: Global,
-    sheet: Sheet,
-    rows: &[RowPicture],
-) -> Result<(), AllocError>
-    ensures { OnOk result (string_bytes out.new ≡ string_bytes out.old ++ rows_from sheet 0 rows.now) }
-{
+    write!(out, "<g transform='translate(0 {start})'>")?;
     let mut top = 0u128;
     for row in rows {
         write_row(out, alloc, sheet, top, row)?;
         top += sheet.row_height(row);
     }
-    Ok(())
+    out.push_str("\n</g>\n")
 }
 
 /// Writes a row.
@@ -102,7 +88,7 @@ fn write_column(out: &mut String, left: u128, top: u128, text: &str) -> Result<(
     write_text(out, left, top + 10, false, 0, text)
 }
 
-/// Writes the blocks of a row.
+/// Writes the blocks of a row, each in the strip where it stands.
 fn write_row_blocks(
     out: &mut String,
     alloc: Global,
@@ -115,28 +101,11 @@ fn write_row_blocks(
         ++ flat_map (block_text sheet top) (enumerate_from 0 blocks.now)) }
 {
     for (number, block) in blocks.iter().enumerate() {
-        write_block(out, alloc, sheet, top, number, block)?;
+        let strip = top + sheet.strip_top(number);
+        write_head(out, alloc, sheet.head_at(number), strip, block.head())?;
+        write_frames(out, sheet, sheet.cells_at(number), strip, block)?;
     }
     Ok(())
-}
-
-/// Writes a block by its number, in the strip where it stands.
-#[tactic(auto, unfolding(crate::specs::Rows::block_text))]
-fn write_block(
-    out: &mut String,
-    alloc: Global,
-    sheet: Sheet,
-    top: u128,
-    number: usize,
-    block: &BlockPicture,
-) -> Result<(), AllocError>
-    requires { top < 2 ^ 106 }
-    ensures { OnOk result (string_bytes out.new ≡ string_bytes out.old
-        ++ block_text sheet top (number, block.now)) }
-{
-    let strip = top + sheet.strip_top(number);
-    write_head(out, alloc, sheet.head_at(number), strip, block.head())?;
-    write_frames(out, sheet, sheet.cells_at(number), strip, block)
 }
 
 /// Writes the cells of a block, the mobility of its pageblocks, lines between cells, and its free blocks.
@@ -153,21 +122,15 @@ fn write_frames(
     ensures { OnOk result (string_bytes out.new ≡ string_bytes out.old
         ++ frames_text sheet left top block.now) }
 {
-    let cell = sheet.cell;
-    write_cells(out, cell, Layer::Cells, left, top, block.cells().as_bytes())?;
-    write_cells(
-        out,
-        cell,
-        Layer::Strips,
-        left,
-        top,
-        block.kinds().as_bytes(),
-    )?;
+    let cells = block.cells().as_bytes();
+    let kinds = block.kinds().as_bytes();
+    write_cells(out, sheet.cell, Layer::Cells, left, top, cells)?;
+    write_cells(out, sheet.cell, Layer::Strips, left, top, kinds)?;
     write_lines(out, sheet, left, top)?;
-    write_free(out, cell, left, top, block.free())
+    write_free(out, sheet.cell, left, top, block.free())
 }
 
-/// Writes lines between cells, where these are wide enough.
+/// Writes lines between cells, where these are wide enough, as they stand in the picture's definitions.
 #[tactic(auto, unfolding(crate::specs::Rows::lines_text))]
 fn write_lines(out: &mut String, sheet: Sheet, left: u128, top: u128) -> Result<(), AllocError>
     ensures { OnOk result (string_bytes out.new ≡ string_bytes out.old ++ lines_text sheet left top) }
@@ -175,7 +138,7 @@ fn write_lines(out: &mut String, sheet: Sheet, left: u128, top: u128) -> Result<
     if !sheet.has_grid() {
         return Ok(());
     }
-    write_grid(out, left, top)
+    write!(out, "<use href='#lines' x='{left}' y='{top}'/>")
 }
 
 /// Writes the head of a block before its cells; it is made narrower where it has no room there.

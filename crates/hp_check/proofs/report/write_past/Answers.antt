@@ -1,14 +1,18 @@
-use Rattle.std.proofs.Common.{List, ℕ, ◌++◌, codes, string_bytes, ap, ◌∙◌, append_assoc}
+use Rattle.std.proofs.Common.{◌≡◌, ℕ, List, ◌++◌, codes, append_assoc}
+use Rattle.std.specs.Fmt.{decimal}
 use Rattle.std.proofs.lemmas.Result.{on_ok_weaker}
-use Rattle.hp_check.specs.Texts.{numbers_text, what_text}
+use Rattle.hp_check.specs.Texts.{newline, what_text}
+use Rattle.hp_check.proofs.Regrouped.{regrouped}
 use Rattle.hp_check.proofs.report.write_past.Goals as goal
+
+at_once : (a what b number d count e newline : List ℕ)
+    → a ++ what ++ (b ++ number ++ d ++ count ++ e ++ newline)
+    ≡ a ++ (what ++ (b ++ (number ++ (d ++ (count ++ (e ++ newline))))))
+at_once a what b number d count e newline = simp append_assoc
 
 pub returns : goal.returns
 returns c =
-    let numbers =
-    numbers_text (codes " ") c.args.number (codes " is past the layout, which has ") c.args.count
-    (codes ", counted from 0") in
-    on_ok_weaker c.write_numbers.result
-    (λ rest. rest ∙ ap (λ (l : List ℕ). l ++ numbers) c.in_ok-write.ensures.bytes
-    ∙ append_assoc (string_bytes c.args.out.now) (codes "warning: " ++ what_text c.args.what) numbers)
-    c.write_numbers.ensures
+    on_ok_weaker c.writeln.result
+    (regrouped _ _ (at_once (codes "warning: ") (what_text c.args.what) (codes " ") (decimal c.args.number)
+    (codes " is past the layout, which has ") (decimal c.args.count) (codes ", counted from 0") newline))
+    c.writeln.ensures.bytes

@@ -6,6 +6,3 @@ returns-in-NoBegin c = rw (c.in-NoBegin.is, sym c.op.view_is) c.write_number.ens
 
 pub returns-in-Full : goal.returns-in-Full
 returns-in-Full c = rw c.in-Full.is c.write_number-in-Full.ensures
-
-pub returns-in-NoFile : goal.returns-in-NoFile
-returns-in-NoFile c = rw c.in-NoFile.is c.write_line.ensures

@@ -6,7 +6,7 @@ use Rattle.hp_svg.proofs.moves.write_moves.Given as goal
 abbrev pub invariant-loop-row : goal.invariant-loop-row
 invariant-loop-row l = record {
   text : string_bytes l.out ++ moves_from l.sheet l.above l.top (drop l.row-index l.rows)
-      ≡ string_bytes l.fn.out ++ moves_from l.sheet 0 0 l.rows;
+      ≡ string_bytes l.initial.out ++ moves_from l.sheet 0 0 l.rows;
   low : l.top ≤ l.row-index * 1099511627776;
   near : l.above ≤ l.top + 28;
 }

@@ -6,6 +6,6 @@ use Rattle.hp_svg.proofs.rows.write_rows.Given as goal
 abbrev pub invariant-loop-row : goal.invariant-loop-row
 invariant-loop-row l = record {
   text : string_bytes l.out ++ rows_from l.sheet l.top (drop l.row-index l.rows)
-      ≡ string_bytes l.fn.out ++ rows_from l.sheet 0 l.rows;
+      ≡ string_bytes l.initial.out ++ rows_from l.sheet 0 l.rows;
   low : l.top ≤ l.row-index * 1099511627776;
 }
