@@ -1,5 +1,6 @@
 pub mod CallsPassed
 pub mod Each
+mod FormPairs
 pub mod Json
 pub mod KnownNames
 pub mod LineLaw

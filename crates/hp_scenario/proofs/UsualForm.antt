@@ -11,7 +11,6 @@ use Rattle.hp_units.specs.LayoutParts.{LayoutParts, layout_fault}
 use Rattle.hp_units.specs.declared.rows.Boot.{Boot}
 use Rattle.hp_scenario.specs.declared.fault.ScenarioFault.{ScenarioFault}
 use Rattle.hp_scenario.specs.declared.fault.ScenarioFault.TheVariants.{BadLine}
-use Rattle.hp_scenario.specs.declared.usual.Numbers.{Numbers}
 use Rattle.hp_scenario.specs.Form.{Form, boot_of, boot_at, each_in, texts_at, boots_at, number_at, has_keys, parts_with, parts_of, form_of}
 use Rattle.hp_scenario.specs.Gives.{◌>>=◌, or_fault}
 use Rattle.hp_scenario.specs.Names.{Numbered, line_in}
@@ -92,7 +91,7 @@ unfolding form_of has_keys texts_at
 form_read layout texts parts e = rw (e, each_text texts) refl
 
 -- the members of a layout
-pub parts_read : (n : Numbers) (words : List (List ℕ)) (boot : List Boot)
+pub parts_read : (n : LayoutParts) (words : List (List ℕ)) (boot : List Boot)
     → each_in boot_at (texts_data words) ≡ Some boot
     → parts_of (object (put (codes "boot") (array (texts_data words)) (put_rows (rows_of n) no_members)))
     ≡ Some (parts_from n boot)
@@ -100,7 +99,7 @@ unfolding parts_of has_keys boots_at parts_with number_at
 parts_read n words boot e = rw e refl
 
 -- a layout's tokens
-pub layout_read : (n : Numbers) (boot : List Boot) (old start mid new : List Token)
+pub layout_read : (n : LayoutParts) (boot : List Boot) (old start mid new : List Token)
     → old ≡ Token.begin_object ∷ start → AreRows (rows_of n) start mid → EndsWithBoots boot mid new
     → layout_fault (parts_from n boot) ≡ None → IsLayoutAt (parts_from n boot) old new
 layout_read n boot old start mid new opened rows ends sound =
@@ -208,7 +207,7 @@ pub there : {A : Type 0} (o : Option A) (a : A) (P : A → Type 0) → o ≡ Som
 there o a P e h = subst (λ o. IfSome o P) e h
 
 -- a layout that is found is read from the tokens
-pub layout_found : (r : Result (Option LayoutParts) AllocError) (n : Numbers) (boot blocks : List Boot)
+pub layout_found : (r : Result (Option LayoutParts) AllocError) (n : LayoutParts) (boot blocks : List Boot)
     (old start mid new : List Token)
     → old ≡ Token.begin_object ∷ start → AreRows (rows_of n) start mid → EndsWithBoots blocks mid new
     → boot ≡ blocks

@@ -27,6 +27,13 @@ has_keys n d = are_keys n (as_object d)
 unfoldable pub number_at : List ℕ → Data → Option ℕ
 number_at key d = option_and_then as_u64 (option_and_then as_number (get key d))
 
+-- the numbers at two keys, where there are both
+unfoldable pub pair_at : List ℕ → List ℕ → Data → Option (ℕ × ℕ)
+pair_at first second d = do
+  one ← number_at first d
+  other ← number_at second d
+  Some (one, other)
+
 -- what a block is at boot, by its word
 unfoldable pub boot_of : List ℕ → Option Boot
 boot_of word =
@@ -97,6 +104,13 @@ parts_of d = if has_keys 11 d then (boots_at (codes "boot") d >>= λ boot. parts
 pub record Form : Type 0 where
   pub parts : LayoutParts
   pub calls : List (List ℕ)
+
+-- the form of a layout's parts and of texts, where there are both
+abbrev pub form_with : Option LayoutParts → Option (List (List ℕ)) → Option Form
+form_with parts calls = do
+  p ← parts
+  c ← calls
+  Some (record { parts = p; calls = c })
 
 -- an object with just the keys `layout` and `calls`
 unfoldable pub form_of : Data → Option Form

@@ -5,7 +5,7 @@ use Rattle.serde_json.specs.Data.{Data}
 use Rattle.serde_json.specs.Read.{read}
 use Rattle.hp_units.specs.LayoutParts.{LayoutParts, layout_fault}
 use Rattle.hp_units.specs.declared.layouts.LayoutFault.{LayoutFault}
-use Rattle.hp_scenario.specs.Form.{Form, form_of}
+use Rattle.hp_scenario.specs.Form.{Form, form_of, form_with}
 use Rattle.hp_scenario.specs.Gives.{◌>>=◌, or_fault}
 use Rattle.hp_scenario.specs.Names.{Numbered, line_in}
 use Rattle.hp_scenario.specs.declared.lines.Line.{Line}
@@ -47,6 +47,10 @@ scenario_with form = do
   layout ← layout_or form.parts (layout_fault form.parts)
   script ← lines_from 1 nothing form.calls
   Ok (record { layout = layout; names = script.names; lines = script.lines })
+
+-- the scenario of parts and texts; its shape is at fault where one is missing
+abbrev pub scenario_if : Option LayoutParts → Option (List (List ℕ)) → Result ScenarioValue ScenarioFault
+scenario_if parts calls = or_fault BadShape (form_with parts calls) >>= scenario_with
 
 -- the scenario that a JSON value is, or the first fault: of its shape before all others
 unfoldable pub scenario_of : Data → Result ScenarioValue ScenarioFault

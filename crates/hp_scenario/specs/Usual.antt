@@ -9,7 +9,6 @@ use Rattle.hp_units.specs.LayoutParts.{LayoutParts, layout_fault}
 use Rattle.hp_units.specs.declared.rows.Boot.{Boot}
 use Rattle.hp_scenario.specs.Form.{each_in, boot_at, parts_of}
 use Rattle.hp_scenario.specs.Scenario.{ScenarioValue, Script, nothing, lines_from, scenario_of}
-use Rattle.hp_scenario.specs.declared.usual.Numbers.{Numbers}
 
 -- the value d is read from the front of the tokens `old`, and `new` are left
 abbrev pub Reads : ℕ → Data → List Token → List Token → Type 0
@@ -33,6 +32,10 @@ texts_data (text ∷ texts) = item (value_of.string text) (texts_data texts)
 abbrev pub IsRow : List ℕ → ℕ → List Token → List Token → Type 0
 IsRow k n old new = (s : List ℕ) × (old ≡ key k ∷ number s ∷ new) × (number_of s ≡ Some (unsigned n))
 
+-- two keys, each with a whole number
+abbrev pub ArePair : List ℕ → List ℕ → ℕ → ℕ → List Token → List Token → Type 0
+ArePair k l n m old new = (mid : List Token) × IsRow k n old mid × IsRow l m mid new
+
 -- keys, each with a whole number
 abbrev pub AreRows : List (List ℕ × ℕ) → List Token → List Token → Type 0
 AreRows [] old new = old ≡ new
@@ -44,27 +47,15 @@ put_rows [] before = before
 put_rows (row ∷ rows) before = put_rows rows (put row.0 (value_of.number (unsigned row.1)) before)
 
 -- the rows of a layout, in their usual order
-abbrev pub rows_of : Numbers → List (List ℕ × ℕ)
+abbrev pub rows_of : LayoutParts → List (List ℕ × ℕ)
 rows_of n =
     (codes "order", n.order) ∷ (codes "pageblocks", n.pageblocks) ∷ (codes "blocks", n.blocks)
     ∷ (codes "cpus", n.cpus) ∷ (codes "batch", n.batch) ∷ (codes "high", n.high) ∷ (codes "owners", n.owners)
     ∷ (codes "pages", n.pages) ∷ (codes "words", n.words) ∷ (codes "history", n.history) ∷ []
 
 -- the parts that numbers and blocks at boot make
-abbrev pub parts_from : Numbers → List Boot → LayoutParts
-parts_from n boot = record {
-  order = n.order;
-  pageblocks = n.pageblocks;
-  blocks = n.blocks;
-  cpus = n.cpus;
-  batch = n.batch;
-  high = n.high;
-  owners = n.owners;
-  pages = n.pages;
-  words = n.words;
-  history = n.history;
-  boot = boot;
-}
+abbrev pub parts_from : LayoutParts → List Boot → LayoutParts
+parts_from n boot = record n { boot = boot }
 
 -- the words of the blocks at boot, up to the end of an array
 abbrev pub AreBoots : List Boot → List Token → List Token → Type 0

@@ -4,7 +4,7 @@ ghost use Rattle.std.specs.Prelude.{◌≡◌, option_map};
 ghost use Rattle.serde_json.specs.View.{view, items_view};
 ghost use Rattle.hp_units.specs.PartsSeen.{parts_seen};
 ghost use Rattle.hp_scenario.specs.Gives.{Gives, or_fault};
-ghost use Rattle.hp_scenario.specs.Form.{has_keys as keys, number_at as number, boot_of, boot_at as boot_in, each_in, texts_at as texts, boots_at as boots, parts_with as with_boot};
+ghost use Rattle.hp_scenario.specs.Form.{has_keys as keys, number_at as number, pair_at as pair, boot_of, boot_at as boot_in, each_in, texts_at as texts, boots_at as boots, parts_with as with_boot};
 
 use crate::fault::ScenarioFault;
 use crate::texts::Texts;
@@ -27,6 +27,16 @@ fn number_at(value: &Value, key: &str) -> Option<u64>
     ensures { result ≡ number key.now (view value.now) }
 {
     value.get(key).and_then(Value::as_u64)
+}
+
+/// The numbers at two keys; none where one is missing.
+#[tactic(auto, unfolding(crate::specs::Form::pair_at))]
+fn pair_at(value: &Value, first: &str, second: &str) -> Option<(u64, u64)>
+    ensures { result ≡ pair first.now second.now (view value.now) }
+{
+    let one = number_at(value, first)?;
+    let other = number_at(value, second)?;
+    Some((one, other))
 }
 
 #[tactic(auto, unfolding(crate::specs::Form::boot_of))]
@@ -92,16 +102,11 @@ pub fn boots_at(alloc: Global, value: &Value, key: &str) -> Result<Vec<Boot>, Sc
 pub fn parts_with<'a>(layout: &Value, boot: &'a [Boot]) -> Option<Parts<'a>>
     ensures { option_map parts_seen result ≡ with_boot boot.now (view layout.now) }
 {
-    let order = number_at(layout, "order")?;
-    let pageblocks = number_at(layout, "pageblocks")?;
-    let blocks = number_at(layout, "blocks")?;
-    let cpus = number_at(layout, "cpus")?;
-    let batch = number_at(layout, "batch")?;
-    let high = number_at(layout, "high")?;
-    let owners = number_at(layout, "owners")?;
-    let pages = number_at(layout, "pages")?;
-    let words = number_at(layout, "words")?;
-    let history = number_at(layout, "history")?;
+    let (order, pageblocks) = pair_at(layout, "order", "pageblocks")?;
+    let (blocks, cpus) = pair_at(layout, "blocks", "cpus")?;
+    let (batch, high) = pair_at(layout, "batch", "high")?;
+    let (owners, pages) = pair_at(layout, "owners", "pages")?;
+    let (words, history) = pair_at(layout, "words", "history")?;
     Some(Parts {
         order,
         pageblocks,

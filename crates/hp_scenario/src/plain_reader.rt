@@ -205,8 +205,8 @@ fn value_at<'a>(place: Place, text: &'a str) -> Option<Found<'a>>
 {
     match byte_of(text) {
         b'"' => string_at(place, text),
-        b'{' => Some(object_opens(place, text)),
-        b'[' => Some(array_opens(place, text)),
+        b'{' => Some(bracket(Token::BeginObject, Place::Fresh, text)),
+        b'[' => Some(bracket(Token::BeginArray, Place::Fresh, text)),
         _ => number_at(place, text),
     }
 }
@@ -218,62 +218,22 @@ fn end_at<'a>(place: Place, text: &'a str) -> Option<Found<'a>>
     ensures { IfSome result (λ f. IsFound (tokens_at place text.now) f) }
 {
     match byte_of(text) {
-        b']' => Some(array_closes(place, text)),
-        b'}' => Some(object_closes(place, text)),
+        b']' => Some(bracket(Token::EndArray, Place::AfterValue, text)),
+        b'}' => Some(bracket(Token::EndObject, Place::AfterValue, text)),
         _ => None,
     }
 }
 
-/// An object opens.
-fn object_opens<'a>(place: Place, text: &'a str) -> Found<'a>
-    requires at { head text.now ≡ 123 }
-    requires place { may_begin (place_of place) ≡ true }
-    ensures { IsFound (tokens_at place text.now) result }
+/// A token of one byte that a text begins with, and the place after it.
+#[inline(always)]
+fn bracket<'a>(token: Token<'a>, place: Place, text: &'a str) -> Found<'a>
+    requires some { 0 < length text.now }
+    requires ascii { head text.now < 128 }
+    ensures { token_of result.token ∷ tokens_at result.place result.rest.now
+        ≡ token_of token.entry ∷ tokens_at place (drop 1 text.now) }
 {
-    Found {
-        token: Token::BeginObject,
-        place: Place::Fresh,
-        rest: rest_of(text),
-    }
-}
-
-/// An array opens.
-fn array_opens<'a>(place: Place, text: &'a str) -> Found<'a>
-    requires at { head text.now ≡ 91 }
-    requires place { may_begin (place_of place) ≡ true }
-    ensures { IsFound (tokens_at place text.now) result }
-{
-    Found {
-        token: Token::BeginArray,
-        place: Place::Fresh,
-        rest: rest_of(text),
-    }
-}
-
-/// An object closes.
-fn object_closes<'a>(place: Place, text: &'a str) -> Found<'a>
-    requires at { head text.now ≡ 125 }
-    requires place { may_close (place_of place) ≡ true }
-    ensures { IsFound (tokens_at place text.now) result }
-{
-    Found {
-        token: Token::EndObject,
-        place: Place::AfterValue,
-        rest: rest_of(text),
-    }
-}
-
-/// An array closes.
-fn array_closes<'a>(place: Place, text: &'a str) -> Found<'a>
-    requires at { head text.now ≡ 93 }
-    requires place { may_close (place_of place) ≡ true }
-    ensures { IsFound (tokens_at place text.now) result }
-{
-    Found {
-        token: Token::EndArray,
-        place: Place::AfterValue,
-        rest: rest_of(text),
-    }
+    let rest = rest_of(text);
+    Found { token, place, rest }
 }
 
 /// The key or the text that a text begins with.

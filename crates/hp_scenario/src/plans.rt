@@ -1,15 +1,14 @@
-//! The items of a plan.
-ghost use Rattle.std.specs.Prelude.{◌≡◌, map, IfOk, option_map};
+//! A plan's items.
+ghost use Rattle.std.specs.Prelude.{◌≡◌, map, IfOk};
 ghost use Rattle.hp_scenario.specs.Lines as says;
 
 use crate::numbers::number32;
-use hp_units::{Block, Item, Wish};
+use hp_units::{Block, Item, Plan, Wish};
 use std::alloc::{AllocError, Global};
 
-/// The items of a plan, two words each.
-pub(crate) fn items_from(alloc: Global, words: &[&str]) -> Result<Option<Vec<Item>>, AllocError>
-    ensures { IfOk result
-        (λ items. option_map (λ v. v.items) items ≡ says.items_of (map (λ w. w.now) words.now)) }
+/// The plan whose items the words are, two words each.
+pub(crate) fn plan_from(alloc: Global, words: &[&str]) -> Result<Option<Plan>, AllocError>
+    ensures { IfOk result (λ plan. plan ≡ says.items_of (map (λ w. w.now) words.now)) }
 {
     let mut items = Vec::new(alloc);
     let mut rest = words;
@@ -23,7 +22,7 @@ pub(crate) fn items_from(alloc: Global, words: &[&str]) -> Result<Option<Vec<Ite
     if !rest.is_empty() {
         return Ok(None);
     }
-    Ok(Some(items))
+    Ok(Some(Plan::new(alloc, items)?))
 }
 
 /// A plan's item: what is made of a memory block, and its number.

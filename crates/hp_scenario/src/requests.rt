@@ -53,14 +53,18 @@ pub fn is_line(alloc: Global, text: &str) -> Result<bool, AllocError>
     ensures { IfOk result (λ is. is ≡ is_some (says.line_says text.now)) }
 {
     let mut words = Vec::new(alloc);
-    says_something(line_says(alloc, &mut words, text))
+    let said = line_says(alloc, &mut words, text);
+    says_something(&said)
 }
 
 /// Whether what was asked of a text is something. An error is out of memory.
-fn says_something(said: Result<Option<Said<'_>>, AllocError>) -> Result<bool, AllocError>
-    ensures { MatchResult said.entry (λ said. result ≡ Ok (is_some said)) (λ fault. result ≡ Err fault) }
+fn says_something(said: &Result<Option<Said<'_>>, AllocError>) -> Result<bool, AllocError>
+    ensures { MatchResult said.now (λ said. result ≡ Ok (is_some said)) (λ fault. result ≡ Err fault) }
 {
-    Ok(said?.is_some())
+    match said {
+        Ok(said) => Ok(said.is_some()),
+        Err(fault) => Err(*fault),
+    }
 }
 
 /// What the words of a line say.

@@ -1,11 +1,10 @@
 //! A scenario.
-ghost use Rattle.std.specs.Prelude.{◌≡◌, ◌≤◌, [], length, vec_capacity};
+ghost use Rattle.std.specs.Prelude.{◌≡◌, ◌≤◌, [], length, option_map, vec_capacity};
 ghost use Rattle.serde_json.specs.View.{view};
 ghost use Rattle.hp_units.specs.LayoutParts.{layout_fault};
 ghost use Rattle.hp_units.specs.PartsSeen.{parts_seen};
-ghost use Rattle.hp_scenario.specs.Form.{Form, parts_of, form_of};
 ghost use Rattle.hp_scenario.specs.Gives.{Gives, or_fault};
-ghost use Rattle.hp_scenario.specs.Scenario.{nothing, lines_from, layout_or, json_of, scenario_in, scenario_of, scenario_with};
+ghost use Rattle.hp_scenario.specs.Scenario.{nothing, lines_from, layout_or, json_of, scenario_in, scenario_if, scenario_of};
 ghost use Rattle.hp_scenario.specs.Seen.{script_seen, scenario_seen};
 
 use crate::calls::read_usual;
@@ -88,23 +87,23 @@ fn scenario_from(alloc: Global, value: &Value) -> Result<Scenario, ScenarioFault
         return Err(ScenarioFault::BadShape);
     }
     let boot = boots_at(alloc, layout, "boot")?;
-    let parts = parts_with(layout, &boot).ok_or(ScenarioFault::BadShape)?;
-    let calls = texts_at(value, "calls").ok_or(ScenarioFault::BadShape)?;
-    scenario_with(alloc, &parts, &calls)
+    scenario_with(alloc, parts_with(layout, &boot), texts_at(value, "calls"))
 }
 
-/// The scenario of a layout's parts and of the lines' texts.
+/// The scenario of a layout's parts and of the lines' texts; BadShape where one is missing.
 #[tactic(auto, unfolding(crate::specs::Scenario::scenario_with))]
 fn scenario_with(
     alloc: Global,
-    parts: &Parts<'_>,
-    calls: &Texts<'_>,
+    parts: Option<Parts<'_>>,
+    calls: Option<Texts<'_>>,
 ) -> Result<Scenario, ScenarioFault>
     ensures { Gives scenario_seen result
-        (scenario_with (record { parts = parts_seen parts.now; calls = calls.now })) }
+        (scenario_if (option_map parts_seen parts.entry) calls.entry) }
 {
-    let layout = layout_from(alloc, parts)?;
-    let script = read_lines(alloc, calls)?;
+    let parts = parts.ok_or(ScenarioFault::BadShape)?;
+    let calls = calls.ok_or(ScenarioFault::BadShape)?;
+    let layout = layout_from(alloc, &parts)?;
+    let script = read_lines(alloc, &calls)?;
     Ok(Scenario {
         layout,
         names: script.names,

@@ -5,7 +5,8 @@ ghost use Rattle.json.specs.Token.{key as key_token, begin_object, begin_array, 
 ghost use Rattle.serde_json.specs.Data.{unsigned};
 ghost use Rattle.serde_json.specs.Read.{number_of};
 ghost use Rattle.hp_units.specs.LayoutParts.{layout_fault};
-ghost use Rattle.hp_scenario.specs.Usual.{AreBoots, AreRows, EndsWithBoots, IsLayoutAt, IsRow, parts_from, rows_of};
+ghost use Rattle.hp_units.specs.PartsSeen.{parts_seen};
+ghost use Rattle.hp_scenario.specs.Usual.{AreBoots, ArePair, AreRows, EndsWithBoots, IsLayoutAt, IsRow, parts_from, rows_of};
 
 use crate::form::boot_from;
 use crate::plain_reader::PlainReader;
@@ -13,21 +14,6 @@ use fast_float::Numeral;
 use hp_units::{Boot, Layout, LayoutFault, Parts};
 use json::Token;
 use std::alloc::{AllocError, Global};
-
-/// The numbers of a layout.
-#[derive(Clone, Copy, Drop)]
-pub(crate) struct Numbers {
-    order: u64,
-    pageblocks: u64,
-    blocks: u64,
-    cpus: u64,
-    batch: u64,
-    high: u64,
-    owners: u64,
-    pages: u64,
-    words: u64,
-    history: u64,
-}
 
 /// The layout that comes next, where it has no fault.
 pub(crate) fn layout_after(
@@ -49,23 +35,15 @@ pub(crate) fn layout_after(
 }
 
 /// The layout of numbers and blocks at boot, where it has no fault.
-fn layout_of(alloc: Global, numbers: &Numbers, boot: &[Boot]) -> Result<Option<Layout>, AllocError>
+fn layout_of(
+    alloc: Global,
+    numbers: &Parts<'_>,
+    boot: &[Boot],
+) -> Result<Option<Layout>, AllocError>
     ensures { IfOk result (λ l. IfSome l (λ l.
-        (l ≡ parts_from numbers.now boot.now) × (layout_fault l ≡ None))) }
+        (l ≡ parts_from (parts_seen numbers.now) boot.now) × (layout_fault l ≡ None))) }
 {
-    let parts = Parts {
-        order: numbers.order,
-        pageblocks: numbers.pageblocks,
-        blocks: numbers.blocks,
-        cpus: numbers.cpus,
-        batch: numbers.batch,
-        high: numbers.high,
-        owners: numbers.owners,
-        pages: numbers.pages,
-        words: numbers.words,
-        history: numbers.history,
-        boot,
-    };
+    let parts = Parts { boot, ..*numbers };
     match Layout::new(alloc, &parts) {
         Ok(layout) => Ok(Some(layout)),
         Err(LayoutFault::OutOfMemory) => Err(AllocError),
@@ -73,21 +51,16 @@ fn layout_of(alloc: Global, numbers: &Numbers, boot: &[Boot]) -> Result<Option<L
     }
 }
 
-/// The numbers of a layout that come next, in their usual order.
-fn numbers_after(reader: &mut PlainReader<'_>) -> Option<Numbers>
-    ensures { IfSome result (λ n. AreRows (rows_of n) reader.old reader.new) }
+/// The numbers of a layout that come next, in their usual order, as parts with no blocks at boot.
+fn numbers_after<'a>(reader: &mut PlainReader<'_>) -> Option<Parts<'a>>
+    ensures { IfSome result (λ n. AreRows (rows_of (parts_seen n)) reader.old reader.new) }
 {
-    let order = number_after(reader, "order")?;
-    let pageblocks = number_after(reader, "pageblocks")?;
-    let blocks = number_after(reader, "blocks")?;
-    let cpus = number_after(reader, "cpus")?;
-    let batch = number_after(reader, "batch")?;
-    let high = number_after(reader, "high")?;
-    let owners = number_after(reader, "owners")?;
-    let pages = number_after(reader, "pages")?;
-    let words = number_after(reader, "words")?;
-    let history = number_after(reader, "history")?;
-    Some(Numbers {
+    let (order, pageblocks) = pair_after(reader, "order", "pageblocks")?;
+    let (blocks, cpus) = pair_after(reader, "blocks", "cpus")?;
+    let (batch, high) = pair_after(reader, "batch", "high")?;
+    let (owners, pages) = pair_after(reader, "owners", "pages")?;
+    let (words, history) = pair_after(reader, "words", "history")?;
+    Some(Parts {
         order,
         pageblocks,
         blocks,
@@ -98,7 +71,17 @@ fn numbers_after(reader: &mut PlainReader<'_>) -> Option<Numbers>
         pages,
         words,
         history,
+        boot: &[],
     })
+}
+
+/// The numbers at two keys that come next, one after the other.
+fn pair_after(reader: &mut PlainReader<'_>, first: &str, second: &str) -> Option<(u64, u64)>
+    ensures { IfSome result (λ n. ArePair first.now second.now n.0 n.1 reader.old reader.new) }
+{
+    let one = number_after(reader, first)?;
+    let other = number_after(reader, second)?;
+    Some((one, other))
 }
 
 /// The number at a key that comes next.

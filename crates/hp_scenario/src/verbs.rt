@@ -6,10 +6,10 @@ ghost use Rattle.hp_scenario.specs.Seen.{request_seen};
 use crate::echo::Echo;
 use crate::lines::Work;
 use crate::numbers::{number32, number64};
-use crate::plans::items_from;
+use crate::plans::plan_from;
 use crate::requests::{Access, Request};
 use crate::words::is_name;
-use hp_units::{Block, Cpu, Event, Frame, Order, Page, Plan, Serial, Text, Zone};
+use hp_units::{Block, Cpu, Event, Frame, Order, Page, Serial, Text, Zone};
 use std::alloc::{AllocError, Global};
 
 /// The event that a verb and the words after it ask for, where it has no list.
@@ -227,10 +227,9 @@ pub(crate) fn begin<'a>(alloc: Global, args: &[&'a str]) -> Result<Option<Reques
     ensures { IfOk result
         (λ request. option_map request_seen request ≡ says.begin_of (map (λ w. w.now) args.now)) }
 {
-    let Some(items) = items_from(alloc, args)? else {
+    let Some(plan) = plan_from(alloc, args)? else {
         return Ok(None);
     };
-    let plan = Plan::new(alloc, items)?;
     Ok(Some(event(Event::Begin { plan })))
 }
 
@@ -245,10 +244,9 @@ pub(crate) fn plan<'a>(alloc: Global, args: &[&'a str]) -> Result<Option<Request
     let Some(turns) = number32(turns) else {
         return Ok(None);
     };
-    let Some(items) = items_from(alloc, rest)? else {
+    let Some(plan) = plan_from(alloc, rest)? else {
         return Ok(None);
     };
-    let plan = Plan::new(alloc, items)?;
     Ok(Some(Request::Plain(Work::Plan { plan, turns })))
 }
 
@@ -284,9 +282,10 @@ pub(crate) fn cat<'a>(alloc: Global, args: &[&'a str]) -> Result<Option<Request<
     let [path] = args else {
         return Ok(None);
     };
-    let Some(path) = text_from(alloc, path)? else {
+    if path.is_empty() {
         return Ok(None);
-    };
+    }
+    let path = Text::new(String::from_str(alloc, path)?);
     Ok(Some(Request::Plain(Work::Cat { path })))
 }
 
@@ -298,14 +297,4 @@ pub(crate) fn seal<'a>(args: &[&'a str]) -> Option<Request<'a>>
         [] => Some(Request::Plain(Work::Seal)),
         [_, ..] => None,
     }
-}
-
-/// The text of a word of one byte or more.
-fn text_from(alloc: Global, word: &str) -> Result<Option<Text>, AllocError>
-    ensures { IfOk result (λ text. text ≡ says.text_of word.now) }
-{
-    if word.is_empty() {
-        return Ok(None);
-    }
-    Ok(Some(Text::new(String::from_str(alloc, word)?)))
 }

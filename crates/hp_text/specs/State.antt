@@ -35,6 +35,11 @@ newline = 10 ∷ []
 abbrev pub number_word : ℕ → List ℕ
 number_word n = codes " " ++ decimal n
 
+-- a number, where there is one
+abbrev pub decimal_of : Option ℕ → List ℕ
+decimal_of None = []
+decimal_of (Some n) = decimal n
+
 -- the texts of the numbers below n, one after another
 unfoldable pub texts_below : (ℕ → List ℕ) → ℕ → List ℕ
 texts_below text zero = []

@@ -3,8 +3,8 @@ ghost use Rattle.std.specs.Prelude.{◌≡◌, ◌++◌, OnOk, string_bytes};
 ghost use Rattle.hp_units.specs.Texts.{reply_text};
 ghost use Rattle.hp_text.specs.Answers.{bare_reply_line, fault_line, reply_line, sealed_line, unrecorded_line};
 
-use crate::numbers::{write_number, write_numbered};
-use crate::refusals::{write_fault_end, write_refusal};
+use crate::numbers::{write_number, write_numbered, write_pair};
+use crate::refusals::{write_call_fault_name, write_refused};
 use hp_units::{CallFault, Reply, Serial};
 use std::alloc::AllocError;
 
@@ -33,15 +33,11 @@ pub fn write_reply_words(out: &mut String, reply: Reply) -> Result<(), AllocErro
         Reply::Frame(frame) => write_numbered(out, "frame ", u64::from(frame.0)),
         Reply::Word(value) => write_numbered(out, "word ", value),
         Reply::Moved { from, to } => {
-            write_numbered(out, "moved ", u64::from(from.0))?;
-            write_numbered(out, " ", u64::from(to.0))
+            write_pair(out, "moved ", u64::from(from.0), u64::from(to.0))
         }
         Reply::Opened { op } => write_numbered(out, "opened ", op.0),
         Reply::Undone { count } => write_numbered(out, "undone ", count),
-        Reply::Refused(refusal) => {
-            out.push_str("refused ")?;
-            write_refusal(out, refusal)
-        }
+        Reply::Refused(refusal) => write_refused(out, refusal),
         Reply::Done => out.push_str("done"),
         Reply::Restored => out.push_str("restored"),
         Reply::Released => out.push_str("released"),
@@ -53,8 +49,8 @@ pub fn write_reply_words(out: &mut String, reply: Reply) -> Result<(), AllocErro
 pub fn write_unrecorded(out: &mut String, fault: CallFault) -> Result<(), AllocError>
     ensures { OnOk result (string_bytes out.new ≡ string_bytes out.old ++ unrecorded_line fault) }
 {
-    out.push_str("-: fault ")?;
-    write_fault_end(out, fault)
+    out.push_str("-: ")?;
+    write_call_fault(out, fault)
 }
 
 /// Writes why an event left no record, as `fault HistoryFull` (own rule).
@@ -62,7 +58,8 @@ pub fn write_call_fault(out: &mut String, fault: CallFault) -> Result<(), AllocE
     ensures { OnOk result (string_bytes out.new ≡ string_bytes out.old ++ fault_line fault) }
 {
     out.push_str("fault ")?;
-    write_fault_end(out, fault)
+    write_call_fault_name(out, fault)?;
+    out.push('\n')
 }
 
 /// Writes how many records a seal handed out, as `sealed 3` (own rule).

@@ -29,3 +29,17 @@ pub(crate) fn write_numbered(out: &mut String, words: &str, number: u64) -> Resu
     out.push_str(words)?;
     write_number(out, number)
 }
+
+/// Writes words and two numbers after them, with a space between.
+pub(crate) fn write_pair(
+    out: &mut String,
+    words: &str,
+    first: u64,
+    second: u64,
+) -> Result<(), AllocError>
+    ensures { OnOk result (string_bytes out.new
+        ≡ string_bytes out.old ++ words.now ++ decimal first ++ number_word second) }
+{
+    write_numbered(out, words, first)?;
+    write_word(out, second)
+}

@@ -4,7 +4,7 @@ ghost use Rattle.hp_units.specs.Texts.{call_fault_text};
 ghost use Rattle.hp_text.specs.Plans.{cancel_word, end_words, operation_text, plan_line, why_text};
 
 use crate::numbers::write_number;
-use crate::refusals::{write_call_fault_name, write_refusal};
+use crate::refusals::{write_call_fault_name, write_refusal, write_refused};
 use hp_units::{CallFault, OpEnd, Refusal, Serial};
 use std::alloc::AllocError;
 
@@ -23,10 +23,7 @@ fn write_words(out: &mut String, end: OpEnd) -> Result<(), AllocError>
 {
     match end {
         OpEnd::Done => out.push_str("done"),
-        OpEnd::Refused(refusal) => {
-            out.push_str("refused ")?;
-            write_refusal(out, refusal)
-        }
+        OpEnd::Refused(refusal) => write_refused(out, refusal),
         OpEnd::Cancelled { why, restored } => write_cancelled(out, why, restored),
         OpEnd::Undone => out.push_str("undone"),
         OpEnd::Left { op, fault } => write_left(out, op, fault),

@@ -3,6 +3,7 @@ ghost use Rattle.std.specs.Prelude.{◌≡◌, ◌++◌, OnOk, codes, string_byt
 ghost use Rattle.std.specs.List.{flat_map};
 ghost use Rattle.hp_text.specs.Spelling.{access_text, call_text, event_text, item_word, plan_text};
 
+use crate::numbers::{write_numbered, write_pair, write_word};
 use crate::state::name_of;
 use hp_units::{Cpu, Event, Item, Owner, Page, Plan, Text, Wish};
 use indexmap::IndexSet;
@@ -35,8 +36,8 @@ pub fn write_event(
         (string_bytes out.new ≡ string_bytes out.old ++ event_text names.now.keys event.now) }
 {
     match event {
-        Event::KernelAlloc { order } => write!(out, "kalloc {order}"),
-        Event::KernelFree { frame } => write!(out, "kfree {frame}"),
+        Event::KernelAlloc { order } => write_numbered(out, "kalloc ", u64::from(order.0)),
+        Event::KernelFree { frame } => write_numbered(out, "kfree ", u64::from(frame.0)),
         Event::Map { owner, page } => write_access(out, "map", names, *owner, *page),
         Event::Unmap { owner, page } => write_access(out, "unmap", names, *owner, *page),
         Event::Write {
@@ -46,22 +47,22 @@ pub fn write_event(
             value,
         } => {
             write_access(out, "write", names, *owner, *page)?;
-            write!(out, " {index} {value}")
+            write_pair(out, " ", u64::from(*index), *value)
         }
         Event::Read { owner, page, index } => {
             write_access(out, "read", names, *owner, *page)?;
-            write!(out, " {index}")
+            write_word(out, u64::from(*index))
         }
-        Event::Drain { cpu } => write!(out, "drain {cpu}"),
+        Event::Drain { cpu } => write_numbered(out, "drain ", u64::from(cpu.0)),
         Event::Online { block, zone } => write!(out, "online {block} {zone}"),
         Event::Begin { plan } => write_begin(out, plan),
-        Event::DrainFor { op, cpu } => write!(out, "drainfor {op} {cpu}"),
-        Event::Migrate { op } => write!(out, "migrate {op}"),
-        Event::Commit { op } => write!(out, "commit {op}"),
-        Event::Cancel { op } => write!(out, "cancel {op}"),
-        Event::UndoAfter { serial } => write!(out, "undo {serial}"),
+        Event::DrainFor { op, cpu } => write_pair(out, "drainfor ", op.0, u64::from(cpu.0)),
+        Event::Migrate { op } => write_numbered(out, "migrate ", op.0),
+        Event::Commit { op } => write_numbered(out, "commit ", op.0),
+        Event::Cancel { op } => write_numbered(out, "cancel ", op.0),
+        Event::UndoAfter { serial } => write_numbered(out, "undo ", serial.0),
         Event::Probe { address } => write!(out, "echo 0x{address:x} probe"),
-        Event::Remove { block } => write!(out, "remove {block}"),
+        Event::Remove { block } => write_numbered(out, "remove ", u64::from(block.0)),
         Event::SetAuto { auto } => write!(out, "echo {auto} auto_online_blocks"),
     }
 }

@@ -17,7 +17,7 @@ use std::alloc::{AllocError, Global};
 use std::fmt;
 
 /// A list of free frames: of a class and an order, or of a processor for a pool.
-#[derive(Clone, Copy, PartialEq, Eq)]
+#[derive(Drop)]
 enum ListName {
     Free(Class, Order),
     Cached(Cpu, Pool),
@@ -37,7 +37,7 @@ impl fmt::Display for ListName {
 }
 
 /// What a pageblock can be marked by.
-#[derive(Clone, Copy, PartialEq, Eq)]
+#[derive(Clone, Copy)]
 enum Mark {
     Unmovable,
     Isolated,
@@ -135,28 +135,22 @@ fn write_row_state(out: &mut String, state: State, zone: Option<Zone>) -> Result
     ensures { OnOk result (string_bytes out.new ≡ string_bytes out.old ++ state_words state zone) }
 {
     match state {
-        State::Offline => out.push_str("offline")?,
-        State::Online => {
-            out.push_str("online")?;
-            write_zone(out, zone)?;
-        }
-        State::Going => {
-            out.push_str("going")?;
-            write_zone(out, zone)?;
-        }
-        State::Absent => out.push_str("absent")?,
+        State::Offline => out.push_str("offline"),
+        State::Online => write_zoned(out, "online", zone),
+        State::Going => write_zoned(out, "going", zone),
+        State::Absent => out.push_str("absent"),
     }
-    Ok(())
 }
 
-/// Writes a zone after a space.
-fn write_zone(out: &mut String, zone: Option<Zone>) -> Result<(), AllocError>
-    ensures { OnOk result (string_bytes out.new ≡ string_bytes out.old ++ zone_word zone) }
+/// Writes a word, and a zone after it.
+fn write_zoned(out: &mut String, word: &str, zone: Option<Zone>) -> Result<(), AllocError>
+    ensures { OnOk result (string_bytes out.new ≡ string_bytes out.old ++ word.now ++ zone_word zone) }
 {
-    if let Some(zone) = zone {
-        write!(out, " {zone}")?;
+    out.push_str(word)?;
+    match zone {
+        Some(zone) => write!(out, " {zone}"),
+        None => Ok(()),
     }
-    Ok(())
 }
 
 /// Writes what a block that is added becomes, where it isn't offline.

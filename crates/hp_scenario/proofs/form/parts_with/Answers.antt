@@ -1,47 +1,64 @@
-use Rattle.std.proofs.Common.{rules}
-use Rattle.hp_scenario.specs.Form.{parts_with}
+use Rattle.std.proofs.Common.{refl, sym}
+use Rattle.hp_scenario.proofs.FormPairs.{parts_paired}
 use Rattle.hp_scenario.proofs.form.parts_with.Goals as goal
 
 pub returns-in_err-order : goal.returns-in_err-order
-unfolding parts_with
-returns-in_err-order c = search rules
-
-pub returns-in_err-pageblocks : goal.returns-in_err-pageblocks
-unfolding parts_with
-returns-in_err-pageblocks c = search rules
+returns-in_err-order c =
+    rw (
+      c.from_residual.ensures,
+      parts_paired,
+      sym c.in_err-order.ensures,
+    ) refl
 
 pub returns-in_err-blocks : goal.returns-in_err-blocks
-unfolding parts_with
-returns-in_err-blocks c = search rules
-
-pub returns-in_err-cpus : goal.returns-in_err-cpus
-unfolding parts_with
-returns-in_err-cpus c = search rules
+returns-in_err-blocks c =
+    rw (
+      c.from_residual-in_err-blocks.ensures,
+      parts_paired,
+      sym c.in_ok-order.ensures,
+      sym c.in_err-blocks.ensures,
+    ) refl
 
 pub returns-in_err-batch : goal.returns-in_err-batch
-unfolding parts_with
-returns-in_err-batch c = search rules
-
-pub returns-in_err-high : goal.returns-in_err-high
-unfolding parts_with
-returns-in_err-high c = search rules
+returns-in_err-batch c =
+    rw (
+      c.from_residual-in_err-batch.ensures,
+      parts_paired,
+      sym c.in_ok-order.ensures,
+      sym c.in_ok-blocks.ensures,
+      sym c.in_err-batch.ensures,
+    ) refl
 
 pub returns-in_err-owners : goal.returns-in_err-owners
-unfolding parts_with
-returns-in_err-owners c = search rules
-
-pub returns-in_err-pages : goal.returns-in_err-pages
-unfolding parts_with
-returns-in_err-pages c = search rules
+returns-in_err-owners c =
+    rw (
+      c.from_residual-in_err-owners.ensures,
+      parts_paired,
+      sym c.in_ok-order.ensures,
+      sym c.in_ok-blocks.ensures,
+      sym c.in_ok-batch.ensures,
+      sym c.in_err-owners.ensures,
+    ) refl
 
 pub returns-in_err-words : goal.returns-in_err-words
-unfolding parts_with
-returns-in_err-words c = search rules
-
-pub returns-in_err-history : goal.returns-in_err-history
-unfolding parts_with
-returns-in_err-history c = search rules
+returns-in_err-words c =
+    rw (
+      c.from_residual-in_err-words.ensures,
+      parts_paired,
+      sym c.in_ok-order.ensures,
+      sym c.in_ok-blocks.ensures,
+      sym c.in_ok-batch.ensures,
+      sym c.in_ok-owners.ensures,
+      sym c.in_err-words.ensures,
+    ) refl
 
 pub returns : goal.returns
-unfolding parts_with
-returns c = search rules
+returns c =
+    rw (
+      parts_paired,
+      sym c.in_ok-order.ensures,
+      sym c.in_ok-blocks.ensures,
+      sym c.in_ok-batch.ensures,
+      sym c.in_ok-owners.ensures,
+      sym c.in_ok-words.ensures,
+    ) refl

@@ -3,33 +3,33 @@ use Rattle.hp_scenario.proofs.usual.numbers_after.Goals as goal
 
 pub returns : goal.returns
 returns c = (
-  c.number_after.new.reader,
-  c.in_ok-order.ensures,
+  c.in_ok-order.ensures.0,
+  c.in_ok-order.ensures.1,
   (
-    c.number_after-2.new.reader,
-    c.in_ok-pageblocks.ensures,
+    c.pair_after.new.reader,
+    c.in_ok-order.ensures.2,
     (
-      c.number_after-3.new.reader,
-      c.in_ok-blocks.ensures,
+      c.in_ok-blocks.ensures.0,
+      c.in_ok-blocks.ensures.1,
       (
-        c.number_after-4.new.reader,
-        c.in_ok-cpus.ensures,
+        c.pair_after-2.new.reader,
+        c.in_ok-blocks.ensures.2,
         (
-          c.number_after-5.new.reader,
-          c.in_ok-batch.ensures,
+          c.in_ok-batch.ensures.0,
+          c.in_ok-batch.ensures.1,
           (
-            c.number_after-6.new.reader,
-            c.in_ok-high.ensures,
+            c.pair_after-3.new.reader,
+            c.in_ok-batch.ensures.2,
             (
-              c.number_after-7.new.reader,
-              c.in_ok-owners.ensures,
+              c.in_ok-owners.ensures.0,
+              c.in_ok-owners.ensures.1,
               (
-                c.number_after-8.new.reader,
-                c.in_ok-pages.ensures,
+                c.pair_after-4.new.reader,
+                c.in_ok-owners.ensures.2,
                 (
-                  c.number_after-9.new.reader,
-                  c.in_ok-words.ensures,
-                  (c.number_after-10.new.reader, c.in_ok-history.ensures, refl),
+                  c.in_ok-words.ensures.0,
+                  c.in_ok-words.ensures.1,
+                  (c.pair_after-5.new.reader, c.in_ok-words.ensures.2, refl),
                 ),
               ),
             ),

@@ -1,7 +1,7 @@
 use Rattle.std.proofs.Common.{◌≡◌, map, length}
 use Rattle.hp_scenario.specs.Lines as says
 use Rattle.hp_scenario.proofs.Each.{after_front}
-use Rattle.hp_scenario.proofs.plans.items_from.Given as goal
+use Rattle.hp_scenario.proofs.plans.plan_from.Given as goal
 
 abbrev pub invariant-loop-rest : goal.invariant-loop-rest
 invariant-loop-rest l =

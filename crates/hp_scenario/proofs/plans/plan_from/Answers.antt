@@ -1,7 +1,7 @@
-use Rattle.std.proofs.Common.{refl, sym, ◌∙◌}
+use Rattle.std.proofs.Common.{Some, refl, sym, ap, ◌∙◌}
 use Rattle.std.proofs.lemmas.Bool.{eqb-true}
 use Rattle.hp_scenario.proofs.PlanItems.{item_goes_on, item_stops, one_left, none_left}
-use Rattle.hp_scenario.proofs.plans.items_from.Goals as goal
+use Rattle.hp_scenario.proofs.plans.plan_from.Goals as goal
 
 pub returns-in_default-item_from : goal.returns-in_default-item_from
 returns-in_default-item_from c =
@@ -21,5 +21,5 @@ returns-then-not-is_empty c =
 
 pub returns : goal.returns
 returns c =
-    none_left c.loop-rest.rest.now c.loop-rest.items.items _
+    ap Some c.in_ok-new.ensures ∙ none_left c.loop-rest.rest.now c.loop-rest.items.items _
     (eqb-true _ _ (sym c.is_empty.ensures ∙ c.if-not-is_empty.false)) c.loop-rest.invariant
