@@ -47,7 +47,7 @@ pub record IsCourse (m : CourseValue) (entries : List Entry) (deltas : List Delt
   pub journal : IsJournal m.layout m.base m.before (net_of m.history) entries deltas
   pub fits : m.before + length m.history < 2 ^ 64
 
--- an undo to the serial is refused: no record has it, or the record was sealed
+-- an undo to the serial is refused: it is above the last one, or below the last one that was sealed
 abbrev pub is_gone : CourseValue → ℕ → Bool
 is_gone m serial = nat_lt (last_serial m) serial || nat_lt serial m.before
 

@@ -118,23 +118,6 @@ pub(crate) fn kept_len(entries: &[Entry], before: u64, serial: Serial) -> usize
     keep
 }
 
-/// Whether a step begins an operation.
-fn is_opening(mark: Mark) -> bool
-    ensures { result ≡ is_opening mark }
-{
-    matches!(mark, Mark::Opens)
-}
-
-/// Whether a step is an operation's own work.
-fn is_work_of(mark: Mark, op: Serial) -> bool
-    ensures { result ≡ is_work_of op mark }
-{
-    match mark {
-        Mark::Works { op: own } => own == op,
-        _ => false,
-    }
-}
-
 /// The place where an operation begins, if nothing but its own work stands after it.
 pub(crate) fn sole_place(entries: &[Entry], before: u64, op: Serial) -> Option<usize>
     requires { AreNumbered before entries.now }
@@ -144,10 +127,10 @@ pub(crate) fn sole_place(entries: &[Entry], before: u64, op: Serial) -> Option<u
     while place > 0 {
         place -= 1;
         let tag = step_tag(entries, before, place);
-        if is_opening(tag.mark) {
+        if tag.mark.is_opening() {
             return if tag.serial == op { Some(place) } else { None };
         }
-        if !is_work_of(tag.mark, op) {
+        if !tag.mark.is_work_of(op) {
             return None;
         }
     }

@@ -21,8 +21,8 @@ mod steps;
 
 /// A memory and the journal of its steps, which keeps no records (own rule): it answers as a
 /// `Course` does. The base state and the records are a matter of its proofs alone, and take no
-/// bytes. It has room for no step that comes after 2^30 records since the base, or after 2^32
-/// deltas on its tape: the answer there is out of memory.
+/// bytes. It has no room after 2^30 records since the base, or after 2^32 deltas on its tape: there
+/// any event but an undo and a Cancel that restores is out of memory.
 pub struct Journal {
     before: u64,
     count: u64,
@@ -239,7 +239,8 @@ impl Journal {
         }
     }
 
-    /// Whether an undo to a serial is refused: no record has it, or the record was sealed.
+    /// Whether an undo to a serial is refused: it is above the last one, or below the last one that
+    /// was sealed.
     fn is_gone(&self, serial: Serial) -> bool
         ensures { result ≡ is_gone self.now serial }
     {

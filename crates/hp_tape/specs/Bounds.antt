@@ -59,10 +59,6 @@ drain_bound l fs cpu = cached_frames fs cpu * (l.order + 2)
 
 -- ---- of the events (own rule)
 
--- how many frames are in a processor's lists
-abbrev pub cached_count : Memory → ℕ → ℕ
-cached_count s cpu = cached_frames s.free cpu
-
 -- for a block that is isolated or released, for one that goes offline or comes, and for one that goes online
 abbrev pub moved_block_bound : LayoutParts → ℕ
 moved_block_bound l = 1 + l.pageblocks * (1 + 2 * 2 ^ l.order)
@@ -81,10 +77,10 @@ delta_bound l s (Map owner page) = l.batch * (l.order + 2) + 3
 delta_bound l s (Unmap owner page) = l.batch * (l.order + 2) + 3
 delta_bound l s (Write owner page index value) = 1
 delta_bound l s (Read owner page index) = 0
-delta_bound l s (Drain drained) = cached_count s drained * (l.order + 2)
+delta_bound l s (Drain drained) = drain_bound l s.free drained
 delta_bound l s (Online block zone) = online_bound l
 delta_bound l s (Begin plan) = length plan * moved_block_bound l
-delta_bound l s (DrainFor op drained) = cached_count s drained * (l.order + 2)
+delta_bound l s (DrainFor op drained) = drain_bound l s.free drained
 delta_bound l s (Migrate op) = 2 * l.order + 5
 delta_bound l s (Commit op) = length (blocks_of l s.blocks op) * committed_block_bound l
 delta_bound l s (Cancel op) = length (blocks_of l s.blocks op) * moved_block_bound l

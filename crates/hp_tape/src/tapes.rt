@@ -1,4 +1,4 @@
-//! The list of deltas that a step notes.
+//! A list of deltas, with room for more.
 ghost use Rattle.std.specs.Prelude.{◌≡◌, ◌+◌, ◌<◌, ◌≤◌, [], ◌∷◌, ◌++◌, length, IfOk, IsOk, MatchOption, OnErr, OnOk};
 ghost use Rattle.hp_tape.specs.Tapes.{HasRoom};
 
@@ -6,7 +6,7 @@ use crate::deltas::Delta;
 use std::alloc::{AllocError, Global};
 use std::marker::Model;
 
-/// The deltas of a step, oldest first, and room for more: noting takes no memory.
+/// Deltas, oldest first, and room for more: noting takes no memory.
 #[derive(Drop)]
 pub struct Tape {
     deltas: Vec<Delta>,

@@ -7,7 +7,7 @@ use hp_numbers::{Block, Cpu, Frame, Order, Owner, Page, Serial};
 use std::alloc::{AllocError, Global};
 
 /// One event, made by one processor. Its refusals and what it does are those of the definitions in
-/// specs/Refusals and specs/Step.
+/// specs/Refusals and specs/Step; of an UndoAfter, and of a Cancel that restores, in specs/History.
 #[derive(Drop)]
 pub enum Event {
     /// The kernel takes a block of 2^order frames: of order 0 from the processor's list, else from

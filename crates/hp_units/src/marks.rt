@@ -1,7 +1,7 @@
 //! What undo and Cancel have to know of a step.
 ghost use Rattle.std.specs.Prelude.{◌≡◌, ◌&&◌, not};
 ghost use Rattle.hp_units.specs.History.{is_look, is_refused};
-ghost use Rattle.hp_units.specs.Marks.{is_opening, mark_of};
+ghost use Rattle.hp_units.specs.Marks.{is_opening, is_work_of, mark_of};
 
 use crate::events::Event;
 use crate::replies::Reply;
@@ -24,6 +24,16 @@ impl Mark {
         ensures { result ≡ is_opening self }
     {
         matches!(self, Mark::Opens)
+    }
+
+    /// Whether it is that of the operation's own work.
+    pub fn is_work_of(self, op: Serial) -> bool
+        ensures { result ≡ is_work_of op self }
+    {
+        match self {
+            Mark::Works { op: own } => own == op,
+            _ => false,
+        }
     }
 }
 

@@ -48,7 +48,7 @@ pub enum Refusal {
     NothingToMove,
     /// The lowest frame of the operation's going blocks that stands in no free block.
     NotFree { frame: Frame },
-    /// The serial is above the last one, or sealed.
+    /// The serial is above the last one, or below the last one that was sealed.
     Gone,
     /// The address is no multiple of the bytes of a memory block.
     BadAddress,
@@ -124,7 +124,7 @@ pub struct Receipt {
 /// Why a call left no record: it changed nothing.
 #[derive(Clone, Copy, PartialEq, Eq, Drop)]
 pub enum CallFault {
-    /// The history holds its limit of records.
+    /// The history holds its limit of records, or the last serial is 2^64 - 1.
     HistoryFull,
     /// Memory was refused.
     OutOfMemory,
@@ -137,14 +137,15 @@ pub enum OpEnd {
     Done,
     /// The Begin was refused.
     Refused(Refusal),
-    /// The operation was cancelled: why, and whether its steps were dropped.
+    /// The operation was cancelled: the last refusal of a migration or a commit, if there was one,
+    /// and whether its steps were dropped.
     Cancelled {
         why: Option<Refusal>,
         restored: bool,
     },
-    /// The operation was ended by another caller.
+    /// The operation was no longer live: it was undone, or another caller ended it.
     Undone,
-    /// A call left no record: the operation, if it began, is still there.
+    /// A call left no record; the operation that was begun, if one was, may still be live.
     Left {
         op: Option<Serial>,
         fault: CallFault,

@@ -38,12 +38,13 @@ impl Mobility {
     }
 }
 
-/// A pageblock's mobility, and whether nothing is taken from it.
+/// A pageblock's mobility, and whether nothing is taken from its free blocks.
 #[derive(Clone, Copy, PartialEq, Eq, Drop)]
 pub struct Kind {
     /// What it is used for; it changes only while the whole pageblock is one free block (own rule).
     pub mobility: Mobility,
-    /// Whether nothing is taken from it.
+    /// Whether nothing is taken from its free blocks; a frame of it that waits on a processor's list
+    /// can still be handed out (Linux: MIGRATE_ISOLATE).
     pub isolated: bool,
 }
 

@@ -233,11 +233,6 @@ impl Layers {
     {
         let zone = self.zone_of_block(block);
         self.frames.remove_block(&self.layout, zone, block, tape);
-        let offline = Row {
-            state: State::Offline,
-            zone: None,
-            claim: None,
-        };
-        self.blocks.set(block, offline, tape);
+        self.blocks.set(block, Row::bare(State::Offline), tape);
     }
 }

@@ -24,12 +24,7 @@ impl Layers {
         ensures { IsReworked self.old (online_block self.old.layout zone (state_of self.old) block)
             (online_bound self.old.layout) self.new tape.old tape.new }
     {
-        let online = Row {
-            state: State::Online,
-            zone: Some(zone),
-            claim: None,
-        };
-        self.blocks.set(block, online, tape);
+        self.blocks.set(block, Row::online(zone), tape);
         self.frames.add_block(&self.layout, zone, block, tape);
     }
 }

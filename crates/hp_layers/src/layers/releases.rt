@@ -146,12 +146,7 @@ impl Layers {
             (record (row_of self.old.blocks.blocks block) { claim = None })) (moved_block_bound
             self.old.layout) self.new tape.old tape.new }
     {
-        let row = self.blocks.row(block);
-        let free = Row {
-            state: row.state,
-            zone: row.zone,
-            claim: None,
-        };
+        let free = self.blocks.row(block).unclaimed();
         self.blocks.set(block, free, tape);
     }
 }

@@ -105,12 +105,7 @@ impl Layers {
             (with_block_row (state_of self.old) block (record offline_row { state = state })) 1 self.new
             tape.old tape.new }
     {
-        let bare = Row {
-            state,
-            zone: None,
-            claim: None,
-        };
-        self.blocks.set(block, bare, tape);
+        self.blocks.set(block, Row::bare(state), tape);
     }
 
     /// How many deltas a block that goes online may note.
@@ -170,7 +165,7 @@ impl Layers {
             return Some(Refusal::NoBlock);
         }
         let block = block_at(&self.layout, address);
-        if self.blocks.row(block).state != State::Absent {
+        if !self.blocks.row(block).is_absent() {
             return Some(Refusal::NotAbsent { block });
         }
         None

@@ -1,3 +1,6 @@
+use Rattle.std.proofs.Common.{ap, ◌∙◌}
+use Rattle.hp_units.specs.declared.rows.Row.{Row}
+use Rattle.hp_units.specs.Memory.{with_row}
 use Rattle.hp_layers.proofs.OnlineBlocks.{onlined, unplugged-nowhere}
 use Rattle.hp_layers.proofs.Placed.{tidy-placed}
 use Rattle.hp_layers.proofs.layers.Layers.online_block.Goals as goal
@@ -12,5 +15,7 @@ add_block-requires-clause-nowhere c =
 pub returns : goal.returns
 returns c =
     onlined c.args.self.now c.add_block.new.self c.set.new.self c.args.zone c.args.block c.args.tape.now
-    c.set.new.tape c.add_block.new.tape c.requires.placed c.set.ensures.set c.set.ensures.layout
-    c.set.ensures.notes c.add_block.ensures
+    c.set.new.tape c.add_block.new.tape c.requires.placed
+    (c.set.ensures.set
+    ∙ ap (λ (r : Row). with_row c.args.self.now.blocks.blocks c.args.block r) c.online.ensures)
+    c.set.ensures.layout c.set.ensures.notes c.add_block.ensures

@@ -1,5 +1,6 @@
+-- Work is the operation's own where it names its number.
 use Rattle.std.proofs.Common.{rules}
-use Rattle.hp_history.proofs.entries.is_work_of.Goals as goal
+use Rattle.hp_units.proofs.marks.Mark.is_work_of.Goals as goal
 
 pub returns-in-Works : goal.returns-in-Works
 returns-in-Works c = search rules
