@@ -104,6 +104,7 @@ called_copy old new cpu serial event copy reply copied call =
 pub sound : (m : MachineValue) → IsMachine m → IsSound m
 sound m ok = record {
   limits = ok.limits;
+  few = ok.few;
   placed =
       subst (λ (s : Memory). IsWellPlaced m.layout s) (sym ok.history.state)
       (value-placed m.layout m.base m.history ok.limits ok.placed);

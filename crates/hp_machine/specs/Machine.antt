@@ -1,5 +1,5 @@
 -- What a contract sees of a machine, what every machine keeps, and what a call does.
-use Rattle.std.specs.Prelude.{ℕ, ◌≡◌, Bool, ◌||◌, [], length, nat_le}
+use Rattle.std.specs.Prelude.{ℕ, ◌≡◌, ◌≤◌, Bool, ◌||◌, [], length, nat_le}
 use Rattle.hp_units.specs.LayoutParts.{IsLayout, LayoutParts}
 use Rattle.hp_units.specs.Boot.{boot_memory}
 use Rattle.hp_units.specs.Contents.{contents_of_net}
@@ -25,13 +25,14 @@ booted l = record { layout = l; before = 0; base = boot_memory l; history = []; 
 abbrev pub IsHistory : MachineValue → Type 0
 IsHistory = IsCourseHistory
 
--- what a user relies on in every machine: its layout is within the limits, each frame is in exactly
--- one place, and its pages hold what Map, Unmap and Write of the steps that are not undone make of
--- the base's pages. In its base, too, each frame is in exactly one place, and the operations that
--- hold blocks there have numbers up to that of the last record that was sealed: so the laws of
--- histories hold of its own, and it can be replayed
+-- what a user relies on in every machine: its layout is within the limits, its history within the
+-- layout's, each frame is in exactly one place, and its pages hold what Map, Unmap and Write of the
+-- steps that are not undone make of the base's pages. In its base, too, each frame is in exactly
+-- one place, and the operations that hold blocks there have numbers up to that of the last record
+-- that was sealed: so the laws of histories hold of its own, and it can be replayed
 pub record IsSound (m : MachineValue) : Type 0 where
   pub limits : IsLayout m.layout
+  pub few : length m.history ≤ m.layout.history
   pub placed : IsWellPlaced m.layout m.state
   pub base_placed : IsWellPlaced m.layout m.base
   pub base_numbered : AreClaimedUpTo m.before m.base.blocks

@@ -170,9 +170,10 @@ impl Machine {
         self.course.history()
     }
 
-    /// Each frame is in exactly one place, and the pages hold what the owners' steps wrote; each
-    /// frame of the base is in exactly one place too, and no operation holds a block in it under a
-    /// number above that of the last sealed record (own rule).
+    /// Each frame is in exactly one place, the pages hold what the owners' steps wrote, and the
+    /// history has no more records than the layout allows; each frame of the base is in exactly one
+    /// place too, and no operation holds a block in it under a number above that of the last sealed
+    /// record (own rule).
     pub fn stays_sound(&self)
         ensures { IsSound self.now }
     {

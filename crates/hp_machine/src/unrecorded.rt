@@ -1,7 +1,7 @@
 //! A machine that keeps no records.
 ghost use Rattle.std.specs.Prelude.{◌≡◌, ◌↔◌, Err, IfOk, OnErr, IsTrue, length};
 ghost use Rattle.hp_history.specs.Course.{receipt_for};
-ghost use Rattle.hp_machine.specs.Machine.{IsCalled, booted, is_full, sealed};
+ghost use Rattle.hp_machine.specs.Machine.{IsCalled, IsSound, booted, is_full, sealed};
 ghost use Rattle.hp_machine.specs.MachinePorts.{IsPlanRun};
 
 use crate::machine_port::{Answers, carry_out};
@@ -89,6 +89,14 @@ impl UnrecordedMachine {
         ensures goes_on { self.new ≡ sealed self.old }
     {
         self.journal.seal()
+    }
+
+    /// The same as of a `Machine`: each frame is in exactly one place, and the pages hold what the
+    /// owners' steps wrote (own rule).
+    pub fn stays_sound(&self)
+        ensures { IsSound self.now }
+    {
+        let _ = &self.journal;
     }
 
     /// The layout.
