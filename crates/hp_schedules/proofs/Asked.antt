@@ -4,7 +4,7 @@ use Rattle.std.specs.Prelude.{option_and_then}
 use Rattle.std.specs.Option.{option_map_or}
 use Rattle.std.proofs.lemmas.List.{append-nil, append_assoc}
 use Rattle.std.proofs.lemmas.List.Sums.{fold_push}
-use Rattle.std.proofs.lemmas.Option.{none-some, same_Some, slice_get_past}
+use Rattle.std.proofs.lemmas.Option.{none-some, same_Some}
 use Rattle.std.proofs.Math.ListN.{drop_of_length-le}
 use Rattle.hp_ops.specs.Stages.{IsAfter, MovesOn, event_in}
 use Rattle.hp_ops.specs.declared.stages.Driver.{Driver}
@@ -14,7 +14,7 @@ use Rattle.hp_units.specs.declared.events.Event.TheVariants.{Begin}
 use Rattle.hp_units.specs.declared.replies.Refusal.{Refusal}
 use Rattle.hp_units.specs.declared.events.Event.{Event}
 use Rattle.hp_units.specs.declared.replies.Receipt.{Receipt}
-use Rattle.hp_schedules.specs.Cursors.{IsAsked, IsAskedBy, IsCursor, IsIn, IsInFirst, IsRequested, asks, asks_at, cursor_at, driver_before, first_driver}
+use Rattle.hp_schedules.specs.Cursors.{IsAsked, IsCursor, IsIn, IsInFirst, IsRequested, asks, asks_at, cursor_at, driver_before, first_driver}
 use Rattle.hp_schedules.specs.Interleavings.{is_one_call}
 use Rattle.hp_schedules.specs.Scripts.{after_line, later_operation, line_next, next_in, next_of, own_operation, work_of}
 use Rattle.hp_schedules.specs.declared.cursors.Cursor.{Cursor}
@@ -123,17 +123,9 @@ first_over cpus op (Carry plan turns) lines own later c at is =
     (at.1 op later ∙ over_now cpus op (Carry plan turns) own later none)
 
 -- what stands at a place
-pub asks_here : (c : Cursor) (lines : List Line) (line : Line) → slice_get lines c.line ≡ Some line
+asks_here : (c : Cursor) (lines : List Line) (line : Line) → slice_get lines c.line ≡ Some line
     → asks_at c lines ≡ asks c line
 asks_here c lines line here = ap (option_and_then (asks c)) here
-
-pub asks_past : (c : Cursor) (lines : List Line) → length lines ≤ c.line → asks_at c lines ≡ None
-asks_past c lines past = ap (option_and_then (asks c)) (slice_get_past lines c.line past)
-
-pub asked_at : (c : Cursor) (lines : List Line) (line : Line) (q : Option Request)
-    → slice_get lines c.line ≡ Some line → IsAskedBy c line q → IsAsked c lines q
-asked_at c lines line None here by = asks_here c lines line here ∙ by
-asked_at c lines line (Some q) here by = (asks_here c lines line here ∙ by.0, by.1)
 
 -- the first of the lines from there on
 at_first : (cpus : ℕ) (lines : List Line) (receipts : List Receipt) (c : Cursor) (line : Line)

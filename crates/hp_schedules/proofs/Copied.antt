@@ -1,5 +1,6 @@
 -- Copies of the first items of a list.
-use Rattle.std.proofs.Common.{◌≡◌, ℕ, ◌+◌, ◌<◌, List, [], ◌∷◌, ◌++◌, length, take, get_or, refl, ap, sym, ◌∙◌}
+use Rattle.std.proofs.Common.{◌≡◌, ℕ, ◌+◌, ◌<◌, List, [], ◌∷◌, ◌++◌, length, map, take, get_or, refl, ap, sym, ◌∙◌}
+use Rattle.std.proofs.lemmas.List.{map-append}
 use Rattle.std.proofs.lemmas.Option.{slice_get_read}
 use Rattle.hp_laws.proofs.Replays.{take_one}
 
@@ -12,3 +13,14 @@ copied_more {A} all old new at item copy less read so_far same is =
     ∙ (ap (λ (items : List A). items ++ copy ∷ []) so_far
     ∙ (ap (λ (x : A). take at all ++ x ∷ []) same
     ∙ sym (take_one all at item (slice_get_read all (length all) at item refl less read))))
+
+-- the value of one item more
+pub mapped_more : {A B : Type 0} (f : A → B) (all : List A) (old new : List B) (at : ℕ) (item : A)
+    → at < length all → item ≡ get_or all at item → old ≡ map f (take at all) → new ≡ old ++ f item ∷ []
+    → new ≡ map f (take (at + 1) all)
+mapped_more {A} {B} f all old new at item less read so_far is =
+    is
+    ∙ (ap (λ (items : List B). items ++ f item ∷ []) so_far
+    ∙ (sym (map-append f (take at all) (item ∷ []))
+    ∙ ap (λ (items : List A). map f items)
+    (sym (take_one all at item (slice_get_read all (length all) at item refl less read)))))

@@ -68,10 +68,6 @@ abbrev pub IsAsked : Cursor → List Line → Option Request → Type 0
 IsAsked c lines None = asks_at c lines ≡ None
 IsAsked c lines (Some q) = (asks_at c lines ≡ Some q.event) × (q.from ≡ c)
 
-abbrev pub IsAskedBy : Cursor → Line → Option Request → Type 0
-IsAskedBy c line None = asks c line ≡ None
-IsAskedBy c line (Some q) = (asks c line ≡ Some q.event) × (q.from ≡ c)
-
 -- what a script asks for after receipts, from where its line is
 abbrev pub IsRequested : (cpus : ℕ) → List Line → List Receipt → Option Request → Type 0
 IsRequested cpus lines receipts None = next_of cpus lines receipts ≡ None

@@ -1,6 +1,6 @@
 //! What a call does to the operations that Cancels can take back whole.
 ghost use Rattle.std.specs.Prelude.{◌≡◌};
-ghost use Rattle.hp_schedules.specs.Openings.{change_by, change_of};
+ghost use Rattle.hp_schedules.specs.Openings.{change_of};
 
 use hp_units::{Event, Record, Reply, Serial};
 
@@ -23,17 +23,10 @@ pub enum Change {
 pub fn change_of(latest: &Record) -> Change
     ensures { result ≡ change_of latest.now }
 {
-    match latest.reply {
-        Reply::Refused(_) => Change::Stays,
-        _ => change_by(&latest.event),
+    if matches!(latest.reply, Reply::Refused(_)) {
+        return Change::Stays;
     }
-}
-
-/// What an event that was not refused does.
-fn change_by(event: &Event) -> Change
-    ensures { result ≡ change_by event.now }
-{
-    match event {
+    match &latest.event {
         Event::Read { .. } => Change::Stays,
         Event::Begin { .. } => Change::Begins,
         Event::DrainFor { op, .. } => Change::Works { op: *op },

@@ -1,6 +1,6 @@
 //! Whether the steps of a history are closed: no later Cancel can drop one of them.
 ghost use Rattle.std.specs.Prelude.{◌≡◌};
-ghost use Rattle.hp_schedules.specs.Alike.{closed_after, closed_by, is_closed};
+ghost use Rattle.hp_schedules.specs.Alike.{closed_after, is_closed};
 
 use hp_units::{Event, Record, Reply};
 
@@ -16,20 +16,13 @@ pub fn is_closed(history: &[Record]) -> bool
 }
 
 /// Whether it is so after one record more.
-pub(crate) fn closed_after(was: bool, last: &Record) -> bool
+fn closed_after(was: bool, last: &Record) -> bool
     ensures { result ≡ closed_after was last.now }
 {
-    match last.reply {
-        Reply::Refused(_) => was,
-        _ => closed_by(was, &last.event),
+    if matches!(last.reply, Reply::Refused(_)) {
+        return was;
     }
-}
-
-/// Whether it is so after an event that was not refused.
-fn closed_by(was: bool, event: &Event) -> bool
-    ensures { result ≡ closed_by was event.now }
-{
-    match event {
+    match &last.event {
         Event::Read { .. } | Event::DrainFor { .. } | Event::Migrate { .. } => was,
         Event::Begin { .. } | Event::Cancel { .. } | Event::UndoAfter { .. } => false,
         _ => true,

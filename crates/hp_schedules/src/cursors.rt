@@ -1,11 +1,10 @@
 //! Where a processor is in its script.
-ghost use Rattle.std.specs.Prelude.{◌≡◌, ◌++◌, ◌∷◌, [], IfOk, List, None, Some, slice_get};
+ghost use Rattle.std.specs.Prelude.{◌≡◌, ◌++◌, ◌∷◌, ℕ, [], IfOk, List, Some, slice_get};
 ghost use Rattle.std.specs.Option.{option_map_or};
-ghost use Rattle.hp_ops.specs.Stages.{MovesOn};
 ghost use Rattle.hp_units.specs.Receipts.{receipt_of};
 ghost use Rattle.hp_units.specs.declared.events.Event.{Event as AnyEvent};
 ghost use Rattle.hp_units.specs.declared.replies.Receipt.{Receipt};
-ghost use Rattle.hp_schedules.specs.Cursors.{IsAsked, IsAskedBy, IsCursor, IsRequested, asks, asks_at, cursor_at, driver_before, first_driver};
+ghost use Rattle.hp_schedules.specs.Cursors.{IsAsked, IsCursor, IsRequested, asks, asks_at, cursor_at, driver_before, first_driver};
 
 use crate::scripts::{Line, Script, later_operation};
 use hp_ops::Driver;
@@ -17,7 +16,8 @@ use std::alloc::{AllocError, Global};
 #[derive(Clone, Copy, Drop)]
 pub struct Cursor {
     line: usize,
-    op: Serial,
+    /// The operation that the processor began last, and 0 where it began none.
+    pub(crate) op: Serial,
     driver: Driver,
 }
 
@@ -49,13 +49,6 @@ impl Cursor {
         }
     }
 
-    /// The operation that the processor began last, and 0 where it began none.
-    pub(crate) fn operation(&self) -> Serial
-        ensures { result ≡ self.now.op }
-    {
-        self.op
-    }
-
     /// The call that a script asks for next; none at its end. An error is out of memory.
     pub(crate) fn request(
         &self,
@@ -66,28 +59,13 @@ impl Cursor {
         ensures { IfOk result (λ request. (receipts : List Receipt)
             → IsCursor cpus lines.now receipts self.now → IsRequested cpus lines.now receipts request) }
     {
-        match self.asked(alloc, lines)? {
-            Some(request) => Ok(Some(request)),
-            None => self.next_request(alloc, cpus, lines),
+        if let Some(request) = self.asked(alloc, lines)? {
+            return Ok(Some(request));
         }
-    }
-
-    /// The same where the line here is over, or there is none: the call of the next line.
-    fn next_request(
-        &self,
-        alloc: Global,
-        cpus: u32,
-        lines: &[Line],
-    ) -> Result<Option<Request>, AllocError>
-        requires { asks_at self.now lines.now ≡ None }
-        ensures { IfOk result (λ request. (receipts : List Receipt)
-            → IsCursor cpus lines.now receipts self.now → IsRequested cpus lines.now receipts request) }
-    {
-        if self.line < lines.len() {
-            Cursor::new(cpus, lines, self.line + 1, self.op).asked(alloc, lines)
-        } else {
-            Ok(None)
+        if self.line >= lines.len() {
+            return Ok(None);
         }
+        Cursor::new(cpus, lines, self.line + 1, self.op).asked(alloc, lines)
     }
 
     /// The call that the line here asks for; none where it is over, or there is none. An error is
@@ -95,16 +73,9 @@ impl Cursor {
     fn asked(&self, alloc: Global, lines: &[Line]) -> Result<Option<Request>, AllocError>
         ensures { IfOk result (IsAsked self.now lines.now) }
     {
-        match lines.get(self.line) {
-            Some(line) => self.asked_by(alloc, line),
-            None => Ok(None),
-        }
-    }
-
-    /// The call that a line asks for here; none where it is over. An error is out of memory.
-    fn asked_by(&self, alloc: Global, line: &Line) -> Result<Option<Request>, AllocError>
-        ensures { IfOk result (IsAskedBy self.now line.now) }
-    {
+        let Some(line) = lines.get(self.line) else {
+            return Ok(None);
+        };
         match self.event(alloc, line)? {
             Some(event) => Ok(Some(Request { event, from: *self })),
             None => Ok(None),
@@ -129,19 +100,18 @@ impl Cursor {
             → IsCursor cpus lines.now (receipts ++ receipt_of latest.now ∷ []) result }
     {
         let op = later_operation(self.op, latest.serial, &latest.event);
-        match lines.get(self.line) {
-            Some(line) => {
-                if line.is_one_call() {
-                    Cursor::new(cpus, lines, self.line + 1, op)
-                } else {
-                    Cursor {
-                        line: self.line,
-                        op,
-                        driver: later_driver(self.driver, latest),
-                    }
-                }
-            }
-            None => *self,
+        let Some(line) = lines.get(self.line) else {
+            return *self;
+        };
+        if line.is_one_call() {
+            return Cursor::new(cpus, lines, self.line + 1, op);
+        }
+        let mut driver = self.driver;
+        driver.answer(&latest.event, &latest.reply);
+        Cursor {
+            line: self.line,
+            op,
+            driver,
         }
     }
 }
@@ -151,34 +121,17 @@ fn first_driver(cpus: u32, lines: &[Line], line: usize) -> Driver
     ensures { result ≡ option_map_or (first_driver cpus) (slice_get lines.now line) (driver_before cpus 0) }
 {
     match lines.get(line) {
-        Some(line) => driver_of(cpus, line),
-        None => driver_before(cpus, 0),
+        Some(line) => Driver::new(cpus, turns_of(line)),
+        None => Driver::new(cpus, 0),
     }
 }
 
-/// The driver of a line's plan before its first call, and any where it has none.
-fn driver_of(cpus: u32, line: &Line) -> Driver
-    ensures { result ≡ first_driver cpus line.now }
+/// The turns of a line's plan, and 0 where it has none.
+fn turns_of(line: &Line) -> u32
+    ensures { (cpus : ℕ) → driver_before cpus result ≡ first_driver cpus line.now }
 {
     match line {
-        Line::Carry { turns, .. } => driver_before(cpus, *turns),
-        Line::Ask(_) => driver_before(cpus, 0),
-        Line::Own(_) => driver_before(cpus, 0),
+        Line::Carry { turns, .. } => *turns,
+        _ => 0,
     }
-}
-
-/// The driver of a plan before its first call.
-fn driver_before(cpus: u32, turns: u32) -> Driver
-    ensures { result ≡ driver_before cpus turns }
-{
-    Driver::new(cpus, turns)
-}
-
-/// A driver after its call was answered.
-fn later_driver(driver: Driver, latest: &Record) -> Driver
-    ensures { MovesOn driver latest.now.event latest.now.reply result }
-{
-    let mut later = driver;
-    later.answer(&latest.event, &latest.reply);
-    later
 }

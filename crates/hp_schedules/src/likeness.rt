@@ -54,7 +54,8 @@ pub(crate) fn copies_of(alloc: Global, all: &[Answers]) -> Result<Vec<Answers>, 
 fn copy_of(alloc: Global, answers: &Answers) -> Result<Answers, AllocError>
     ensures { IfOk result (λ copy. copy ≡ answers.now) }
 {
-    let replies = answers.as_slice().iter().copied().collect(alloc)?;
+    let mut replies = Vec::new(alloc);
+    replies.extend_from_slice(answers.as_slice())?;
     Ok(Answers::new(replies))
 }
 

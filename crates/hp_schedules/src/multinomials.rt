@@ -8,7 +8,7 @@ use crate::scripts::Script;
 use std::alloc::{AllocError, Global};
 
 /// How many interleavings scripts have, as far as that is known before any call.
-#[derive(Clone, Copy, Debug, PartialEq, Eq, Drop)]
+#[derive(Clone, Copy, Drop)]
 pub enum HowMany {
     /// So many, which are no more than the limit.
     Exactly(u64),
@@ -58,14 +58,23 @@ pub fn call_count(alloc: Global, scripts: &[Script]) -> Result<Option<u64>, Allo
 fn lengths(alloc: Global, scripts: &[Script]) -> Result<Vec<u64>, AllocError>
     ensures { IfOk result (λ lengths. lengths.items ≡ script_lengths scripts.now) }
 {
-    scripts.iter().map(|s| s.len() as u64).collect(alloc)
+    let mut lengths = Vec::with_capacity(alloc, scripts.len())?;
+    for script in scripts {
+        lengths.push_reserved(script.lines().len() as u64);
+    }
+    Ok(lengths)
 }
 
 /// Whether each line of the scripts is one call.
 fn hold_no_plan(scripts: &[Script]) -> bool
     ensures { result ≡ list_all holds_no_plan scripts.now }
 {
-    scripts.iter().all(|s| s.holds_no_plan())
+    for script in scripts {
+        if !script.holds_no_plan() {
+            return false;
+        }
+    }
+    true
 }
 
 /// The sum of lengths; none where it is 2^64 or more.

@@ -100,7 +100,8 @@ impl Outcome {
         ensures { IfOk result (λ x. x ≡ self.now) }
     {
         let replies = copies_of(alloc, self.replies.as_slice())?;
-        let blocks = self.blocks.iter().copied().collect(alloc)?;
+        let mut blocks = Vec::new(alloc);
+        blocks.extend_from_slice(self.blocks.as_slice())?;
         Ok(Outcome { replies, blocks })
     }
 
@@ -134,11 +135,14 @@ pub fn all_answers(
 fn answers_to(alloc: Global, cpu: Cpu, records: &[Record]) -> Result<Answers, AllocError>
     ensures { IfOk result (λ answers. answers ≡ replies_to cpu records.now) }
 {
-    let replies = records
-        .iter()
-        .filter(|r| r.cpu == cpu)
-        .map(|r| told(&r.reply))
-        .collect(alloc)?;
+    let mut replies = Vec::new(alloc);
+    for record in records {
+        if record.cpu != cpu {
+            continue;
+        }
+        replies.reserve(1)?;
+        replies.push_reserved(told(&record.reply));
+    }
     Ok(Answers { replies })
 }
 

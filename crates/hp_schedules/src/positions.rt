@@ -56,7 +56,7 @@ impl Positions {
             → result ≡ own_operation (receipts_of cpu news) }
     {
         let cursor = &self.cursors[cpu as usize];
-        cursor.operation()
+        cursor.op
     }
 
     /// Goes on by the call that a processor's script asked for, with its record, and answers where

@@ -1,9 +1,8 @@
 //! Scripts: what each processor asks for, one line after another.
-ghost use Rattle.std.specs.Prelude.{◌≡◌, cond, length};
+ghost use Rattle.std.specs.Prelude.{◌≡◌, cond};
 ghost use Rattle.std.specs.List.{list_all};
-ghost use Rattle.hp_units.specs.History.{effect_of};
 ghost use Rattle.hp_units.specs.Marks.{is_opening, mark_of};
-ghost use Rattle.hp_schedules.specs.Alike.{leaves_lines, leaves_script, leaves_steps};
+ghost use Rattle.hp_schedules.specs.Alike.{leaves_lines, leaves_script};
 ghost use Rattle.hp_schedules.specs.Interleavings.{holds_no_plan, is_one_call};
 ghost use Rattle.hp_schedules.specs.Scripts.{work_of};
 
@@ -11,7 +10,7 @@ use hp_units::{Cpu, Event, Plan, Serial, mark_of};
 use std::marker::Model;
 
 /// What is asked of the operation that the processor itself began last.
-#[derive(Clone, Copy, PartialEq, Eq, Drop)]
+#[derive(Clone, Copy, Drop)]
 pub enum Work {
     /// Drains a processor's lists.
     DrainFor { cpu: Cpu },
@@ -77,7 +76,7 @@ impl Line {
         ensures { result ≡ leaves_lines self.now }
     {
         match self {
-            Line::Ask(event) => leaves_steps(event),
+            Line::Ask(event) => !matches!(event, Event::UndoAfter { .. }),
             _ => true,
         }
     }
@@ -99,25 +98,28 @@ impl Script {
         lines.as_slice()
     }
 
-    /// The number of lines.
-    pub(crate) fn len(&self) -> usize
-        ensures { result ≡ length self.now }
-    {
-        self.lines.len()
-    }
-
     /// Whether each line is one call.
     pub(crate) fn holds_no_plan(&self) -> bool
         ensures { result ≡ holds_no_plan self.now }
     {
-        self.lines.iter().all(|line| line.is_one_call())
+        for line in self.lines() {
+            if !line.is_one_call() {
+                return false;
+            }
+        }
+        true
     }
 
     /// Whether no line undoes steps by their serials.
     fn leaves_steps(&self) -> bool
         ensures { result ≡ leaves_script self.now }
     {
-        self.lines.iter().all(|line| line.leaves_steps())
+        for line in self.lines() {
+            if !line.leaves_steps() {
+                return false;
+            }
+        }
+        true
     }
 }
 
@@ -136,12 +138,10 @@ pub(crate) fn later_operation(op: Serial, serial: Serial, event: &Event) -> Seri
 pub fn undo_nothing(scripts: &[Script]) -> bool
     ensures { result ≡ list_all leaves_script scripts.now }
 {
-    scripts.iter().all(|script| script.leaves_steps())
-}
-
-/// Whether an event undoes no steps by their serials.
-fn leaves_steps(event: &Event) -> bool
-    ensures { result ≡ leaves_steps (effect_of event.now) }
-{
-    !matches!(event, Event::UndoAfter { .. })
+    for script in scripts {
+        if !script.leaves_steps() {
+            return false;
+        }
+    }
+    true
 }

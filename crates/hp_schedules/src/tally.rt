@@ -1,5 +1,5 @@
 //! The ends so far, with their counts.
-ghost use Rattle.std.specs.Prelude.{◌≡◌, ◌↔◌, ◌<◌, ◌≤◌, ◌+◌, [], ◌∷◌, IfOk, IfSome, IfNone, IsTrue, OnOk, length, map, slice_index_or, sum_by};
+ghost use Rattle.std.specs.Prelude.{◌≡◌, ◌↔◌, ◌<◌, ◌≤◌, ◌+◌, [], ◌∷◌, IfOk, IfSome, IfNone, IsTrue, OnErr, OnOk, length, map, slice_index_or, sum_by};
 ghost use Rattle.hp_schedules.specs.Digests.{digest_of};
 ghost use Rattle.hp_schedules.specs.Notes.{AddsEnd, HasEndAt, HasNoEnd, HasRoom, IsNoted};
 ghost use Rattle.hp_schedules.specs.Outcomes.{outcome_with};
@@ -40,7 +40,11 @@ pub fn total_of(ends: &[Ending]) -> u128
 pub fn schedule_of(alloc: Global, records: &[Record]) -> Result<Vec<Cpu>, AllocError>
     ensures { IfOk result (λ schedule. schedule.items ≡ schedule_of records.now) }
 {
-    records.iter().map(|r| r.cpu).collect(alloc)
+    let mut schedule = Vec::with_capacity(alloc, records.len())?;
+    for record in records {
+        schedule.push_reserved(record.cpu);
+    }
+    Ok(schedule)
 }
 
 /// How many ends there may be for a place's counts to be kept (own rule).
@@ -95,6 +99,7 @@ impl Tally {
         ensures ok { OnOk result (IsNoted self.old.ends (outcome_with processors records.now blocks.items)
             (schedule_of records.now) self.new.ends) }
         ensures limit { self.new.limit ≡ self.old.limit }
+        ensures err { OnErr result (self.new ≡ self.old) }
     {
         let digest = digest_of(processors, records, blocks.as_slice());
         match self.place_of(digest, processors, records, blocks.as_slice()) {
@@ -147,6 +152,7 @@ impl Tally {
         ensures ok { OnOk result (AddsEnd self.old.ends (outcome_with processors records.now blocks.items)
             (schedule_of records.now) self.new.ends) }
         ensures limit { self.new.limit ≡ self.old.limit }
+        ensures err { OnErr result (self.new ≡ self.old) }
     {
         self.ends.reserve(1)?;
         learn(&mut self.latest, digest, self.ends.len())?;
@@ -181,7 +187,12 @@ impl Tally {
     pub fn counts(&self, alloc: Global) -> Result<Vec<u64>, AllocError>
         ensures { IfOk result (λ counts. counts.items ≡ map (λ e. e.count) self.now.ends) }
     {
-        self.ends.iter().map(|e| e.count).collect(alloc)
+        let ends = self.ends.as_slice();
+        let mut counts = Vec::with_capacity(alloc, ends.len())?;
+        for end in ends {
+            counts.push_reserved(end.count);
+        }
+        Ok(counts)
     }
 
     /// Writes what each end counts more than it did, in place of what was there; an end that was not

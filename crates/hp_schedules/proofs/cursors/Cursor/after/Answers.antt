@@ -1,9 +1,9 @@
 -- A line of one call is over; a plan goes on by its driver.
 use Rattle.std.proofs.Common.{◌+◌, ◌∙◌, ap, length, refl, sym}
-use Rattle.std.proofs.lemmas.Option.{none-some, slice_get_read}
+use Rattle.std.proofs.lemmas.Option.{slice_get_read}
 use Rattle.hp_units.specs.Receipts.{receipt_of}
 use Rattle.hp_schedules.specs.Cursors.{cursor_at}
-use Rattle.hp_schedules.proofs.Asked.{answered_new, answered_run, asks_past}
+use Rattle.hp_schedules.proofs.Asked.{answered_new, answered_run}
 use Rattle.hp_schedules.proofs.cursors.Cursor.after.Goals as goal
 
 pub returns-then-is_one_call : goal.returns-then-is_one_call
@@ -18,20 +18,15 @@ returns-then-is_one_call c =
     ∙ ap (cursor_at c.args.cpus c.args.lines.now (c.args.self.now.line + 1)) c.later_operation-op.ensures)
     is
 
-pub returns-else-is_one_call : goal.returns-else-is_one_call
-returns-else-is_one_call c =
+pub returns : goal.returns
+returns c =
     λ receipts event is asked. answered_run c.args.cpus c.args.lines.now receipts c.args.self.now
     (record {
       line = c.args.self.now.line;
       op = c.later_operation-op.result;
-      driver = c.later_driver.result;
+      driver = c.answer.new.self;
     }) c.in-Some.line.now (receipt_of c.args.latest.now) event
     (slice_get_read c.args.lines.now (length c.args.lines.now) c.args.self.now.line c.in-Some.line.now refl
     c.in-Some.ensures.lookup.3.0 c.in-Some.ensures.lookup.1)
     (sym c.is_one_call.ensures ∙ c.if-is_one_call.false) asked refl c.later_operation-op.ensures
-    c.later_driver.ensures is
-
-pub returns-in-None : goal.returns-in-None
-returns-in-None c =
-    λ receipts event is asked. absurd (none-some event
-    (sym (asks_past c.args.self.now c.args.lines.now c.in-None.ensures.lookup.3) ∙ asked))
+    c.answer.ensures is
