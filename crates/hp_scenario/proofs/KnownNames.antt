@@ -1,7 +1,10 @@
 -- A name that stands among the names.
-use Rattle.std.proofs.Common.{◌≡◌, ℕ, Bool, true, false, cond, List, [], Some, None, refl}
+use Rattle.std.proofs.Common.{◌≡◌, ℕ, ◌<◌, Bool, true, false, cond, ltb, List, [], Some, None, length, get_or, refl, sym, ap, ◌∙◌, arith}
+use Rattle.std.proofs.lemmas.Bool.{lt-ltb}
+use Rattle.std.proofs.lemmas.List.{get_or_default}
 use Rattle.std.proofs.lemmas.List.Folds.{list_any_at}
 use Rattle.std.proofs.lemmas.List.Quantifiers.{position-Some}
+use Rattle.std.proofs.lemmas.List.Sums.{position_or_len_is}
 use Rattle.std.specs.List.{position, position_or_len}
 use Rattle.std.specs.Str.{bytes_eq}
 use Rattle.indexmap.specs.IndexSet.{insert_key}
@@ -21,3 +24,14 @@ pub known_stays : (names : List (List ℕ)) (name : List ℕ) (n : ℕ) → posi
 known_stays names name n h =
     let p = position-Some (bytes_eq name) names n [] h in
     rw (list_any_at (bytes_eq name) names n [] p.0 p.1) refl
+
+-- a name that no earlier one is
+pub stands_first : (names : List (List ℕ)) (name : List ℕ) (n : ℕ) (x : List ℕ) → n < length names
+    → ((k : ℕ) → k < n → bytes_eq name (get_or names k []) ≡ false) → x ≡ get_or names n x
+    → bytes_eq name x ≡ true → position (bytes_eq name) names ≡ Some n
+stands_first names name n x within before is equal =
+    let here : bytes_eq name (get_or names n []) ≡ true =
+    ap (bytes_eq name) (sym (is ∙ get_or_default names n x [] within)) ∙ equal in
+    let place : position_or_len (bytes_eq name) names ≡ n =
+    position_or_len_is (bytes_eq name) names n [] (omega (arith, within)) before (λ lt. here) in
+    ap (λ (k : ℕ). cond (ltb k (length names)) (Some k) None) place ∙ rw (lt-ltb n (length names) within) refl

@@ -17,6 +17,5 @@ pub mod TextLists
 pub mod TokensRead
 pub mod UsualForm
 pub mod WholeNumber
-mod WordLists
 mod WordsCut
 pub mod WordsSpelled

@@ -7,10 +7,9 @@ use Rattle.hp_units.specs.declared.rows.Wish.{Wish}
 use Rattle.hp_units.specs.declared.rows.Wish.TheVariants as wish
 use Rattle.hp_units.specs.declared.rows.Zone.{Zone}
 use Rattle.hp_units.specs.declared.rows.Zone.TheVariants as zone
-use Rattle.hp_scenario.specs.Lines.{Request, plain, named, Said, words_say, request_of, event_of, only_number, zone_of, wish_of, item_of, items_of, text_of, kalloc_of, kfree_of, map_of, unmap_of, write_of, read_of, drain_of, online_of, begin_of, drainfor_of, migrate_of, commit_of, cancel_of, undo_of, remove_of, plan_of, echo_of, cat_of, seal_of}
+use Rattle.hp_scenario.specs.Lines.{Request, plain, named, Said, words_say, request_of, event_of, zone_of, wish_of, item_of, items_of, text_of, event_of_number, request_of_two, request_of_three, request_of_four, begin_of, plan_of, echo_of, cat_of, seal_of}
 use Rattle.hp_scenario.specs.Spelling.{zone_word, wish_word, item_words, request_words, FitItems, FitsRequest, IsText, CanBeSaid, is_spaceless}
 use Rattle.hp_numbers.specs.NumberWords.{number_of}
-use Rattle.hp_scenario.specs.Words.{name_of, is_name}
 use Rattle.hp_scenario.specs.declared.lines.Work.TheVariants as work
 use Rattle.hp_scenario.specs.declared.requests.Access.TheVariants as access
 use Rattle.hp_numbers.proofs.NumbersSpelled.{spelled_is}
@@ -22,9 +21,6 @@ read32 n fits = spelled_is 32 (decimal n) n (lit≤ tt) (refl, fits)
 
 read64 : (n : ℕ) → n < 2 ^ 64 → number_of 64 (decimal n) ≡ Some n
 read64 n fits = spelled_is 64 (decimal n) n (lit≤ tt) (refl, fits)
-
-read_name : (name : List ℕ) → is_name name ≡ true → name_of name ≡ Some name
-read_name name h = rw h refl
 
 read_text : (text : List ℕ) → IsText text → text_of text ≡ Some text
 read_text [] h = absurd (omega (arith, h.1))
@@ -52,9 +48,8 @@ read_items [] fit = refl
 read_items (item ∷ items) fit = rw (read_item item fit.0, read_items items fit.1) refl
 
 pub read_request : (r : Request) → FitsRequest r → request_of (request_words r) ≡ Some r
-unfolding request_of event_of only_number kalloc_of kfree_of map_of unmap_of write_of read_of drain_of
-    online_of begin_of drainfor_of migrate_of commit_of cancel_of undo_of remove_of plan_of echo_of cat_of
-    seal_of
+unfolding request_of event_of event_of_number request_of_two request_of_three request_of_four begin_of
+    plan_of echo_of cat_of seal_of
 read_request (plain (work.Event (KernelAlloc order))) fits = rw (read32 order fits) refl
 read_request (plain (work.Event (KernelFree frame))) fits = rw (read32 frame fits) refl
 read_request (plain (work.Event (Map owner page))) fits = absurd fits
@@ -77,12 +72,12 @@ read_request (plain (work.Echo echo)) fits =
     rw (read_text echo.word fits.0, read_text echo.path fits.1) refl
 read_request (plain (work.Cat path)) fits = rw (read_text path fits) refl
 read_request (plain work.Seal) fits = refl
-read_request (named name (access.Map page)) fits = rw (read_name name fits.0, read32 page fits.1) refl
-read_request (named name (access.Unmap page)) fits = rw (read_name name fits.0, read32 page fits.1) refl
+read_request (named name (access.Map page)) fits = rw (fits.0, read32 page fits.1) refl
+read_request (named name (access.Unmap page)) fits = rw (fits.0, read32 page fits.1) refl
 read_request (named name (access.Write page index value)) fits =
-    rw (read_name name fits.0, read32 page fits.1.0, read32 index fits.1.1, read64 value fits.1.2) refl
+    rw (fits.0, read32 page fits.1.0, read32 index fits.1.1, read64 value fits.1.2) refl
 read_request (named name (access.Read page index)) fits =
-    rw (read_name name fits.0, read32 page fits.1.0, read32 index fits.1.1) refl
+    rw (fits.0, read32 page fits.1.0, read32 index fits.1.1) refl
 
 pub read_said : (said : Said) → CanBeSaid said
     → words_say (decimal said.cpu ∷ request_words said.request) ≡ Some said

@@ -3,16 +3,17 @@ use Rattle.std.proofs.Common.{◌≡◌, ℕ, ◌^◌, ◌<◌, ◌≤◌, Bool,
 use Rattle.std.specs.Fmt.{decimal}
 use Rattle.std.specs.Str.{bytes_eq}
 use Rattle.std.proofs.lemmas.Option.{same_Some}
+use Rattle.hp_units.specs.declared.events.Event.{Event}
 use Rattle.hp_units.specs.declared.events.Event.TheVariants.{KernelAlloc, KernelFree, Drain, Online, Begin, DrainFor, Migrate, Commit, Cancel, UndoAfter, Remove}
 use Rattle.hp_units.specs.declared.plans.Item.{Item}
 use Rattle.hp_units.specs.declared.rows.Wish.{Wish}
 use Rattle.hp_units.specs.declared.rows.Wish.TheVariants as wish
 use Rattle.hp_units.specs.declared.rows.Zone.{Zone}
 use Rattle.hp_units.specs.declared.rows.Zone.TheVariants as zone
-use Rattle.hp_scenario.specs.Lines.{Request, plain, named, event, Said, words_say, request_of, event_of, only_number, zone_of, wish_of, item_of, items_of, text_of, kalloc_of, kfree_of, map_of, unmap_of, write_of, read_of, drain_of, online_of, begin_of, drainfor_of, migrate_of, commit_of, cancel_of, undo_of, remove_of, plan_of, echo_of, cat_of, seal_of}
+use Rattle.hp_scenario.specs.Lines.{Request, plain, named, named_if, event, Said, words_say, request_of, event_of, zone_of, wish_of, item_of, items_of, text_of, event_of_number, map_of, unmap_of, online_of, drainfor_of, request_of_two, read_of, request_of_three, write_of, request_of_four, begin_of, plan_of, echo_of, cat_of, seal_of}
 use Rattle.hp_scenario.specs.Spelling.{zone_word, wish_word, item_words, request_words, FitItems, CanBeSaid}
 use Rattle.hp_numbers.specs.NumberWords.{number_of}
-use Rattle.hp_scenario.specs.Words.{name_of, is_name}
+use Rattle.hp_scenario.specs.Words.{is_name}
 use Rattle.hp_scenario.specs.declared.lines.Work.TheVariants as work
 use Rattle.hp_scenario.specs.declared.requests.Access.TheVariants as access
 use Rattle.hp_numbers.proofs.NumbersSpelled.{is_spelled}
@@ -20,75 +21,49 @@ use Rattle.std.specs.Bool.{Decides}
 use Rattle.std.proofs.lemmas.Slice.Eq.{bytes_eq-Decides}
 use Rattle.hp_scenario.specs.declared.requests.Access.{Access}
 use Rattle.hp_scenario.proofs.WordsSpelled.{AreSpaceless}
-use Rattle.hp_scenario.proofs.SpelledParts.{IsSpelled, mapped, went_on, word32, word64, name_is, text_is, same1, same2, same3, same4, along}
+use Rattle.hp_scenario.proofs.SpelledParts.{IsSpelled, mapped, went_on, word32, word64, text_is, same1, same2, same3, same4, along, if_name}
+
+-- the verb is this word, or the rest of the verbs decide
+choose : {A : Type 0} (verb own : List ℕ) (Q : List ℕ → Type 0) (x rest : Option A) (a : A)
+    → (x ≡ Some a → Q own) → (rest ≡ Some a → Q verb) → cond (bytes_eq verb own) x rest ≡ Some a → Q verb
+choose {A} verb own Q x rest a this next e = by_test (bytes_eq verb own) (bytes_eq-Decides verb own) e
+  where
+    by_test : (t : Bool) → Decides t (verb ≡ own) → cond t x rest ≡ Some a → Q verb
+    by_test true d e = subst Q (sym (d.0 refl)) (this e)
+    by_test false d e = next e
 
 -- ---- verbs with one number
 
-only_spelled : (bits : ℕ) (args : List (List ℕ)) (n : ℕ) → bits ≤ 64 → only_number bits args ≡ Some n
-    → (args ≡ decimal n ∷ []) × (n < 2 ^ bits)
-unfolding only_number
-only_spelled bits [] n le e = absurd cc
-only_spelled bits (word ∷ []) n le e =
-    let p = is_spelled bits word n le e in (ap (λ (w : List ℕ). w ∷ []) p.0, p.1)
-only_spelled bits (word ∷ next ∷ rest) n le e = absurd cc
+one_number : (bits : ℕ) → bits ≤ 64 → (own : List ℕ) (make : ℕ → Event)
+    → ((n : ℕ) → n < 2 ^ bits → IsSpelled (own ∷ decimal n ∷ []) (event (make n)))
+    → (verb word : List ℕ) (e : Event) (rest : Option Event)
+    → (rest ≡ Some e → IsSpelled (verb ∷ word ∷ []) (event e))
+    → cond (bytes_eq verb own) (option_map make (number_of bits word)) rest ≡ Some e
+    → IsSpelled (verb ∷ word ∷ []) (event e)
+one_number bits le own make is verb word e rest next h =
+    choose verb own (λ v. IsSpelled (v ∷ word ∷ []) (event e)) (option_map make (number_of bits word)) rest e
+    (λ h. this h) next h
+  where
+    this : option_map make (number_of bits word) ≡ Some e → IsSpelled (own ∷ word ∷ []) (event e)
+    this h =
+        let m = mapped make (number_of bits word) e h in
+        let s = is_spelled bits word m.0 le m.1 in
+        subst (λ (x : Event). IsSpelled (own ∷ word ∷ []) (event x)) m.2
+        (subst (λ (w : List ℕ). IsSpelled (own ∷ w ∷ []) (event (make m.0))) (sym s.0) (is m.0 s.1))
 
-one_number : (bits : ℕ) → bits ≤ 64 → (verb : List ℕ) (make : ℕ → Request)
-    → ((n : ℕ) → n < 2 ^ bits → IsSpelled (verb ∷ decimal n ∷ []) (make n))
-    → (args : List (List ℕ)) (r : Request) → option_map make (only_number bits args) ≡ Some r
-    → IsSpelled (verb ∷ args) r
-one_number bits le verb make is args r e =
-    let m = mapped make (only_number bits args) r e in
-    let s = only_spelled bits args m.0 le m.1 in
-    subst (λ (q : Request). IsSpelled (verb ∷ args) q) m.2
-    (subst (λ (xs : List (List ℕ)). IsSpelled (verb ∷ xs) (make m.0)) (sym s.0) (is m.0 s.1))
-
-kalloc_spelled : (args : List (List ℕ)) (r : Request) → kalloc_of args ≡ Some r
-    → IsSpelled (codes "kalloc" ∷ args) r
-unfolding kalloc_of
-kalloc_spelled args r e =
-    one_number 32 (lit≤ tt) (codes "kalloc") (λ n. event (KernelAlloc n)) (λ n fits. (refl, fits)) args r e
-
-kfree_spelled : (args : List (List ℕ)) (r : Request) → kfree_of args ≡ Some r
-    → IsSpelled (codes "kfree" ∷ args) r
-unfolding kfree_of
-kfree_spelled args r e =
-    one_number 32 (lit≤ tt) (codes "kfree") (λ n. event (KernelFree n)) (λ n fits. (refl, fits)) args r e
-
-drain_spelled : (args : List (List ℕ)) (r : Request) → drain_of args ≡ Some r
-    → IsSpelled (codes "drain" ∷ args) r
-unfolding drain_of
-drain_spelled args r e =
-    one_number 32 (lit≤ tt) (codes "drain") (λ n. event (Drain n)) (λ n fits. (refl, fits)) args r e
-
-migrate_spelled : (args : List (List ℕ)) (r : Request) → migrate_of args ≡ Some r
-    → IsSpelled (codes "migrate" ∷ args) r
-unfolding migrate_of
-migrate_spelled args r e =
-    one_number 64 (lit≤ tt) (codes "migrate") (λ n. event (Migrate n)) (λ n fits. (refl, fits)) args r e
-
-commit_spelled : (args : List (List ℕ)) (r : Request) → commit_of args ≡ Some r
-    → IsSpelled (codes "commit" ∷ args) r
-unfolding commit_of
-commit_spelled args r e =
-    one_number 64 (lit≤ tt) (codes "commit") (λ n. event (Commit n)) (λ n fits. (refl, fits)) args r e
-
-cancel_spelled : (args : List (List ℕ)) (r : Request) → cancel_of args ≡ Some r
-    → IsSpelled (codes "cancel" ∷ args) r
-unfolding cancel_of
-cancel_spelled args r e =
-    one_number 64 (lit≤ tt) (codes "cancel") (λ n. event (Cancel n)) (λ n fits. (refl, fits)) args r e
-
-undo_spelled : (args : List (List ℕ)) (r : Request) → undo_of args ≡ Some r
-    → IsSpelled (codes "undo" ∷ args) r
-unfolding undo_of
-undo_spelled args r e =
-    one_number 64 (lit≤ tt) (codes "undo") (λ n. event (UndoAfter n)) (λ n fits. (refl, fits)) args r e
-
-remove_spelled : (args : List (List ℕ)) (r : Request) → remove_of args ≡ Some r
-    → IsSpelled (codes "remove" ∷ args) r
-unfolding remove_of
-remove_spelled args r e =
-    one_number 32 (lit≤ tt) (codes "remove") (λ n. event (Remove n)) (λ n fits. (refl, fits)) args r e
+number_spelled : (verb word : List ℕ) (e : Event) → event_of_number verb word ≡ Some e
+    → IsSpelled (verb ∷ word ∷ []) (event e)
+unfolding event_of_number
+number_spelled verb word e h =
+    one_number 32 (lit≤ tt) (codes "kalloc") (λ n. KernelAlloc n) (λ n fits. (refl, fits)) verb word e _
+    (one_number 32 (lit≤ tt) (codes "kfree") (λ n. KernelFree n) (λ n fits. (refl, fits)) verb word e _
+    (one_number 32 (lit≤ tt) (codes "drain") (λ n. Drain n) (λ n fits. (refl, fits)) verb word e _
+    (one_number 32 (lit≤ tt) (codes "remove") (λ n. Remove n) (λ n fits. (refl, fits)) verb word e _
+    (one_number 64 (lit≤ tt) (codes "migrate") (λ n. Migrate n) (λ n fits. (refl, fits)) verb word e _
+    (one_number 64 (lit≤ tt) (codes "commit") (λ n. Commit n) (λ n fits. (refl, fits)) verb word e _
+    (one_number 64 (lit≤ tt) (codes "cancel") (λ n. Cancel n) (λ n fits. (refl, fits)) verb word e _
+    (one_number 64 (lit≤ tt) (codes "undo") (λ n. UndoAfter n) (λ n fits. (refl, fits)) verb word e _
+    (λ h. absurd cc)))))))) h
 
 -- ---- verbs with a name
 
@@ -96,74 +71,38 @@ page_spelled : (verb : List ℕ) (make : ℕ → Access)
     → ((n : List ℕ) (p : ℕ) → is_name n ≡ true → p < 2 ^ 32
     → IsSpelled (verb ∷ n ∷ decimal p ∷ []) (named n (make p)))
     → (name page : List ℕ) (r : Request)
-    → option_and_then (λ n. option_and_then (λ p. Some (named n (make p))) (number_of 32 page)) (name_of name)
-    ≡ Some r
+    → option_and_then (λ p. named_if name (make p)) (number_of 32 page) ≡ Some r
     → IsSpelled (verb ∷ name ∷ page ∷ []) r
 page_spelled verb make is name page r e =
-    let a =
-    went_on (λ n. option_and_then (λ p. Some (named n (make p))) (number_of 32 page)) (name_of name) r e in
-    let b = went_on (λ p. Some (named a.0 (make p))) (number_of 32 page) r a.2 in
-    let n = name_is name a.0 a.1 in
-    let p = word32 page b.0 b.1 in
-    along _ _ r b.2 (subst (λ (ws : List (List ℕ)). IsSpelled ws (named a.0 (make b.0)))
-    (sym (same2 verb _ _ _ _ n.0 p.0)) (is a.0 b.0 n.1 p.1))
+    let p = went_on (λ p. named_if name (make p)) (number_of 32 page) r e in
+    let page_at = word32 page p.0 p.1 in
+    if_name name (make p.0) (verb ∷ name ∷ page ∷ []) r p.2
+    (λ named_so. subst (λ (w : List ℕ). IsSpelled (verb ∷ name ∷ w ∷ []) (named name (make p.0)))
+    (sym page_at.0) (is name p.0 named_so page_at.1))
 
-map_spelled : (args : List (List ℕ)) (r : Request) → map_of args ≡ Some r → IsSpelled (codes "map" ∷ args) r
-unfolding map_of
-map_spelled [] r e = absurd cc
-map_spelled (name ∷ []) r e = absurd cc
-map_spelled (name ∷ page ∷ []) r e =
-    page_spelled (codes "map") (λ p. access.Map p) (λ n p is fits. (refl, (is, fits))) name page r e
-map_spelled (name ∷ page ∷ next ∷ rest) r e = absurd cc
+read_spelled : (name page index : List ℕ) (r : Request) → read_of name page index ≡ Some r
+    → IsSpelled (codes "read" ∷ name ∷ page ∷ index ∷ []) r
+read_spelled name page index r e =
+    let p = went_on _ (number_of 32 page) r e in
+    let i = went_on _ (number_of 32 index) r p.2 in
+    let page_at = word32 page p.0 p.1 in
+    let index_at = word32 index i.0 i.1 in
+    if_name name (access.Read p.0 i.0) (codes "read" ∷ name ∷ page ∷ index ∷ []) r i.2
+    (λ is. (same3 (codes "read") _ _ _ _ _ _ refl page_at.0 index_at.0, (is, (page_at.1, index_at.1))))
 
-unmap_spelled : (args : List (List ℕ)) (r : Request) → unmap_of args ≡ Some r
-    → IsSpelled (codes "unmap" ∷ args) r
-unfolding unmap_of
-unmap_spelled [] r e = absurd cc
-unmap_spelled (name ∷ []) r e = absurd cc
-unmap_spelled (name ∷ page ∷ []) r e =
-    page_spelled (codes "unmap") (λ p. access.Unmap p) (λ n p is fits. (refl, (is, fits))) name page r e
-unmap_spelled (name ∷ page ∷ next ∷ rest) r e = absurd cc
-
-write_spelled : (args : List (List ℕ)) (r : Request) → write_of args ≡ Some r
-    → IsSpelled (codes "write" ∷ args) r
-unfolding write_of
-write_spelled [] r e = absurd cc
-write_spelled (name ∷ []) r e = absurd cc
-write_spelled (name ∷ page ∷ []) r e = absurd cc
-write_spelled (name ∷ page ∷ index ∷ []) r e = absurd cc
-write_spelled (name ∷ page ∷ index ∷ value ∷ []) r e =
-    let a = went_on _ (name_of name) r e in
-    let b = went_on _ (number_of 32 page) r a.2 in
-    let i = went_on _ (number_of 32 index) r b.2 in
+write_spelled : (name page index value : List ℕ) (r : Request) → write_of name page index value ≡ Some r
+    → IsSpelled (codes "write" ∷ name ∷ page ∷ index ∷ value ∷ []) r
+write_spelled name page index value r e =
+    let p = went_on _ (number_of 32 page) r e in
+    let i = went_on _ (number_of 32 index) r p.2 in
     let v = went_on _ (number_of 64 value) r i.2 in
-    let name_at = name_is name a.0 a.1 in
-    let page_at = word32 page b.0 b.1 in
+    let page_at = word32 page p.0 p.1 in
     let index_at = word32 index i.0 i.1 in
     let value_at = word64 value v.0 v.1 in
-    along _ (named a.0 (access.Write b.0 i.0 v.0)) r v.2 (
-      same4 (codes "write") _ _ _ _ _ _ _ _ name_at.0
-          page_at.0 index_at.0 value_at.0,
-      (name_at.1, (page_at.1, index_at.1, value_at.1)),
-    )
-write_spelled (name ∷ page ∷ index ∷ value ∷ next ∷ rest) r e = absurd cc
-
-read_spelled : (args : List (List ℕ)) (r : Request) → read_of args ≡ Some r
-    → IsSpelled (codes "read" ∷ args) r
-unfolding read_of
-read_spelled [] r e = absurd cc
-read_spelled (name ∷ []) r e = absurd cc
-read_spelled (name ∷ page ∷ []) r e = absurd cc
-read_spelled (name ∷ page ∷ index ∷ []) r e =
-    let a = went_on _ (name_of name) r e in
-    let b = went_on _ (number_of 32 page) r a.2 in
-    let i = went_on _ (number_of 32 index) r b.2 in
-    let name_at = name_is name a.0 a.1 in
-    let page_at = word32 page b.0 b.1 in
-    let index_at = word32 index i.0 i.1 in
-    along _ (named a.0 (access.Read b.0 i.0)) r i.2
-    (same3 (codes "read") _ _ _ _ _ _ name_at.0 page_at.0 index_at.0, (name_at.1, (page_at.1, index_at.1)))
-read_spelled (name ∷ page ∷ index ∷ next ∷ rest) r e = absurd cc
+    if_name name (access.Write p.0 i.0 v.0) (codes "write" ∷ name ∷ page ∷ index ∷ value ∷ []) r v.2 (λ is. (
+      same4 (codes "write") _ _ _ _ _ _ _ _ refl page_at.0 index_at.0 value_at.0,
+      (is, (page_at.1, index_at.1, value_at.1)),
+    ))
 
 -- ---- verbs with other words
 
@@ -239,32 +178,37 @@ begin_spelled args r e =
     subst (λ (q : Request). IsSpelled (codes "begin" ∷ args) q) m.2
     (ap (λ (xs : List (List ℕ)). codes "begin" ∷ xs) s.0, s.1)
 
-online_spelled : (args : List (List ℕ)) (r : Request) → online_of args ≡ Some r
-    → IsSpelled (codes "online" ∷ args) r
-unfolding online_of
-online_spelled [] r e = absurd cc
-online_spelled (block ∷ []) r e = absurd cc
-online_spelled (block ∷ zone ∷ []) r e =
+online_spelled : (block zone : List ℕ) (r : Request) → online_of block zone ≡ Some r
+    → IsSpelled (codes "online" ∷ block ∷ zone ∷ []) r
+online_spelled block zone r e =
     let b = went_on _ (number_of 32 block) r e in
     let z = went_on _ (zone_of zone) r b.2 in
     let block_at = word32 block b.0 b.1 in
     along _ (event (Online b.0 z.0)) r z.2
     (same2 (codes "online") _ _ _ _ block_at.0 (zone_is zone z.0 z.1), block_at.1)
-online_spelled (block ∷ zone ∷ next ∷ rest) r e = absurd cc
 
-drainfor_spelled : (args : List (List ℕ)) (r : Request) → drainfor_of args ≡ Some r
-    → IsSpelled (codes "drainfor" ∷ args) r
-unfolding drainfor_of
-drainfor_spelled [] r e = absurd cc
-drainfor_spelled (op ∷ []) r e = absurd cc
-drainfor_spelled (op ∷ cpu ∷ []) r e =
+drainfor_spelled : (op cpu : List ℕ) (r : Request) → drainfor_of op cpu ≡ Some r
+    → IsSpelled (codes "drainfor" ∷ op ∷ cpu ∷ []) r
+drainfor_spelled op cpu r e =
     let o = went_on _ (number_of 64 op) r e in
     let c = went_on _ (number_of 32 cpu) r o.2 in
     let op_at = word64 op o.0 o.1 in
     let cpu_at = word32 cpu c.0 c.1 in
     along _ (event (DrainFor o.0 c.0)) r c.2
     (same2 (codes "drainfor") _ _ _ _ op_at.0 cpu_at.0, (op_at.1, cpu_at.1))
-drainfor_spelled (op ∷ cpu ∷ next ∷ rest) r e = absurd cc
+
+two_spelled : (verb first second : List ℕ) (r : Request) → request_of_two verb first second ≡ Some r
+    → IsSpelled (verb ∷ first ∷ second ∷ []) r
+unfolding request_of_two
+two_spelled verb first second r e =
+    let Q : List ℕ → Type 0 = λ v. IsSpelled (v ∷ first ∷ second ∷ []) r in
+    choose verb (codes "map") Q (map_of first second) _ r
+    (page_spelled (codes "map") (λ p. access.Map p) (λ n p is fits. (refl, (is, fits))) first second r)
+    (choose verb (codes "unmap") Q (unmap_of first second) _ r
+    (page_spelled (codes "unmap") (λ p. access.Unmap p) (λ n p is fits. (refl, (is, fits))) first second r)
+    (choose verb (codes "online") Q (online_of first second) _ r (online_spelled first second r)
+    (choose verb (codes "drainfor") Q (drainfor_of first second) _ r (drainfor_spelled first second r)
+    (λ e. absurd cc)))) e
 
 plan_spelled : (args : List (List ℕ)) (r : Request) → plan_of args ≡ Some r
     → IsSpelled (codes "plan" ∷ args) r
@@ -317,47 +261,33 @@ seal_spelled (word ∷ rest) r e = absurd cc
 
 -- ---- lines
 
--- the verb is this word, or the rest of the verbs decide
-choose : (verb word : List ℕ) (args : List (List ℕ)) (x rest : Option Request) (r : Request)
-    → (x ≡ Some r → IsSpelled (word ∷ args) r) → (rest ≡ Some r → IsSpelled (verb ∷ args) r)
-    → cond (bytes_eq verb word) x rest ≡ Some r → IsSpelled (verb ∷ args) r
-choose verb word args x rest r this next e = by_test (bytes_eq verb word) (bytes_eq-Decides verb word) e
-  where
-    by_test : (t : Bool) → Decides t (verb ≡ word) → cond t x rest ≡ Some r → IsSpelled (verb ∷ args) r
-    by_test true d e = subst (λ (v : List ℕ). IsSpelled (v ∷ args) r) (sym (d.0 refl)) (this e)
-    by_test false d e = next e
-
 event_spelled : (verb : List ℕ) (args : List (List ℕ)) (r : Request) → event_of verb args ≡ Some r
     → IsSpelled (verb ∷ args) r
-unfolding event_of
-event_spelled verb args r e =
-    choose verb (codes "kalloc") args (kalloc_of args) _ r (kalloc_spelled args r)
-    (choose verb (codes "kfree") args (kfree_of args) _ r (kfree_spelled args r) (choose verb (codes
-    "map") args (map_of args) _ r (map_spelled args r) (choose verb (codes "unmap") args (unmap_of args) _
-    r (unmap_spelled args r)
-    (choose verb (codes "write") args (write_of args) _ r (write_spelled args r) (choose verb (codes
-    "read") args (read_of args) _ r (read_spelled args r) (choose verb (codes "drain") args
-    (drain_of args) _ r (drain_spelled args r)
-    (choose verb (codes "online") args (online_of args) _ r (online_spelled args r) (choose verb (codes
-    "drainfor") args (drainfor_of args) _ r (drainfor_spelled args r) (choose verb (codes "migrate")
-    args (migrate_of args) _ r (migrate_spelled args r)
-    (choose verb (codes "commit") args (commit_of args) _ r (commit_spelled args r) (choose verb
-    (codes "cancel") args (cancel_of args) _ r (cancel_spelled args r)
-    (choose verb (codes "undo") args (undo_of args) _ r (undo_spelled args r) (choose verb (codes
-    "remove") args (remove_of args) _ r (remove_spelled args r) (λ e. absurd cc))))))))))))))
-    e
+unfolding event_of request_of_three request_of_four
+event_spelled verb [] r e = absurd cc
+event_spelled verb (word ∷ []) r e =
+    let m = mapped event (event_of_number verb word) r e in
+    subst (λ (q : Request). IsSpelled (verb ∷ word ∷ []) q) m.2 (number_spelled verb word m.0 m.1)
+event_spelled verb (first ∷ second ∷ []) r e = two_spelled verb first second r e
+event_spelled verb (name ∷ page ∷ index ∷ []) r e =
+    choose verb (codes "read") (λ v. IsSpelled (v ∷ name ∷ page ∷ index ∷ []) r) (read_of name page index)
+    None r (read_spelled name page index r) (λ e. absurd cc) e
+event_spelled verb (name ∷ page ∷ index ∷ value ∷ []) r e =
+    choose verb (codes "write") (λ v. IsSpelled (v ∷ name ∷ page ∷ index ∷ value ∷ []) r)
+    (write_of name page index value) None r (write_spelled name page index value r) (λ e. absurd cc) e
+event_spelled verb (a ∷ b ∷ c ∷ d ∷ next ∷ rest) r e = absurd cc
 
 pub request_spelled : (words : List (List ℕ)) (r : Request) → AreSpaceless words → request_of words ≡ Some r
     → IsSpelled words r
 unfolding request_of
 request_spelled [] r h e = absurd cc
 request_spelled (verb ∷ args) r h e =
-    choose verb (codes "begin") args (begin_of args) _ r (begin_spelled args r)
-    (choose verb (codes "plan") args (plan_of args) _ r (plan_spelled args r)
-    (choose verb (codes "echo") args (echo_of args) _ r (echo_spelled args r h.1) (choose verb (codes
-    "cat") args (cat_of args) _ r (cat_spelled args r h.1) (choose verb (codes "seal") args
-    (seal_of args) _ r (seal_spelled args r) (event_spelled verb args r)))))
-    e
+    let Q : List ℕ → Type 0 = λ v. IsSpelled (v ∷ args) r in
+    choose verb (codes "begin") Q (begin_of args) _ r (begin_spelled args r)
+    (choose verb (codes "plan") Q (plan_of args) _ r (plan_spelled args r)
+    (choose verb (codes "echo") Q (echo_of args) _ r (echo_spelled args r h.1)
+    (choose verb (codes "cat") Q (cat_of args) _ r (cat_spelled args r h.1)
+    (choose verb (codes "seal") Q (seal_of args) _ r (seal_spelled args r) (event_spelled verb args r))))) e
 
 pub said_spelled : (words : List (List ℕ)) (said : Said) → AreSpaceless words → words_say words ≡ Some said
     → (words ≡ decimal said.cpu ∷ request_words said.request) × CanBeSaid said

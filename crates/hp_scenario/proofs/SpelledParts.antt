@@ -2,10 +2,11 @@
 use Rattle.std.proofs.Common.{◌≡◌, ℕ, ◌^◌, ◌<◌, Bool, true, false, cond, List, [], ◌∷◌, Option, Some, None, refl, subst, arith, lit≤, option_map, option_and_then}
 use Rattle.std.specs.Fmt.{decimal}
 use Rattle.std.proofs.lemmas.Option.{same_Some}
-use Rattle.hp_scenario.specs.Lines.{Request, text_of}
+use Rattle.hp_scenario.specs.Lines.{Request, named, named_if, text_of}
 use Rattle.hp_scenario.specs.Spelling.{request_words, FitsRequest, IsText, is_spaceless}
 use Rattle.hp_numbers.specs.NumberWords.{number_of}
-use Rattle.hp_scenario.specs.Words.{name_of, is_name}
+use Rattle.hp_scenario.specs.Words.{is_name}
+use Rattle.hp_scenario.specs.declared.requests.Access.{Access}
 use Rattle.hp_numbers.proofs.NumbersSpelled.{is_spelled}
 
 -- the words are those of the request, and it can be said (but for spaces in its texts)
@@ -28,16 +29,6 @@ word32 word n e = is_spelled 32 word n (lit≤ tt) e
 
 pub word64 : (word : List ℕ) (n : ℕ) → number_of 64 word ≡ Some n → (word ≡ decimal n) × (n < 2 ^ 64)
 word64 word n e = is_spelled 64 word n (lit≤ tt) e
-
-pub name_is : (word name : List ℕ) → name_of word ≡ Some name → (word ≡ name) × (is_name name ≡ true)
-name_is word name e = by_test (is_name word) refl e
-  where
-    by_test : (t : Bool) → is_name word ≡ t → cond t (Some word) None ≡ Some name
-        → (word ≡ name) × (is_name name ≡ true)
-    by_test true is e =
-        let same : word ≡ name = same_Some word name e in
-        (same, subst (λ (w : List ℕ). is_name w ≡ true) same is)
-    by_test false is e = absurd cc
 
 pub text_is : (word text : List ℕ) → is_spaceless word ≡ true → text_of word ≡ Some text
     → (word ≡ text) × IsText text
@@ -62,3 +53,12 @@ same4 a b c d e f g h i p q r s = cc
 -- a request that words spell is the one that they are read as
 pub along : (words : List (List ℕ)) (q r : Request) → Some q ≡ Some r → IsSpelled words q → IsSpelled words r
 along words q r e h = subst (λ (x : Request). IsSpelled words x) (same_Some q r e) h
+
+-- an access is spelled where the name is one
+pub if_name : (name : List ℕ) (a : Access) (words : List (List ℕ)) (r : Request) → named_if name a ≡ Some r
+    → (is_name name ≡ true → IsSpelled words (named name a)) → IsSpelled words r
+if_name name a words r e h = by_test (is_name name) refl e
+  where
+    by_test : (t : Bool) → is_name name ≡ t → cond t (Some (named name a)) None ≡ Some r → IsSpelled words r
+    by_test true is e = along words (named name a) r e (h is)
+    by_test false is e = absurd cc

@@ -2,8 +2,6 @@
 use Rattle.std.proofs.Common.{◌≡◌, ℕ, ◌+◌, List, [], ◌∷◌, ◌++◌, codes, Option, Some, None, Result, Ok, Err, option_and_then, refl, sym, ap, subst, ◌∙◌, arith}
 use Rattle.json.specs.Token.{Token}
 use Rattle.json.specs.Lex.{tokens}
-use Rattle.json.proofs.Grammar.{closed_array}
-use Rattle.json.specs.Json.{after_end_array}
 use Rattle.serde_json.specs.Data.{Data, array, object, no_members, put}
 use Rattle.serde_json.specs.Find.{as_str}
 use Rattle.std.specs.Str.{IsUtf8}
@@ -181,10 +179,20 @@ pub string_passed : (start now taken new : List Token) (texts : List (List ℕ))
 string_passed start now taken new texts text so_far same first =
     so_far ∙ ap (strings_then texts) (sym same ∙ first) ∙ one_more_string texts text new
 
--- the array ended
-pub texts_end : (start now new : List Token) (texts : List (List ℕ)) → start ≡ strings_then texts now
-    → after_end_array now ≡ Some new → AreTexts texts start new
-texts_end start now new texts so_far ended = so_far ∙ ap (strings_then texts) (closed_array now new ended)
+-- the words of `boot` ended, and with them the layout
+pub boots_end : (old start now taken new : List Token) (words : List (List ℕ)) (boot : List Boot)
+    → old ≡ Token.key (codes "boot") ∷ Token.begin_array ∷ start → start ≡ strings_then words now
+    → now ≡ Token.end_array ∷ taken → taken ≡ Token.end_object ∷ new
+    → each_in boot_at (texts_data words) ≡ Some boot → EndsWithBoots boot old new
+boots_end old start now taken new words boot opened so_far closed over are = (
+  start,
+  opened,
+  (
+    words,
+    so_far ∙ ap (strings_then words) (closed ∙ ap (λ (ts : List Token). Token.end_array ∷ ts) over),
+    are,
+  ),
+)
 
 pub no_boots : (bs : List Boot) → bs ≡ [] → each_in boot_at (texts_data []) ≡ Some bs
 unfolding each_in

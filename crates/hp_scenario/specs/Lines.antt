@@ -9,7 +9,7 @@ use Rattle.hp_units.specs.declared.rows.Wish.TheVariants as wish
 use Rattle.hp_units.specs.declared.rows.Zone.{Zone}
 use Rattle.hp_units.specs.declared.rows.Zone.TheVariants as zone
 use Rattle.hp_numbers.specs.NumberWords.{number_of}
-use Rattle.hp_scenario.specs.Words.{name_of, words_of}
+use Rattle.hp_scenario.specs.Words.{is_name, words_of}
 use Rattle.hp_scenario.specs.declared.lines.Work.{Work}
 use Rattle.hp_scenario.specs.declared.lines.Work.TheVariants as work
 use Rattle.hp_scenario.specs.declared.requests.Access.{Access}
@@ -71,79 +71,82 @@ abbrev pub text_of : List ℕ → Option (List ℕ)
 text_of [] = None
 text_of (b ∷ bs) = Some (b ∷ bs)
 
--- ---- each verb, by the words after it
+-- ---- verbs with no list, by how many words come after them
 
-unfoldable pub kalloc_of : List (List ℕ) → Option Request
-kalloc_of args = option_map (λ n. event (KernelAlloc n)) (only_number 32 args)
+-- an access to a page of the owner that a word names
+abbrev pub named_if : List ℕ → Access → Option Request
+named_if name a = if is_name name then Some (named name a) else None
 
-unfoldable pub kfree_of : List (List ℕ) → Option Request
-kfree_of args = option_map (λ n. event (KernelFree n)) (only_number 32 args)
+unfoldable pub event_of_number : (verb word : List ℕ) → Option Event
+event_of_number verb word =
+    if bytes_eq verb (codes "kalloc") then option_map (λ n. KernelAlloc n) (number_of 32 word)
+    else (if bytes_eq verb (codes "kfree") then option_map (λ n. KernelFree n) (number_of 32 word)
+    else (if bytes_eq verb (codes "drain") then option_map (λ n. Drain n) (number_of 32 word)
+    else (if bytes_eq verb (codes "remove") then option_map (λ n. Remove n) (number_of 32 word)
+    else (if bytes_eq verb (codes "migrate") then option_map (λ n. Migrate n) (number_of 64 word)
+    else (if bytes_eq verb (codes "commit") then option_map (λ n. Commit n) (number_of 64 word)
+    else (if bytes_eq verb (codes "cancel") then option_map (λ n. Cancel n) (number_of 64 word)
+    else (if bytes_eq verb (codes "undo") then option_map (λ n. UndoAfter n) (number_of 64 word)
+    else None)))))))
 
-unfoldable pub map_of : List (List ℕ) → Option Request
-map_of (name ∷ page ∷ []) = do
-  n ← name_of name
-  p ← number_of 32 page
-  Some (named n (access.Map p))
-map_of _ = None
+abbrev pub map_of : (name page : List ℕ) → Option Request
+map_of name page = number_of 32 page >>= λ p. named_if name (access.Map p)
 
-unfoldable pub unmap_of : List (List ℕ) → Option Request
-unmap_of (name ∷ page ∷ []) = do
-  n ← name_of name
-  p ← number_of 32 page
-  Some (named n (access.Unmap p))
-unmap_of _ = None
+abbrev pub unmap_of : (name page : List ℕ) → Option Request
+unmap_of name page = number_of 32 page >>= λ p. named_if name (access.Unmap p)
 
-unfoldable pub write_of : List (List ℕ) → Option Request
-write_of (name ∷ page ∷ index ∷ value ∷ []) = do
-  n ← name_of name
-  p ← number_of 32 page
-  i ← number_of 32 index
-  v ← number_of 64 value
-  Some (named n (access.Write p i v))
-write_of _ = None
-
-unfoldable pub read_of : List (List ℕ) → Option Request
-read_of (name ∷ page ∷ index ∷ []) = do
-  n ← name_of name
-  p ← number_of 32 page
-  i ← number_of 32 index
-  Some (named n (access.Read p i))
-read_of _ = None
-
-unfoldable pub drain_of : List (List ℕ) → Option Request
-drain_of args = option_map (λ n. event (Drain n)) (only_number 32 args)
-
-unfoldable pub online_of : List (List ℕ) → Option Request
-online_of (block ∷ zone ∷ []) = do
+abbrev pub online_of : (block zone : List ℕ) → Option Request
+online_of block zone = do
   b ← number_of 32 block
   z ← zone_of zone
   Some (event (Online b z))
-online_of _ = None
 
-unfoldable pub begin_of : List (List ℕ) → Option Request
-begin_of args = option_map (λ items. event (Begin items)) (items_of args)
-
-unfoldable pub drainfor_of : List (List ℕ) → Option Request
-drainfor_of (op ∷ cpu ∷ []) = do
+abbrev pub drainfor_of : (op cpu : List ℕ) → Option Request
+drainfor_of op cpu = do
   o ← number_of 64 op
   c ← number_of 32 cpu
   Some (event (DrainFor o c))
-drainfor_of _ = None
 
-unfoldable pub migrate_of : List (List ℕ) → Option Request
-migrate_of args = option_map (λ n. event (Migrate n)) (only_number 64 args)
+unfoldable pub request_of_two : (verb first second : List ℕ) → Option Request
+request_of_two verb first second =
+    if bytes_eq verb (codes "map") then map_of first second
+    else (if bytes_eq verb (codes "unmap") then unmap_of first second
+    else (if bytes_eq verb (codes "online") then online_of first second
+    else (if bytes_eq verb (codes "drainfor") then drainfor_of first second
+    else None)))
 
-unfoldable pub commit_of : List (List ℕ) → Option Request
-commit_of args = option_map (λ n. event (Commit n)) (only_number 64 args)
+abbrev pub read_of : (name page index : List ℕ) → Option Request
+read_of name page index = do
+  p ← number_of 32 page
+  i ← number_of 32 index
+  named_if name (access.Read p i)
 
-unfoldable pub cancel_of : List (List ℕ) → Option Request
-cancel_of args = option_map (λ n. event (Cancel n)) (only_number 64 args)
+unfoldable pub request_of_three : (verb name page index : List ℕ) → Option Request
+request_of_three verb name page index =
+    if bytes_eq verb (codes "read") then read_of name page index else None
 
-unfoldable pub undo_of : List (List ℕ) → Option Request
-undo_of args = option_map (λ n. event (UndoAfter n)) (only_number 64 args)
+abbrev pub write_of : (name page index value : List ℕ) → Option Request
+write_of name page index value = do
+  p ← number_of 32 page
+  i ← number_of 32 index
+  v ← number_of 64 value
+  named_if name (access.Write p i v)
 
-unfoldable pub remove_of : List (List ℕ) → Option Request
-remove_of args = option_map (λ n. event (Remove n)) (only_number 32 args)
+unfoldable pub request_of_four : (verb name page index value : List ℕ) → Option Request
+request_of_four verb name page index value =
+    if bytes_eq verb (codes "write") then write_of name page index value else None
+
+unfoldable pub event_of : (verb : List ℕ) → List (List ℕ) → Option Request
+event_of verb (word ∷ []) = option_map event (event_of_number verb word)
+event_of verb (first ∷ second ∷ []) = request_of_two verb first second
+event_of verb (name ∷ page ∷ index ∷ []) = request_of_three verb name page index
+event_of verb (name ∷ page ∷ index ∷ value ∷ []) = request_of_four verb name page index value
+event_of verb _ = None
+
+-- ---- the other verbs, by the words after each
+
+unfoldable pub begin_of : List (List ℕ) → Option Request
+begin_of args = option_map (λ items. event (Begin items)) (items_of args)
 
 unfoldable pub plan_of : List (List ℕ) → Option Request
 plan_of [] = None
@@ -168,25 +171,6 @@ seal_of [] = Some (plain work.Seal)
 seal_of _ = None
 
 -- ---- a line
-
--- the event that a verb and the words after it ask for, where it has no list
-unfoldable pub event_of : List ℕ → List (List ℕ) → Option Request
-event_of verb args =
-    if bytes_eq verb (codes "kalloc") then kalloc_of args
-    else (if bytes_eq verb (codes "kfree") then kfree_of args
-    else (if bytes_eq verb (codes "map") then map_of args
-    else (if bytes_eq verb (codes "unmap") then unmap_of args
-    else (if bytes_eq verb (codes "write") then write_of args
-    else (if bytes_eq verb (codes "read") then read_of args
-    else (if bytes_eq verb (codes "drain") then drain_of args
-    else (if bytes_eq verb (codes "online") then online_of args
-    else (if bytes_eq verb (codes "drainfor") then drainfor_of args
-    else (if bytes_eq verb (codes "migrate") then migrate_of args
-    else (if bytes_eq verb (codes "commit") then commit_of args
-    else (if bytes_eq verb (codes "cancel") then cancel_of args
-    else (if bytes_eq verb (codes "undo") then undo_of args
-    else (if bytes_eq verb (codes "remove") then remove_of args
-    else None)))))))))))))
 
 -- what the words after the processor ask for
 unfoldable pub request_of : List (List ℕ) → Option Request

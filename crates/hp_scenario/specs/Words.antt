@@ -1,5 +1,5 @@
 -- The words of a line, and its names (own rule).
-use Rattle.std.specs.Prelude.{◌≡◌, ℕ, ◌&&◌, ◌||◌, ◌==◌, List, [], ◌∷◌, length, Bool, true, false, Option, Some, None, nat_lt, if◌then◌else◌}
+use Rattle.std.specs.Prelude.{◌≡◌, ℕ, ◌&&◌, ◌||◌, ◌==◌, List, [], ◌∷◌, length, Bool, true, false, nat_lt}
 use Rattle.std.specs.List.{list_all, slice_split}
 use Rattle.std.specs.Int.{is_in_range}
 use Rattle.std.specs.Str.Parse.{digits_value}
@@ -21,7 +21,3 @@ is_name_byte b = is_in_range 97 122 b || (is_in_range 48 57 b || (b == 95))
 abbrev pub is_name : List ℕ → Bool
 is_name [] = false
 is_name (b ∷ bs) = is_in_range 97 122 b && (nat_lt (length bs) 32 && list_all is_name_byte bs)
-
--- the name that a word is
-abbrev pub name_of : List ℕ → Option (List ℕ)
-name_of word = if is_name word then Some word else None

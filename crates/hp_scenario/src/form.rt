@@ -1,6 +1,7 @@
 //! The form of a scenario: its keys, and the kinds of their values.
 
-ghost use Rattle.std.specs.Prelude.{◌≡◌, option_map};
+ghost use Rattle.std.specs.Prelude.{◌≡◌, option_and_then, option_map};
+ghost use Rattle.serde_json.specs.Find.{as_array, get};
 ghost use Rattle.serde_json.specs.View.{view, items_view};
 ghost use Rattle.hp_units.specs.PartsSeen.{parts_seen};
 ghost use Rattle.hp_scenario.specs.Gives.{Gives, or_fault};
@@ -26,7 +27,7 @@ pub(crate) fn has_keys(value: &Value, count: usize) -> bool
 fn number_at(value: &Value, key: &str) -> Option<u64>
     ensures { result ≡ number key.now (view value.now) }
 {
-    value.get(key).and_then(Value::as_u64)
+    value.get(key)?.as_u64()
 }
 
 /// The numbers at two keys; none where one is missing.
@@ -74,14 +75,19 @@ fn boots_from(alloc: Global, values: &Vec<Value>) -> Result<Vec<Boot>, ScenarioF
     Ok(boots)
 }
 
+/// The items of the array at a key.
+fn items_at<'a>(value: &'a Value, key: &str) -> Option<&'a Vec<Value>>
+    ensures { option_map (λ items. items_view items.now.items) result
+        ≡ option_and_then as_array (get key.now (view value.now)) }
+{
+    value.get(key)?.as_array()
+}
+
 #[tactic(auto, unfolding(crate::specs::Form::texts_at))]
 pub(crate) fn texts_at<'a>(value: &'a Value, key: &str) -> Option<Texts<'a>>
     ensures { result ≡ texts key.now (view value.now) }
 {
-    match value.get(key).and_then(Value::as_array) {
-        Some(values) => Texts::new(values),
-        None => None,
-    }
+    Texts::new(items_at(value, key)?)
 }
 
 /// What the blocks are at boot, by the words at a key. Errors: BadShape where there is no list of
@@ -90,7 +96,7 @@ pub(crate) fn texts_at<'a>(value: &'a Value, key: &str) -> Option<Texts<'a>>
 pub fn boots_at(alloc: Global, value: &Value, key: &str) -> Result<Vec<Boot>, ScenarioFault>
     ensures { Gives (λ v. v.items) result (or_fault ScenarioFault.BadShape (boots key.now (view value.now))) }
 {
-    match value.get(key).and_then(Value::as_array) {
+    match items_at(value, key) {
         Some(values) => boots_from(alloc, values),
         None => Err(ScenarioFault::BadShape),
     }

@@ -84,17 +84,16 @@ fn index_of(alloc: Global, names: &mut IndexSet<Text>, name: &str) -> Result<usi
 fn known_index(names: &IndexSet<Text>, name: &str) -> Option<usize>
     ensures { IfSome result (λ index. position (bytes_eq name.now) names.now.keys ≡ Some index) }
 {
-    if names.len() > 64 {
+    let known = names.as_slice();
+    if known.len() > 64 {
         return None;
     }
-    place_of(names.as_slice(), name)
-}
-
-/// Where a name stands.
-fn place_of(names: &[Text], name: &str) -> Option<usize>
-    ensures { result ≡ position (bytes_eq name.now) names.now }
-{
-    names.iter().position(|known| name == known.as_str())
+    for index in 0..known.len() {
+        if name == known[index].as_str() {
+            return Some(index);
+        }
+    }
+    None
 }
 
 /// The event of an owner's access.

@@ -4,7 +4,7 @@ ghost use Rattle.std.specs.Prelude.{◌≡◌, ◌≢◌, ◌∷◌, ◌<◌, �
 ghost use Rattle.std.specs.Bool.{MatchBool};
 ghost use Rattle.json.specs.Lex.{between, lex, may_begin, may_close, token, tokens};
 ghost use Rattle.json.specs.Reads.{token_of};
-ghost use Rattle.json.specs.Token.{end_array, number, string};
+ghost use Rattle.json.specs.Token.{end_array, string};
 ghost use Rattle.json.specs.Word.{head};
 ghost use Rattle.hp_scenario.specs.PlainReader.{IsFound, place_of, tokens_at};
 
@@ -280,31 +280,20 @@ fn cut_string<'a>(text: &'a str) -> Option<(&'a str, &'a str)>
     Some((&text[1..end], after_blanks(&text[end + 1..])))
 }
 
-/// The number that a text begins with, and a comma after it.
-#[tactic(auto, using(crate::proofs::PlainTokens::as_number))]
+/// The number that a text begins with, where it is of digits, the first of which is not 0, and a comma
+/// comes after it.
 fn number_at<'a>(place: Place, text: &'a str) -> Option<Found<'a>>
     requires { may_begin (place_of place) ≡ true }
     ensures { IfSome result (λ f. IsFound (tokens_at place text.now) f) }
-{
-    let Some((number, rest)) = cut_number(text) else {
-        return None;
-    };
-    Some(Found {
-        token: Token::Number(number),
-        place: Place::AfterValue,
-        rest,
-    })
-}
-
-/// The digits that a text begins with, the first of which is not 0, and the rest of it from a comma on.
-fn cut_number<'a>(text: &'a str) -> Option<(&'a str, &'a str)>
-    ensures { IfSome result (λ cut.
-        lex between text.now ≡ token (number cut.0.now) ∷ lex between cut.1.now) }
 {
     let bytes = text.as_bytes();
     let end = digits_end(bytes);
     if end == 0 || end >= bytes.len() || bytes[0] == b'0' || bytes[end] != b',' {
         return None;
     }
-    Some((&text[..end], &text[end..]))
+    Some(Found {
+        token: Token::Number(&text[..end]),
+        place: Place::AfterValue,
+        rest: &text[end..],
+    })
 }

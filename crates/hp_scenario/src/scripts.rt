@@ -1,5 +1,5 @@
 //! The lines of each processor.
-ghost use Rattle.std.specs.Prelude.{◌≡◌, true, ◌==◌, ◌++◌, ◌∷◌, [], IfOk, IfSome, OnOk, length, map};
+ghost use Rattle.std.specs.Prelude.{◌≡◌, true, ◌++◌, ◌∷◌, [], IfOk, IfSome, OnOk, length, map};
 ghost use Rattle.std.specs.List.{list_all, range_with_len};
 ghost use Rattle.hp_scenario.specs.Gives.{Gives};
 ghost use Rattle.hp_scenario.specs.Scripts.{AreAllOf, AreForRun, first_unfit as unfit, is_for_run, script_of, scripts_of};
@@ -104,18 +104,12 @@ fn only_place(lines: &[Line]) -> Option<usize>
     ensures { IfSome result (AreAllOf lines.now) }
 {
     let place = lines.first()?.place();
-    if are_all_of(lines, place) {
-        Some(place)
-    } else {
-        None
+    for line in lines {
+        if line.place() != place {
+            return None;
+        }
     }
-}
-
-/// Whether all lines belong to the script at a place.
-fn are_all_of(lines: &[Line], place: usize) -> bool
-    ensures { result ≡ list_all (λ line. line.cpu == place) lines.now }
-{
-    lines.iter().all(|line| line.place() == place)
+    Some(place)
 }
 
 /// The scripts of lines that all belong to one of them: they stay where they are, and take no memory.

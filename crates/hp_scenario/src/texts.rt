@@ -1,9 +1,8 @@
 //! The texts of a JSON array.
 ghost use Rattle.std.specs.Prelude.{◌≡◌, ◌<◌, Some, length, slice_get};
-ghost use Rattle.std.specs.List.{list_all};
 ghost use Rattle.serde_json.specs.Find.{as_str};
 ghost use Rattle.serde_json.specs.View.{items_view};
-ghost use Rattle.hp_scenario.specs.Form.{each_in, is_text};
+ghost use Rattle.hp_scenario.specs.Form.{each_in};
 
 use serde_json::Value;
 use std::marker::Model;
@@ -26,22 +25,16 @@ impl<'a> Model for Texts<'a> {
     ghost invariant = { λ t. list_all is_text t.values.now ≡ true };
 }
 
-/// Whether each value is a text.
-fn are_texts(values: &[Value]) -> bool
-    ensures { result ≡ list_all is_text values.now }
-{
-    values.iter().all(|value| value.is_string())
-}
-
 impl<'a> Texts<'a> {
     /// The texts of the values; none where some value is no text.
-    #[tactic(auto, using(crate::proofs::TextLists::all_texts, crate::proofs::TextLists::not_all_texts))]
     pub(crate) fn new(values: &'a Vec<Value>) -> Option<Texts<'a>>
         ensures { result ≡ each_in as_str (items_view values.now.items) }
     {
         let values = values.as_slice();
-        if !are_texts(values) {
-            return None;
+        for value in values {
+            if !value.is_string() {
+                return None;
+            }
         }
         Some(Texts { values })
     }

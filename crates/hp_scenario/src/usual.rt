@@ -6,7 +6,7 @@ ghost use Rattle.serde_json.specs.Data.{unsigned};
 ghost use Rattle.serde_json.specs.Read.{number_of};
 ghost use Rattle.hp_units.specs.LayoutParts.{layout_fault};
 ghost use Rattle.hp_units.specs.PartsSeen.{parts_seen};
-ghost use Rattle.hp_scenario.specs.Usual.{AreBoots, ArePair, AreRows, EndsWithBoots, IsLayoutAt, IsRow, parts_from, rows_of};
+ghost use Rattle.hp_scenario.specs.Usual.{ArePair, AreRows, EndsWithBoots, IsLayoutAt, IsRow, parts_from, rows_of};
 
 use crate::form::boot_from;
 use crate::plain_reader::PlainReader;
@@ -116,19 +116,6 @@ fn boot_after(alloc: Global, reader: &mut PlainReader<'_>) -> Result<Option<Vec<
     if !takes_array(reader, "boot") {
         return Ok(None);
     }
-    let Some(boot) = boots_after(alloc, reader)? else {
-        return Ok(None);
-    };
-    if !takes_end(reader) {
-        return Ok(None);
-    }
-    Ok(Some(boot))
-}
-
-/// What the blocks are at boot by the words up to the end of an array.
-fn boots_after(alloc: Global, reader: &mut PlainReader<'_>) -> Result<Option<Vec<Boot>>, AllocError>
-    ensures { IfOk result (λ b. IfSome b (λ b. AreBoots b.items reader.old reader.new)) }
-{
     let mut boots = Vec::new(alloc);
     'words: while !reader.take_end_array() {
         let Some(Token::String(word)) = reader.next() else {
@@ -138,6 +125,9 @@ fn boots_after(alloc: Global, reader: &mut PlainReader<'_>) -> Result<Option<Vec
             return Ok(None);
         };
         boots.push(boot)?;
+    }
+    if !takes_end(reader) {
+        return Ok(None);
     }
     Ok(Some(boots))
 }

@@ -12,26 +12,16 @@ use crate::words::is_name;
 use hp_units::{Block, Cpu, Event, Frame, Order, Page, Serial, Text, Zone};
 use std::alloc::{AllocError, Global};
 
-/// The event that a verb and the words after it ask for, where it has no list.
+/// What a verb and the words after it ask for, where it has no list.
 #[tactic(auto, unfolding(crate::specs::Lines::event_of))]
 pub(crate) fn event_from<'a>(verb: &str, args: &[&'a str]) -> Option<Request<'a>>
     ensures { option_map request_seen result ≡ says.event_of verb.now (map (λ w. w.now) args.now) }
 {
-    match verb {
-        "kalloc" => kalloc(args),
-        "kfree" => kfree(args),
-        "map" => map_page(args),
-        "unmap" => unmap_page(args),
-        "write" => write_word(args),
-        "read" => read_word(args),
-        "drain" => drain(args),
-        "online" => online(args),
-        "drainfor" => drainfor(args),
-        "migrate" => migrate(args),
-        "commit" => commit(args),
-        "cancel" => cancel(args),
-        "undo" => undo(args),
-        "remove" => remove(args),
+    match args {
+        [word] => Some(Request::Plain(Work::Event(event_of_number(verb, word)?))),
+        [first, second] => of_two(verb, first, second),
+        [name, page, index] => of_three(verb, name, page, index),
+        [name, page, index, value] => of_four(verb, name, page, index, value),
         _ => None,
     }
 }
@@ -56,108 +46,111 @@ pub fn only64(args: &[&str]) -> Option<u64>
     number64(word)
 }
 
-/// A request that names no owner.
-fn event<'a>(event: Event) -> Request<'a>
-    ensures { request_seen result ≡ says.event event }
+/// An access to a page of the owner that a word names; None where the word is no name.
+#[inline(always)]
+fn named<'a>(name: &'a str, access: Access) -> Option<Request<'a>>
+    ensures { option_map request_seen result ≡ says.named_if name.now access }
 {
-    Request::Plain(Work::Event(event))
-}
-
-#[tactic(auto, unfolding(crate::specs::Lines::kalloc_of))]
-fn kalloc<'a>(args: &[&'a str]) -> Option<Request<'a>>
-    ensures { option_map request_seen result ≡ says.kalloc_of (map (λ w. w.now) args.now) }
-{
-    let order = Order(only32(args)?);
-    Some(event(Event::KernelAlloc { order }))
-}
-
-#[tactic(auto, unfolding(crate::specs::Lines::kfree_of))]
-fn kfree<'a>(args: &[&'a str]) -> Option<Request<'a>>
-    ensures { option_map request_seen result ≡ says.kfree_of (map (λ w. w.now) args.now) }
-{
-    let frame = Frame(only32(args)?);
-    Some(event(Event::KernelFree { frame }))
-}
-
-#[tactic(auto, unfolding(crate::specs::Lines::map_of))]
-fn map_page<'a>(args: &[&'a str]) -> Option<Request<'a>>
-    ensures { option_map request_seen result ≡ says.map_of (map (λ w. w.now) args.now) }
-{
-    let [name, page] = args else {
-        return None;
-    };
     if !is_name(name) {
         return None;
     }
-    let page = Page(number32(page)?);
-    let access = Access::Map { page };
     Some(Request::Named { name, access })
 }
 
-#[tactic(auto, unfolding(crate::specs::Lines::unmap_of))]
-fn unmap_page<'a>(args: &[&'a str]) -> Option<Request<'a>>
-    ensures { option_map request_seen result ≡ says.unmap_of (map (λ w. w.now) args.now) }
+/// The event of a verb with one number.
+#[tactic(auto, unfolding(crate::specs::Lines::event_of_number))]
+fn event_of_number(verb: &str, word: &str) -> Option<Event>
+    ensures { result ≡ says.event_of_number verb.now word.now }
 {
-    let [name, page] = args else {
-        return None;
-    };
-    if !is_name(name) {
+    match verb {
+        "kalloc" => Some(Event::KernelAlloc {
+            order: Order(number32(word)?),
+        }),
+        "kfree" => Some(Event::KernelFree {
+            frame: Frame(number32(word)?),
+        }),
+        "drain" => Some(Event::Drain {
+            cpu: Cpu(number32(word)?),
+        }),
+        "remove" => Some(Event::Remove {
+            block: Block(number32(word)?),
+        }),
+        "migrate" => Some(Event::Migrate {
+            op: Serial(number64(word)?),
+        }),
+        "commit" => Some(Event::Commit {
+            op: Serial(number64(word)?),
+        }),
+        "cancel" => Some(Event::Cancel {
+            op: Serial(number64(word)?),
+        }),
+        "undo" => Some(Event::UndoAfter {
+            serial: Serial(number64(word)?),
+        }),
+        _ => None,
+    }
+}
+
+/// A verb with two words.
+#[tactic(auto, unfolding(crate::specs::Lines::request_of_two))]
+fn of_two<'a>(verb: &str, first: &'a str, second: &str) -> Option<Request<'a>>
+    ensures { option_map request_seen result ≡ says.request_of_two verb.now first.now second.now }
+{
+    match verb {
+        "map" => {
+            let page = Page(number32(second)?);
+            named(first, Access::Map { page })
+        }
+        "unmap" => {
+            let page = Page(number32(second)?);
+            named(first, Access::Unmap { page })
+        }
+        "online" => {
+            let block = Block(number32(first)?);
+            let zone = zone_from(second)?;
+            Some(Request::Plain(Work::Event(Event::Online { block, zone })))
+        }
+        "drainfor" => {
+            let op = Serial(number64(first)?);
+            let cpu = Cpu(number32(second)?);
+            Some(Request::Plain(Work::Event(Event::DrainFor { op, cpu })))
+        }
+        _ => None,
+    }
+}
+
+/// `read`, the verb with three words.
+#[tactic(auto, unfolding(crate::specs::Lines::request_of_three))]
+fn of_three<'a>(verb: &str, name: &'a str, page: &str, index: &str) -> Option<Request<'a>>
+    ensures { option_map request_seen result ≡ says.request_of_three verb.now name.now page.now index.now }
+{
+    if verb != "read" {
         return None;
     }
     let page = Page(number32(page)?);
-    let access = Access::Unmap { page };
-    Some(Request::Named { name, access })
+    let index = number32(index)?;
+    named(name, Access::Read { page, index })
 }
 
-#[tactic(auto, unfolding(crate::specs::Lines::write_of))]
-fn write_word<'a>(args: &[&'a str]) -> Option<Request<'a>>
-    ensures { option_map request_seen result ≡ says.write_of (map (λ w. w.now) args.now) }
+/// `write`, the verb with four words.
+#[tactic(auto, unfolding(crate::specs::Lines::request_of_four))]
+fn of_four<'a>(
+    verb: &str,
+    name: &'a str,
+    page: &str,
+    index: &str,
+    value: &str,
+) -> Option<Request<'a>>
+    ensures { option_map request_seen result
+        ≡ says.request_of_four verb.now name.now page.now index.now value.now }
 {
-    let [name, page, index, value] = args else {
-        return None;
-    };
-    if !is_name(name) {
+    if verb != "write" {
         return None;
     }
     let page = Page(number32(page)?);
     let index = number32(index)?;
     let value = number64(value)?;
-    let access = Access::Write { page, index, value };
-    Some(Request::Named { name, access })
-}
-
-#[tactic(auto, unfolding(crate::specs::Lines::read_of))]
-fn read_word<'a>(args: &[&'a str]) -> Option<Request<'a>>
-    ensures { option_map request_seen result ≡ says.read_of (map (λ w. w.now) args.now) }
-{
-    let [name, page, index] = args else {
-        return None;
-    };
-    if !is_name(name) {
-        return None;
-    }
-    let page = Page(number32(page)?);
-    let index = number32(index)?;
-    let access = Access::Read { page, index };
-    Some(Request::Named { name, access })
-}
-
-#[tactic(auto, unfolding(crate::specs::Lines::drain_of))]
-fn drain<'a>(args: &[&'a str]) -> Option<Request<'a>>
-    ensures { option_map request_seen result ≡ says.drain_of (map (λ w. w.now) args.now) }
-{
-    let cpu = Cpu(only32(args)?);
-    Some(event(Event::Drain { cpu }))
-}
-
-#[tactic(auto, unfolding(crate::specs::Lines::online_of))]
-fn online<'a>(args: &[&'a str]) -> Option<Request<'a>>
-    ensures { option_map request_seen result ≡ says.online_of (map (λ w. w.now) args.now) }
-{
-    let [block, zone] = args else { return None };
-    let block = Block(number32(block)?);
-    let zone = zone_from(zone)?;
-    Some(event(Event::Online { block, zone }))
+    named(name, Access::Write { page, index, value })
 }
 
 /// The zone that a word names, `normal` or `movable`; None for any other word (own rule).
@@ -172,56 +165,6 @@ pub fn zone_from(word: &str) -> Option<Zone>
     }
 }
 
-#[tactic(auto, unfolding(crate::specs::Lines::drainfor_of))]
-fn drainfor<'a>(args: &[&'a str]) -> Option<Request<'a>>
-    ensures { option_map request_seen result ≡ says.drainfor_of (map (λ w. w.now) args.now) }
-{
-    let [op, cpu] = args else { return None };
-    let op = Serial(number64(op)?);
-    let cpu = Cpu(number32(cpu)?);
-    Some(event(Event::DrainFor { op, cpu }))
-}
-
-#[tactic(auto, unfolding(crate::specs::Lines::migrate_of))]
-fn migrate<'a>(args: &[&'a str]) -> Option<Request<'a>>
-    ensures { option_map request_seen result ≡ says.migrate_of (map (λ w. w.now) args.now) }
-{
-    let op = Serial(only64(args)?);
-    Some(event(Event::Migrate { op }))
-}
-
-#[tactic(auto, unfolding(crate::specs::Lines::commit_of))]
-fn commit<'a>(args: &[&'a str]) -> Option<Request<'a>>
-    ensures { option_map request_seen result ≡ says.commit_of (map (λ w. w.now) args.now) }
-{
-    let op = Serial(only64(args)?);
-    Some(event(Event::Commit { op }))
-}
-
-#[tactic(auto, unfolding(crate::specs::Lines::cancel_of))]
-fn cancel<'a>(args: &[&'a str]) -> Option<Request<'a>>
-    ensures { option_map request_seen result ≡ says.cancel_of (map (λ w. w.now) args.now) }
-{
-    let op = Serial(only64(args)?);
-    Some(event(Event::Cancel { op }))
-}
-
-#[tactic(auto, unfolding(crate::specs::Lines::undo_of))]
-fn undo<'a>(args: &[&'a str]) -> Option<Request<'a>>
-    ensures { option_map request_seen result ≡ says.undo_of (map (λ w. w.now) args.now) }
-{
-    let serial = Serial(only64(args)?);
-    Some(event(Event::UndoAfter { serial }))
-}
-
-#[tactic(auto, unfolding(crate::specs::Lines::remove_of))]
-fn remove<'a>(args: &[&'a str]) -> Option<Request<'a>>
-    ensures { option_map request_seen result ≡ says.remove_of (map (λ w. w.now) args.now) }
-{
-    let block = Block(only32(args)?);
-    Some(event(Event::Remove { block }))
-}
-
 #[tactic(auto, unfolding(crate::specs::Lines::begin_of))]
 pub(crate) fn begin<'a>(alloc: Global, args: &[&'a str]) -> Result<Option<Request<'a>>, AllocError>
     ensures { IfOk result
@@ -230,7 +173,7 @@ pub(crate) fn begin<'a>(alloc: Global, args: &[&'a str]) -> Result<Option<Reques
     let Some(plan) = plan_from(alloc, args)? else {
         return Ok(None);
     };
-    Ok(Some(event(Event::Begin { plan })))
+    Ok(Some(Request::Plain(Work::Event(Event::Begin { plan }))))
 }
 
 #[tactic(auto, unfolding(crate::specs::Lines::plan_of))]

@@ -1,7 +1,7 @@
 use Rattle.std.proofs.Common.{◌≡◌, ℕ, List, Some, length}
 use Rattle.hp_scenario.specs.Form.{each_in, boot_at}
 use Rattle.hp_scenario.specs.Usual.{strings_then, texts_data}
-use Rattle.hp_scenario.proofs.usual.boots_after.Given as goal
+use Rattle.hp_scenario.proofs.usual.boot_after.Given as goal
 
 abbrev pub invariant-words : goal.invariant-words
 invariant-words l =

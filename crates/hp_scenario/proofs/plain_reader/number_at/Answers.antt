@@ -3,8 +3,8 @@ use Rattle.std.specs.List.{prefix_len, slice_range}
 use Rattle.std.specs.Char.{is_ascii_digit}
 use Rattle.json.specs.Token.{Token}
 use Rattle.json.specs.Lex.{between, lex, token}
-use Rattle.hp_scenario.proofs.PlainTokens.{number_cut}
-use Rattle.hp_scenario.proofs.plain_reader.cut_number.Goals as goal
+use Rattle.hp_scenario.proofs.PlainTokens.{as_number, number_cut}
+use Rattle.hp_scenario.proofs.plain_reader.number_at.Goals as goal
 
 pub returns : goal.returns
 returns c =
@@ -17,9 +17,9 @@ returns c =
     let last = ap (λ (b : List ℕ). get_or b end 0) same in
     let none : end - 0 ≡ end = omega arith in
     let short : slice_range t 0 end ≡ take end t = ap (λ (n : ℕ). take n t) none in
-    number_cut t end digits (omega (arith, c.if-end-eq0.false))
+    as_number c.args.place t c.range.result.now c.range_from.result.now (number_cut t end digits (omega (arith, c.if-end-eq0.false))
     (λ zero. c.if-bytes-eq48.false (first ∙ zero)) (omega (arith, last, c.if-bytes-end-ne44.false))
     ∙ ap (λ (s : List ℕ). token (Token.number s) ∷ lex between (drop end t))
     (sym (c.range.ensures.value ∙ short))
     ∙ ap (λ (u : List ℕ). token (Token.number c.range.result.now) ∷ lex between u)
-    (sym c.range_from.ensures.value)
+    (sym c.range_from.ensures.value)) c.requires

@@ -1,11 +1,11 @@
-use Rattle.std.proofs.Common.{◌≡◌, [], ◌∷◌, refl, ap, arith}
-use Rattle.json.specs.Json.{after_end_array}
+use Rattle.std.proofs.Common.{◌≡◌, [], ◌∷◌, refl, arith}
 use Rattle.json.specs.Token.{Token}
-use Rattle.hp_scenario.proofs.UsualForm.{boots_grow, no_boots, string_passed, texts_end}
-use Rattle.hp_scenario.proofs.usual.boots_after.Goals as goal
+use Rattle.hp_scenario.proofs.UsualForm.{string_passed, boots_end, boots_grow, no_boots}
+use Rattle.hp_scenario.proofs.usual.boot_after.Goals as goal
 
 pub words-init : goal.words-init
-words-init c = ([], refl, no_boots c.new-boots.result.items c.new-boots.ensures.items)
+words-init c =
+    ([], refl, no_boots c.new-boots.result.items c.new-boots.ensures.items)
 
 pub words-preserved : goal.words-preserved
 words-preserved c =
@@ -21,9 +21,7 @@ words-preserved c =
 
 pub returns : goal.returns
 returns c =
-    let l = c.words in (
-      l.invariant.0,
-      texts_end _ l.reader c.take_end_array.new.self l.invariant.0 l.invariant.1
-          (ap after_end_array c.words-test.ensures),
-      l.invariant.2,
-    )
+    let l = c.words in
+    boots_end _ _ l.reader c.take_end_array.new.self c.takes_end.new.reader l.invariant.0 l.boots.items
+    (c.if-not-takes_array.ensures refl) l.invariant.1 c.words-test.ensures (c.if-not-takes_end.ensures refl)
+    l.invariant.2
