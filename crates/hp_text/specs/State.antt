@@ -7,6 +7,7 @@ use Rattle.hp_units.specs.declared.rows.Mobility.{Mobility}
 use Rattle.hp_units.specs.declared.rows.Mobility.TheVariants.{Unmovable, Movable}
 use Rattle.hp_units.specs.declared.rows.Class.{Class}
 use Rattle.hp_units.specs.declared.rows.Class.TheVariants.{Nu, Nm, Mm, IsoN, IsoM}
+use Rattle.hp_units.specs.declared.rows.Pool.{Pool}
 use Rattle.hp_units.specs.declared.rows.Pool.TheVariants.{Nu as NuPool, Nm as NmPool, Mm as MmPool}
 use Rattle.hp_units.specs.declared.rows.State.{State}
 use Rattle.hp_units.specs.declared.rows.State.TheVariants.{Offline as OfflineState, Online as OnlineState, Going as GoingState, Absent as AbsentState}
@@ -20,8 +21,6 @@ use Rattle.hp_units.specs.Arithmetic.{frame_count, pageblock_count}
 use Rattle.hp_units.specs.Memory.{FreeAreas, FreeFrames, Pages, Blocks, Memory, free_list, cached_list, kernel_order}
 use Rattle.hp_units.specs.Pages.{frame_at, words_at}
 use Rattle.hp_units.specs.Texts.{class_text, pool_text, zone_text, auto_text}
-use Rattle.hp_text.specs.declared.state.ListName.{ListName}
-use Rattle.hp_text.specs.declared.state.ListName.TheVariants.{Free, Cached}
 use Rattle.hp_text.specs.declared.state.Mark.{Mark}
 use Rattle.hp_text.specs.declared.state.Mark.TheVariants as mark
 
@@ -122,17 +121,19 @@ marked_line m l a = words_line (mark_text m ++ codes ":") (marked_words m l a)
 
 -- ---- the lists of free frames
 
-abbrev pub list_name_text : ListName → List ℕ
-list_name_text (Free class order) = class_text class ++ codes " " ++ decimal order
-list_name_text (Cached cpu pool) = codes "cpu " ++ decimal cpu ++ codes " " ++ pool_text pool
+-- the line of a class's list of an order, and of a processor's list for a pool
+abbrev pub free_line : Class → ℕ → List ℕ → List ℕ
+free_line class order frames =
+    numbers_line (class_text class ++ codes " " ++ decimal order ++ codes ":") frames
 
-abbrev pub list_line : ListName → List ℕ → List ℕ
-list_line name frames = numbers_line (list_name_text name ++ codes ":") frames
+abbrev pub cached_line : (cpu : ℕ) → Pool → List ℕ → List ℕ
+cached_line cpu pool frames =
+    numbers_line (codes "cpu " ++ decimal cpu ++ codes " " ++ pool_text pool ++ codes ":") frames
 
 -- a class's lists by rising order
 unfoldable pub class_lists_text : LayoutParts → FreeAreas → Class → List ℕ
 class_lists_text l a class =
-    texts_below (λ order. list_line (Free class order) (free_list a class order)) (l.order + 1)
+    texts_below (λ order. free_line class order (free_list a class order)) (l.order + 1)
 
 unfoldable pub free_lists_text : LayoutParts → FreeAreas → List ℕ
 free_lists_text l a =
@@ -142,8 +143,8 @@ free_lists_text l a =
 -- a processor's lists
 unfoldable pub processor_lists_text : FreeFrames → ℕ → List ℕ
 processor_lists_text fs cpu =
-    list_line (Cached cpu NuPool) (cached_list fs cpu NuPool) ++ list_line (Cached cpu NmPool)
-    (cached_list fs cpu NmPool) ++ list_line (Cached cpu MmPool) (cached_list fs cpu MmPool)
+    cached_line cpu NuPool (cached_list fs cpu NuPool) ++ cached_line cpu NmPool (cached_list fs cpu NmPool)
+    ++ cached_line cpu MmPool (cached_list fs cpu MmPool)
 
 unfoldable pub processors_lists_text : LayoutParts → FreeFrames → List ℕ
 processors_lists_text l fs = texts_below (processor_lists_text fs) l.cpus
@@ -164,10 +165,12 @@ abbrev pub name_of : List (List ℕ) → ℕ → List ℕ
 name_of names owner = unwrap_or (slice_get names owner) []
 
 -- a mapped page
-unfoldable pub page_line : (name : List ℕ) (page frame : ℕ) (words : List ℕ) → List ℕ
-page_line name page frame words =
+abbrev pub page_head : (name : List ℕ) (page frame : ℕ) → List ℕ
+page_head name page frame =
     codes "page " ++ name ++ codes " " ++ decimal page ++ codes " at " ++ decimal frame ++ codes ":"
-    ++ flat_map number_word words ++ newline
+
+unfoldable pub page_line : (name : List ℕ) (page frame : ℕ) (words : List ℕ) → List ℕ
+page_line name page frame words = page_head name page frame ++ flat_map number_word words ++ newline
 
 -- the line of a page that is mapped
 abbrev pub page_text : (name : List ℕ) (page : ℕ) → Option ℕ → Option (List ℕ) → List ℕ

@@ -1,7 +1,7 @@
 //! How a state is written, part by part.
 ghost use Rattle.std.specs.Prelude.{◌≡◌, ◌++◌, Some, OnOk, string_bytes};
 ghost use Rattle.std.specs.List.{flat_map};
-ghost use Rattle.hp_text.specs.State.{auto_line, block_line, blocks_text, class_lists_text, frames_text, free_lists_text, has_mark, kernel_line, kernel_text, list_line, mark_text, marked_line, marked_word, marked_words, number_word, processor_lists_text, processors_lists_text, row_line, rows_text, state_text, state_words, zone_word};
+ghost use Rattle.hp_text.specs.State.{auto_line, block_line, blocks_text, cached_line, class_lists_text, frames_text, free_lists_text, free_line, has_mark, kernel_line, kernel_text, mark_text, marked_line, marked_word, marked_words, newline, number_word, processor_lists_text, processors_lists_text, row_line, rows_text, state_text, state_words};
 
 mod pages;
 
@@ -14,46 +14,12 @@ use hp_units::{
 };
 use indexmap::IndexSet;
 use std::alloc::{AllocError, Global};
-use std::fmt;
-
-/// A list of free frames: of a class and an order, or of a processor for a pool.
-#[derive(Drop)]
-enum ListName {
-    Free(Class, Order),
-    Cached(Cpu, Pool),
-}
-
-impl fmt::Display for ListName {
-    ghost use Rattle.hp_text.specs.State.{list_name_text};
-
-    ghost output = { λ name. Some (list_name_text name) };
-
-    fn fmt<W: fmt::Write>(&self, f: &mut fmt::Formatter<W>) -> fmt::Result {
-        match self {
-            ListName::Free(class, order) => write!(f, "{class} {order}"),
-            ListName::Cached(cpu, pool) => write!(f, "cpu {cpu} {pool}"),
-        }
-    }
-}
 
 /// What a pageblock can be marked by.
 #[derive(Clone, Copy)]
 enum Mark {
     Unmovable,
     Isolated,
-}
-
-impl fmt::Display for Mark {
-    ghost use Rattle.hp_text.specs.State.{mark_text};
-
-    ghost output = { λ mark. Some (mark_text mark) };
-
-    fn fmt<W: fmt::Write>(&self, f: &mut fmt::Formatter<W>) -> fmt::Result {
-        match self {
-            Mark::Unmovable => write!(f, "unmovable"),
-            Mark::Isolated => write!(f, "isolated"),
-        }
-    }
 }
 
 /// Writes a state, each part only where it has something: the memory blocks, what an added block
@@ -74,8 +40,7 @@ pub fn write_state(
     write_auto(out, image.auto())?;
     write_marked(out, alloc, image, Mark::Unmovable)?;
     write_marked(out, alloc, image, Mark::Isolated)?;
-    write_frames(out, image, names)?;
-    Ok(())
+    write_frames(out, image, names)
 }
 
 /// Writes the frames that are free, and those that are in use.
@@ -87,8 +52,7 @@ fn write_frames(out: &mut String, image: &Image, names: &IndexSet<Text>) -> Resu
     write_free_lists(out, image)?;
     write_processors(out, image)?;
     write_kernel_blocks(out, image)?;
-    write_pages(out, image, names)?;
-    Ok(())
+    write_pages(out, image, names)
 }
 
 /// Writes a line for each memory block.
@@ -108,10 +72,10 @@ fn write_blocks(out: &mut String, image: &Image) -> Result<(), AllocError>
 fn write_block(out: &mut String, block: Block, row: Option<Row>) -> Result<(), AllocError>
     ensures { OnOk result (string_bytes out.new ≡ string_bytes out.old ++ block_line block row) }
 {
-    if let Some(row) = row {
-        write_row(out, block, row)?;
+    match row {
+        Some(row) => write_row(out, block, row),
+        None => Ok(()),
     }
-    Ok(())
 }
 
 /// Writes the line of a memory block: its state, its zone where it is online or going, and the
@@ -120,36 +84,29 @@ fn write_block(out: &mut String, block: Block, row: Option<Row>) -> Result<(), A
 pub fn write_row(out: &mut String, block: Block, row: Row) -> Result<(), AllocError>
     ensures { OnOk result (string_bytes out.new ≡ string_bytes out.old ++ row_line block row) }
 {
-    write!(out, "block {block} ")?;
-    write_row_state(out, row.state, row.zone)?;
-    if let Some(claim) = row.claim {
-        let op = claim.op;
-        write!(out, " op {op}")?;
-    }
-    out.push('\n')?;
-    Ok(())
-}
-
-/// Writes the state of a memory block, with its zone where it is online or going.
-fn write_row_state(out: &mut String, state: State, zone: Option<Zone>) -> Result<(), AllocError>
-    ensures { OnOk result (string_bytes out.new ≡ string_bytes out.old ++ state_words state zone) }
-{
-    match state {
-        State::Offline => out.push_str("offline"),
-        State::Online => write_zoned(out, "online", zone),
-        State::Going => write_zoned(out, "going", zone),
-        State::Absent => out.push_str("absent"),
+    let words = words_of(row.state, row.zone);
+    match row.claim {
+        Some(claim) => {
+            let op = claim.op;
+            writeln!(out, "block {block} {words} op {op}")
+        }
+        None => writeln!(out, "block {block} {words}"),
     }
 }
 
-/// Writes a word, and a zone after it.
-fn write_zoned(out: &mut String, word: &str, zone: Option<Zone>) -> Result<(), AllocError>
-    ensures { OnOk result (string_bytes out.new ≡ string_bytes out.old ++ word.now ++ zone_word zone) }
+/// The state of a memory block, with its zone where it is online or going.
+fn words_of(state: State, zone: Option<Zone>) -> &'static str
+    ensures { result.now ≡ state_words state zone }
 {
-    out.push_str(word)?;
-    match zone {
-        Some(zone) => write!(out, " {zone}"),
-        None => Ok(()),
+    match (state, zone) {
+        (State::Offline, _) => "offline",
+        (State::Online, None) => "online",
+        (State::Online, Some(Zone::Normal)) => "online normal",
+        (State::Online, Some(Zone::Movable)) => "online movable",
+        (State::Going, None) => "going",
+        (State::Going, Some(Zone::Normal)) => "going normal",
+        (State::Going, Some(Zone::Movable)) => "going movable",
+        (State::Absent, _) => "absent",
     }
 }
 
@@ -180,8 +137,18 @@ fn write_marked(
     if words.is_empty() {
         return Ok(());
     }
-    writeln!(out, "{mark}:{words}")?;
-    Ok(())
+    let name = name_of_mark(mark);
+    writeln!(out, "{name}:{words}")
+}
+
+/// The name of a mark.
+fn name_of_mark(mark: Mark) -> &'static str
+    ensures { result.now ≡ mark_text mark }
+{
+    match mark {
+        Mark::Unmovable => "unmovable",
+        Mark::Isolated => "isolated",
+    }
 }
 
 /// Writes the numbers of the pageblocks that have a mark.
@@ -235,8 +202,7 @@ fn write_free_lists(out: &mut String, image: &Image) -> Result<(), AllocError>
     write_class(out, image, Class::Nm)?;
     write_class(out, image, Class::Mm)?;
     write_class(out, image, Class::IsoN)?;
-    write_class(out, image, Class::IsoM)?;
-    Ok(())
+    write_class(out, image, Class::IsoM)
 }
 
 /// Writes a class's lists by rising order.
@@ -247,7 +213,7 @@ fn write_class(out: &mut String, image: &Image, class: Class) -> Result<(), Allo
 {
     for number in 0..image.layout().order() + 1 {
         let order = Order(number);
-        write_list(out, ListName::Free(class, order), image.list(class, order))?;
+        write_free_list(out, class, order, image.list(class, order))?;
     }
     Ok(())
 }
@@ -270,46 +236,54 @@ fn write_processor(out: &mut String, image: &Image, cpu: Cpu) -> Result<(), Allo
     ensures { OnOk result
         (string_bytes out.new ≡ string_bytes out.old ++ processor_lists_text image.now.memory.free cpu) }
 {
-    write_list(
-        out,
-        ListName::Cached(cpu, Pool::Nu),
-        image.cpu_list(cpu, Pool::Nu),
-    )?;
-    write_list(
-        out,
-        ListName::Cached(cpu, Pool::Nm),
-        image.cpu_list(cpu, Pool::Nm),
-    )?;
-    write_list(
-        out,
-        ListName::Cached(cpu, Pool::Mm),
-        image.cpu_list(cpu, Pool::Mm),
-    )?;
-    Ok(())
+    write_cached_list(out, cpu, Pool::Nu, image.cpu_list(cpu, Pool::Nu))?;
+    write_cached_list(out, cpu, Pool::Nm, image.cpu_list(cpu, Pool::Nm))?;
+    write_cached_list(out, cpu, Pool::Mm, image.cpu_list(cpu, Pool::Mm))
 }
 
-/// Writes the line of a list that has something, front first.
+/// Writes the line of a processor's list for a pool that has something, front first.
 #[tactic(auto, unfolding(crate::specs::State::numbers_line))]
-fn write_list(out: &mut String, name: ListName, frames: &[Frame]) -> Result<(), AllocError>
-    ensures { OnOk result (string_bytes out.new ≡ string_bytes out.old ++ list_line name frames.now) }
+fn write_cached_list(
+    out: &mut String,
+    cpu: Cpu,
+    pool: Pool,
+    frames: &[Frame],
+) -> Result<(), AllocError>
+    ensures { OnOk result (string_bytes out.new ≡ string_bytes out.old ++ cached_line cpu pool frames.now) }
 {
     if frames.is_empty() {
         return Ok(());
     }
-    write!(out, "{name}:")?;
-    write_frame_words(out, frames)?;
-    out.push('\n')?;
-    Ok(())
+    write!(out, "cpu {cpu} {pool}:")?;
+    write_frames_line(out, frames)
 }
 
-/// Writes frames, each after a space.
-fn write_frame_words(out: &mut String, frames: &[Frame]) -> Result<(), AllocError>
-    ensures { OnOk result (string_bytes out.new ≡ string_bytes out.old ++ flat_map number_word frames.now) }
+/// Writes the line of a class's list of an order that has something, front first.
+#[tactic(auto, unfolding(crate::specs::State::numbers_line))]
+fn write_free_list(
+    out: &mut String,
+    class: Class,
+    order: Order,
+    frames: &[Frame],
+) -> Result<(), AllocError>
+    ensures { OnOk result (string_bytes out.new ≡ string_bytes out.old ++ free_line class order frames.now) }
+{
+    if frames.is_empty() {
+        return Ok(());
+    }
+    write!(out, "{class} {order}:")?;
+    write_frames_line(out, frames)
+}
+
+/// Writes frames, each after a space, and the end of the line.
+fn write_frames_line(out: &mut String, frames: &[Frame]) -> Result<(), AllocError>
+    ensures { OnOk result
+        (string_bytes out.new ≡ string_bytes out.old ++ flat_map number_word frames.now ++ newline) }
 {
     for frame in frames {
         write_word(out, u64::from(frame.0))?;
     }
-    Ok(())
+    out.push('\n')
 }
 
 /// Writes a line for each block of the kernel.
@@ -333,10 +307,12 @@ fn write_kernel_block(
 ) -> Result<(), AllocError>
     ensures { OnOk result (string_bytes out.new ≡ string_bytes out.old ++ kernel_line frame order) }
 {
-    if let Some(order) = order {
-        write_numbered(out, "kernel ", u64::from(frame.0))?;
-        write_numbered(out, " order ", u64::from(order.0))?;
-        out.push('\n')?;
+    match order {
+        Some(order) => {
+            write_numbered(out, "kernel ", u64::from(frame.0))?;
+            write_numbered(out, " order ", u64::from(order.0))?;
+            out.push('\n')
+        }
+        None => Ok(()),
     }
-    Ok(())
 }

@@ -1,7 +1,7 @@
 //! How the mapped pages of a state are written.
 ghost use Rattle.std.specs.Prelude.{◌≡◌, ◌++◌, OnOk, option_map, string_bytes};
 ghost use Rattle.std.specs.List.{flat_map};
-ghost use Rattle.hp_text.specs.State.{name_of, number_word, owner_text, page_line, page_text, pages_text};
+ghost use Rattle.hp_text.specs.State.{name_of, newline, number_word, owner_text, page_head, page_line, page_text, pages_text};
 
 use crate::numbers::{write_numbered, write_word};
 use hp_plain::Image;
@@ -60,7 +60,7 @@ pub(crate) fn name_of<'a>(names: &'a IndexSet<Text>, owner: Owner) -> &'a str
     }
 }
 
-/// Writes the line of a page that is mapped.
+/// Writes the line of a page that is mapped, with all its words.
 fn write_page(
     out: &mut String,
     name: &str,
@@ -71,13 +71,13 @@ fn write_page(
     ensures { OnOk result (string_bytes out.new
         ≡ string_bytes out.old ++ page_text name.now page frame (option_map (λ w. w.now) words.entry)) }
 {
-    if let Some(frame) = frame {
-        write_page_line(out, name, page, frame, words.unwrap_or(&[]))?;
+    match frame {
+        Some(frame) => write_page_line(out, name, page, frame, words.unwrap_or(&[])),
+        None => Ok(()),
     }
-    Ok(())
 }
 
-/// Writes the line of a mapped page, with all its words.
+/// Writes the line of a mapped page.
 #[tactic(auto, unfolding(crate::specs::State::page_line))]
 fn write_page_line(
     out: &mut String,
@@ -89,22 +89,29 @@ fn write_page_line(
     ensures { OnOk result
         (string_bytes out.new ≡ string_bytes out.old ++ page_line name.now page frame words.now) }
 {
+    write_page_head(out, name, page, frame)?;
+    write_words(out, words)
+}
+
+/// Writes the head of the line of a mapped page.
+fn write_page_head(out: &mut String, name: &str, page: Page, frame: Frame) -> Result<(), AllocError>
+    ensures { OnOk result (string_bytes out.new ≡ string_bytes out.old ++ page_head name.now page frame) }
+{
     out.push_str("page ")?;
     out.push_str(name)?;
     write_word(out, u64::from(page.0))?;
     write_numbered(out, " at ", u64::from(frame.0))?;
     out.push_str(":")?;
-    write_words(out, words)?;
-    out.push_str("\n")?;
     Ok(())
 }
 
-/// Writes words, each after a space.
+/// Writes words, each after a space, and the end of the line.
 fn write_words(out: &mut String, words: &[u64]) -> Result<(), AllocError>
-    ensures { OnOk result (string_bytes out.new ≡ string_bytes out.old ++ flat_map number_word words.now) }
+    ensures { OnOk result
+        (string_bytes out.new ≡ string_bytes out.old ++ flat_map number_word words.now ++ newline) }
 {
     for word in words {
         write_word(out, *word)?;
     }
-    Ok(())
+    out.push('\n')
 }

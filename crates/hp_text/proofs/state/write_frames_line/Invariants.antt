@@ -1,7 +1,7 @@
 use Rattle.std.proofs.Common.{◌≡◌, ◌++◌, string_bytes, take}
 use Rattle.std.specs.List.{flat_map}
 use Rattle.hp_text.specs.State.{number_word}
-use Rattle.hp_text.proofs.state.write_frame_words.Given as goal
+use Rattle.hp_text.proofs.state.write_frames_line.Given as goal
 
 abbrev pub invariant-loop-frame : goal.invariant-loop-frame
 invariant-loop-frame l =
