@@ -20,7 +20,7 @@ use Rattle.hp_call_lines.specs.Looks.{texts_at}
 use Rattle.hp_check.specs.Findings.{is_fault, key_quoted, keys_of}
 use Rattle.hp_check.specs.Laws.{Agrees, Begins, FirstFindingsAgree, IsFindingOf}
 use Rattle.hp_check.specs.Ranges.{parts_in, range_faults, range_faults_of}
-use Rattle.hp_check.specs.Repeats.{depth_of, repeat_of, repeats_in}
+use Rattle.hp_check.specs.Repeats.{depth_of, or_others, repeat_of, repeats_in}
 use Rattle.hp_check.specs.Shape.{shape_faults}
 use Rattle.hp_check.specs.Tally.{TallyValue, tally_of}
 use Rattle.hp_check.specs.Warnings.{line_warning, warned, warned_at, warnings_of}
@@ -78,16 +78,18 @@ keys_none input p (k ∷ ks) =
       keys_none input p ks,
     )
 
+others_none : (first others : List Finding) → count_by is_fault first ≡ 0 → count_by is_fault others ≡ 0
+    → count_by is_fault (or_others first others) ≡ 0
+others_none [] others first none = none
+others_none (one ∷ more) others first none = first
+
 repeats_none : (input : List ℕ) → count_by is_fault (repeats_in input) ≡ 0
 unfolding repeats_in
 repeats_none input =
-    sum_by-append (λ x. cond (is_fault x) 1 0) (flat_map (repeat_of input place.Whole) (keys_of place.Whole))
+    others_none (flat_map (repeat_of input place.Whole) (keys_of place.Whole))
     (flat_map (repeat_of input place.Layout) (keys_of place.Layout))
-    ∙ omega (
-      arith,
-      keys_none input place.Whole (keys_of place.Whole),
-      keys_none input place.Layout (keys_of place.Layout),
-    )
+    (keys_none input place.Whole (keys_of place.Whole))
+    (keys_none input place.Layout (keys_of place.Layout))
 
 all_none : (input : List ℕ) (l : LayoutParts) (setup : ℕ) (lines : List Line)
     → count_by is_fault (repeats_in input ++ warnings_of l setup lines) ≡ 0

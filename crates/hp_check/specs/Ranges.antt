@@ -12,12 +12,12 @@ use Rattle.hp_check.specs.declared.finding.Finding.TheVariants as finding
 use Rattle.hp_check.specs.declared.finding.OutOfRange.{OutOfRange}
 use Rattle.hp_check.specs.declared.finding.OutOfRange.TheVariants.{Order, Pageblocks, Blocks, Frames, Cpus, Batch, High, Owners, Pages, Words, History, Boot}
 
--- a number that is not within a range
-abbrev pub outside : (low high n : ℕ) → OutOfRange → Option OutOfRange
-outside low high n out = then_some (not (is_within low high n)) out
+-- a part that is out of its range where a condition does not hold, as that a number is within a range
+abbrev pub unless : Bool → OutOfRange → Option OutOfRange
+unless holds out = then_some (not holds) out
 
-abbrev pub pageblocks_out : ℕ → Option OutOfRange
-pageblocks_out n = then_some (not (is_pageblock_count n)) (Pageblocks n)
+abbrev pub outside : (low high n : ℕ) → OutOfRange → Option OutOfRange
+outside low high n out = unless (is_within low high n) out
 
 -- more frames than there may be, where what they come of is in its range
 abbrev pub has_sizes : LayoutParts → Bool
@@ -29,27 +29,21 @@ frames_of l = l.blocks * (l.pageblocks * 2 ^ l.order)
 abbrev pub frames_out : LayoutParts → Option OutOfRange
 frames_out l = then_some (has_sizes l && not (nat_le (frames_of l) (2 ^ 20))) (Frames (frames_of l))
 
-abbrev pub high_out : ℕ → Option OutOfRange
-high_out n = then_some (not (nat_le n 1024)) (High n)
-
-abbrev pub boot_out : (words blocks : ℕ) → Option OutOfRange
-boot_out words blocks = then_some (not (words == blocks)) (Boot words blocks)
-
 -- each part that is out of its range, in the order of a layout's faults
 abbrev pub parts_out : LayoutParts → List (Option OutOfRange)
 parts_out l =
     outside 0 10 l.order (Order l.order)
-    ∷ pageblocks_out l.pageblocks
+    ∷ unless (is_pageblock_count l.pageblocks) (Pageblocks l.pageblocks)
     ∷ outside 1 256 l.blocks (Blocks l.blocks)
     ∷ frames_out l
     ∷ outside 1 64 l.cpus (Cpus l.cpus)
     ∷ outside 1 l.high l.batch (Batch l.batch l.high)
-    ∷ high_out l.high
+    ∷ unless (nat_le l.high 1024) (High l.high)
     ∷ outside 1 64 l.owners (Owners l.owners)
     ∷ outside 1 (2 ^ 16) l.pages (Pages l.pages)
     ∷ outside 1 512 l.words (Words l.words)
     ∷ outside 1 (2 ^ 24) l.history (History l.history)
-    ∷ boot_out (length l.boot) l.blocks
+    ∷ unless (length l.boot == l.blocks) (Boot (length l.boot) l.blocks)
     ∷ []
 
 abbrev pub part_fault : Option OutOfRange → List Finding

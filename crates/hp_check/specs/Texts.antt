@@ -12,7 +12,6 @@ use Rattle.hp_check.specs.declared.finding.Finding.{Finding}
 use Rattle.hp_check.specs.declared.finding.Finding.TheVariants as finding
 use Rattle.hp_check.specs.declared.finding.Hint.{Hint}
 use Rattle.hp_check.specs.declared.finding.Key.{Key}
-use Rattle.hp_check.specs.declared.finding.Key.TheVariants as key
 use Rattle.hp_check.specs.declared.finding.OutOfRange.{OutOfRange}
 use Rattle.hp_check.specs.declared.finding.OutOfRange.TheVariants as range
 use Rattle.hp_check.specs.declared.finding.Place.{Place}
@@ -64,31 +63,29 @@ abbrev pub numbers_text : (before : List ℕ) → (n : ℕ) → (between : List 
     → List ℕ
 numbers_text before n between m after = before ++ decimal n ++ between ++ decimal m ++ after ++ newline
 
--- a number of the layout and what it may be
-abbrev pub bound_front : Key → (n : ℕ) → List ℕ
-bound_front k n = codes "layout: `" ++ key_name k ++ codes "` is " ++ decimal n ++ codes ", and may be "
+-- one number, or two, in a text
+abbrev pub words_text : (before : List ℕ) → (n : ℕ) → (after : List ℕ) → (second : Option ℕ) → List ℕ
+words_text before n after None = number_text before n after
+words_text before n after (Some m) = numbers_text before n after m []
 
-abbrev pub bound_text : Key → (n : ℕ) → (range : List ℕ) → List ℕ
-bound_text k n range = bound_front k n ++ range ++ newline
-
-abbrev pub batch_text : (batch high : ℕ) → List ℕ
-batch_text batch high =
-    bound_front key.Batch batch ++ codes "1 to `high`, which is " ++ decimal high ++ newline
-
+-- a part of the layout, and what it may be
 abbrev pub range_text : OutOfRange → List ℕ
-range_text (range.Order n) = bound_text key.Order n (codes "0 to 10")
-range_text (range.Pageblocks n) = bound_text key.Pageblocks n (codes "1, 2, 4, 8, 16, 32 or 64")
-range_text (range.Blocks n) = bound_text key.Blocks n (codes "1 to 256")
+range_text (range.Order n) = number_text (codes "layout: `order` is ") n (codes ", and may be 0 to 10")
+range_text (range.Pageblocks n) =
+    number_text (codes "layout: `pageblocks` is ") n (codes ", and may be 1, 2, 4, 8, 16, 32 or 64")
+range_text (range.Blocks n) = number_text (codes "layout: `blocks` is ") n (codes ", and may be 1 to 256")
 range_text (range.Frames n) =
     number_text (codes "layout: blocks * pageblocks * 2^order is ") n
     (codes " frames, and may be at most 1048576")
-range_text (range.Cpus n) = bound_text key.Cpus n (codes "1 to 64")
-range_text (range.Batch batch high) = batch_text batch high
-range_text (range.High n) = bound_text key.High n (codes "1 to 1024")
-range_text (range.Owners n) = bound_text key.Owners n (codes "1 to 64")
-range_text (range.Pages n) = bound_text key.Pages n (codes "1 to 65536")
-range_text (range.Words n) = bound_text key.Words n (codes "1 to 512")
-range_text (range.History n) = bound_text key.History n (codes "1 to 16777216")
+range_text (range.Cpus n) = number_text (codes "layout: `cpus` is ") n (codes ", and may be 1 to 64")
+range_text (range.Batch batch high) =
+    numbers_text (codes "layout: `batch` is ") batch (codes ", and may be 1 to `high`, which is ") high []
+range_text (range.High n) = number_text (codes "layout: `high` is ") n (codes ", and may be 1 to 1024")
+range_text (range.Owners n) = number_text (codes "layout: `owners` is ") n (codes ", and may be 1 to 64")
+range_text (range.Pages n) = number_text (codes "layout: `pages` is ") n (codes ", and may be 1 to 65536")
+range_text (range.Words n) = number_text (codes "layout: `words` is ") n (codes ", and may be 1 to 512")
+range_text (range.History n) =
+    number_text (codes "layout: `history` is ") n (codes ", and may be 1 to 16777216")
 range_text (range.Boot words blocks) =
     numbers_text (codes "layout: `boot` has ") words (codes " words, and `blocks` is ") blocks []
 

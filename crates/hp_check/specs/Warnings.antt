@@ -44,10 +44,10 @@ plan_past l plan =
 abbrev pub no_begin : TallyValue → (op : ℕ) → Option Warning
 no_begin t op = then_some (not (may_begin t op)) (NoBegin op)
 
--- all turns of a plan, its begin, a round of drains, the last migration and the commit are more
--- than the history takes
+-- the begin of a plan, a round of drains, all its turns, and the commit or the cancel are more than
+-- the history takes
 abbrev pub too_many_turns : LayoutParts → (turns : ℕ) → Option Warning
-too_many_turns l turns = then_some (not (nat_le (turns + l.cpus + 3) l.history)) (Turns turns l.history)
+too_many_turns l turns = then_some (not (nat_le (turns + l.cpus + 2) l.history)) (Turns turns l.history)
 
 -- the lines before fill the history; it is said of the first call that finds it so
 abbrev pub full : LayoutParts → TallyValue → Option Warning

@@ -7,6 +7,21 @@ use crate::slips::write_slip;
 use hp_units::number32;
 use std::alloc::AllocError;
 
+/// The form of a line that brings a memory block online.
+const ONLINE: &str = "wanted: C online BLOCK ZONE, where ZONE is normal or movable";
+
+/// The form of a line that begins a plan.
+const BEGIN: &str =
+    "wanted: C begin ITEM .., where an ITEM is off BLOCK, normal BLOCK or movable BLOCK";
+
+/// The form of a line that has a plan carried out.
+const PLAN: &str =
+    "wanted: C plan TURNS ITEM .., where an ITEM is off BLOCK, normal BLOCK or movable BLOCK";
+
+/// What is likely to be meant by `offline`.
+const OFFLINE: &str =
+    "its second word is no verb; perhaps C plan TURNS off BLOCK, or C echo offline memoryN/state";
+
 /// Writes why a text is no line: a space at one of its ends; or the word at fault, where that is seen,
 /// and what was expected.
 pub(crate) fn write_expected(out: &mut String, text: &str) -> Result<(), AllocError>
@@ -81,31 +96,19 @@ fn forms() -> &'static [(&'static str, &'static str)]
         ("write", "wanted: C write NAME PAGE INDEX VALUE"),
         ("read", "wanted: C read NAME PAGE INDEX"),
         ("drain", "wanted: C drain CPU"),
-        (
-            "online",
-            "wanted: C online BLOCK ZONE, where ZONE is normal or movable",
-        ),
+        ("online", ONLINE),
         ("remove", "wanted: C remove BLOCK"),
-        (
-            "begin",
-            "wanted: C begin ITEM .., where an ITEM is off BLOCK, normal BLOCK or movable BLOCK",
-        ),
+        ("begin", BEGIN),
         ("drainfor", "wanted: C drainfor OP CPU"),
         ("migrate", "wanted: C migrate OP"),
         ("commit", "wanted: C commit OP"),
         ("cancel", "wanted: C cancel OP"),
         ("undo", "wanted: C undo SERIAL"),
-        (
-            "plan",
-            "wanted: C plan TURNS ITEM .., where an ITEM is off BLOCK, normal BLOCK or movable BLOCK",
-        ),
+        ("plan", PLAN),
         ("echo", "wanted: C echo TEXT PATH"),
         ("cat", "wanted: C cat PATH"),
         ("seal", "wanted: C seal"),
-        (
-            "offline",
-            "its second word is no verb; perhaps C plan TURNS off BLOCK, or C echo offline memoryN/state",
-        ),
+        ("offline", OFFLINE),
         (
             "probe",
             "its second word is no verb; perhaps C echo 0xADDRESS probe",

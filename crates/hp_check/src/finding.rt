@@ -9,7 +9,8 @@ use hp_units::{Serial, Text};
 /// One thing that is wrong with a scenario, or that is likely to be. Texts of `calls` are counted from 1.
 #[derive(Drop)]
 pub enum Finding {
-    /// The text is no JSON; the place is the reader's, counted from 1.
+    /// The text is no JSON; the place is the reader's: lines are counted from 1, and the column may
+    /// be 0.
     NotJson { hint: Hint, line: u64, column: u64 },
     /// Keys, or the kinds of their values, differ from a scenario's.
     Shape(Shape),
@@ -17,7 +18,8 @@ pub enum Finding {
     Layout(OutOfRange),
     /// A text of `calls` is no line.
     BadCall { number: u64, text: Text },
-    /// A key that stands more than once in an object of the text: the last counts. It is a warning.
+    /// A key that stands more than once in an object of the text: the last counts. It is a warning;
+    /// those of a layout are told only where no key of the whole comes twice.
     Repeat { place: Place, key: Key },
     /// A line that hardly does what is wanted.
     Warning { number: u64, warning: Warning },
@@ -33,7 +35,7 @@ impl Finding {
 }
 
 /// Why a text is likely to be no JSON.
-#[derive(Clone, Copy, Drop)]
+#[derive(Clone, Copy)]
 pub enum Hint {
     /// It has nothing but white space.
     NoText,
@@ -48,7 +50,7 @@ pub enum Hint {
 }
 
 /// An object of a scenario.
-#[derive(Clone, Copy, Drop)]
+#[derive(Clone, Copy)]
 pub enum Place {
     /// The whole.
     Whole,
@@ -57,7 +59,7 @@ pub enum Place {
 }
 
 /// A key that a scenario has.
-#[derive(Clone, Copy, Drop)]
+#[derive(Clone, Copy)]
 pub enum Key {
     /// `layout`: the machine that the calls run on.
     Layout,
@@ -153,7 +155,7 @@ pub enum Shape {
 }
 
 /// A part of a layout that is out of its range, with its value.
-#[derive(Clone, Copy, Drop)]
+#[derive(Clone, Copy)]
 pub enum OutOfRange {
     /// The order, above 10.
     Order(u64),
@@ -182,7 +184,7 @@ pub enum OutOfRange {
 }
 
 /// What a layout has a number of.
-#[derive(Clone, Copy, Drop)]
+#[derive(Clone, Copy)]
 pub enum What {
     /// Processors.
     Processor,
@@ -201,7 +203,7 @@ pub enum What {
 }
 
 /// Why a line hardly does what is wanted.
-#[derive(Clone, Copy, Drop)]
+#[derive(Clone, Copy)]
 pub enum Warning {
     /// A number past the layout, which has so many, counted from 0: the call is refused.
     Past { what: What, number: u64, count: u64 },

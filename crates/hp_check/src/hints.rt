@@ -16,26 +16,10 @@ pub(crate) fn hint_of(input: &[u8]) -> Hint
     ensures { result ≡ means.hint_of input.now }
 {
     if is_blank(input) {
-        return Hint::NoText;
-    }
-    if has_mark(input) {
-        return Hint::ByteOrderMark;
-    }
-    hint_in(input)
-}
-
-/// Whether a text begins with a byte order mark.
-fn has_mark(input: &[u8]) -> bool
-    ensures { result ≡ means.has_mark input.now }
-{
-    input.starts_with(MARK)
-}
-
-/// Why a text is likely to be no JSON, by its brackets and comments.
-fn hint_in(input: &[u8]) -> Hint
-    ensures { result ≡ means.hint_in input.now }
-{
-    if nests_deeper(input, DEEPEST) {
+        Hint::NoText
+    } else if input.starts_with(MARK) {
+        Hint::ByteOrderMark
+    } else if nests_deeper(input, DEEPEST) {
         Hint::TooDeep
     } else if has_comment(input) {
         Hint::Comment

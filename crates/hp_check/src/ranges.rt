@@ -41,14 +41,26 @@ pub(crate) fn push_ranges(
 fn push_parts(found: &mut Vec<Finding>, parts: &Parts<'_>) -> Result<(), AllocError>
     ensures { OnOk result (found.new.items ≡ found.old.items ++ means.range_faults (parts_seen parts.now)) }
 {
+    let words = parts.boot.len() as u64;
     let outs = [
         outside(0, 10, parts.order, OutOfRange::Order(parts.order)),
-        pageblocks_out(parts.pageblocks),
+        unless(
+            is_pageblock_count(parts.pageblocks),
+            OutOfRange::Pageblocks(parts.pageblocks),
+        ),
         outside(1, 256, parts.blocks, OutOfRange::Blocks(parts.blocks)),
         frames_out(parts),
         outside(1, 64, parts.cpus, OutOfRange::Cpus(parts.cpus)),
-        batch_out(parts.batch, parts.high),
-        high_out(parts.high),
+        outside(
+            1,
+            parts.high,
+            parts.batch,
+            OutOfRange::Batch {
+                batch: parts.batch,
+                high: parts.high,
+            },
+        ),
+        unless(parts.high <= 1024, OutOfRange::High(parts.high)),
         outside(1, 64, parts.owners, OutOfRange::Owners(parts.owners)),
         outside(1, 1 << 16, parts.pages, OutOfRange::Pages(parts.pages)),
         outside(1, 512, parts.words, OutOfRange::Words(parts.words)),
@@ -58,7 +70,13 @@ fn push_parts(found: &mut Vec<Finding>, parts: &Parts<'_>) -> Result<(), AllocEr
             parts.history,
             OutOfRange::History(parts.history),
         ),
-        boot_out(parts.boot.len() as u64, parts.blocks),
+        unless(
+            words == parts.blocks,
+            OutOfRange::Boot {
+                words,
+                blocks: parts.blocks,
+            },
+        ),
     ];
     push_each(found, &outs)
 }
@@ -83,44 +101,18 @@ fn push_part(found: &mut Vec<Finding>, out: Option<OutOfRange>) -> Result<(), Al
     Ok(())
 }
 
+/// A part that is out of its range, unless something holds.
+fn unless(holds: bool, out: OutOfRange) -> Option<OutOfRange>
+    ensures { result ≡ means.unless holds out }
+{
+    if holds { None } else { Some(out) }
+}
+
 /// A number that is not within a range.
 fn outside(low: u64, high: u64, n: u64, out: OutOfRange) -> Option<OutOfRange>
     ensures { result ≡ means.outside low high n out }
 {
-    if is_within(low, high, n) {
-        None
-    } else {
-        Some(out)
-    }
-}
-
-/// A number of pageblocks that a memory block may not have.
-fn pageblocks_out(n: u64) -> Option<OutOfRange>
-    ensures { result ≡ means.pageblocks_out n }
-{
-    if is_pageblock_count(n) {
-        None
-    } else {
-        Some(OutOfRange::Pageblocks(n))
-    }
-}
-
-/// A number of frames by which a list is refilled that is not 1 to what it holds.
-fn batch_out(batch: u64, high: u64) -> Option<OutOfRange>
-    ensures { result ≡ means.outside 1 high batch (OutOfRange.Batch batch high) }
-{
-    outside(1, high, batch, OutOfRange::Batch { batch, high })
-}
-
-/// A number of frames that a list holds, above 1024.
-fn high_out(n: u64) -> Option<OutOfRange>
-    ensures { result ≡ means.high_out n }
-{
-    if n <= 1024 {
-        None
-    } else {
-        Some(OutOfRange::High(n))
-    }
+    unless(is_within(low, high, n), out)
 }
 
 /// Whether the numbers that the frames come of are in their ranges.
@@ -144,16 +136,5 @@ fn frames_out(parts: &Parts<'_>) -> Option<OutOfRange>
         Some(OutOfRange::Frames(frames))
     } else {
         None
-    }
-}
-
-/// Not as many words of `boot` as blocks.
-fn boot_out(words: u64, blocks: u64) -> Option<OutOfRange>
-    ensures { result ≡ means.boot_out words blocks }
-{
-    if words == blocks {
-        None
-    } else {
-        Some(OutOfRange::Boot { words, blocks })
     }
 }

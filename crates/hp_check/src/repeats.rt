@@ -9,13 +9,17 @@ use crate::shape::keys_of;
 use hp_call_lines::texts_at;
 use std::alloc::AllocError;
 
-/// Adds the keys of a scenario that its text has more than once; the last of them counts. An error
-/// is out of memory.
+/// Adds the keys of a scenario that its text has more than once, of which the last counts: those of
+/// its layout only where no key of the whole comes twice. An error is out of memory.
 #[tactic(auto, unfolding(crate::specs::Repeats::repeats_in))]
 pub(crate) fn push_repeats(found: &mut Vec<Finding>, input: &[u8]) -> Result<(), AllocError>
     ensures { OnOk result (found.new.items ≡ found.old.items ++ means.repeats_in input.now) }
 {
+    let before = found.len();
     push_repeats_of(found, input, Place::Whole)?;
+    if found.len() > before {
+        return Ok(());
+    }
     push_repeats_of(found, input, Place::Layout)
 }
 

@@ -200,42 +200,56 @@ fn write_repeat(out: &mut String, place: Place, key: Key) -> Result<(), AllocErr
 fn write_range(out: &mut String, part: OutOfRange) -> Result<(), AllocError>
     ensures { OnOk result (string_bytes out.new ≡ string_bytes out.old ++ says.range_text part) }
 {
-    match part {
-        OutOfRange::Order(n) => write_bound(out, Key::Order, n, "0 to 10"),
-        OutOfRange::Pageblocks(n) => {
-            write_bound(out, Key::Pageblocks, n, "1, 2, 4, 8, 16, 32 or 64")
-        }
-        OutOfRange::Blocks(n) => write_bound(out, Key::Blocks, n, "1 to 256"),
-        OutOfRange::Frames(n) => write_number(
-            out,
-            "layout: blocks * pageblocks * 2^order is ",
-            n,
-            " frames, and may be at most 1048576",
-        ),
-        OutOfRange::Cpus(n) => write_bound(out, Key::Cpus, n, "1 to 64"),
-        OutOfRange::Batch { batch, high } => write_batch(out, batch, high),
-        OutOfRange::High(n) => write_bound(out, Key::High, n, "1 to 1024"),
-        OutOfRange::Owners(n) => write_bound(out, Key::Owners, n, "1 to 64"),
-        OutOfRange::Pages(n) => write_bound(out, Key::Pages, n, "1 to 65536"),
-        OutOfRange::Words(n) => write_bound(out, Key::Words, n, "1 to 512"),
-        OutOfRange::History(n) => write_bound(out, Key::History, n, "1 to 16777216"),
-        OutOfRange::Boot { words, blocks } => write_numbers(
-            out,
-            "layout: `boot` has ",
-            words,
-            " words, and `blocks` is ",
-            blocks,
-            "",
-        ),
+    let (before, first, after, second) = words_of(part);
+    match second {
+        Some(second) => write_numbers(out, before, first, after, second, ""),
+        None => write_number(out, before, first, after),
     }
 }
 
-/// Writes a number of the layout, and what it may be.
-fn write_bound(out: &mut String, key: Key, n: u64, range: &str) -> Result<(), AllocError>
-    ensures { OnOk result (string_bytes out.new ≡ string_bytes out.old ++ says.bound_text key n range.now) }
+/// What is said of a part of the layout before a number and after it, and perhaps a second number.
+fn words_of(part: OutOfRange) -> (&'static str, u64, &'static str, Option<u64>)
+    ensures { says.range_text part ≡ says.words_text result.0.now result.1 result.2.now result.3 }
 {
-    let name = key.name();
-    writeln!(out, "layout: `{name}` is {n}, and may be {range}")
+    match part {
+        OutOfRange::Order(n) => ("layout: `order` is ", n, ", and may be 0 to 10", None),
+        OutOfRange::Pageblocks(n) => (
+            "layout: `pageblocks` is ",
+            n,
+            ", and may be 1, 2, 4, 8, 16, 32 or 64",
+            None,
+        ),
+        OutOfRange::Blocks(n) => ("layout: `blocks` is ", n, ", and may be 1 to 256", None),
+        OutOfRange::Frames(n) => (
+            "layout: blocks * pageblocks * 2^order is ",
+            n,
+            " frames, and may be at most 1048576",
+            None,
+        ),
+        OutOfRange::Cpus(n) => ("layout: `cpus` is ", n, ", and may be 1 to 64", None),
+        OutOfRange::Batch { batch, high } => (
+            "layout: `batch` is ",
+            batch,
+            ", and may be 1 to `high`, which is ",
+            Some(high),
+        ),
+        OutOfRange::High(n) => ("layout: `high` is ", n, ", and may be 1 to 1024", None),
+        OutOfRange::Owners(n) => ("layout: `owners` is ", n, ", and may be 1 to 64", None),
+        OutOfRange::Pages(n) => ("layout: `pages` is ", n, ", and may be 1 to 65536", None),
+        OutOfRange::Words(n) => ("layout: `words` is ", n, ", and may be 1 to 512", None),
+        OutOfRange::History(n) => (
+            "layout: `history` is ",
+            n,
+            ", and may be 1 to 16777216",
+            None,
+        ),
+        OutOfRange::Boot { words, blocks } => (
+            "layout: `boot` has ",
+            words,
+            " words, and `blocks` is ",
+            Some(blocks),
+        ),
+    }
 }
 
 /// Writes a number in a text.
@@ -259,16 +273,6 @@ fn write_numbers(
         ≡ string_bytes out.old ++ says.numbers_text before.now n between.now m after.now) }
 {
     writeln!(out, "{before}{n}{between}{m}{after}")
-}
-
-/// Writes that `batch` is not 1 to `high`.
-fn write_batch(out: &mut String, batch: u64, high: u64) -> Result<(), AllocError>
-    ensures { OnOk result (string_bytes out.new ≡ string_bytes out.old ++ says.batch_text batch high) }
-{
-    writeln!(
-        out,
-        "layout: `batch` is {batch}, and may be 1 to `high`, which is {high}"
-    )
 }
 
 /// Writes a warning.

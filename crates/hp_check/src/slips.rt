@@ -4,7 +4,7 @@ ghost use Rattle.std.specs.List.{list_all, list_any};
 ghost use Rattle.std.specs.Int.{is_in_range};
 ghost use Rattle.hp_check.specs.Slips as means;
 
-use crate::cuts::{first_word, halves};
+use crate::cuts::halves;
 use crate::quotes::write_quoted;
 use hp_units::{number32, number64};
 use std::alloc::AllocError;
@@ -78,17 +78,6 @@ fn name_slip(word: &str) -> Option<Why>
     }
 }
 
-/// Why a word is none of the language, where it has capitals.
-fn word_slip(word: &str) -> Option<Why>
-    ensures { result ≡ means.word_slip word.now }
-{
-    if has_capitals(word) {
-        Some(Why::Capitals)
-    } else {
-        None
-    }
-}
-
 /// Why a word is not of its kind, where that is seen.
 fn why_not(kind: Kind, word: &str) -> Option<Why>
     ensures { result ≡ means.why_not kind word.now }
@@ -97,7 +86,13 @@ fn why_not(kind: Kind, word: &str) -> Option<Why>
         Kind::Narrow => number_slip(number32(word).is_some(), word, Why::PastNarrow),
         Kind::Wide => number_slip(number64(word).is_some(), word, Why::PastWide),
         Kind::Name => name_slip(word),
-        Kind::Word => word_slip(word),
+        Kind::Word => {
+            if has_capitals(word) {
+                Some(Why::Capitals)
+            } else {
+                None
+            }
+        }
     }
 }
 

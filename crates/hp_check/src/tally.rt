@@ -1,5 +1,5 @@
 //! What the lines before a line make of the serials and of the history.
-ghost use Rattle.std.specs.Prelude.{◌≡◌, ◌+◌, ◌^◌, ◌<◌, OnOk, slice_get};
+ghost use Rattle.std.specs.Prelude.{◌≡◌, ◌+◌, ◌^◌, ◌<◌, OnOk};
 ghost use Rattle.hp_scenario.specs.Asked.{asked_by};
 ghost use Rattle.hp_check.specs.Tally as means;
 
@@ -44,7 +44,8 @@ impl Tally {
         match work.asked() {
             Asked::Event(event) => self.add_record(mark_of(event).is_opening()),
             Asked::Plan { plan: _, turns: _ } => {
-                self.add_plan();
+                self.has_plan = true;
+                self.used += 1;
                 Ok(())
             }
             Asked::NotTaken(_fault) => Ok(()),
@@ -68,15 +69,6 @@ impl Tally {
         Ok(())
     }
 
-    /// Adds the records of a plan.
-    fn add_plan(&mut self)
-        requires { self.old.used + 1 < 2 ^ 64 }
-        ensures { self.new ≡ means.after_plan self.old }
-    {
-        self.has_plan = true;
-        self.used += 1;
-    }
-
     /// How many records there are at least since the last seal.
     pub(crate) fn used(&self) -> u64
         ensures { result ≡ self.now.used }
@@ -91,13 +83,7 @@ impl Tally {
         if op.0 == 0 {
             return false;
         }
-        self.begins_at(op.0 - 1)
-    }
-
-    /// Whether the record at a place may begin an operation.
-    fn begins_at(&self, place: u64) -> bool
-        ensures { result ≡ means.begins_or self.now.has_plan (slice_get self.now.begins place) }
-    {
+        let place = op.0 - 1;
         if place < self.begins.len() as u64 {
             self.begins[place as usize]
         } else {

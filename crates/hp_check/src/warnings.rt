@@ -8,7 +8,7 @@ use crate::tally::Tally;
 use crate::unfit::{unfit_warning, unless_last};
 use hp_requests::file_at;
 use hp_scenario::{Asked, Line, Work};
-use hp_units::{Block, Cpu, Event, Layout, Owner, Page, Plan, Serial};
+use hp_units::{Cpu, Event, Layout, Owner, Page, Plan, Serial};
 use std::alloc::{AllocError, Global};
 
 /// Adds the warnings of lines on a layout, of which so many are the setup; the others stand in the
@@ -71,10 +71,17 @@ fn asked_warning(layout: &Layout, tally: &Tally, cpu: Cpu, work: &Work) -> Optio
     ensures { result ≡ means.asked_warning layout.now tally.now cpu (asked_by work.now) }
 {
     match work.asked() {
-        Asked::Event(event) => call_warning(layout, tally, cpu, event),
-        Asked::Plan { plan, turns: _ } => carried_warning(layout, tally, cpu, plan),
+        Asked::Event(event) => {
+            caller_warning(layout, tally, cpu).or(event_warning(layout, tally, event))
+        }
+        Asked::Plan { plan, turns: _ } => {
+            caller_warning(layout, tally, cpu).or(plan_past(layout, plan))
+        }
         Asked::NotTaken(fault) => Some(Warning::Echo(fault)),
-        Asked::Cat { path } => cat_warning(path),
+        Asked::Cat { path } => match file_at(path) {
+            Some(_file) => None,
+            None => Some(Warning::NoFile),
+        },
         Asked::Seal => None,
     }
 }
@@ -89,35 +96,11 @@ fn turns_warning(layout: &Layout, work: &Work) -> Option<Warning>
     }
 }
 
-/// The warning of a path that is read, if there is one.
-fn cat_warning(path: &str) -> Option<Warning>
-    ensures { result ≡ means.cat_warning path.now }
-{
-    match file_at(path) {
-        Some(_file) => None,
-        None => Some(Warning::NoFile),
-    }
-}
-
-/// The warning of an event, if there is one.
-fn call_warning(layout: &Layout, tally: &Tally, cpu: Cpu, event: &Event) -> Option<Warning>
-    ensures { result ≡ means.call_warning layout.now tally.now cpu event.now }
-{
-    caller_warning(layout, tally, cpu).or(event_warning(layout, tally, event))
-}
-
-/// The warning of a plan that is carried out, if there is one.
-fn carried_warning(layout: &Layout, tally: &Tally, cpu: Cpu, plan: &Plan) -> Option<Warning>
-    ensures { result ≡ means.carried_warning layout.now tally.now cpu plan.now }
-{
-    caller_warning(layout, tally, cpu).or(plan_past(layout, plan))
-}
-
 /// The warning that any call of a processor has here, if there is one.
 fn caller_warning(layout: &Layout, tally: &Tally, cpu: Cpu) -> Option<Warning>
     ensures { result ≡ means.caller_warning layout.now tally.now cpu }
 {
-    full(layout, tally).or(cpu_past(layout, cpu))
+    full(layout, tally).or(past(What::Processor, cpu.0, layout.cpus()))
 }
 
 /// The history, if the lines before fill it.
@@ -137,7 +120,7 @@ fn too_many_turns(layout: &Layout, turns: u32) -> Option<Warning>
     ensures { result ≡ means.too_many_turns layout.now turns }
 {
     let history = layout.history();
-    if u64::from(turns) + u64::from(layout.cpus()) + 3 <= history {
+    if u64::from(turns) + u64::from(layout.cpus()) + 2 <= history {
         None
     } else {
         Some(Warning::Turns { turns, history })
@@ -158,20 +141,6 @@ fn past(what: What, number: u32, count: u32) -> Option<Warning>
         number,
         count,
     })
-}
-
-/// A processor, if it is past the layout.
-fn cpu_past(layout: &Layout, cpu: Cpu) -> Option<Warning>
-    ensures { result ≡ means.past What.Processor cpu layout.now.cpus }
-{
-    past(What::Processor, cpu.0, layout.cpus())
-}
-
-/// A memory block, if it is past the layout.
-fn block_past(layout: &Layout, block: Block) -> Option<Warning>
-    ensures { result ≡ means.past What.Block block layout.now.blocks }
-{
-    past(What::Block, block.0, layout.blocks())
 }
 
 /// An owner or else a page, if it is past the layout.
@@ -232,16 +201,18 @@ fn event_warning(layout: &Layout, tally: &Tally, event: &Event) -> Option<Warnin
             value: _,
         } => word_past(layout, *owner, *page, *index),
         Event::Read { owner, page, index } => word_past(layout, *owner, *page, *index),
-        Event::Drain { cpu } => cpu_past(layout, *cpu),
-        Event::Online { block, zone: _ } => block_past(layout, *block),
+        Event::Drain { cpu } => past(What::Processor, cpu.0, layout.cpus()),
+        Event::Online { block, zone: _ } => past(What::Block, block.0, layout.blocks()),
         Event::Begin { plan } => plan_past(layout, plan),
-        Event::DrainFor { op, cpu } => cpu_past(layout, *cpu).or(no_begin(tally, *op)),
+        Event::DrainFor { op, cpu } => past(What::Processor, cpu.0, layout.cpus()).or(no_begin(
+            tally, *op,
+        )),
         Event::Migrate { op } => no_begin(tally, *op),
         Event::Commit { op } => no_begin(tally, *op),
         Event::Cancel { op } => no_begin(tally, *op),
         Event::UndoAfter { serial: _ } => None,
         Event::Probe { address: _ } => None,
-        Event::Remove { block } => block_past(layout, *block),
+        Event::Remove { block } => past(What::Block, block.0, layout.blocks()),
         Event::SetAuto { auto: _ } => None,
     }
 }
