@@ -1,6 +1,6 @@
 -- A machine whose volumes and history are read again.
 use Rattle.std.proofs.Common.{◌≡◌, ℕ, zero, suc, inl, inr, Bool, true, false, List, [], ◌∷◌, ◌++◌, append_assoc, codes, Some, Result, Ok, slice_get, take, refl, sym, ap, subst, ◌∙◌, arith}
-use Rattle.std.specs.Prelude.{MatchBool, get_or}
+use Rattle.std.specs.Prelude.{◌≢◌, MatchBool, get_or}
 use Rattle.std.proofs.lemmas.List.Elements.{All-get_or}
 use Rattle.std.proofs.lemmas.List.Sorted.{All-permutation}
 use Rattle.std.proofs.lemmas.Option.{slice_get_within}
@@ -26,7 +26,7 @@ use Rattle.hp_shared.specs.Volumes.{IsSealOf}
 use Rattle.hp_text.specs.State.{newline}
 use Rattle.hp_workers.specs.Seals.{AreSealed}
 use Rattle.hp_workers.specs.declared.lines.LineEnd.{LineEnd}
-use Rattle.hp_commands.specs.Audits.{HasAuditFault, HasWrongRecord, IsAudited}
+use Rattle.hp_commands.specs.Audits.{HasAuditFault, HasWrongRecord, IsAudited, LeadsToBase, LeadsToState}
 use Rattle.hp_commands.specs.Faults.{IsFaultOf, IsRefuted, replay_fault_from}
 use Rattle.hp_commands.specs.Runs.{IsRunOf, IsWorkedOff, SealsSome, records_line, scripts_in}
 use Rattle.hp_commands.specs.declared.fault.ProgramFault.{ProgramFault}
@@ -40,6 +40,10 @@ pub first_case : (b : Bool) (P Q : Type 0) → MatchBool b P Q → b ≡ true �
 first_case true P Q h is = h
 first_case false P Q h is = absurd cc
 
+pub second_case : (b : Bool) (P Q : Type 0) → MatchBool b P Q → b ≡ false → Q
+second_case true P Q h is = absurd cc
+second_case false P Q h is = h
+
 -- a record of the history is at fault
 pub replay_refused : (volumes : List Volume) (m : MachineValue) (fault : ReplayFault)
     → IsFault m.layout m.base m.before m.history fault → Refutes m.layout m.base m.before m.history fault
@@ -48,88 +52,73 @@ replay_refused volumes m (replaying.WrongReply serial) here only = (inr here, λ
 replay_refused volumes m (replaying.WrongSerial at) here only = (inr here, λ sound. only sound.legal)
 replay_refused volumes m replaying.OutOfMemory here only = tt
 
--- what was read of volumes and of a machine: their list, its layout, the number of its earlier
--- records, its base and its history
-pub record IsReadOf (volumes : List Volume) (m : MachineValue) (vs : List Volume) (l : LayoutParts)
-    (before : ℕ) (theirs : Pictured) (h : List Record) : Type 0 where
-  pub volumes_are : vs ≡ volumes
-  pub layout_is : l ≡ m.layout
-  pub before_is : before ≡ m.before
-  pub base_is : theirs ≡ record { layout = m.layout; memory = m.base }
-  pub history_is : h ≡ m.history
+-- where the volumes that were read lead to the base that was read
+pub reached : (volumes : List Volume) (m : MachineValue) (vs : List Volume) (l : LayoutParts)
+    (base theirs : Pictured)
+    → vs ≡ volumes → l ≡ m.layout → IsChain l vs → base ≡ record { layout = l; memory = state_after l vs }
+    → theirs ≡ record { layout = m.layout; memory = m.base } → base.memory ≡ theirs.memory
+    → LeadsToBase volumes m
+reached volumes m vs l base theirs same there chain is theirs_is alike = (
+  subst (λ (k : LayoutParts). IsChain k volumes) there (subst (λ (xs : List Volume). IsChain l xs) same chain),
+  sym (ap (λ (p : Pictured). p.memory) theirs_is)
+      ∙ (sym alike ∙ (ap (λ (p : Pictured). p.memory) is
+      ∙ (ap (λ (k : LayoutParts). state_after k vs) there
+      ∙ ap (λ (xs : List Volume). state_after m.layout xs) same))),
+)
 
--- where the volumes lead to, which is the base that was read
-record LeadsTo (volumes : List Volume) (m : MachineValue) (base : Pictured) : Type 0 where
-  layout : base.layout ≡ m.layout
-  after : base.memory ≡ state_after m.layout volumes
+-- what holds of the base, the count and the history that were read holds of the machine's
+read_of : (P : LayoutParts → Memory → ℕ → List Record → Type 0) (m : MachineValue) (base : Pictured)
+    (before : ℕ) (h : List Record)
+    → base ≡ record { layout = m.layout; memory = m.base } → before ≡ m.before → h ≡ m.history
+    → P base.layout base.memory before h → P m.layout m.base m.before m.history
+read_of P m base before h based counted records at =
+    subst (λ (p : Pictured). P p.layout p.memory m.before m.history) based
+    (subst (λ (n : ℕ). P base.layout base.memory n m.history) counted
+    (subst (λ (g : List Record). P base.layout base.memory before g) records at))
 
-leads_to : (volumes : List Volume) (m : MachineValue) (vs : List Volume) (l : LayoutParts) (base : Pictured)
-    → vs ≡ volumes → l ≡ m.layout → base ≡ record { layout = l; memory = state_after l vs }
-    → LeadsTo volumes m base
-leads_to volumes m vs l base same there is = record {
-  layout = ap (λ (p : Pictured). p.layout) is ∙ there;
-  after =
-      ap (λ (p : Pictured). p.memory) is ∙ ap (λ (k : LayoutParts). state_after k vs) there
-      ∙ ap (λ (xs : List Volume). state_after m.layout xs) same;
-}
-
--- the state that the history leads to from that base
-replayed_memory : (m : MachineValue) (h : List Record) (base replayed : Pictured) → h ≡ m.history
-    → base.layout ≡ m.layout → base.memory ≡ m.base
+-- the state that the history leads to
+replayed_memory : (m : MachineValue) (h : List Record) (base replayed : Pictured)
+    → base ≡ record { layout = m.layout; memory = m.base } → h ≡ m.history
     → replayed ≡ record { layout = base.layout; memory = value_of base.layout base.memory h }
     → replayed.memory ≡ value_of m.layout m.base m.history
-replayed_memory m h base replayed records layout same is =
+replayed_memory m h base replayed based records is =
     ap (λ (p : Pictured). p.memory) is
-    ∙ ap (λ (l : LayoutParts). value_of l base.memory h) layout
-    ∙ ap (λ (b : Memory). value_of m.layout b h) same
-    ∙ ap (λ (g : List Record). value_of m.layout m.base g) records
+    ∙ (ap (λ (p : Pictured). value_of p.layout p.memory h) based
+    ∙ ap (λ (g : List Record). value_of m.layout m.base g) records)
 
--- a replay from that base finds the history at fault
-pub history_refused : (volumes : List Volume) (m : MachineValue) (vs : List Volume) (l : LayoutParts)
-    (before : ℕ) (h : List Record) (base theirs : Pictured) (fault : ReplayFault)
-    → IsReadOf volumes m vs l before theirs h → base ≡ record { layout = l; memory = state_after l vs }
-    → base.memory ≡ theirs.memory
+-- a replay finds the history at fault
+pub history_refused : (volumes : List Volume) (m : MachineValue) (before : ℕ) (h : List Record)
+    (base : Pictured) (fault : ReplayFault)
+    → base ≡ record { layout = m.layout; memory = m.base } → before ≡ m.before → h ≡ m.history
     → IsFault base.layout base.memory before h fault → Refutes base.layout base.memory before h fault
     → HasAuditFault volumes m (replay_fault_from fault)
-history_refused volumes m vs l before h base theirs fault read is same here only =
-    let layout = (leads_to volumes m vs l base read.volumes_are read.layout_is is).layout in
-    let start : base.memory ≡ m.base = same ∙ ap (λ (p : Pictured). p.memory) read.base_is in
+history_refused volumes m before h base fault based counted records here only =
     replay_refused volumes m fault
-    (subst (λ (k : LayoutParts). IsFault k m.base m.before m.history fault) layout
-    (subst (λ (b : Memory). IsFault base.layout b m.before m.history fault) start
-    (subst (λ (n : ℕ). IsFault base.layout base.memory n m.history fault) read.before_is
-    (subst (λ (g : List Record). IsFault base.layout base.memory before g fault) read.history_is here))))
-    (subst (λ (k : LayoutParts). Refutes k m.base m.before m.history fault) layout
-    (subst (λ (b : Memory). Refutes base.layout b m.before m.history fault) start
-    (subst (λ (n : ℕ). Refutes base.layout base.memory n m.history fault) read.before_is
-    (subst (λ (g : List Record). Refutes base.layout base.memory before g fault) read.history_is only))))
+    (read_of (λ l b n g. IsFault l b n g fault) m base before h based counted records here)
+    (read_of (λ l b n g. Refutes l b n g fault) m base before h based counted records only)
 
--- all is as it should be
-pub audited : (volumes : List Volume) (m : MachineValue) (vs : List Volume) (l : LayoutParts) (before : ℕ)
-    (h : List Record) (base theirs replayed image : Pictured)
-    → IsReadOf volumes m vs l before theirs h → IsChain l vs
-    → base ≡ record { layout = l; memory = state_after l vs } → base.memory ≡ theirs.memory
+-- it leads to the machine's state, or to another one
+pub led : (m : MachineValue) (before : ℕ) (h : List Record) (base replayed image : Pictured)
+    → base ≡ record { layout = m.layout; memory = m.base } → before ≡ m.before → h ≡ m.history
     → IsLegal base.layout base.memory before h
     → replayed ≡ record { layout = base.layout; memory = value_of base.layout base.memory h }
     → image ≡ record { layout = m.layout; memory = m.state } → replayed.memory ≡ image.memory
-    → IsAudited volumes m
-audited volumes m vs l before h base theirs replayed image read chain is same legal replayed_is image_is
-    alike =
-    let leads = leads_to volumes m vs l base read.volumes_are read.layout_is is in
-    let start : base.memory ≡ m.base = same ∙ ap (λ (p : Pictured). p.memory) read.base_is in
-    record {
-      chain =
-          subst (λ (k : LayoutParts). IsChain k volumes) read.layout_is
-          (subst (λ (xs : List Volume). IsChain l xs) read.volumes_are chain);
-      base = sym start ∙ leads.after;
-      legal = subst (λ (k : LayoutParts). IsLegal k m.base m.before m.history) leads.layout
-          (subst (λ (b : Memory). IsLegal base.layout b m.before m.history) start
-          (subst (λ (n : ℕ). IsLegal base.layout base.memory n m.history) read.before_is
-          (subst (λ (g : List Record). IsLegal base.layout base.memory before g) read.history_is legal)));
-      state =
-          sym (ap (λ (p : Pictured). p.memory) image_is) ∙ sym alike
-          ∙ replayed_memory m h base replayed read.history_is leads.layout start replayed_is;
-    }
+    → LeadsToState m
+led m before h base replayed image based counted records legal is image_is alike = (
+  read_of (λ l b n g. IsLegal l b n g) m base before h based counted records legal,
+  sym (ap (λ (p : Pictured). p.memory) image_is)
+      ∙ (sym alike ∙ replayed_memory m h base replayed based records is),
+)
+
+pub led_elsewhere : (volumes : List Volume) (m : MachineValue) (h : List Record)
+    (base replayed image : Pictured)
+    → base ≡ record { layout = m.layout; memory = m.base } → h ≡ m.history
+    → replayed ≡ record { layout = base.layout; memory = value_of base.layout base.memory h }
+    → image ≡ record { layout = m.layout; memory = m.state } → (replayed.memory ≢ image.memory)
+    → IsAudited volumes m → ⊥
+led_elsewhere volumes m h base replayed image based records is image_is other sound =
+    other (replayed_memory m h base replayed based records is
+    ∙ (sym sound.state ∙ sym (ap (λ (p : Pictured). p.memory) image_is)))
 
 -- ---- a machine of a run
 

@@ -1,5 +1,6 @@
 -- From the parts to the whole: what was read, what was made of it, and what was written.
-use Rattle.std.proofs.Common.{◌≡◌, ℕ, List, [], ◌++◌, OnOk, Option, Result, Ok, Err, refl, sym, ap, subst, ◌∙◌}
+use Rattle.std.proofs.Common.{◌≡◌, ℕ, List, [], ◌++◌, ◌<◌, length, OnOk, Option, Some, Result, Ok, Err, refl, sym, ap, subst, ◌∙◌}
+use Rattle.std.specs.Prelude.{◌⊎◌}
 use Rattle.std.specs.Io.KnownBytes.{Consumes, IsAtEnd}
 use Rattle.hp_units.specs.Memory.{Memory}
 use Rattle.hp_machine.specs.Machine.{MachineValue, booted}
@@ -9,7 +10,7 @@ use Rattle.hp_scenario.specs.declared.fault.ScenarioFault.{ScenarioFault}
 use Rattle.hp_scenario.specs.declared.fault.ScenarioFault.TheVariants as scenario
 use Rattle.hp_scenario.specs.Gives.{◌>>=◌, Fails}
 use Rattle.hp_scenario.specs.Scenario.{ScenarioValue, scenario_in}
-use Rattle.hp_streams.specs.Reading.{IsReadFault}
+use Rattle.hp_streams.specs.Reading.{IsReadFault, limit}
 use Rattle.hp_streams.proofs.Whole.{given}
 use Rattle.hp_streams.specs.declared.reading.ReadFault.{ReadFault}
 use Rattle.hp_streams.specs.declared.reading.ReadFault.TheVariants as reading
@@ -17,7 +18,10 @@ use Rattle.hp_text.specs.State.{state_text}
 use Rattle.hp_commands.specs.Serial.{GrowsBy, IsWhole, LeavesImage, WritesLines, end_text, lines_text, scenario_text, serial_text}
 use Rattle.hp_commands.proofs.Lines.{AreDue, lines_due, run_is}
 use Rattle.hp_commands.specs.Served.{IsTextOf}
-use Rattle.hp_commands.specs.Faults.{IsFaultOf, fault_from, read_fault_from}
+use Rattle.hp_commands.specs.Faults.{IsAudit, IsFaultOf, IsRefuted, IsUnfinished, fault_from, read_fault_from}
+use Rattle.hp_commands.specs.Runs.{SealsSome, scripts_in}
+use Rattle.hp_commands.specs.declared.fault.ProgramFault.{ProgramFault}
+use Rattle.hp_commands.specs.declared.fault.ProgramFault.TheVariants.{ReadFailed, TooLong, NotJson, BadShape, Layout, BadLine, NotForRun, OutOfMemory, NotStarted, SeatMissing, Mismatch, WrongReply, WrongSerial, AuditDiffers, WriteFailed, BrokenChain}
 use Rattle.hp_commands.specs.declared.commands.Command.{Command}
 use Rattle.hp_commands.specs.declared.commands.Command.TheVariants.{Serial}
 use Rattle.hp_commands.proofs.Unfit.{never_not_for_run}
@@ -29,50 +33,50 @@ read_fault command known read written reading.ReadFailed h = h
 read_fault command known read written reading.TooLong h = h
 read_fault command known read written reading.OutOfMemory h = tt
 
--- only the scenario can be at fault
-refused : (r : Result ScenarioValue ScenarioFault) (fault : ScenarioFault) (f : ScenarioValue → List ℕ)
-    → (r >>= λ s. Ok (f s)) ≡ Err fault → r ≡ Err fault
-refused (Ok s) fault f e = absurd cc
-refused (Err g) fault f e = cc
+-- a fault of the scenario is one of the command
+pub scenario_fault : (input : List ℕ) (fault : ScenarioFault) → Fails fault (scenario_in input)
+    → IsFaultOf Serial (Some input) ⊥ ⊥ (fault_from fault)
+scenario_fault input scenario.NotJson h = h
+scenario_fault input scenario.BadShape h = h
+scenario_fault input (scenario.Layout f) h = h
+scenario_fault input (scenario.BadLine n) h = h
+scenario_fault input (scenario.NotForRun n) h = absurd (never_not_for_run input n h)
+scenario_fault input scenario.OutOfMemory h = tt
 
--- where there is no text, there is no scenario
-no_scenario : (input : List ℕ) (fault : ScenarioFault) → serial_text input ≡ Err fault
-    → scenario_in input ≡ Err fault
-unfolding serial_text
-no_scenario input fault e = refused (scenario_in input) fault scenario_text e
-
--- a fault of the scenario is one of the program
-pub scenario_fault : (a b : Option (List ℕ)) (input : List ℕ) (read written : Type 0) (fault : ScenarioFault)
-    → Consumes a b input → IsAtEnd b → Fails fault (serial_text input)
-    → IsFaultOf Serial a read written (fault_from fault)
-scenario_fault a b input read written scenario.NotJson p end h =
-    given a b input p end (λ i. scenario_in i ≡ Err scenario.NotJson) (no_scenario input _ h)
-scenario_fault a b input read written scenario.BadShape p end h =
-    given a b input p end (λ i. scenario_in i ≡ Err scenario.BadShape) (no_scenario input _ h)
-scenario_fault a b input read written (scenario.Layout f) p end h =
-    given a b input p end (λ i. scenario_in i ≡ Err (scenario.Layout f)) (no_scenario input _ h)
-scenario_fault a b input read written (scenario.BadLine n) p end h =
-    given a b input p end (λ i. scenario_in i ≡ Err (scenario.BadLine n)) (no_scenario input _ h)
-scenario_fault a b input read written (scenario.NotForRun n) p end h =
-    absurd (never_not_for_run input n (no_scenario input _ h))
-scenario_fault a b input read written scenario.OutOfMemory p end h = tt
-
--- what reading answers, the whole answers
-fails_then : (fault : ScenarioFault) (r : Result ScenarioValue ScenarioFault) (f : ScenarioValue → List ℕ)
-    → Fails fault r → Fails fault (r >>= λ s. Ok (f s))
-fails_then scenario.NotJson r f h = ap (λ (q : Result ScenarioValue ScenarioFault). q >>= λ s. Ok (f s)) h
-fails_then scenario.BadShape r f h = ap (λ (q : Result ScenarioValue ScenarioFault). q >>= λ s. Ok (f s)) h
-fails_then (scenario.Layout g) r f h = ap (λ (q : Result ScenarioValue ScenarioFault). q >>= λ s. Ok (f s)) h
-fails_then (scenario.BadLine n) r f h = ap (λ (q : Result ScenarioValue ScenarioFault). q >>= λ s. Ok (f s)) h
-fails_then (scenario.NotForRun n) r f h =
-    ap (λ (q : Result ScenarioValue ScenarioFault). q >>= λ s. Ok (f s)) h
-fails_then scenario.OutOfMemory r f h = tt
-
--- a fault of the scenario is one of its text
-pub serial_fails : (input : List ℕ) (fault : ScenarioFault) → Fails fault (scenario_in input)
-    → Fails fault (serial_text input)
-unfolding serial_text
-serial_fails input fault h = fails_then fault (scenario_in input) scenario_text h
+-- a fault of the input that was read is one of what the reader had
+pub fault_of_read : (command : Command) (a b : Option (List ℕ)) (input : List ℕ) (read written : Type 0)
+    (fault : ProgramFault)
+    → Consumes a b input → IsAtEnd b → IsFaultOf command (Some input) ⊥ ⊥ fault
+    → IsFaultOf command a read written fault
+fault_of_read command a b input read written ReadFailed p end h = absurd h
+fault_of_read command a b input read written TooLong p end h =
+    given a b input p end (λ i. limit < length i) h
+fault_of_read command a b input read written NotJson p end h =
+    given a b input p end (λ i. scenario_in i ≡ Err scenario.NotJson) h
+fault_of_read command a b input read written BadShape p end h =
+    given a b input p end (λ i. scenario_in i ≡ Err scenario.BadShape) h
+fault_of_read command a b input read written (Layout f) p end h =
+    given a b input p end (λ i. scenario_in i ≡ Err (scenario.Layout f)) h
+fault_of_read command a b input read written (BadLine n) p end h =
+    given a b input p end (λ i. scenario_in i ≡ Err (scenario.BadLine n)) h
+fault_of_read command a b input read written (NotForRun n) p end h =
+    (h.0, given a b input p end (λ i. scripts_in i ≡ Err (scenario.NotForRun n)) h.1)
+fault_of_read command a b input read written OutOfMemory p end h = tt
+fault_of_read command a b input read written (NotStarted c) p end h =
+    (h.0, given a b input p end (λ i. IsUnfinished i (NotStarted c)) h.1)
+fault_of_read command a b input read written SeatMissing p end h = absurd h
+fault_of_read command a b input read written (Mismatch n) p end h =
+    (h.0, given a b input p end (λ i. IsUnfinished i (Mismatch n)) h.1)
+fault_of_read command a b input read written (WrongReply n) p end h = absurd h
+fault_of_read command a b input read written (WrongSerial n) p end h = absurd h
+fault_of_read command a b input read written AuditDiffers p end h =
+    (h.0, given a b input p end (λ i. SealsSome i × IsRefuted i AuditDiffers) h.1)
+fault_of_read command a b input read written WriteFailed p end h = absurd h
+fault_of_read command a b input read written (BrokenChain n) p end h = (
+  h.0,
+  given a b input p end
+      (λ i. IsUnfinished i (BrokenChain n) ⊎ (IsAudit command × IsRefuted i (BrokenChain n))) h.1,
+)
 
 -- the lines' text and the state's, where they are due
 due_is : (s : ScenarioValue) (m : MachineValue) (lines text : List ℕ)

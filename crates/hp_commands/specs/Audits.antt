@@ -12,6 +12,15 @@ use Rattle.hp_history.specs.declared.volumes.Volume.{Volume}
 use Rattle.hp_commands.specs.declared.fault.ProgramFault.{ProgramFault}
 use Rattle.hp_commands.specs.declared.fault.ProgramFault.TheVariants.{OutOfMemory, WrongReply, WrongSerial, AuditDiffers, BrokenChain}
 
+-- the volumes follow one another from boot on and lead to the machine's base
+abbrev pub LeadsToBase : List Volume → MachineValue → Type 0
+LeadsToBase volumes m = IsChain m.layout volumes × (m.base ≡ state_after m.layout volumes)
+
+-- the machine's history is legal from its base on, and leads to its state
+abbrev pub LeadsToState : MachineValue → Type 0
+LeadsToState m =
+    IsLegal m.layout m.base m.before m.history × (m.state ≡ value_of m.layout m.base m.history)
+
 -- the volumes follow one another from boot on and lead to the machine's base; its history is legal
 -- from there on, and leads to its state
 pub record IsAudited (volumes : List Volume) (m : MachineValue) : Type 0 where

@@ -24,10 +24,13 @@ abbrev pub WritesTextOf : (known old new : Option (List ℕ)) → Type 0
 WritesTextOf known old new =
     IfSome known (λ input. (text : List ℕ) × Appends old new text × IsTextOf input text)
 
+-- the text that a command makes of its input
+abbrev pub IsOutputOf : Command → (input text : List ℕ) → Type 0
+IsOutputOf Serial input text = IsTextOf input text
+IsOutputOf Run input text = IsRunTextOf input text
+IsOutputOf Audit input text = IsAuditTextOf input text
+
 -- what a command has written: of the bytes that were read its text, and nothing else
 abbrev pub Serves : Command → (known old new : Option (List ℕ)) → Type 0
-Serves Serial known old new = WritesTextOf known old new
-Serves Run known old new =
-    IfSome known (λ input. (text : List ℕ) × Appends old new text × IsRunTextOf input text)
-Serves Audit known old new =
-    IfSome known (λ input. (text : List ℕ) × Appends old new text × IsAuditTextOf input text)
+Serves command known old new =
+    IfSome known (λ input. (text : List ℕ) × Appends old new text × IsOutputOf command input text)

@@ -1,7 +1,8 @@
 //! A run whose records are read again.
-ghost use Rattle.std.specs.Prelude.{◌≡◌, ◌++◌, Some, IfErr, IfOk, OnOk, codes, string_bytes};
+ghost use Rattle.std.specs.Prelude.{◌≡◌, ◌++◌, List, Some, IfErr, IfOk, OnOk, codes, string_bytes};
+ghost use Rattle.hp_history.specs.declared.volumes.Volume.{Volume};
 ghost use Rattle.hp_text.specs.State.{newline};
-ghost use Rattle.hp_commands.specs.Audits.{HasAuditFault, IsAudited};
+ghost use Rattle.hp_commands.specs.Audits.{HasAuditFault, IsAudited, LeadsToBase, LeadsToState};
 ghost use Rattle.hp_commands.specs.Faults.{IsFaultOf};
 ghost use Rattle.hp_commands.specs.Runs.{IsAuditTextOf, records_line};
 ghost use Rattle.hp_commands.specs.declared.commands.Command.TheVariants.{Audit};
@@ -40,30 +41,38 @@ fn audited_text(alloc: Global, closed: &Closed) -> Result<String, ProgramFault>
         × (string_bytes out ≡ records_line closed.now.records ++ codes "audit ok" ++ newline)) }
     ensures err { IfErr result (HasAuditFault closed.now.volumes.items closed.now.machine) }
 {
-    check_records(alloc, &closed.volumes, &closed.machine)?;
+    check_volumes(alloc, &closed.volumes, &closed.machine)?;
+    check_history(alloc, &closed.machine)?;
     let mut out = String::new(alloc);
     write_records(&mut out, closed.records)?;
     out.push_str("audit ok\n")?;
     Ok(out)
 }
 
-/// Replays volumes from boot on, and compares the state that they lead to with a machine's base;
-/// then replays the machine's history from its base on, and compares the state that it leads to
-/// with the machine's.
-fn check_records(
+/// Replays volumes from boot on, and compares the state that they lead to with a machine's base.
+fn check_volumes(
     alloc: Global,
     volumes: &Vec<Volume>,
     machine: &Machine,
 ) -> Result<(), ProgramFault>
-    ensures ok { OnOk result (IsAudited volumes.now.items machine.now) }
+    ensures ok { OnOk result (LeadsToBase volumes.now.items machine.now) }
     ensures err { IfErr result (HasAuditFault volumes.now.items machine.now) }
 {
     let base = audit_chain(alloc, machine.layout(), volumes.as_slice())?;
     if !base.same(machine.base()) {
         return Err(ProgramFault::AuditDiffers);
     }
+    Ok(())
+}
+
+/// Replays a machine's history from its base on, and compares the state that it leads to with the
+/// machine's.
+fn check_history(alloc: Global, machine: &Machine) -> Result<(), ProgramFault>
+    ensures ok { OnOk result (LeadsToState machine.now) }
+    ensures err { IfErr result (λ fault. (volumes : List Volume) → HasAuditFault volumes machine.now fault) }
+{
     machine.stays_sound();
-    let replayed = replay_from(alloc, &base, machine.sealed(), machine.history())?;
+    let replayed = replay_from(alloc, machine.base(), machine.sealed(), machine.history())?;
     let image = machine.image(alloc)?;
     if !replayed.same(&image) {
         return Err(ProgramFault::AuditDiffers);

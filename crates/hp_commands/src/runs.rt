@@ -1,9 +1,10 @@
 //! A scenario that workers run: a thread for each processor, on one machine that they share.
-ghost use Rattle.std.specs.Prelude.{◌≡◌, ◌++◌, Some, IfErr, IfOk, OnOk, length, string_bytes};
-ghost use Rattle.std.specs.List.{flat_map};
+ghost use Rattle.std.specs.Prelude.{◌≡◌, ◌++◌, List, Some, IfErr, IfOk, OnOk, length, string_bytes};
 ghost use Rattle.hp_machine.specs.Machine.{booted};
-ghost use Rattle.hp_shared.specs.Shared.{IsFresh};
+ghost use Rattle.hp_shared.specs.Shared.{IsFresh, first_seats};
 ghost use Rattle.hp_scenario.specs.Scripts.{AreForRun};
+ghost use Rattle.hp_scenario.specs.declared.lines.Line.{Line};
+ghost use Rattle.hp_workers.specs.Workers.{IsRunEnd};
 ghost use Rattle.hp_commands.specs.Faults.{IsFaultOf, IsWorkFault};
 ghost use Rattle.hp_commands.specs.Runs.{IsRunOf, IsRunTextOf, IsWorkedOff, line_end_text, processor_text, processors_text, records_line};
 ghost use Rattle.hp_commands.specs.declared.commands.Command.TheVariants.{Run};
@@ -42,11 +43,20 @@ pub fn run<R: Threads + Wait + Sync>(
     ensures err { IfErr result (IsFaultOf Run (Some input.now) ⊥ ⊥) }
 {
     let worked = work_off(rt, alloc, input)?;
+    let text = worked_text(alloc, &worked);
+    // The program ends after this text: what is held in many pieces is not given back one by one.
+    forget(worked);
+    Ok(text?)
+}
+
+/// The text of what workers left.
+fn worked_text(alloc: Global, worked: &Worked) -> Result<String, AllocError>
+    ensures { IfOk result (λ out. string_bytes out
+        ≡ processors_text worked.now.ends.items ++ records_line worked.now.closed.records) }
+{
     let mut out = String::new(alloc);
     write_processors(&mut out, &worked.ends)?;
     write_records(&mut out, worked.closed.records)?;
-    // The program ends after this text: what is held in many pieces is not given back one by one.
-    forget(worked);
     Ok(out)
 }
 
@@ -62,10 +72,16 @@ pub fn work_off<R: Threads + Wait + Sync>(
 {
     let scenario = Scenario::read(alloc, input)?;
     let machine = boot(alloc, &scenario.layout, scenario.lines.as_slice().len())?;
-    let records = Blank::new(scenario.layout.cpus() as u64);
-    let sealed = Blank::new(scenario.layout.cpus() as u64);
+    let cpus = scenario.layout.cpus() as u64;
     let scripts = scenario.scripts(alloc)?;
-    run_scripts::<Brand, R>(rt, alloc, records, sealed, machine, scripts)
+    run_scripts::<Brand, R>(
+        rt,
+        alloc,
+        Blank::new(cpus),
+        Blank::new(cpus),
+        machine,
+        scripts,
+    )
 }
 
 /// The machine of a layout at its start, with room for two records for each of so many lines, of which a plan
@@ -102,12 +118,30 @@ fn run_scripts<L: Job + Send + Sync, R: Threads + Wait + Sync>(
     let Ok((shared, seats)) = Shared::<L>::new(alloc, records, sealed, machine) else {
         return Err(ProgramFault::OutOfMemory);
     };
+    let end = run_workers(rt, alloc, &shared, seats, scripts, &OpenGate);
+    close_after(alloc, shared, end)
+}
+
+/// Closes a machine after its workers.
+fn close_after<L: Job>(
+    alloc: Global,
+    shared: Shared<L>,
+    end: RunEnd<L>,
+) -> Result<Worked, ProgramFault>
+    ensures ok { IfOk result (λ worked. (scripts : List (List Line)) → IsRunEnd L.layout
+        (first_seats L.layout.cpus) scripts end.seats.items end.volumes.items end.ends.items end.fault
+        → IsWorkedOff L.layout scripts worked.ends.items worked.closed.volumes.items worked.closed.machine
+        worked.closed.records) }
+    ensures err { IfErr result (λ fault. (scripts : List (List Line)) → IsRunEnd L.layout
+        (first_seats L.layout.cpus) scripts end.seats.items end.volumes.items end.ends.items end.fault
+        → length scripts ≡ L.layout.cpus → IsWorkFault L.layout scripts fault) }
+{
     let RunEnd {
         seats,
         volumes,
         ends,
         fault,
-    } = run_workers(rt, alloc, &shared, seats, scripts, &OpenGate);
+    } = end;
     if let Some(fault) = fault {
         return Err(ProgramFault::from(fault));
     }
@@ -137,14 +171,7 @@ fn write_processor(out: &mut String, cpu: usize, ends: &Ends) -> Result<(), Allo
         (string_bytes out.new ≡ string_bytes out.old ++ processor_text cpu (Some ends.now)) }
 {
     writeln!(out, "cpu {cpu}")?;
-    write_ends(out, ends.as_slice())
-}
-
-/// Writes what became of each line.
-fn write_ends(out: &mut String, ends: &[LineEnd]) -> Result<(), AllocError>
-    ensures { OnOk result (string_bytes out.new ≡ string_bytes out.old ++ flat_map line_end_text ends.now) }
-{
-    for end in ends {
+    for end in ends.as_slice() {
         write_line_end(out, *end)?;
     }
     Ok(())

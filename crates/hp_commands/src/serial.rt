@@ -1,16 +1,19 @@
 //! The text of a scenario.
-ghost use Rattle.std.specs.Prelude.{◌≡◌, ℕ, List, [], ◌++◌, Ok, OnOk, IfOk, IfErr, IfSome, IsTrue, string_bytes};
+ghost use Rattle.std.specs.Prelude.{◌≡◌, ℕ, List, [], ◌++◌, Ok, Some, OnOk, IfOk, IfErr, IfSome, IsTrue, string_bytes};
 ghost use Rattle.hp_machine.specs.Machine.{booted};
 ghost use Rattle.hp_scenario.specs.Calls.{IsOpened};
-ghost use Rattle.hp_scenario.specs.Gives.{Fails, Gives};
+ghost use Rattle.hp_scenario.specs.Gives.{Gives};
 ghost use Rattle.hp_scenario.specs.Scenario.{scenario_in};
 ghost use Rattle.hp_scenario.specs.Seen.{asked_seen, scenario_seen};
 ghost use Rattle.hp_text.specs.State.{state_text};
 ghost use Rattle.hp_commands.specs.Called.{WritesAll};
-ghost use Rattle.hp_commands.specs.Serial.{GrowsBy, LeavesImage, WritesAsked, WritesLine, WritesLines, serial_text};
+ghost use Rattle.hp_commands.specs.Faults.{IsFaultOf};
+ghost use Rattle.hp_commands.specs.Serial.{GrowsBy, LeavesImage, WritesAsked, WritesLine, WritesLines};
 ghost use Rattle.hp_commands.specs.Served.{IsTextOf};
+ghost use Rattle.hp_commands.specs.declared.commands.Command.TheVariants.{Serial};
 
 use crate::events::write_event;
+use crate::fault::ProgramFault;
 use crate::files::write_file;
 use crate::plans::write_plan;
 use crate::seals::write_seal;
@@ -26,14 +29,14 @@ use std::mem::forget;
 /// form each line is run as it is read; else, and where it has a fault, the lines are read before the
 /// first one is run. The memory of a machine whose lines are run as they are read is left to the end
 /// of the program.
-pub fn serial(alloc: Global, input: Vec<u8>) -> Result<String, ScenarioFault>
+pub fn serial(alloc: Global, input: Vec<u8>) -> Result<String, ProgramFault>
     ensures ok { IfOk result (λ out. IsTextOf input.items (string_bytes out)) }
-    ensures err { IfErr result (λ fault. Fails fault (serial_text input.items)) }
+    ensures err { IfErr result (IsFaultOf Serial (Some input.items) ⊥ ⊥) }
 {
     match usual_text(alloc, &input) {
         Ok(Some(out)) => Ok(out),
         Ok(None) => any_text(alloc, input),
-        Err(AllocError) => Err(ScenarioFault::OutOfMemory),
+        Err(AllocError) => Err(ProgramFault::OutOfMemory),
     }
 }
 
@@ -120,9 +123,9 @@ fn write_taken(
 }
 
 /// The text of any scenario. It takes the input, which is dropped once it is read.
-fn any_text(alloc: Global, input: Vec<u8>) -> Result<String, ScenarioFault>
+fn any_text(alloc: Global, input: Vec<u8>) -> Result<String, ProgramFault>
     ensures ok { IfOk result (λ out. IsTextOf input.items (string_bytes out)) }
-    ensures err { IfErr result (λ fault. Fails fault (serial_text input.items)) }
+    ensures err { IfErr result (IsFaultOf Serial (Some input.items) ⊥ ⊥) }
 {
     let scenario = read_scenario(alloc, input)?;
     Ok(scenario_text(alloc, scenario)?)

@@ -1,11 +1,11 @@
 //! Bytes in to bytes out.
 
-ghost use Rattle.std.specs.Prelude.{◌≡◌, ◌≢◌, ◌<◌, ◌-◌, ◌^◌, IfErr, OnOk};
+ghost use Rattle.std.specs.Prelude.{◌≡◌, ◌≢◌, ◌<◌, ◌-◌, ◌^◌, Some, IfErr, IfOk, OnOk, string_bytes};
 ghost use Rattle.std.specs.Io.KnownBytes.{Appends, Keeps};
 ghost use Rattle.hp_streams.specs.Reading.{ReadsAll};
-ghost use Rattle.hp_commands.specs.Served.{Serves, WritesTextOf};
+ghost use Rattle.hp_commands.specs.Served.{IsOutputOf, Serves, WritesTextOf};
 ghost use Rattle.hp_commands.specs.Faults.{IsFaultOf};
-ghost use Rattle.hp_commands.specs.declared.commands.Command.TheVariants.{Serial, Run, Audit};
+ghost use Rattle.hp_commands.specs.declared.commands.Command.TheVariants.{Serial};
 
 use crate::audits::audit;
 use crate::commands::Command;
@@ -54,10 +54,25 @@ pub fn serve<R: Source, W: Sink, T: Threads + Wait + Sync>(
     ensures err { IfErr result (IsFaultOf command (R.remaining reader.old)
         (R.failures reader.old < R.failures reader.new) (W.failures writer.old < W.failures writer.new)) }
 {
+    let input = read_all(alloc, reader)?;
+    let text = text_of(rt, command, alloc, input)?;
+    write_text(writer, &text)
+}
+
+/// The text that a command makes of its input.
+fn text_of<T: Threads + Wait + Sync>(
+    rt: &T,
+    command: Command,
+    alloc: Global,
+    input: Vec<u8>,
+) -> Result<String, ProgramFault>
+    ensures ok { IfOk result (λ out. IsOutputOf command input.items (string_bytes out)) }
+    ensures err { IfErr result (IsFaultOf command (Some input.items) ⊥ ⊥) }
+{
     match command {
-        Command::Serial => serve_serial(alloc, reader, writer),
-        Command::Run => serve_run(rt, alloc, reader, writer),
-        Command::Audit => serve_audit(rt, alloc, reader, writer),
+        Command::Serial => serial(alloc, input),
+        Command::Run => run(rt, alloc, &input),
+        Command::Audit => audit(rt, alloc, &input),
     }
 }
 
@@ -84,49 +99,5 @@ pub fn serve_serial<R: Source, W: Sink>(
 {
     let input = read_all(alloc, reader)?;
     let text = serial(alloc, input)?;
-    write_text(writer, &text)
-}
-
-/// Writes the text of a run of the scenario that the reader gives.
-fn serve_run<R: Source, W: Sink, T: Threads + Wait + Sync>(
-    rt: &T,
-    alloc: Global,
-    reader: &mut R,
-    writer: &mut W,
-) -> Result<(), ProgramFault>
-    requires reader { R.failures reader.old < 2 ^ 64 - 1 }
-    requires writer { W.failures writer.old < 2 ^ 64 - 1 }
-    ensures read { OnOk result (ReadsAll (R.remaining reader.old) (R.remaining reader.new)) }
-    ensures ok { OnOk result
-        (Serves Run (R.remaining reader.old) (W.contents writer.old) (W.contents writer.new)) }
-    ensures silent { IfErr result
-        (λ fault. fault ≢ ProgramFault.WriteFailed → Keeps (W.contents writer.old) (W.contents writer.new)) }
-    ensures err { IfErr result (IsFaultOf Run (R.remaining reader.old)
-        (R.failures reader.old < R.failures reader.new) (W.failures writer.old < W.failures writer.new)) }
-{
-    let input = read_all(alloc, reader)?;
-    let text = run(rt, alloc, &input)?;
-    write_text(writer, &text)
-}
-
-/// Writes the text of an audit of the scenario that the reader gives.
-fn serve_audit<R: Source, W: Sink, T: Threads + Wait + Sync>(
-    rt: &T,
-    alloc: Global,
-    reader: &mut R,
-    writer: &mut W,
-) -> Result<(), ProgramFault>
-    requires reader { R.failures reader.old < 2 ^ 64 - 1 }
-    requires writer { W.failures writer.old < 2 ^ 64 - 1 }
-    ensures read { OnOk result (ReadsAll (R.remaining reader.old) (R.remaining reader.new)) }
-    ensures ok { OnOk result
-        (Serves Audit (R.remaining reader.old) (W.contents writer.old) (W.contents writer.new)) }
-    ensures silent { IfErr result
-        (λ fault. fault ≢ ProgramFault.WriteFailed → Keeps (W.contents writer.old) (W.contents writer.new)) }
-    ensures err { IfErr result (IsFaultOf Audit (R.remaining reader.old)
-        (R.failures reader.old < R.failures reader.new) (W.failures writer.old < W.failures writer.new)) }
-{
-    let input = read_all(alloc, reader)?;
-    let text = audit(rt, alloc, &input)?;
     write_text(writer, &text)
 }

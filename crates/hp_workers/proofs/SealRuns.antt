@@ -2,10 +2,8 @@
 use Rattle.std.proofs.Common.{◌≡◌, ℕ, ◌+◌, ◌≤◌, List, [], ◌∷◌, ◌++◌, length, take, Option, Some, slice_get, refl, sym, ap, subst, ◌∙◌, arith, add-one, is_ok, if◌then◌else◌, Result, Ok, Err, inl, inr}
 use Rattle.std.specs.Prelude.{IsOk}
 use Rattle.std.proofs.lemmas.List.{length-append, take-take}
-use Rattle.std.specs.List.Sorted.{IsPermutation}
 use Rattle.std.proofs.lemmas.List.Elements.{All-append, All-cons}
-use Rattle.std.proofs.lemmas.List.Sorted.{length_permutation}
-use Rattle.std.proofs.lemmas.List.Sums.{sum_by-append, sum_by-cons, sum_by-take-le}
+use Rattle.std.proofs.lemmas.List.Sums.{sum_by-cons, sum_by-take-le}
 use Rattle.hp_laws.proofs.Lists.{take_next}
 use Rattle.hp_units.specs.LayoutParts.{LayoutParts}
 use Rattle.hp_history.specs.declared.volumes.Volume.{Volume}
@@ -17,8 +15,8 @@ use Rattle.hp_workers.specs.declared.lines.LineEnd.{LineEnd}
 use Rattle.hp_workers.specs.declared.lines.LineEnd.TheVariants.{Reply as Replied, Fault as Faulted, Plan as Planned, Control as Untaken, Sealed}
 use Rattle.hp_workers.specs.declared.fault.RunFault.{RunFault}
 use Rattle.hp_workers.specs.Lines.{AreLines, IsLine, IsSealRun}
-use Rattle.hp_workers.specs.Seals.{AreInOrder, AreSealed, one_if, seals_in, seals_in_all}
-use Rattle.hp_workers.specs.Workers.{AreGathered, AreWorkers, IsWorker}
+use Rattle.hp_workers.specs.Seals.{AreSealed, one_if, seals_in, seals_in_all}
+use Rattle.hp_workers.specs.Workers.{IsWorker}
 
 -- ---- how many
 
@@ -106,55 +104,11 @@ pub more_seals : (l : LayoutParts) (volumes earlier handed : List Volume) → vo
 more_seals l volumes earlier handed is before own =
     subst (AreSealed l) (sym is) (All-append (λ (v : Volume). IsSealOf l v 0) earlier handed before own)
 
--- ---- all of a run
-
-pub gathered : (l : LayoutParts) (olds : List SeatValue) (scripts : List (List Line)) (news : List SeatValue)
-    (handed volumes : List Volume) (lists : List (List LineEnd)) (fault : Option RunFault)
-    → AreWorkers l olds scripts news handed lists fault → IsPermutation handed volumes → AreInOrder volumes
-    → length handed ≤ seals_in_all (take (length olds) scripts)
-    → AreGathered l olds scripts news volumes lists fault
-gathered l olds scripts news handed volumes lists fault workers same order few = record {
-  handed = handed;
-  workers = workers;
-  same = same;
-  order = order;
-  few =
-      omega
-      (arith, few, length_permutation handed volumes same, sum_by-take-le seals_in scripts (length olds));
-}
-
--- ---- one more
-
-pub scripts_more : (scripts : List (List Line)) (i : ℕ) (script : List Line)
-    → slice_get scripts i ≡ Some script
-    → seals_in_all (take (i + 1) scripts) ≡ seals_in_all (take i scripts) + seals_in script
-scripts_more scripts i script here =
-    let taken : take (i + 1) scripts ≡ take i scripts ++ script ∷ [] =
-    ap (λ (k : ℕ). take k scripts) (add-one i) ∙ take_next scripts i script here in
-    ap seals_in_all taken
-    ∙ omega (arith, sum_by-append seals_in (take i scripts) (script ∷ []), sum_by-cons seals_in script [])
-
 -- fewer scripts seal no more
 pub fewer_seal_less : (scripts : List (List Line)) (i j : ℕ) → i ≤ j
     → seals_in_all (take i scripts) ≤ seals_in_all (take j scripts)
 fewer_seal_less scripts i j le =
     omega (arith, sum_by-take-le seals_in (take j scripts) i, ap seals_in_all (take-take i j scripts le))
-
--- the volumes of one more worker, after those of the others
-pub one_more_few : (l : LayoutParts) (all seats : List SeatValue) (seat : SeatValue)
-    (scripts : List (List Line)) (lines : List Line) (new : SeatValue) (earlier handed : List Volume)
-    (ends : List LineEnd) (fault : Option RunFault)
-    → all ≡ seats ++ seat ∷ [] → slice_get scripts (length seats) ≡ Some lines
-    → IsWorker l seat lines new handed ends fault
-    → length earlier ≤ seals_in_all (take (length seats) scripts)
-    → length earlier + length handed ≤ seals_in_all (take (length all) scripts)
-one_more_few l all seats seat scripts lines new earlier handed ends fault all_is here worker few =
-    let one : length all ≡ length seats + 1 =
-    omega (arith, ap (λ (xs : List SeatValue). length xs) all_is, length-append seats (seat ∷ [])) in
-    let total : seals_in_all (take (length all) scripts)
-    ≡ seals_in_all (take (length seats) scripts) + seals_in lines =
-    ap (λ (k : ℕ). seals_in_all (take k scripts)) one ∙ scripts_more scripts (length seats) lines here in
-    omega (arith, few, total, worker_few l seat lines new handed ends fault worker)
 
 -- ---- room
 

@@ -1,21 +1,24 @@
 -- One more worker.
 use Rattle.std.specs.Prelude.{◌⊎◌}
-use Rattle.std.proofs.Common.{inl, inr, ◌≡◌, ℕ, List, [], ◌∷◌, ◌++◌, length, Option, Some, None, slice_get, refl, ap, sym, subst, ◌∙◌, arith}
+use Rattle.std.proofs.Common.{inl, inr, ◌≡◌, ℕ, suc, ◌<◌, ◌≤◌, List, [], ◌∷◌, ◌++◌, length, take, Option, Some, None, slice_get, get_or, refl, ap, sym, subst, ◌∙◌, arith}
 use Rattle.std.proofs.lemmas.List.{append_assoc, append-nil, length-append}
-use Rattle.std.proofs.lemmas.Option.{slice_get_within}
+use Rattle.std.proofs.lemmas.List.Sorted.{length_permutation}
+use Rattle.std.proofs.lemmas.List.Sums.{sum_by-cons, sum_by-take-le}
+use Rattle.std.proofs.lemmas.Option.{slice_get_read, slice_get_within}
+use Rattle.std.specs.List.Sorted.{IsPermutation}
 use Rattle.std.specs.Option.{option_or}
 use Rattle.hp_units.specs.Choices.{first_some}
 use Rattle.hp_units.specs.LayoutParts.{LayoutParts}
-use Rattle.hp_laws.proofs.Lists.{get_end, get_left, get_push_cases}
+use Rattle.hp_laws.proofs.Lists.{get_end, get_left, get_push_cases, get_some}
 use Rattle.hp_shared.specs.Shared.{SeatValue}
 use Rattle.hp_shared.proofs.Comparisons.{same_item}
 use Rattle.hp_workers.specs.declared.fault.RunFault.{RunFault}
 use Rattle.hp_workers.specs.declared.lines.LineEnd.{LineEnd}
 use Rattle.hp_scenario.specs.declared.lines.Line.{Line}
 use Rattle.hp_history.specs.declared.volumes.Volume.{Volume}
-use Rattle.hp_workers.specs.Seals.{joined}
-use Rattle.hp_workers.proofs.SealRuns.{more_seals, none_sealed, worker_seals}
-use Rattle.hp_workers.specs.Workers.{AreWorkers, HasWorker, IsWorker}
+use Rattle.hp_workers.specs.Seals.{AreInOrder, joined, seals_in, seals_in_all}
+use Rattle.hp_workers.proofs.SealRuns.{more_seals, none_sealed, worker_few, worker_seals}
+use Rattle.hp_workers.specs.Workers.{AreGathered, AreWorkers, HasWorker, IsWorker, IsWorkerAt}
 
 -- the first of faults and of one more
 first_more : (faults : List (Option RunFault)) (fault : Option RunFault)
@@ -116,6 +119,20 @@ workers_more l all seats seat scripts lines done news new volumes earlier handed
               (subst (λ (ls : List Line). IsWorker l seat ls new handed own fault) same worker);
         }
 
+-- a worker of the script that was read
+pub worker_at : (l : LayoutParts) (old : SeatValue) (scripts : List (List Line)) (place read : ℕ)
+    (lines : List Line) (new : SeatValue) (handed : List Volume) (ends : List LineEnd)
+    (fault : Option RunFault)
+    → read ≡ place → place < length scripts → lines ≡ get_or scripts read lines
+    → IsWorker l old lines new handed ends fault → IsWorkerAt l old scripts place new handed ends fault
+worker_at l old scripts place read lines new handed ends fault same inside is worker = record {
+  lines = lines;
+  script =
+      slice_get_read scripts (length scripts) place lines refl inside
+      (is ∙ ap (λ (k : ℕ). get_or scripts k lines) same);
+  worker = worker;
+}
+
 -- no worker
 pub workers_none : (l : LayoutParts) (olds : List SeatValue) (scripts : List (List Line))
     (news : List SeatValue) (volumes : List Volume) (lists : List (List LineEnd)) (fault : Option RunFault)
@@ -136,4 +153,67 @@ workers_none l olds scripts news volumes lists fault no_olds no_news none no_end
   each =
       λ place seat lines here script. (let bad : slice_get [] place ≡ Some seat =
       sym (ap (λ (xs : List SeatValue). slice_get xs place) no_olds) ∙ here in absurd cc);
+}
+
+-- ---- how many volumes all hand out
+
+-- lists that are each no longer than a script seals
+lists_few : (lists : List (List Volume)) (scripts : List (List Line)) → length lists ≤ length scripts
+    → ((place : ℕ) (handed : List Volume) (lines : List Line) → slice_get lists place ≡ Some handed
+    → slice_get scripts place ≡ Some lines → length handed ≤ seals_in lines)
+    → length (joined lists) ≤ seals_in_all (take (length lists) scripts)
+lists_few [] scripts within each = omega arith
+lists_few (handed ∷ lists) [] within each = absurd (omega (arith, within))
+lists_few (handed ∷ lists) (lines ∷ scripts) within each =
+    omega (
+      arith,
+      each 0 handed lines refl refl,
+      lists_few lists scripts (omega (arith, within)) (λ place. each (suc place)),
+      length-append handed (joined lists),
+      sum_by-cons seals_in lines (take (length lists) scripts),
+    )
+
+pub workers_few : (l : LayoutParts) (olds : List SeatValue) (scripts : List (List Line))
+    (news : List SeatValue) (volumes : List Volume) (lists : List (List LineEnd)) (fault : Option RunFault)
+    → AreWorkers l olds scripts news volumes lists fault → length olds ≤ length scripts
+    → length volumes ≤ seals_in_all (take (length olds) scripts)
+workers_few l olds scripts news volumes lists fault workers within =
+    omega (
+      arith,
+      lists_few workers.handed scripts (omega (arith, workers.outs, within)) each,
+      ap (λ (vs : List Volume). length vs) workers.all,
+      ap (λ (k : ℕ). seals_in_all (take k scripts)) workers.outs,
+    )
+  where
+    each : (place : ℕ) (handed : List Volume) (lines : List Line) → slice_get workers.handed place ≡ Some handed
+        → slice_get scripts place ≡ Some lines → length handed ≤ seals_in lines
+    each place handed lines there script =
+        let within_outs = slice_get_within workers.handed place handed there in
+        let old = get_some olds place (omega (arith, workers.outs, within_outs)) in
+        let found = workers.each place old.0 lines old.1 script in
+        let same = same_item (slice_get workers.handed place) found.handed handed found.out there in
+        omega (
+          arith,
+          worker_few l old.0 lines found.new found.handed found.own found.fault found.worker,
+          ap (λ (vs : List Volume). length vs) same,
+        )
+
+-- ---- all of a run
+
+pub gathered : (l : LayoutParts) (olds : List SeatValue) (scripts : List (List Line)) (news : List SeatValue)
+    (handed volumes : List Volume) (lists : List (List LineEnd)) (fault : Option RunFault)
+    → AreWorkers l olds scripts news handed lists fault → IsPermutation handed volumes → AreInOrder volumes
+    → length olds ≤ length scripts → AreGathered l olds scripts news volumes lists fault
+gathered l olds scripts news handed volumes lists fault workers same order within = record {
+  handed = handed;
+  workers = workers;
+  same = same;
+  order = order;
+  few =
+      omega (
+        arith,
+        workers_few l olds scripts news handed lists fault workers within,
+        length_permutation handed volumes same,
+        sum_by-take-le seals_in scripts (length olds),
+      );
 }

@@ -2,7 +2,7 @@
 use hp_units::Cpu;
 
 /// Why a worker did not run all its lines (own rule).
-#[derive(Clone, Copy, Debug, PartialEq, Eq, Drop)]
+#[derive(Clone, Copy, Drop)]
 pub enum RunFault {
     /// No thread could be made for the worker of this processor.
     NotStarted { cpu: Cpu },

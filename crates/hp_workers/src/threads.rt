@@ -1,5 +1,5 @@
 //! Workers in threads, one for each seat: that of the first seat is the caller's.
-ghost use Rattle.std.specs.Prelude.{◌≡◌, ◌+◌, ◌*◌, ◌<◌, ◌≤◌, ◌++◌, ◌∷◌, [], None, Some, length, take, vec_len, vec_capacity};
+ghost use Rattle.std.specs.Prelude.{◌≡◌, ◌+◌, ◌*◌, ◌<◌, ◌≤◌, ◌++◌, ◌∷◌, [], IfSome, Some, length, take, vec_len, vec_capacity};
 ghost use Rattle.std.specs.List.{All};
 ghost use Rattle.std.specs.List.Sorted.{IsPermutation};
 ghost use Rattle.std.specs.Option.{option_or};
@@ -13,7 +13,7 @@ use crate::counts::count_all;
 use crate::fault::RunFault;
 use crate::gate::Gate;
 use crate::lines::Ends;
-use crate::worker::{Worked, run_script};
+use crate::worker::{Worked, run_if_started, run_script};
 use hp_history::Volume;
 use hp_scenario::Script;
 use hp_shared::{Job, Seat, Shared};
@@ -88,25 +88,28 @@ pub fn run_workers<L: Job + Send + Sync, G: Gate + Sync, R: Threads + Wait + Syn
     ensures { IsRunEnd L.layout seats.items scripts.items result.seats.items result.volumes.items
         result.ends.items result.fault }
 {
-    let Some(seals) = count_all(&scripts) else {
+    let Some(room) = room_for(alloc, seats.len(), &scripts) else {
         return unstarted(alloc, seats);
     };
-    let Ok(volumes) = Vec::with_capacity(alloc, seals) else {
-        return unstarted(alloc, seats);
-    };
-    let Ok(backs) = Vec::with_capacity(alloc, seats.len()) else {
-        return unstarted(alloc, seats);
-    };
-    let Ok(ends) = Vec::with_capacity(alloc, seats.len()) else {
-        return unstarted(alloc, seats);
-    };
-    let room = RunEnd {
+    in_order(run_rest(rt, alloc, shared, gate, seats, &scripts, room))
+}
+
+/// Room for what workers leave of so many seats, and for a volume of each line that seals. None where memory
+/// is refused.
+fn room_for<L: Job>(alloc: Global, seats: usize, scripts: &Vec<Script>) -> Option<RunEnd<L>>
+    ensures bare { IfSome result (λ room. IsBare room.seats.items room.volumes.items room.ends.items room.fault) }
+    ensures room { IfSome result (λ room. (seats ≤ vec_capacity room.seats) × (seats ≤ vec_capacity room.ends)
+        × (seals_in_all scripts.now.items ≤ vec_capacity room.volumes)) }
+{
+    let volumes = Vec::with_capacity(alloc, count_all(scripts)?).ok()?;
+    let backs = Vec::with_capacity(alloc, seats).ok()?;
+    let ends = Vec::with_capacity(alloc, seats).ok()?;
+    Some(RunEnd {
         seats: backs,
         volumes,
         ends,
         fault: None,
-    };
-    in_order(run_rest(rt, alloc, shared, gate, seats, &scripts, room))
+    })
 }
 
 /// The end of a run with its volumes in order.
@@ -117,20 +120,9 @@ fn in_order<L: Job>(end: RunEnd<L>) -> RunEnd<L>
     ensures same { IsPermutation end.volumes.items result.volumes.items }
     ensures order { AreInOrder result.volumes.items }
 {
-    let RunEnd {
-        seats,
-        volumes,
-        ends,
-        fault,
-    } = end;
-    let mut sorted = volumes;
-    sorted.sort_unstable_by_key(|volume| rank_of(volume));
-    RunEnd {
-        seats,
-        volumes: sorted,
-        ends,
-        fault,
-    }
+    let mut end = end;
+    end.volumes.sort_unstable_by_key(|volume| rank_of(volume));
+    end
 }
 
 /// The number by which volumes are in order.
@@ -179,7 +171,6 @@ fn run_rest<L: Job + Send + Sync, G: Gate + Sync, R: Threads + Wait + Sync>(
     ensures seats { vec_capacity result.seats ≡ vec_capacity room.seats }
     ensures ends { vec_capacity result.ends ≡ vec_capacity room.ends }
     ensures room { vec_capacity room.volumes ≤ vec_capacity result.volumes }
-    ensures few { length result.volumes.items ≤ seals_in_all (take (length seats.items) scripts.now.items) }
 {
     let mut seats = seats;
     let Some(seat) = seats.pop() else {
@@ -187,24 +178,6 @@ fn run_rest<L: Job + Send + Sync, G: Gate + Sync, R: Threads + Wait + Sync>(
     };
     let (worked, done) = run_beside(rt, alloc, shared, gate, seat, seats, scripts, room);
     gather(worked, done)
-}
-
-/// Runs the worker of the first seat in the caller's thread, which would only wait.
-fn run_first<L: Job, G: Gate, R: Wait>(
-    rt: &R,
-    alloc: Global,
-    shared: &Shared<L>,
-    gate: &G,
-    seat: Seat<L>,
-    scripts: &Vec<Script>,
-) -> Worked<L>
-    requires scripts { 0 < vec_len scripts.now }
-    requires run { AreForRun scripts.now.items }
-    ensures { IsWorkerAt L.layout seat scripts.now.items 0 result.seat result.volumes.items result.ends
-        result.fault }
-{
-    let starts = AtomicBool::new(true);
-    run_script(rt, alloc, shared, gate, &starts, seat, &scripts[0])
 }
 
 /// Runs the worker of the seat after others in a thread beside those of the others, that of the first seat in
@@ -233,14 +206,11 @@ fn run_beside<L: Job + Send + Sync, G: Gate + Sync, R: Threads + Wait + Sync>(
     ensures seats { vec_capacity result.1.seats ≡ vec_capacity room.seats }
     ensures ends { vec_capacity result.1.ends ≡ vec_capacity room.ends }
     ensures room { vec_capacity room.volumes ≤ vec_capacity result.1.volumes }
-    ensures few { length result.1.volumes.items
-        ≤ seals_in_all (take (length others.items) scripts.now.items) }
 {
-    if others.is_empty() {
-        let worked = run_first(rt, alloc, shared, gate, seat, scripts);
-        return (worked, room);
-    }
     let script = &scripts[others.len()];
+    if others.is_empty() {
+        return (run_script(rt, alloc, shared, gate, seat, script), room);
+    }
     let task = Task::of(&seat, script);
     let flag = AtomicBool::new(true);
     let starts = &flag;
@@ -264,14 +234,12 @@ fn run_beside<L: Job + Send + Sync, G: Gate + Sync, R: Threads + Wait + Sync>(
             ensures seats { vec_capacity result.1.seats ≡ vec_capacity room.seats }
             ensures ends { vec_capacity result.1.ends ≡ vec_capacity room.ends }
             ensures room { vec_capacity room.volumes ≤ vec_capacity result.1.volumes }
-            ensures few { length result.1.volumes.items
-                ≤ seals_in_all (take (length others.items) scripts.entry.now.items) }
         {
             let started = scope.spawn_with(
                 task,
                 move || -> Worked<L>
                     requires { All IsForRun script.now }
-                { run_script(rt, alloc, shared, gate, starts, seat, script) },
+                { run_if_started(rt, alloc, shared, gate, starts, seat, script) },
             );
             if started.is_err() {
                 starts.store(false, Ordering::SeqCst);
@@ -298,20 +266,11 @@ fn gather<L: Job>(worked: Worked<L>, done: RunEnd<L>) -> RunEnd<L>
     ensures end_room { vec_capacity result.ends ≡ vec_capacity done.ends }
     ensures volume_room { vec_capacity done.volumes ≤ vec_capacity result.volumes }
 {
-    let RunEnd {
-        mut seats,
-        mut volumes,
-        mut ends,
-        fault,
-    } = done;
+    let mut done = done;
     let mut handed = worked.volumes;
-    seats.push_reserved(worked.seat);
-    ends.push_reserved(worked.ends);
-    let _ = volumes.append(&mut handed);
-    RunEnd {
-        seats,
-        volumes,
-        ends,
-        fault: fault.or(worked.fault),
-    }
+    done.seats.push_reserved(worked.seat);
+    done.ends.push_reserved(worked.ends);
+    let _ = done.volumes.append(&mut handed);
+    done.fault = done.fault.or(worked.fault);
+    done
 }

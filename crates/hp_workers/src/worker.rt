@@ -27,8 +27,8 @@ pub struct Worked<L: Job> {
     pub fault: Option<RunFault>,
 }
 
-/// Runs a script by a seat, line by line, if it is to start.
-pub(crate) fn run_script<L: Job, G: Gate, R: Wait>(
+/// Runs a script by a seat, if it is to start.
+pub(crate) fn run_if_started<L: Job, G: Gate, R: Wait>(
     rt: &R,
     alloc: Global,
     shared: &Shared<L>,
@@ -40,10 +40,26 @@ pub(crate) fn run_script<L: Job, G: Gate, R: Wait>(
     requires { All IsForRun script.now }
     ensures { IsWorker L.layout seat script.now result.seat result.volumes.items result.ends result.fault }
 {
-    if !starts.load(Ordering::SeqCst) {
+    if starts.load(Ordering::SeqCst) {
+        run_script(rt, alloc, shared, gate, seat, script)
+    } else {
         let cpu = seat.cpu();
-        return stopped(alloc, seat, RunFault::NotStarted { cpu });
+        stopped(alloc, seat, RunFault::NotStarted { cpu })
     }
+}
+
+/// Runs a script by a seat, line by line.
+pub(crate) fn run_script<L: Job, G: Gate, R: Wait>(
+    rt: &R,
+    alloc: Global,
+    shared: &Shared<L>,
+    gate: &G,
+    seat: Seat<L>,
+    script: &Script,
+) -> Worked<L>
+    requires { All IsForRun script.now }
+    ensures { IsWorker L.layout seat script.now result.seat result.volumes.items result.ends result.fault }
+{
     let lines = script.as_slice();
     let Ok(ends) = Vec::with_capacity(alloc, lines.len()) else {
         return stopped(alloc, seat, RunFault::OutOfMemory);

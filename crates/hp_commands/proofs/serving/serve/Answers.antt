@@ -1,5 +1,14 @@
-use Rattle.std.proofs.Common.{rules}
+use Rattle.std.proofs.lemmas.Result.{err_from_is_err_and}
+use Rattle.hp_commands.proofs.Served.{fault_of_read, read_fault}
 use Rattle.hp_commands.proofs.serving.serve.Goals as goal
 
-pub returns-in-Audit-clause-ok : goal.returns-in-Audit-clause-ok
-returns-in-Audit-clause-ok g c = search rules
+pub returns-in_err-input-clause-err : goal.returns-in_err-input-clause-err
+returns-in_err-input-clause-err g c =
+    let p = err_from_is_err_and c.from_residual.result c.from_residual.ensures.1 in
+    rw (p.1, p.2) (read_fault c.args.command _ _ _ c.in_err-input.field-0.0 c.in_err-input.ensures.err)
+
+pub returns-in_err-text-clause-err : goal.returns-in_err-text-clause-err
+returns-in_err-text-clause-err g c =
+    let p = err_from_is_err_and c.from_residual-in_err-text.result c.from_residual-in_err-text.ensures.1 in
+    rw (p.1, p.2) (fault_of_read c.args.command _ _ _ _ _ _ c.in_ok-input.ensures.bytes
+    c.in_ok-input.ensures.end c.in_err-text.ensures.err)

@@ -1,10 +1,9 @@
 use Rattle.std.specs.Prelude.{vec_len}
-use Rattle.std.proofs.Common.{◌≡◌, ◌<◌, ◌≤◌, ◌∷◌, [], length, get_or, refl, ap, sym, ◌∙◌, arith}
+use Rattle.std.proofs.Common.{◌≡◌, ◌<◌, ◌≤◌, ◌∷◌, ◌++◌, [], length, refl, ap, sym, ◌∙◌, arith}
 use Rattle.std.proofs.lemmas.List.{length-append, nil_from_length}
 use Rattle.std.proofs.lemmas.Bool.{eqb-true}
-use Rattle.std.proofs.lemmas.Option.{slice_get_read}
-use Rattle.hp_workers.proofs.SealRuns.{fewer_seal_less, one_more_few}
-use Rattle.hp_workers.proofs.WorkerLists.{workers_more, workers_none}
+use Rattle.hp_workers.proofs.SealRuns.{fewer_seal_less}
+use Rattle.hp_workers.proofs.WorkerLists.{worker_at, workers_few, workers_more, workers_none}
 use Rattle.hp_workers.proofs.threads.+workers.Goals as goal
 
 pub run_beside-returns-clause-worker : goal.run_beside-returns-clause-worker
@@ -14,13 +13,18 @@ run_beside-returns-clause-worker g t c =
     let place : c.len.result ≡ length others = omega (arith, c.len.ensures, c.args.others.ok.0) in
     let inside : length others < length scripts =
     omega (arith, c.requires.scripts, c.args.others.ok.0, c.args.scripts.now.ok.0) in
-    record {
-      lines = c.index-script.result.now;
-      script =
-          slice_get_read scripts (length scripts) (length others) c.index-script.result.now refl inside
-          (c.index-script.ensures ∙ ap (λ k. get_or scripts k c.index-script.result.now) place);
-      worker = c.scoped.ensures.1.0;
-    }
+    worker_at g.L.Job.layout _ scripts (length others) c.len.result c.index-script.result.now _ _ _ _ place
+    inside c.index-script.ensures c.scoped.ensures.1.0
+
+pub run_beside-returns-then-is_empty-clause-worker : goal.run_beside-returns-then-is_empty-clause-worker
+run_beside-returns-then-is_empty-clause-worker g t c =
+    let scripts = c.args.scripts.now.items in
+    let others = c.args.others.items in
+    let place : c.len.result ≡ length others = omega (arith, c.len.ensures, c.args.others.ok.0) in
+    let inside : length others < length scripts =
+    omega (arith, c.requires.scripts, c.args.others.ok.0, c.args.scripts.now.ok.0) in
+    worker_at g.L.Job.layout _ scripts (length others) c.len.result c.index-script.result.now _ _ _ _ place
+    inside c.index-script.ensures c.run_script.ensures
 
 pub run_rest-run_beside-worked-requires-clause-volumes :
     goal.run_rest-run_beside-worked-requires-clause-volumes
@@ -37,16 +41,23 @@ run_rest-run_beside-worked-requires-clause-volumes g t c κs within =
 
 pub run_rest-gather-requires-clause-volumes : goal.run_rest-gather-requires-clause-volumes
 run_rest-gather-requires-clause-volumes g t c =
+    let seats = c.args.seats.items in
+    let scripts = c.args.scripts.now.items in
     let at = c.run_beside-worked.ensures.worker in
     let worked = c.run_beside-worked.result.0 in
     let done = c.run_beside-worked.result.1 in
-    let few =
-    one_more_few g.L.Job.layout c.args.seats.items c.pop.new.self.items c.in-Some.seat
-    c.args.scripts.now.items at.lines worked.seat done.volumes.items worked.volumes.items worked.ends
-    worked.fault c.in-Some.ensures.items at.script at.worker c.run_beside-worked.ensures.few in
+    let volumes = done.volumes.items ++ worked.volumes.items in
+    let all =
+    workers_more g.L.Job.layout seats c.pop.new.self.items c.in-Some.seat scripts at.lines
+    (done.seats.items ++ worked.seat ∷ []) done.seats.items worked.seat volumes done.volumes.items
+    worked.volumes.items (done.ends.items ++ worked.ends ∷ []) done.ends.items worked.ends done.fault
+    worked.fault _ c.in-Some.ensures.items at.script refl refl refl refl c.run_beside-worked.ensures.workers
+    at.worker in
     omega (
       arith,
-      few,
+      workers_few g.L.Job.layout seats scripts _ volumes _ _ all
+          (omega (arith, c.requires.scripts, c.args.seats.ok.0, c.args.scripts.now.ok.0)),
+      length-append done.volumes.items worked.volumes.items,
       done.volumes.ok.0,
       worked.volumes.ok.0,
       c.requires.volumes,
@@ -65,22 +76,6 @@ run_rest-returns-clause-workers g t c =
     done.fault worked.fault end.fault
     c.in-Some.ensures.items at.script c.gather.ensures.seats c.gather.ensures.volumes c.gather.ensures.ends
     c.gather.ensures.fault c.run_beside-worked.ensures.workers at.worker
-
-pub run_rest-returns-clause-few : goal.run_rest-returns-clause-few
-run_rest-returns-clause-few g t c =
-    let at = c.run_beside-worked.ensures.worker in
-    let worked = c.run_beside-worked.result.0 in
-    let done = c.run_beside-worked.result.1 in
-    let few =
-    one_more_few g.L.Job.layout c.args.seats.items c.pop.new.self.items c.in-Some.seat
-    c.args.scripts.now.items at.lines worked.seat done.volumes.items worked.volumes.items worked.ends
-    worked.fault c.in-Some.ensures.items at.script at.worker c.run_beside-worked.ensures.few in
-    omega (
-      arith,
-      few,
-      ap (λ vs. length vs) c.gather.ensures.volumes,
-      length-append done.volumes.items worked.volumes.items,
-    )
 
 pub run_rest-returns-in_default-clause-workers : goal.run_rest-returns-in_default-clause-workers
 run_rest-returns-in_default-clause-workers g t c =

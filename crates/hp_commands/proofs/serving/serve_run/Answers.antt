@@ -1,9 +1,0 @@
-use Rattle.std.proofs.lemmas.Result.{err_from_is_err_and}
-use Rattle.hp_commands.specs.declared.commands.Command.TheVariants.{Run}
-use Rattle.hp_commands.proofs.Served.{read_fault}
-use Rattle.hp_commands.proofs.serving.serve_run.Goals as goal
-
-pub returns-in_err-input-clause-err : goal.returns-in_err-input-clause-err
-returns-in_err-input-clause-err g c =
-    let p = err_from_is_err_and c.from_residual.result c.from_residual.ensures.1 in
-    rw (p.1, p.2) (read_fault Run _ _ _ c.in_err-input.field-0.0 c.in_err-input.ensures.err)
