@@ -1,10 +1,36 @@
--- What a place of a list was asked for.
-use Rattle.std.proofs.Common.{◌≡◌, ℕ, List, length, get_or, Option, Some, None, IfSome, option_map, slice_get, refl, sym}
+-- Texts one after another, and what a place of a list was asked for.
+use Rattle.std.proofs.Common.{◌≡◌, ℕ, List, ◌++◌, length, get_or, Option, Some, None, IfSome, option_map, slice_get, refl, sym, ap, ◌∙◌, append_assoc}
 use Rattle.std.specs.Bool.{nat_lt}
 use Rattle.std.specs.Option.{is_some}
 use Rattle.std.proofs.lemmas.Bool.{ltb-false, ltb-true}
 use Rattle.std.proofs.lemmas.Option.{slice_get_past, slice_get_read}
 
+-- one text in other words, and one more
+pub said : (old new x y : List ℕ) → x ≡ y → new ≡ old ++ x → new ≡ old ++ y
+said old new x y same written = written ∙ ap (λ (t : List ℕ). old ++ t) same
+
+pub more : (old one two x y : List ℕ) → one ≡ old ++ x → two ≡ one ++ y → two ≡ old ++ (x ++ y)
+more old one two x y first second = second ∙ (ap (λ (t : List ℕ). t ++ y) first ∙ append_assoc old x y)
+
+pub three : (a b c : List ℕ) → a ++ (b ++ c) ≡ (a ++ b) ++ c
+three a b c = simp append_assoc
+
+pub five : (a b c d e : List ℕ) → a ++ (b ++ (c ++ (d ++ e))) ≡ (((a ++ b) ++ c) ++ d) ++ e
+five a b c d e = simp append_assoc
+
+-- pieces that were written one after another
+pub chained : (a p b q c r d old u v w x y z new : List ℕ) → u ≡ old ++ a → v ≡ u ++ p → w ≡ v ++ b
+    → x ≡ w ++ q → y ≡ x ++ c → z ≡ y ++ r → new ≡ z ++ d
+    → new ≡ old ++ ((((((a ++ p) ++ b) ++ q) ++ c) ++ r) ++ d)
+chained a p b q c r d old u v w x y z new one two three four five six seven =
+    let to_p = more old u v a p one two in
+    let to_b = more old v w (a ++ p) b to_p three in
+    let to_q = more old w x ((a ++ p) ++ b) q to_b four in
+    let to_c = more old x y (((a ++ p) ++ b) ++ q) c to_q five in
+    let to_r = more old y z ((((a ++ p) ++ b) ++ q) ++ c) r to_c six in
+    more old z new (((((a ++ p) ++ b) ++ q) ++ c) ++ r) d to_r seven
+
+-- what was asked for
 pub item_read : {R X : Type 0} (now : R → X) (xs : List X) (i : ℕ) (r : Option R)
     → is_some r ≡ nat_lt i (length xs) → IfSome r (λ x. now x ≡ get_or xs i (now x))
     → option_map now r ≡ slice_get xs i

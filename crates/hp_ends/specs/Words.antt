@@ -11,7 +11,6 @@ use Rattle.hp_text.specs.State.{block_line, newline, texts_below}
 use Rattle.hp_schedules.specs.declared.multinomials.HowMany.{HowMany}
 use Rattle.hp_schedules.specs.declared.multinomials.HowMany.TheVariants.{Exactly, MoreThanLimit, Unknown}
 use Rattle.hp_schedules.specs.declared.tally.Ending.{Ending}
-use Rattle.hp_schedules.specs.Outcomes.{OutcomeValue}
 use Rattle.hp_spelling.specs.Entries.{calls_text}
 
 -- ---- how it ends
@@ -28,37 +27,25 @@ processors_text cpus replies = texts_below (λ cpu. answers_text cpu (slice_get 
 abbrev pub blocks_text : (blocks : ℕ) → List Row → List ℕ
 blocks_text blocks rows = texts_below (λ block. block_line block (slice_get rows block)) blocks
 
-abbrev pub outcome_text : LayoutParts → OutcomeValue → List ℕ
-outcome_text l x = processors_text l.cpus x.replies ++ blocks_text l.blocks x.blocks
-
 -- ---- the calls
 
--- the calls as texts of a scenario's `calls`, one a line, with a comma between two
-abbrev pub listed_calls : (names : List (List ℕ)) → List Record → List ℕ
-listed_calls names [] = []
-listed_calls names (r ∷ rs) = calls_text (codes ",\n") names (r ∷ rs) ++ newline
-
--- those of a schedule, if it can be played
+-- those of a schedule, if it can be played, as texts of a scenario's `calls`, one a line, with a comma
+-- between two
 abbrev pub played_text : (names : List (List ℕ)) → (calls : Option (List Record)) → List ℕ
 played_text names None = []
-played_text names (Some calls) = listed_calls names calls
+played_text names (Some []) = []
+played_text names (Some (r ∷ rs)) = calls_text (codes ",\n") names (r ∷ rs) ++ newline
 
 -- ---- an end
 
--- its number, after an empty line
-abbrev pub heading_text : (number : ℕ) → List ℕ
-heading_text number = codes "\nend " ++ decimal number ++ newline
-
--- how many interleavings lead to it, the outcome, and the calls of the first
-abbrev pub told_text : (names : List (List ℕ)) → LayoutParts → Ending → (calls : Option (List Record))
-    → List ℕ
-told_text names l e calls =
-    codes "interleavings: " ++ decimal e.count ++ newline ++ outcome_text l e.outcome ++ codes "first:\n"
-    ++ played_text names calls
-
+-- its number, after an empty line, how many interleavings lead to it, the outcome, and the calls of the
+-- first
 abbrev pub end_text : (names : List (List ℕ)) → LayoutParts → (number : ℕ) → Ending
     → (calls : Option (List Record)) → List ℕ
-end_text names l number e calls = heading_text number ++ told_text names l e calls
+end_text names l number e calls =
+    codes "\nend " ++ decimal number ++ codes "\ninterleavings: " ++ decimal e.count ++ newline
+    ++ processors_text l.cpus e.outcome.replies ++ blocks_text l.blocks e.outcome.blocks ++ codes "first:\n"
+    ++ played_text names calls
 
 -- ---- how many there are
 

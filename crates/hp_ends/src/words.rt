@@ -3,9 +3,9 @@ ghost use Rattle.std.specs.Prelude.{◌≡◌, ◌++◌, IfOk, OnOk, option_map,
 ghost use Rattle.std.specs.List.{flat_map};
 ghost use Rattle.hp_text.specs.Answers.{bare_reply_line};
 ghost use Rattle.hp_text.specs.State.{block_line};
-ghost use Rattle.hp_ends.specs.Words.{absent_text, answers_text, blocks_text, counts_text, end_text, heading_text, listed_calls, many_text, nearest_text, outcome_text, played_text, processors_text, told_text, total_text};
+ghost use Rattle.hp_ends.specs.Words.{absent_text, answers_text, blocks_text, counts_text, end_text, nearest_text, played_text, processors_text, total_text};
 
-use hp_schedules::{Answers, Ending, HowMany, Outcome, total_of};
+use hp_schedules::{Answers, Ending, HowMany, total_of};
 use hp_spelling::write_calls;
 use hp_text::{write_reply, write_row};
 use hp_units::{Block, Cpu, Layout, Record, Reply, Row, Text};
@@ -31,22 +31,16 @@ fn write_total(out: &mut String, counted: u128, more: Option<HowMany>) -> Result
     ensures { OnOk result (string_bytes out.new ≡ string_bytes out.old ++ total_text counted more) }
 {
     match more {
-        Some(known) => {
-            write_many(out, counted, known)?;
-            write!(out, "; these are the first {counted}")
+        Some(HowMany::Exactly(count)) => {
+            write!(out, "{count} interleavings; these are the first {counted}")
+        }
+        Some(HowMany::MoreThanLimit | HowMany::Unknown) => {
+            write!(
+                out,
+                "more than {counted} interleavings; these are the first {counted}"
+            )
         }
         None => write!(out, "interleavings: {counted}"),
-    }
-}
-
-/// Writes how many interleavings there are, where so many were counted and not all.
-fn write_many(out: &mut String, counted: u128, known: HowMany) -> Result<(), AllocError>
-    ensures { OnOk result (string_bytes out.new ≡ string_bytes out.old ++ many_text counted known) }
-{
-    match known {
-        HowMany::Exactly(count) => write!(out, "{count} interleavings"),
-        HowMany::MoreThanLimit => write!(out, "more than {counted} interleavings"),
-        HowMany::Unknown => write!(out, "more than {counted} interleavings"),
     }
 }
 
@@ -65,42 +59,15 @@ pub fn write_end(
     ensures { OnOk result (string_bytes out.new ≡ string_bytes out.old
         ++ end_text names.now.keys layout.now number end.now (option_map (λ c. c.now) calls.entry)) }
 {
-    write_heading(out, number)?;
-    write_told(out, names, layout, end, calls)
-}
-
-/// Writes the number of an end after an empty line.
-fn write_heading(out: &mut String, number: usize) -> Result<(), AllocError>
-    ensures { OnOk result (string_bytes out.new ≡ string_bytes out.old ++ heading_text number) }
-{
-    writeln!(out, "\nend {number}")
-}
-
-/// Writes an end after its number.
-fn write_told(
-    out: &mut String,
-    names: &IndexSet<Text>,
-    layout: &Layout,
-    end: &Ending,
-    calls: Option<&[Record]>,
-) -> Result<(), AllocError>
-    ensures { OnOk result (string_bytes out.new ≡ string_bytes out.old
-        ++ told_text names.now.keys layout.now end.now (option_map (λ c. c.now) calls.entry)) }
-{
     let count = end.count;
-    writeln!(out, "interleavings: {count}")?;
-    write_outcome(out, layout, &end.outcome)?;
+    let answers = end.outcome.replies();
+    let blocks = layout.blocks();
+    let rows = end.outcome.blocks();
+    writeln!(out, "\nend {number}\ninterleavings: {count}")?;
+    write_processors(out, layout.cpus(), answers)?;
+    write_blocks(out, blocks, rows)?;
     out.push_str("first:\n")?;
-    write_first(out, names, calls)
-}
-
-/// Writes what the processors were answered, and what became of the memory blocks.
-fn write_outcome(out: &mut String, layout: &Layout, outcome: &Outcome) -> Result<(), AllocError>
-    ensures { OnOk result
-        (string_bytes out.new ≡ string_bytes out.old ++ outcome_text layout.now outcome.now) }
-{
-    write_processors(out, layout.cpus(), outcome.replies())?;
-    write_blocks(out, layout.blocks(), outcome.blocks())
+    write_played(out, names, calls)
 }
 
 /// Writes what each processor was answered, from processor 0 on.
@@ -158,8 +125,9 @@ fn write_block(out: &mut String, block: Block, row: Option<Row>) -> Result<(), A
     }
 }
 
-/// Writes the calls of a schedule, if it can be played.
-fn write_first(
+/// Writes the calls of a schedule, if it can be played, as texts of a scenario's `calls`, one a
+/// line, with a comma between two.
+fn write_played(
     out: &mut String,
     names: &IndexSet<Text>,
     calls: Option<&[Record]>,
@@ -168,25 +136,13 @@ fn write_first(
         ≡ string_bytes out.old ++ played_text names.now.keys (option_map (λ c. c.now) calls.entry)) }
 {
     match calls {
-        Some(calls) => write_listed(out, names, calls),
+        Some([]) => Ok(()),
+        Some(calls) => {
+            write_calls(out, names, calls, ",\n")?;
+            out.push('\n')
+        }
         None => Ok(()),
     }
-}
-
-/// Writes calls as texts of a scenario's `calls`, one a line, with a comma between two.
-fn write_listed(
-    out: &mut String,
-    names: &IndexSet<Text>,
-    calls: &[Record],
-) -> Result<(), AllocError>
-    ensures { OnOk result
-        (string_bytes out.new ≡ string_bytes out.old ++ listed_calls names.now.keys calls.now) }
-{
-    if calls.is_empty() {
-        return Ok(());
-    }
-    write_calls(out, names, calls, ",\n")?;
-    out.push('\n')
 }
 
 /// A schedule that was found: how often it changes the processor, and its calls, if it can be
@@ -200,9 +156,8 @@ pub fn nearest_text(
     ensures { IfOk result (λ text. string_bytes text
         ≡ nearest_text names.now.keys changes (option_map (λ c. c.now) calls.entry)) }
 {
-    let mut text = String::new(alloc);
-    writeln!(&mut text, "changes: {changes}\nfirst:")?;
-    write_first(&mut text, names, calls)?;
+    let mut text = format!(in alloc; "changes: {changes}\nfirst:\n")?;
+    write_played(&mut text, names, calls)?;
     Ok(text)
 }
 
@@ -210,7 +165,5 @@ pub fn nearest_text(
 pub fn absent_text(alloc: Global, schedules: u128) -> Result<String, AllocError>
     ensures { IfOk result (λ text. string_bytes text ≡ absent_text schedules) }
 {
-    let mut text = String::new(alloc);
-    writeln!(&mut text, "interleavings: {schedules}\nends so: 0")?;
-    Ok(text)
+    format!(in alloc; "interleavings: {schedules}\nends so: 0\n")
 }

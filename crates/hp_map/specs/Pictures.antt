@@ -41,15 +41,20 @@ abbrev pub claim_text : Option Claim → List ℕ
 claim_text None = []
 claim_text (Some claim) = wish_text claim.wish
 
-abbrev pub row_text : Option Row → List ℕ
-row_text None = []
-row_text (Some row) = state_text row.state row.zone ++ claim_text row.claim
+-- of a memory block that there is
+abbrev pub place_word : Option Row → List ℕ
+place_word None = []
+place_word (Some row) = state_text row.state row.zone
+
+abbrev pub wish_word : Option Row → List ℕ
+wish_word None = []
+wish_word (Some row) = claim_text row.claim
 
 -- ---- the whole
 
 -- what stands before the cells of a block with this row
 abbrev pub head_text : Option Row → (block : ℕ) → List ℕ
-head_text row block = decimal block ++ codes ":" ++ row_text row
+head_text row block = decimal block ++ codes ":" ++ place_word row ++ wish_word row
 
 abbrev pub block_picture : LayoutParts → Memory → List Place → (shows_orders : Bool) → (block : ℕ)
     → BlockValue

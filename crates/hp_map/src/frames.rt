@@ -18,27 +18,12 @@ pub(crate) fn draw_frames(
     ensures { IfOk result (λ text. text ≡ frames_text layout.now places.now.items block) }
 {
     let mut out = String::new(alloc);
-    write_frames(&mut out, layout, places, block)?;
-    Ok(Text::new(out))
-}
-
-/// Writes the places of the frames of a memory block of the layout.
-fn write_frames(
-    out: &mut String,
-    layout: &Layout,
-    places: &Vec<Place>,
-    block: Block,
-) -> Result<(), AllocError>
-    requires { block < layout.now.blocks }
-    ensures { OnOk result
-        (string_bytes out.new ≡ string_bytes out.old ++ frames_text layout.now places.now.items block) }
-{
     let first = first_of(layout, block);
     for number in 0..layout.block_size() {
         let place = place_at(places, first + number);
-        write_cell(out, starts_later(layout, number), place)?;
+        write_cell(&mut out, starts_later(layout, number), place)?;
     }
-    Ok(())
+    Ok(Text::new(out))
 }
 
 /// The number of the first frame of a memory block of the layout.

@@ -1,8 +1,6 @@
 //! The mobility of the pageblocks of a memory block.
 ghost use Rattle.std.specs.Prelude.{◌≡◌, ◌<◌, ◌++◌, IfOk, OnOk, slice_get, string_bytes};
-ghost use Rattle.std.specs.List.{flat_map, range_with_len};
-ghost use Rattle.hp_units.specs.Arithmetic.{block_size};
-ghost use Rattle.hp_map.specs.Kinds.{is_used, kind_cell, kind_frame, kind_text, kinds_text};
+ghost use Rattle.hp_map.specs.Kinds.{is_used, kind_cell, kinds_text};
 
 use crate::frames::{first_of, starts_later};
 use hp_machine::Machine;
@@ -16,29 +14,14 @@ pub(crate) fn draw_kinds(alloc: Global, machine: &Machine, block: Block) -> Resu
         (slice_get machine.now.state.blocks.rows block) machine.now.state.free.areas.kinds block) }
 {
     let mut out = String::new(alloc);
-    write_kinds(&mut out, machine, is_used(machine.row(block)), block)?;
-    Ok(Text::new(out))
-}
-
-/// Writes a letter for each frame of a memory block of the layout, which is in use or not.
-fn write_kinds(
-    out: &mut String,
-    machine: &Machine,
-    is_used: bool,
-    block: Block,
-) -> Result<(), AllocError>
-    requires { block < machine.now.layout.blocks }
-    ensures { OnOk result (string_bytes out.new ≡ string_bytes out.old
-        ++ flat_map (kind_frame machine.now.layout is_used machine.now.state.free.areas.kinds block)
-        (range_with_len 0 (block_size machine.now.layout))) }
-{
+    let is_in_use = is_used(machine.row(block));
     let layout = machine.layout();
     let first = first_of(layout, block);
     for number in 0..layout.block_size() {
         let kind = machine.kind(pageblock_of(layout, Frame(first + number)));
-        write_cell(out, starts_later(layout, number), is_used, kind)?;
+        write_cell(&mut out, starts_later(layout, number), is_in_use, kind)?;
     }
-    Ok(())
+    Ok(Text::new(out))
 }
 
 /// Writes the letter of a frame in a pageblock of this kind, after a bar where it starts a later one.
@@ -54,7 +37,13 @@ fn write_cell(
     if is_later {
         out.push_str("|")?;
     }
-    write_kind(out, is_used, kind)
+    match kind {
+        Some(kind) if is_used => match kind.mobility {
+            Mobility::Unmovable => out.push_str("U"),
+            Mobility::Movable => out.push_str("M"),
+        },
+        _ => out.push_str(" "),
+    }
 }
 
 /// Whether a memory block is in use.
@@ -67,18 +56,5 @@ fn is_used(row: Option<Row>) -> bool
             State::Absent | State::Offline => false,
         },
         None => false,
-    }
-}
-
-/// Writes the letter of a pageblock of this kind.
-fn write_kind(out: &mut String, is_used: bool, kind: Option<Kind>) -> Result<(), AllocError>
-    ensures { OnOk result (string_bytes out.new ≡ string_bytes out.old ++ kind_text is_used kind) }
-{
-    match kind {
-        Some(kind) if is_used => match kind.mobility {
-            Mobility::Unmovable => out.push_str("U"),
-            Mobility::Movable => out.push_str("M"),
-        },
-        _ => out.push_str(" "),
     }
 }

@@ -5,7 +5,7 @@ ghost use Rattle.hp_units.specs.LayoutParts.{IsLayout};
 ghost use Rattle.hp_units.specs.Memory.{cached_list};
 ghost use Rattle.hp_units.specs.Placement.{IsWellPlaced};
 ghost use Rattle.hp_map.specs.declared.places.Place.TheVariants.{Cached};
-ghost use Rattle.hp_map.specs.Marks.{AreMarked, at_frame, marks_below, on_block, on_cpu, on_entry, on_frames, on_kernel, on_list, on_owner, on_unused, free_in, unused_in};
+ghost use Rattle.hp_map.specs.Marks.{AreMarked, at_frame, marks_below, on_block, on_cpu, on_entry, on_frames, on_kernel, on_list, on_owner, on_unused, unused_in};
 
 use crate::places::Place;
 use hp_machine::Machine;
@@ -160,18 +160,11 @@ fn unused_in(row: Option<Row>, kind: Option<Kind>) -> Place
         Some(row) => match row.state {
             State::Absent => Place::Absent,
             State::Offline => Place::Offline,
-            State::Online | State::Going => free_in(kind),
+            State::Online | State::Going => match kind {
+                Some(kind) if kind.isolated => Place::Isolated,
+                _ => Place::Free,
+            },
         },
-    }
-}
-
-/// The place of a free frame in a pageblock of this kind.
-fn free_in(kind: Option<Kind>) -> Place
-    ensures { result ≡ free_in kind }
-{
-    match kind {
-        Some(kind) if kind.isolated => Place::Isolated,
-        _ => Place::Free,
     }
 }
 

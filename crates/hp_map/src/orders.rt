@@ -3,7 +3,7 @@ ghost use Rattle.std.specs.Prelude.{◌≡◌, ◌+◌, ◌*◌, ◌/◌, ◌%�
 ghost use Rattle.std.specs.List.{flat_map, range_with_len};
 ghost use Rattle.hp_units.specs.Arithmetic.{block_size, frame_count};
 ghost use Rattle.hp_buddy.specs.Buddy.{place_of};
-ghost use Rattle.hp_map.specs.Orders.{cell_at, free_at, free_of, free_text, has_order, inner_sign, is_isolated_class, isolation_of, order_below, ordered_cell, ordered_sign, ordered_text, placed_text, plain_sign};
+ghost use Rattle.hp_map.specs.Orders.{cell_at, free_at, free_of, free_text, has_order, inner_sign, is_isolated_class, isolation_of, order_below, ordered_cell, ordered_sign, ordered_text, plain_sign};
 
 use crate::frames::{first_of, place_at, starts_later};
 use crate::marks::size_of;
@@ -27,34 +27,22 @@ pub(crate) fn draw_orders(
         then ordered_text machine.now.layout machine.now.state.free.areas places.now.items block else [])) }
 {
     let mut out = String::new(alloc);
-    if shows_orders {
-        write_frames(&mut out, machine, places, block)?;
+    if !shows_orders {
+        return Ok(Text::new(out));
     }
-    Ok(Text::new(out))
-}
-
-/// Writes the frames of a memory block of the layout, each free block by its order.
-fn write_frames(
-    out: &mut String,
-    machine: &Machine,
-    places: &Vec<Place>,
-    block: Block,
-) -> Result<(), AllocError>
-    requires { block < machine.now.layout.blocks }
-    ensures { OnOk result (string_bytes out.new ≡ string_bytes out.old
-        ++ ordered_text machine.now.layout machine.now.state.free.areas places.now.items block) }
-{
     let layout = machine.layout();
     let first = first_of(layout, block);
     for number in 0..layout.block_size() {
         let frame = Frame(first + number);
         let is_later = starts_later(layout, number);
-        write_cell(out, machine, is_later, frame, place_at(places, frame.0))?;
+        let place = place_at(places, frame.0);
+        write_cell(&mut out, machine, is_later, frame, place)?;
     }
-    Ok(())
+    Ok(Text::new(out))
 }
 
 /// Writes a frame with this place, after a bar where it starts a later pageblock.
+#[tactic(auto, using(std::proofs::lemmas::Str::encode_ascii))]
 fn write_cell(
     out: &mut String,
     machine: &Machine,
@@ -70,26 +58,11 @@ fn write_cell(
         out.push_str("|")?;
     }
     match place {
-        Some(place) => write_place(out, machine, frame, place),
+        Some(place) => match isolation_of(place) {
+            Some(is_isolated) => out.push(free_sign(machine, is_isolated, frame)),
+            None => out.push(place.sign()),
+        },
         None => Ok(()),
-    }
-}
-
-/// Writes a frame with this place.
-#[tactic(auto, using(std::proofs::lemmas::Str::encode_ascii))]
-fn write_place(
-    out: &mut String,
-    machine: &Machine,
-    frame: Frame,
-    place: Place,
-) -> Result<(), AllocError>
-    requires { frame < frame_count machine.now.layout }
-    ensures { OnOk result (string_bytes out.new ≡ string_bytes out.old
-        ++ placed_text machine.now.layout machine.now.state.free.areas frame place (isolation_of place)) }
-{
-    match isolation_of(place) {
-        Some(is_isolated) => out.push(free_sign(machine, is_isolated, frame)),
-        None => out.push(place.sign()),
     }
 }
 

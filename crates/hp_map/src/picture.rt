@@ -1,7 +1,7 @@
 //! A memory drawn block by block.
-ghost use Rattle.std.specs.Prelude.{◌≡◌, ◌<◌, ◌++◌, IfOk, OnOk, map, string_bytes};
+ghost use Rattle.std.specs.Prelude.{◌≡◌, ◌<◌, IfOk, map};
 ghost use Rattle.std.specs.List.{range_with_len};
-ghost use Rattle.hp_map.specs.Pictures.{IsPicture, block_picture, claim_text, head_text, row_text, state_text, zone_letter};
+ghost use Rattle.hp_map.specs.Pictures.{IsPicture, block_picture, head_text, place_word, wish_word};
 
 use crate::frames::draw_frames;
 use crate::kinds::draw_kinds;
@@ -10,7 +10,7 @@ use crate::orders::{draw_orders, free_of};
 use crate::places::Place;
 use hp_machine::Machine;
 use hp_pictures::BlockPicture;
-use hp_units::{Block, Claim, Row, State, Text, Wish, Zone};
+use hp_units::{Block, Row, State, Text, Wish, Zone};
 use std::alloc::{AllocError, Global};
 
 /// What is drawn of each memory block of a machine, by rising number: as `2:M>off[a1|::]`, its
@@ -74,55 +74,43 @@ fn draw_block(
 fn draw_head(alloc: Global, row: Option<Row>, block: Block) -> Result<Text, AllocError>
     ensures { IfOk result (λ text. text ≡ head_text row block) }
 {
-    let mut out = String::new(alloc);
-    write!(&mut out, "{block}:")?;
-    write_row(&mut out, row)?;
-    Ok(Text::new(out))
+    let place = place_word(&row);
+    let wish = wish_word(&row);
+    let text = format!(in alloc; "{block}:{place}{wish}")?;
+    Ok(Text::new(text))
 }
 
-/// Writes the zone or the state of a row, and what an operation that holds it wishes.
-fn write_row(out: &mut String, row: Option<Row>) -> Result<(), AllocError>
-    ensures { OnOk result (string_bytes out.new ≡ string_bytes out.old ++ row_text row) }
+/// The letter of the zone of a memory block in use, and else its state.
+fn place_word(row: &Option<Row>) -> &'static str
+    ensures { result.now ≡ place_word row.now }
 {
-    if let Some(row) = row {
-        write_state(out, row.state, row.zone)?;
-        write_claim(out, row.claim)?;
-    }
-    Ok(())
-}
-
-/// Writes the zone of a memory block in use, and else its state.
-fn write_state(out: &mut String, state: State, zone: Option<Zone>) -> Result<(), AllocError>
-    ensures { OnOk result (string_bytes out.new ≡ string_bytes out.old ++ state_text state zone) }
-{
-    match state {
-        State::Absent => out.push_str("absent"),
-        State::Offline => out.push_str("off"),
-        State::Online | State::Going => write_zone(out, zone),
+    match row {
+        Some(row) => match row.state {
+            State::Absent => "absent",
+            State::Offline => "off",
+            State::Online | State::Going => match row.zone {
+                Some(Zone::Normal) => "N",
+                Some(Zone::Movable) => "M",
+                None => "",
+            },
+        },
+        None => "",
     }
 }
 
-/// Writes the letter of a zone.
-fn write_zone(out: &mut String, zone: Option<Zone>) -> Result<(), AllocError>
-    ensures { OnOk result (string_bytes out.new ≡ string_bytes out.old ++ zone_letter zone) }
+/// What an operation that holds a memory block wishes.
+fn wish_word(row: &Option<Row>) -> &'static str
+    ensures { result.now ≡ wish_word row.now }
 {
-    match zone {
-        Some(Zone::Normal) => out.push_str("N"),
-        Some(Zone::Movable) => out.push_str("M"),
-        None => Ok(()),
-    }
-}
-
-/// Writes what an operation wishes.
-fn write_claim(out: &mut String, claim: Option<Claim>) -> Result<(), AllocError>
-    ensures { OnOk result (string_bytes out.new ≡ string_bytes out.old ++ claim_text claim) }
-{
-    let Some(claim) = claim else {
-        return Ok(());
-    };
-    match claim.wish {
-        Wish::Off => out.push_str(">off"),
-        Wish::Normal => out.push_str(">N"),
-        Wish::Movable => out.push_str(">M"),
+    match row {
+        Some(row) => match row.claim {
+            Some(claim) => match claim.wish {
+                Wish::Off => ">off",
+                Wish::Normal => ">N",
+                Wish::Movable => ">M",
+            },
+            None => "",
+        },
+        None => "",
     }
 }

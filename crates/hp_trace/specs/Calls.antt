@@ -20,7 +20,17 @@ use Rattle.hp_text.specs.Answers.{sealed_line, unrecorded_line}
 use Rattle.hp_text.specs.Files.{read_fault_line, write_fault_line}
 use Rattle.hp_text.specs.Plans.{plan_line}
 use Rattle.hp_text.specs.Spelling.{event_text}
+use Rattle.hp_trace.specs.declared.calls.Remark.{Remark}
+use Rattle.hp_trace.specs.declared.calls.Remark.TheVariants.{Full, Sealed, Unread, Untaken}
 use Rattle.hp_trace.specs.Rows.{Row, drawing, noted, words}
+
+-- ---- a text below a row
+
+abbrev pub remark_text : Remark → List ℕ
+remark_text Full = unrecorded_line HistoryFull
+remark_text (Untaken fault) = write_fault_line fault
+remark_text (Unread fault) = read_fault_line fault
+remark_text (Sealed count) = sealed_line count
 
 -- ---- one call
 

@@ -1,11 +1,8 @@
 //! What a line asks for, done and drawn.
-ghost use Rattle.std.specs.Prelude.{◌≡◌, ◌≢◌, IfOk, OnOk};
-ghost use Rattle.hp_requests.specs.declared.fault.ControlFault.TheVariants.{OutOfMemory};
+ghost use Rattle.std.specs.Prelude.{◌≡◌, ◌++◌, OnOk, string_bytes};
 ghost use Rattle.hp_scenario.specs.Asked.{asked_by};
-ghost use Rattle.hp_text.specs.Answers.{sealed_line, unrecorded_line};
-ghost use Rattle.hp_text.specs.Files.{read_fault_line, write_fault_line};
 ghost use Rattle.hp_control.specs.Reads.{file_text};
-ghost use Rattle.hp_trace.specs.Calls.{MakesEvent, MakesSeal, MakesWork, file_rows};
+ghost use Rattle.hp_trace.specs.Calls.{MakesEvent, MakesSeal, MakesWork, file_rows, remark_text};
 ghost use Rattle.hp_trace.specs.Rows.{Adds, AreDrawn, noted};
 
 use crate::plans::{draw_receipt, trace_plan};
@@ -17,6 +14,19 @@ use hp_scenario::{Asked, Work};
 use hp_text::{write_echo_fault, write_read_fault, write_sealed, write_unrecorded};
 use hp_units::{CallFault, Cpu, Event};
 use std::alloc::{AllocError, Global};
+
+/// What a text below a row says.
+#[derive(Clone, Copy)]
+enum Remark {
+    /// That the history is full.
+    Full,
+    /// Why a control file does not take a word.
+    Untaken(ControlFault),
+    /// Why a control file is not read.
+    Unread(ControlFault),
+    /// How many records a seal handed out.
+    Sealed(u64),
+}
 
 /// Does what a line asks for, and draws it. An error is out of memory.
 pub(crate) fn trace_work(
@@ -33,7 +43,7 @@ pub(crate) fn trace_work(
     match work.asked() {
         Asked::Event(event) => trace_event(rows, alloc, machine, cpu, event, asked),
         Asked::Plan { plan, turns } => trace_plan(rows, alloc, machine, cpu, plan, turns, asked),
-        Asked::NotTaken(fault) => note_untaken(rows, alloc, machine, fault, asked),
+        Asked::NotTaken(fault) => note(rows, alloc, machine, asked, Remark::Untaken(fault)),
         Asked::Cat { path } => trace_file(rows, alloc, machine, path, asked),
         Asked::Seal => trace_seal(rows, alloc, machine, asked),
     }
@@ -53,40 +63,36 @@ fn trace_event(
 {
     match machine.call(alloc, cpu, event) {
         Ok(receipt) => draw_receipt(rows, alloc, machine, asked, &receipt),
-        Err(CallFault::HistoryFull) => note_full(rows, alloc, machine, asked),
+        Err(CallFault::HistoryFull) => note(rows, alloc, machine, asked, Remark::Full),
         Err(CallFault::OutOfMemory) => Err(AllocError),
     }
 }
 
-/// Notes that the history is full.
-fn note_full(
+/// Adds a row without an answer, and below it a text. An error is out of memory.
+fn note(
     rows: &mut Rows,
     alloc: Global,
     machine: &Machine,
     asked: &str,
+    remark: Remark,
 ) -> Result<(), AllocError>
-    ensures { OnOk result
-        (AreDrawn (noted machine.now asked.now (unrecorded_line CallFault.HistoryFull)) rows.old rows.new) }
+    ensures { OnOk result (AreDrawn (noted machine.now asked.now (remark_text remark)) rows.old rows.new) }
 {
     let mut out = String::new(alloc);
-    write_unrecorded(&mut out, CallFault::HistoryFull)?;
+    write_remark(&mut out, remark)?;
     rows.note(alloc, machine, asked, out.as_str())
 }
 
-/// Notes why a control file does not take a word.
-fn note_untaken(
-    rows: &mut Rows,
-    alloc: Global,
-    machine: &Machine,
-    fault: ControlFault,
-    asked: &str,
-) -> Result<(), AllocError>
-    ensures { OnOk result
-        (AreDrawn (noted machine.now asked.now (write_fault_line fault)) rows.old rows.new) }
+/// Writes a text below a row.
+fn write_remark(out: &mut String, remark: Remark) -> Result<(), AllocError>
+    ensures { OnOk result (string_bytes out.new ≡ string_bytes out.old ++ remark_text remark) }
 {
-    let mut out = String::new(alloc);
-    write_echo_fault(&mut out, fault)?;
-    rows.note(alloc, machine, asked, out.as_str())
+    match remark {
+        Remark::Full => write_unrecorded(out, CallFault::HistoryFull),
+        Remark::Untaken(fault) => write_echo_fault(out, fault),
+        Remark::Unread(fault) => write_read_fault(out, fault),
+        Remark::Sealed(count) => write_sealed(out, count),
+    }
 }
 
 /// Reads a control file, and notes its text or why there is none.
@@ -103,33 +109,9 @@ fn trace_file(
 {
     match read_text(alloc, machine, path) {
         Ok(text) => rows.note(alloc, machine, asked, text.as_str()),
-        Err(fault) => note_unread(rows, alloc, machine, unless_memory(fault)?, asked),
+        Err(ControlFault::OutOfMemory) => Err(AllocError),
+        Err(fault) => note(rows, alloc, machine, asked, Remark::Unread(fault)),
     }
-}
-
-/// The fault of a control file, unless it is out of memory.
-fn unless_memory(fault: ControlFault) -> Result<ControlFault, AllocError>
-    ensures { IfOk result (λ same. (same ≡ fault) × (fault ≢ OutOfMemory)) }
-{
-    match fault {
-        ControlFault::OutOfMemory => Err(AllocError),
-        _ => Ok(fault),
-    }
-}
-
-/// Notes why a control file is not read.
-fn note_unread(
-    rows: &mut Rows,
-    alloc: Global,
-    machine: &Machine,
-    fault: ControlFault,
-    asked: &str,
-) -> Result<(), AllocError>
-    ensures { OnOk result (AreDrawn (noted machine.now asked.now (read_fault_line fault)) rows.old rows.new) }
-{
-    let mut out = String::new(alloc);
-    write_read_fault(&mut out, fault)?;
-    rows.note(alloc, machine, asked, out.as_str())
 }
 
 /// Hands the machine's records out and drops them, and notes how many there were.
@@ -144,20 +126,5 @@ fn trace_seal(
 {
     let volume = machine.seal(alloc)?;
     let count = volume.records.as_slice().len() as u64;
-    note_sealed(rows, alloc, machine, count, asked)
-}
-
-/// Notes how many records a seal handed out.
-fn note_sealed(
-    rows: &mut Rows,
-    alloc: Global,
-    machine: &Machine,
-    count: u64,
-    asked: &str,
-) -> Result<(), AllocError>
-    ensures { OnOk result (AreDrawn (noted machine.now asked.now (sealed_line count)) rows.old rows.new) }
-{
-    let mut out = String::new(alloc);
-    write_sealed(&mut out, count)?;
-    rows.note(alloc, machine, asked, out.as_str())
+    note(rows, alloc, machine, asked, Remark::Sealed(count))
 }

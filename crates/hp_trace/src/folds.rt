@@ -1,6 +1,6 @@
 //! The memory blocks of a row, in lines of a width.
 ghost use Rattle.std.specs.Prelude.{◌≡◌, ◌++◌, IfOk, OnOk, slice_get, string_bytes};
-ghost use Rattle.hp_trace.specs.Folds.{block_piece, blocks_text, counted_piece, drawn_piece, endless, is_drawn_same, is_folded, is_left_out, is_past, memory_text, paper_of, piece_text, room_after, room_in, shown_after, shown_text, widened};
+ghost use Rattle.hp_trace.specs.Folds.{block_piece, blocks_text, is_drawn_same, is_folded, is_left_out, is_past, memory_text, paper_of, piece_text, room_after, shown_after, shown_text};
 
 use crate::view::View;
 use hp_pictures::BlockPicture;
@@ -21,40 +21,11 @@ impl Paper {
         ensures { result ≡ paper_of view }
     {
         Paper {
-            room: room_in(view.width),
+            room: view.width.saturating_sub(55).max(1),
             orders: view.orders,
             is_wide: false,
         }
     }
-
-    /// The paper whose lines have room for any row, with all memory blocks.
-    fn endless(self) -> Paper
-        ensures { result ≡ endless self }
-    {
-        Paper {
-            room: u64::MAX,
-            orders: self.orders,
-            is_wide: false,
-        }
-    }
-
-    /// The paper for rows with all memory blocks, or with those that changed.
-    pub(crate) fn widened(self, is_wide: bool) -> Paper
-        ensures { result ≡ widened is_wide self }
-    {
-        Paper {
-            room: self.room,
-            orders: self.orders,
-            is_wide,
-        }
-    }
-}
-
-/// How many columns a line of this width has for memory blocks: at least one.
-fn room_in(width: u64) -> u64
-    ensures { result ≡ room_in width }
-{
-    width.saturating_sub(55).max(1)
 }
 
 /// Whether memory blocks have no room in one line. An error is out of memory.
@@ -65,7 +36,12 @@ pub(crate) fn is_past(
 ) -> Result<bool, AllocError>
     ensures { IfOk result (λ is. is ≡ is_past paper blocks.now) }
 {
-    let line = memory_text(alloc, paper.endless(), &[], blocks)?;
+    let endless = Paper {
+        room: u64::MAX,
+        orders: paper.orders,
+        is_wide: false,
+    };
+    let line = memory_text(alloc, endless, &[], blocks)?;
     Ok(line.len() as u64 > paper.room)
 }
 
@@ -152,29 +128,14 @@ fn is_drawn_same(before: &[BlockPicture], number: usize, block: &BlockPicture) -
 fn block_piece(alloc: Global, paper: Paper, block: &BlockPicture) -> Result<String, AllocError>
     ensures { IfOk result (λ text. string_bytes text ≡ block_piece paper block.now) }
 {
-    let drawn = drawn_piece(alloc, paper, block)?;
+    let mut drawn = String::from_str(alloc, " ")?;
+    block.write(&mut drawn, paper.orders)?;
     if drawn.len() as u64 <= paper.room {
         return Ok(drawn);
     }
-    counted_piece(alloc, paper, block)
-}
-
-/// A memory block as it is drawn, after a space.
-fn drawn_piece(alloc: Global, paper: Paper, block: &BlockPicture) -> Result<String, AllocError>
-    ensures { IfOk result (λ text. string_bytes text ≡ drawn_piece paper block.now) }
-{
-    let mut out = String::from_str(alloc, " ")?;
-    block.write(&mut out, paper.orders)?;
-    Ok(out)
-}
-
-/// A memory block with its frames counted, after a space.
-fn counted_piece(alloc: Global, paper: Paper, block: &BlockPicture) -> Result<String, AllocError>
-    ensures { IfOk result (λ text. string_bytes text ≡ counted_piece paper block.now) }
-{
-    let mut out = String::from_str(alloc, " ")?;
-    block.write_counted(&mut out, paper.orders)?;
-    Ok(out)
+    let mut counted = String::from_str(alloc, " ")?;
+    block.write_counted(&mut counted, paper.orders)?;
+    Ok(counted)
 }
 
 /// Whether a piece goes to a further line: it has no room in this one, and is not the first there.

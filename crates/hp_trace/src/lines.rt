@@ -136,8 +136,7 @@ fn numbered_text(
 ) -> Result<String, AllocError>
     ensures { IfOk result (λ text. string_bytes text ≡ numbered_text names.now.keys number line.now) }
 {
-    let mut out = String::new(alloc);
-    write!(&mut out, "{number:>4} ")?;
+    let mut out = format!(in alloc; "{number:>4} ")?;
     write_shown_line(&mut out, names, line, Brackets::Escaped)?;
     Ok(out)
 }

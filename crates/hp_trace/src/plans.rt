@@ -173,8 +173,7 @@ fn answer_text(alloc: Global, receipt: &Receipt) -> Result<String, AllocError>
 {
     let serial = receipt.serial;
     let reply = receipt.reply;
-    let mut out = String::new(alloc);
-    write!(&mut out, "{serial}: ")?;
+    let mut out = format!(in alloc; "{serial}: ")?;
     write_reply_words(&mut out, reply)?;
     Ok(out)
 }

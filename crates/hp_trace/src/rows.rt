@@ -69,8 +69,7 @@ impl Rows {
     pub(crate) fn fit(&mut self, alloc: Global) -> Result<(), AllocError>
         ensures { OnOk result (self.new ≡ fitted self.old) }
     {
-        let is_wide = is_past(alloc, self.paper, self.shown.as_slice())?;
-        self.paper = self.paper.widened(is_wide);
+        self.paper.is_wide = is_past(alloc, self.paper, self.shown.as_slice())?;
         Ok(())
     }
 

@@ -16,8 +16,8 @@ returns-in-Ok c =
 
 pub returns-in-Err-HistoryFull : goal.returns-in-Err-HistoryFull
 returns-in-Err-HistoryFull c =
-    on_ok_weaker c.note_full.result
+    on_ok_weaker c.note.result
     (λ drawn. full_added c.args.machine.now c.call.new.self c.args.cpu c.args.event.now c.args.asked.now
-    c.args.rows.now c.note_full.new.rows
+    c.args.rows.now c.note.new.rows
     (c.in-Err-HistoryFull.ensures.full.0 (ap (λ (f : CallFault). Err f) c.in-Err-HistoryFull.field-0-is))
-    c.in-Err-HistoryFull.ensures.err drawn) c.note_full.ensures
+    c.in-Err-HistoryFull.ensures.err drawn) c.note.ensures

@@ -5,8 +5,8 @@ use Rattle.hp_trace.proofs.calls.trace_seal.Goals as goal
 
 pub returns : goal.returns
 returns c =
-    on_ok_weaker c.note_sealed.result
+    on_ok_weaker c.note.result
     (λ drawn. seal_added c.args.machine.now c.seal.new.self c.in_ok-volume.volume.records
-    c.as_slice.result.now c.args.asked.now c.args.rows.now c.note_sealed.new.rows
+    c.as_slice.result.now c.args.asked.now c.args.rows.now c.note.new.rows
     c.in_ok-volume.ensures.goes_on c.as_slice.ensures (ap (λ v. v.records) c.in_ok-volume.ensures.volume)
-    drawn) c.note_sealed.ensures
+    drawn) c.note.ensures
