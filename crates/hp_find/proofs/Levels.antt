@@ -1,12 +1,12 @@
 -- From level to level of a search, and what all ends say.
 use Rattle.std.proofs.Common.{◌≡◌, ℕ, ◌<◌, ◌≤◌, Bool, true, false, List, Option, Some, None, sum_by, refl, sym, subst, arith, inl, inr}
-use Rattle.std.specs.Prelude.{◌⊎◌, option_map}
+use Rattle.std.specs.Prelude.{option_map}
 use Rattle.hp_schedules.specs.Ends.{AreEnds, AreInOrder}
-use Rattle.hp_explore.specs.Faults.{FillsHistory, IsCause}
-use Rattle.hp_schedules.specs.Orders.{HasCount, HasMoreThan}
+use Rattle.hp_explore.specs.Faults.{FillsHistory, IsCauseWithin}
+use Rattle.hp_schedules.specs.Orders.{HasCount, HasMoreThan, IsBefore}
 use Rattle.hp_explore.specs.Fronts.{AreFirst, IfFirst, IfWhole}
 use Rattle.hp_schedules.specs.Outcomes.{OutcomeValue}
-use Rattle.hp_schedules.specs.Schedules.{EndsWith, IsComplete, Setting}
+use Rattle.hp_schedules.specs.Schedules.{EndsWith, IsComplete, Setting, plays}
 use Rattle.hp_places.specs.Walks.{Before}
 use Rattle.hp_explore.specs.declared.exploring.Exploration.{Exploration}
 use Rattle.hp_explore.specs.declared.exploring.ExploreFault.{ExploreFault}
@@ -14,12 +14,13 @@ use Rattle.hp_explore.specs.declared.exploring.ExploreFault.TheVariants.{History
 use Rattle.hp_schedules.specs.declared.tally.Ending.{Ending}
 use Rattle.hp_find.specs.Changes.{changes}
 use Rattle.hp_wanted.specs.Ends.{HasNoSuchEnd, IsFirstSuchEnd}
-use Rattle.hp_find.specs.Faults.{IsFindCause, few_changes, find_fault_from}
-use Rattle.hp_find.specs.Reaching.{HasRoomAlong, IsAbsent, IsAbsentAmongFirst, IsFirstWithin, IsMetAmongFirst, IsNearest, IsNearestBelow, NeedsChanges, Reaches, ReachesFirst}
+use Rattle.hp_find.specs.Faults.{IsFindCause, IsNearCause, IsPassCause, few_changes, find_fault_from}
+use Rattle.hp_find.specs.Reaching.{HasRoomAlong, IsAbsent, IsAbsentAmongFirst, IsAmongFirst, IsFirstWithin, IsMetAmongFirst, IsNearest, IsNearestBelow, NeedsChanges, ReachesFirst}
 use Rattle.hp_wanted.specs.Wanted.{Meets}
 use Rattle.hp_find.specs.declared.fault.FindFault.TheVariants.{TooMany}
 use Rattle.hp_wanted.specs.declared.wanted.Wanted.{Wanted}
 use Rattle.hp_find.proofs.Firsts.{before_before, none_before}
+use Rattle.hp_find.proofs.Rooms.{room_before}
 
 -- the first that has no more changes than each needs
 pub nearest_found : (g : Setting) (wanted : List Wanted) (budget below : ℕ) (s : List ℕ)
@@ -94,7 +95,19 @@ none_first g wanted limit ends first none = (
 
 -- ---- the limit and the room
 
--- where there are more schedules than the limit, an end with the lines is one of the first ones
+-- the first schedule of an end with the lines is one of the first ones
+met_first : (g : Setting) (wanted : List Wanted) (limit : ℕ) (ends : List Ending) (e : Ending)
+    → AreFirst g limit ends → IsFirstSuchEnd ends wanted e → IsAmongFirst g wanted limit e.first.items
+met_first g wanted limit ends e first such =
+    let holds = (first.walked.counted.firsts such.0 e such.1).holds in (
+      (e.outcome, holds.1, such.2),
+      first.place,
+      subst (HasCount (λ s. (y : OutcomeValue) × Before g first.place s y)) first.full
+          first.walked.counted.total,
+      holds.0,
+    )
+
+-- where there are more schedules than the limit
 pub met_within : (g : Setting) (wanted : List Wanted) (limit : ℕ) (x : Exploration) (e : Ending)
     → IfWhole x (λ ends. HasMoreThan (IsComplete g) limit → ⊥) → IfFirst x (AreFirst g limit)
     → IsFirstSuchEnd x.ends.items wanted e → HasMoreThan (IsComplete g) limit
@@ -103,16 +116,7 @@ met_within g wanted limit x e few first such more = by_kind x.is_whole refl
   where
     by_kind : (is_whole : Bool) → x.is_whole ≡ is_whole → IsMetAmongFirst g wanted limit
     by_kind true is = absurd (few is more)
-    by_kind false is =
-        let ends = first is in
-        let holds = (ends.walked.counted.firsts such.0 e such.1).holds in (
-          ends.place,
-          subst (HasCount (λ s. (y : OutcomeValue) × Before g ends.place s y)) ends.full
-              ends.walked.counted.total,
-          e.first.items,
-          (e.outcome, holds.1, such.2),
-          holds.0,
-        )
+    by_kind false is = (e.first.items, met_first g wanted limit x.ends.items e (first is) such)
 
 -- what was found from some number of changes on, where it is told
 pub nearest_at : {A : Type 0} (items : A → List ℕ) (g : Setting) (wanted : List Wanted) (below : ℕ)
@@ -132,23 +136,76 @@ none_fills g limit x room many none fills = by_kind x.is_whole refl
     by_kind true is = room is fills
     by_kind false is = none (many is)
 
--- so a schedule of more changes has room for its calls
-pub found_recorded : (g : Setting) (limit : ℕ) (x : Exploration) (s : List ℕ)
-    → IfWhole x (λ ends. FillsHistory g → ⊥) → IfFirst x (λ ends. HasMoreThan (IsComplete g) limit)
-    → few_changes ≤ changes s → (changes s < few_changes) ⊎ (HasMoreThan (IsComplete g) limit → ⊥)
-    → HasRoomAlong g s
-found_recorded g limit x s room many few cause fills =
-    elim cause [
-      | inl less ↦ omega (arith, few, less)
-      | inr none ↦ none_fills g limit x room many none (fills.0, fills.1)
-    ]
+-- the history has room for each call of the first schedule of an end that was counted
+pub known_recorded : (g : Setting) (wanted : List Wanted) (limit : ℕ) (x : Exploration) (e : Ending)
+    → IfWhole x (λ ends. FillsHistory g → ⊥) → IfFirst x (AreFirst g limit)
+    → IsFirstSuchEnd x.ends.items wanted e → HasRoomAlong g e.first.items
+known_recorded g wanted limit x e room first such fills = by_kind x.is_whole refl
+  where
+    of_first : AreFirst g limit x.ends.items → ⊥
+    of_first ends =
+        let holds = (ends.walked.counted.firsts such.0 e such.1).holds in
+        room_before g ends.place fills.0 fills.1 fills.2.0 holds.1.news ends.walked.room
+        (subst (λ (t : List ℕ). plays g t ≡ Some holds.1.news) fills.2.1 holds.1.played)
+        (subst (λ (t : List ℕ). IsBefore t ends.place) fills.2.1 holds.0)
+
+    by_kind : (is_whole : Bool) → x.is_whole ≡ is_whole → ⊥
+    by_kind true is = room is (fills.0, fills.1)
+    by_kind false is = of_first (first is)
 
 -- ---- faults
 
-pub find_cause : (g : Setting) (wanted : List Wanted) (limit : ℕ) (fault : ExploreFault) → IsCause g fault
+-- in a pass, where each needs as many changes
+pub near_cause : (g : Setting) (wanted : List Wanted) (budget below : ℕ) (fault : ExploreFault)
+    → NeedsChanges g wanted budget → budget < below → IsPassCause g wanted budget fault
+    → IsNearCause g wanted below fault
+near_cause g wanted budget below HistoryFull needs less pass = record {
+  place = pass.place;
+  call = pass.call;
+  few = omega (arith, less, pass.few);
+  needs = λ s reaches. let more : budget ≤ changes s = needs s reaches in omega (arith, more, pass.few);
+  passed =
+      λ s reaches before.
+      let more : budget < changes s = pass.passed s reaches before in omega (arith, more, pass.few);
+}
+near_cause g wanted budget below OutOfMemory needs less pass = tt
+
+-- with few changes
+pub few_cause : (g : Setting) (wanted : List Wanted) (limit : ℕ) (fault : ExploreFault)
+    → IsNearCause g wanted few_changes fault → IsFindCause g wanted limit (find_fault_from fault)
+few_cause g wanted limit HistoryFull near = inl near
+few_cause g wanted limit OutOfMemory near = tt
+
+-- in the count
+pub count_cause : (g : Setting) (wanted : List Wanted) (limit : ℕ) (fault : ExploreFault)
+    → NeedsChanges g wanted few_changes → IsCauseWithin g limit fault
     → IsFindCause g wanted limit (find_fault_from fault)
-find_cause g wanted limit HistoryFull cause = cause
-find_cause g wanted limit OutOfMemory cause = tt
+count_cause g wanted limit HistoryFull needs cause = inr (needs, inl cause)
+count_cause g wanted limit OutOfMemory needs cause = tt
+
+-- nearer than what was counted
+pub led_cause : (g : Setting) (wanted : List Wanted) (limit : ℕ) (x : Exploration) (e : Ending)
+    (fault : ExploreFault)
+    → NeedsChanges g wanted few_changes → IfWhole x (λ ends. FillsHistory g → ⊥)
+    → IfFirst x (AreFirst g limit) → IfFirst x (λ ends. HasMoreThan (IsComplete g) limit)
+    → IsFirstSuchEnd x.ends.items wanted e → IsNearCause g wanted (changes e.first.items) fault
+    → IsFindCause g wanted limit (find_fault_from fault)
+led_cause g wanted limit x e HistoryFull needs room first many such near = by_kind x.is_whole refl
+  where
+    by_kind : (is_whole : Bool) → x.is_whole ≡ is_whole
+        → IsFindCause g wanted limit (find_fault_from HistoryFull)
+    by_kind true is = absurd (room is (near.place, near.call))
+    by_kind false is =
+        inr (
+          needs,
+          inr (
+            many is,
+            e.first.items,
+            met_first g wanted limit x.ends.items e (first is) such,
+            near,
+          ),
+        )
+led_cause g wanted limit x e OutOfMemory needs room first many such near = tt
 
 -- none that was looked at has the lines
 pub first_cause : (g : Setting) (wanted : List Wanted) (limit : ℕ) (ends : List Ending)

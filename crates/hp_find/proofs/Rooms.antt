@@ -1,9 +1,16 @@
 -- The room for the calls of a schedule that grows and is taken back.
-use Rattle.std.proofs.Common.{◌≡◌, ℕ, ◌+◌, false, List, [], ◌∷◌, ◌++◌, length, Some, ap, sym, ◌∙◌, arith, inl, inr}
-use Rattle.std.proofs.lemmas.List.{append_assoc, length-append, length_push, same_from_push}
+use Rattle.std.proofs.Common.{◌≡◌, ℕ, ◌+◌, ◌≤◌, true, false, List, [], ◌∷◌, ◌++◌, length, Option, Some, None, refl, ap, sym, subst, ◌∙◌, arith, inl, inr}
+use Rattle.std.specs.Prelude.{◌||◌, nat_le}
+use Rattle.std.proofs.lemmas.Bool.Decides.{nat_tests}
+use Rattle.std.proofs.lemmas.List.{append-nil, append_assoc, length-append, length_push, same_from_push}
+use Rattle.std.proofs.lemmas.Option.{none-some}
+use Rattle.hp_units.specs.declared.events.Event.{Event}
 use Rattle.hp_units.specs.declared.replies.Record.{Record}
-use Rattle.hp_places.specs.Rooms.{is_full_after}
-use Rattle.hp_schedules.specs.Schedules.{Setting, plays}
+use Rattle.hp_places.specs.Rooms.{HasNoRoom, is_full_after}
+use Rattle.hp_places.specs.Walks.{HasRoomBefore}
+use Rattle.hp_schedules.specs.Orders.{IsBefore}
+use Rattle.hp_schedules.specs.Schedules.{Setting, next_call, plays, record_of_call}
+use Rattle.hp_schedules.proofs.Plays.{plays_push, stops}
 use Rattle.hp_places.proofs.Rooms.{push_extends, was_room}
 use Rattle.hp_find.specs.Reaching.{HasRoomAlong}
 
@@ -43,3 +50,56 @@ room_back g p cpu along fills =
             ∙ append_assoc (fills.0 ++ fills.1.cpu ∷ []) fills.2.0 (cpu ∷ []),
       ),
     )
+
+-- ---- a schedule that a walk came to
+
+fuller : (limit most before m n : ℕ) → m ≤ n → (nat_le limit m || nat_le most (before + m)) ≡ true
+    → (nat_le limit n || nat_le most (before + n)) ≡ true
+fuller limit most before m n less full = grind (arith, nat_tests)
+
+-- where a call has no room the one after it has none either
+full_next : (g : Setting) (s : List ℕ) (h : HasNoRoom g s) (cpu : ℕ) (rest : List ℕ) (news : List Record)
+    → plays g ((s ++ h.cpu ∷ []) ++ cpu ∷ rest) ≡ Some news
+    → (k : HasNoRoom g (s ++ h.cpu ∷ [])) × (k.cpu ≡ cpu)
+full_next g s h cpu rest news played = by_next (next_call g cpu later) refl
+  where
+    later : List Record
+    later = h.news ++ record_of_call g h.news h.cpu h.event ∷ []
+
+    led : plays g (s ++ h.cpu ∷ []) ≡ Some later
+    led = plays_push g s h.news h.cpu h.event h.played h.asked
+
+    full : is_full_after g later ≡ true
+    full =
+        fuller g.layout.history 18446744073709551615 g.before (length (g.start ++ h.news))
+        (length (g.start ++ later))
+        (omega (
+          arith,
+          length-append g.start h.news,
+          length-append g.start later,
+          length_push h.news (record_of_call g h.news h.cpu h.event),
+        )) h.full
+
+    by_next : (next : Option Event) → next_call g cpu later ≡ next
+        → (k : HasNoRoom g (s ++ h.cpu ∷ [])) × (k.cpu ≡ cpu)
+    by_next None over =
+        absurd (none-some news (sym (stops g (s ++ h.cpu ∷ []) rest later cpu led over) ∙ played))
+    by_next (Some event) asks = (
+      record { news = later; cpu = cpu; event = event; played = led; asked = asks; full = full },
+      refl,
+    )
+
+-- so one that stands before a place, up to which each call has room, has room for each of its own
+pub room_before : (g : Setting) (place s : List ℕ) (h : HasNoRoom g s) (rest : List ℕ) (news : List Record)
+    → HasRoomBefore g place → plays g ((s ++ h.cpu ∷ []) ++ rest) ≡ Some news
+    → IsBefore ((s ++ h.cpu ∷ []) ++ rest) place → ⊥
+room_before g place s h [] news room played before =
+    room s h (subst (λ (t : List ℕ). IsBefore t place) (append-nil (s ++ h.cpu ∷ [])) before)
+room_before g place s h (cpu ∷ rest) news room played before =
+    let k = full_next g s h cpu rest news played in
+    let on : (s ++ h.cpu ∷ []) ++ cpu ∷ rest ≡ ((s ++ h.cpu ∷ []) ++ k.0.cpu ∷ []) ++ rest =
+    sym (append_assoc (s ++ h.cpu ∷ []) (cpu ∷ []) rest)
+    ∙ ap (λ (c : ℕ). ((s ++ h.cpu ∷ []) ++ c ∷ []) ++ rest) (sym k.1) in
+    room_before g place (s ++ h.cpu ∷ []) k.0 rest news room
+    (subst (λ (t : List ℕ). plays g t ≡ Some news) on played)
+    (subst (λ (t : List ℕ). IsBefore t place) on before)

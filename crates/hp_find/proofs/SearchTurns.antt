@@ -6,6 +6,7 @@ use Rattle.std.proofs.lemmas.Option.{none-some, same_Some}
 use Rattle.hp_units.specs.declared.events.Event.{Event}
 use Rattle.hp_units.specs.declared.replies.Record.{Record}
 use Rattle.hp_places.specs.Rooms.{is_full_after}
+use Rattle.hp_explore.specs.Faults.{IsCauseHere}
 use Rattle.hp_explore.specs.Paths.{IsBack, IsOver, PathValue, state_at}
 use Rattle.hp_schedules.specs.Outcomes.{OutcomeValue, outcome}
 use Rattle.hp_schedules.specs.Schedules.{Setting, next_call, outcome_after, play_one, plays, record_of_call, schedule_of}
@@ -13,7 +14,10 @@ use Rattle.hp_explore.proofs.Framing.{longer_schedule}
 use Rattle.hp_schedules.proofs.Plays.{asks_within, caller, only_this, plays_on, plays_one}
 use Rattle.hp_schedules.proofs.Regions.{before_longer}
 use Rattle.hp_explore.proofs.Walked.{room_after}
+use Rattle.hp_explore.specs.declared.exploring.ExploreFault.{ExploreFault}
+use Rattle.hp_explore.specs.declared.exploring.ExploreFault.TheVariants.{HistoryFull, OutOfMemory}
 use Rattle.hp_find.specs.Changes.{changes}
+use Rattle.hp_find.specs.Faults.{IsPassCause}
 use Rattle.hp_find.specs.Reaching.{IsFirstWithin, IsPassed, NeedsChanges, Reaches}
 use Rattle.hp_find.specs.Searches.{IsCloser, IsDown, IsSearching, IsTakenBack, IsTurned, IsUp, SearchValue, room_of, search_at}
 use Rattle.hp_wanted.specs.Wanted.{Meets}
@@ -146,6 +150,27 @@ gone_down wanted budget v w less played here down =
           here m.forth.2 (caller v.path.setting v.path.news v.next m.forth.0) m.within))
       | inr p ↦ subst (IsCloser wanted budget v) (sym p.is) (past wanted budget v less played here p.cause)
     ]
+
+-- ---- no room for a call
+
+pub pass_cause : (wanted : List Wanted) (budget : ℕ) (v : SearchValue) (fault : ExploreFault)
+    → plays v.path.setting (schedule_of v.path.news) ≡ Some v.path.news → IsSearching wanted budget v
+    → changes (v.schedule ++ v.next ∷ []) ≤ budget → IsCauseHere v.path.setting v.path.news v.next fault
+    → IsPassCause v.path.setting wanted budget fault
+pass_cause wanted budget v HistoryFull played here few full = record {
+  place = v.schedule;
+  call = record {
+    news = v.path.news;
+    cpu = v.next;
+    event = full.0;
+    played = subst (λ (s : List ℕ). plays v.path.setting s ≡ Some v.path.news) (sym here.schedule) played;
+    asked = full.1;
+    full = full.2;
+  };
+  few = few;
+  passed = here.passed;
+}
+pass_cause wanted budget v OutOfMemory played here few full = tt
 
 -- ---- back
 

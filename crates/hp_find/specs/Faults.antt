@@ -1,12 +1,13 @@
 -- Why nothing was found, and what an answer excludes.
-use Rattle.std.specs.Prelude.{ℕ, ◌<◌, ◌≤◌, ◌⊎◌, List}
-use Rattle.hp_explore.specs.Faults.{FillsHistory}
+use Rattle.std.specs.Prelude.{ℕ, ◌<◌, ◌≤◌, ◌⊎◌, List, [], ◌∷◌, ◌++◌}
+use Rattle.hp_explore.specs.Faults.{FillsHistory, FillsWithin}
+use Rattle.hp_places.specs.Rooms.{HasNoRoom}
 use Rattle.hp_schedules.specs.Orders.{HasMoreThan}
 use Rattle.hp_schedules.specs.Schedules.{IsComplete, Setting}
 use Rattle.hp_explore.specs.declared.exploring.ExploreFault.{ExploreFault}
 use Rattle.hp_explore.specs.declared.exploring.ExploreFault.TheVariants as explore
 use Rattle.hp_find.specs.Changes.{changes}
-use Rattle.hp_find.specs.Reaching.{HasRoomAlong, IsAbsentAmongFirst, IsMetAmongFirst, NeedsChanges}
+use Rattle.hp_find.specs.Reaching.{HasRoomAlong, IsAbsentAmongFirst, IsAmongFirst, IsMetAmongFirst, IsPassed, NeedsChanges}
 use Rattle.hp_find.specs.declared.fault.FindFault.{FindFault}
 use Rattle.hp_find.specs.declared.fault.FindFault.TheVariants.{TooMany, HistoryFull, OutOfMemory}
 use Rattle.hp_find.specs.declared.finding.Found.{Found}
@@ -17,12 +18,53 @@ use Rattle.hp_wanted.specs.declared.wanted.Wanted.{Wanted}
 abbrev pub few_changes : ℕ
 few_changes = 3
 
+-- ---- a full history
+
+-- the history has no room for a call of a search that may change the processor so often: no schedule
+-- that ends as is wanted stands before it
+pub record FillsPass (g : Setting) (wanted : List Wanted) (budget : ℕ) : Type 0 where
+  pub place : List ℕ
+  pub call : HasNoRoom g place
+  pub few : changes (place ++ call.cpu ∷ []) ≤ budget
+  pub passed : IsPassed g wanted budget (place ++ call.cpu ∷ [])
+
+-- the history has no room for a call up to which there are fewer changes than so many: no schedule
+-- that ends as is wanted has fewer than this call, and none that stands before it as many
+pub record FillsNear (g : Setting) (wanted : List Wanted) (below : ℕ) : Type 0 where
+  pub place : List ℕ
+  pub call : HasNoRoom g place
+  pub few : changes (place ++ call.cpu ∷ []) < below
+  pub needs : NeedsChanges g wanted (changes (place ++ call.cpu ∷ []))
+  pub passed : IsPassed g wanted (changes (place ++ call.cpu ∷ [])) (place ++ call.cpu ∷ [])
+
+-- there are more schedules than the limit, one of the first ones ends as is wanted, and the history
+-- has no room for a call with fewer changes than that one
+abbrev pub FillsLed : Setting → List Wanted → (limit : ℕ) → Type 0
+FillsLed g wanted limit =
+    HasMoreThan (IsComplete g) limit × (known : List ℕ) × IsAmongFirst g wanted limit known
+    × FillsNear g wanted (changes known)
+
+-- the causes of the faults of these searches
+abbrev pub IsPassCause : Setting → List Wanted → (budget : ℕ) → ExploreFault → Type 0
+IsPassCause g wanted budget explore.HistoryFull = FillsPass g wanted budget
+IsPassCause g wanted budget explore.OutOfMemory = Unit {0}
+
+abbrev pub IsNearCause : Setting → List Wanted → (below : ℕ) → ExploreFault → Type 0
+IsNearCause g wanted below explore.HistoryFull = FillsNear g wanted below
+IsNearCause g wanted below explore.OutOfMemory = Unit {0}
+
+-- ---- of the whole search
+
 -- the cause of a fault: there are too many schedules only where none with few changes ends as is
--- wanted, and none of the first ones
+-- wanted, and none of the first ones; the history is full only for a call with few changes, or, where
+-- none with few changes ends so, for one that the count comes to within its limit, or one to which
+-- the first ones led
 abbrev pub IsFindCause : Setting → List Wanted → (limit : ℕ) → FindFault → Type 0
 IsFindCause g wanted limit TooMany =
     NeedsChanges g wanted few_changes × HasMoreThan (IsComplete g) limit × IsAbsentAmongFirst g wanted limit
-IsFindCause g wanted limit HistoryFull = FillsHistory g
+IsFindCause g wanted limit HistoryFull =
+    FillsNear g wanted few_changes
+    ⊎ (NeedsChanges g wanted few_changes × (FillsWithin g limit ⊎ FillsLed g wanted limit))
 IsFindCause g wanted limit OutOfMemory = Unit {0}
 
 -- what was found by counting keeps within the limit: none is absent where there are more schedules,
@@ -39,13 +81,10 @@ SparesHistory g limit (Nearest schedule) =
     few_changes ≤ changes schedule.items → (HasMoreThan (IsComplete g) limit → ⊥) → FillsHistory g → ⊥
 SparesHistory g limit (Absent schedules) = FillsHistory g → ⊥
 
--- the history has room for each call of the schedule that was found, if it has few changes, or there
--- are no more schedules than the limit
-abbrev pub IsRecorded : Setting → (limit : ℕ) → Found → Type 0
-IsRecorded g limit (Nearest schedule) =
-    (changes schedule.items < few_changes) ⊎ (HasMoreThan (IsComplete g) limit → ⊥)
-    → HasRoomAlong g schedule.items
-IsRecorded g limit (Absent schedules) = Unit {0}
+-- the history has room for each call of the schedule that was found
+abbrev pub IsRecorded : Setting → Found → Type 0
+IsRecorded g (Nearest schedule) = HasRoomAlong g schedule.items
+IsRecorded g (Absent schedules) = Unit {0}
 
 -- a fault of the exploration as the search's
 abbrev pub find_fault_from : ExploreFault → FindFault

@@ -37,16 +37,19 @@ abbrev pub IsAbsent : Setting → List Wanted → ℕ → Type 0
 IsAbsent g wanted n = ((s : List ℕ) → Reaches g wanted s → ⊥) × HasCount (IsComplete g) n
 
 -- the schedules before a place are as many as a limit: none of these first ones ends as is wanted,
--- or one does
+-- or this one does, or one
 abbrev pub IsAbsentAmongFirst : Setting → List Wanted → (limit : ℕ) → Type 0
 IsAbsentAmongFirst g wanted limit =
     (place : List ℕ) × HasCount (λ s. (x : OutcomeValue) × Before g place s x) limit
     × ((s : List ℕ) → Reaches g wanted s → IsBefore s place → ⊥)
 
+abbrev pub IsAmongFirst : Setting → List Wanted → (limit : ℕ) → List ℕ → Type 0
+IsAmongFirst g wanted limit s =
+    Reaches g wanted s × (place : List ℕ)
+    × HasCount (λ t. (x : OutcomeValue) × Before g place t x) limit × IsBefore s place
+
 abbrev pub IsMetAmongFirst : Setting → List Wanted → (limit : ℕ) → Type 0
-IsMetAmongFirst g wanted limit =
-    (place : List ℕ) × HasCount (λ s. (x : OutcomeValue) × Before g place s x) limit
-    × (s : List ℕ) × Reaches g wanted s × IsBefore s place
+IsMetAmongFirst g wanted limit = (s : List ℕ) × IsAmongFirst g wanted limit s
 
 -- the history has room for each call of a schedule
 abbrev pub HasRoomAlong : Setting → List ℕ → Type 0

@@ -1,9 +1,9 @@
 //! The search by rising number of changes.
 ghost use Rattle.std.specs.Prelude.{◌≡◌, ◌<◌, ◌≤◌, ◌^◌, IfErr, IfOk, length, option_map};
-ghost use Rattle.hp_explore.specs.Faults.{IsCause};
 ghost use Rattle.hp_explore.specs.Settings.{setting};
-ghost use Rattle.hp_find.specs.Faults.{IsFindCause, IsRecorded, IsWithin, SparesHistory};
-ghost use Rattle.hp_find.specs.Reaching.{IsFound, IsNearest, IsNearestBelow, NeedsChanges, ReachesFirst};
+ghost use Rattle.hp_find.specs.Changes.{changes};
+ghost use Rattle.hp_find.specs.Faults.{IsFindCause, IsNearCause, IsRecorded, IsWithin, SparesHistory};
+ghost use Rattle.hp_find.specs.Reaching.{HasRoomAlong, IsFound, IsNearest, IsNearestBelow, NeedsChanges, ReachesFirst};
 
 use crate::changes::changes_of;
 use crate::fault::FindFault;
@@ -34,11 +34,13 @@ pub enum Found {
 /// of processor k. The machine stays as it is. The watch is told how far the count of all schedules
 /// has come.
 ///
-/// An error is `HistoryFull` where the layout's history has no room for all calls of a schedule,
-/// `OutOfMemory`, or `TooMany` where there are more schedules than the limit, and none with fewer
-/// than three changes ends so, and none of the first ones in the order of `explore`, as many as the
-/// limit.
-#[tactic(auto, using(crate::proofs::Levels::found_recorded))]
+/// An error is `HistoryFull` where the search comes to a call for which the layout's history has no
+/// room: in the schedules with fewer than three changes; where none of these ends so, in the count,
+/// within its limit; and where this stopped at its limit, in the schedules with fewer changes than
+/// the one that it found. Each comes before any schedule that ends so, but for the count's. Others
+/// are `OutOfMemory`, and `TooMany` where there are more schedules than the limit, and none with
+/// fewer than three changes ends so, and none of the first ones in the order of `explore`, as many
+/// as the limit.
 pub fn find<W: Watch>(
     alloc: Global,
     machine: &Machine,
@@ -51,7 +53,7 @@ pub fn find<W: Watch>(
     ensures ok { IfOk result (IsFound (setting machine.now scripts.now) wanted.now) }
     ensures few { IfOk result (IsWithin (setting machine.now scripts.now) wanted.now limit) }
     ensures room { IfOk result (SparesHistory (setting machine.now scripts.now) limit) }
-    ensures along { IfOk result (IsRecorded (setting machine.now scripts.now) limit) }
+    ensures along { IfOk result (IsRecorded (setting machine.now scripts.now)) }
     ensures err { IfErr result (IsFindCause (setting machine.now scripts.now) wanted.now limit) }
 {
     if let Some(schedule) = nearest_below(alloc, machine, scripts, wanted, 0, FEW)? {
@@ -85,9 +87,12 @@ fn nearest_to(
 ) -> Result<Vec<Cpu>, ExploreFault>
     requires few { length scripts.now < 2 ^ 32 }
     requires known { ReachesFirst (setting machine.now scripts.now) wanted.now known.now }
+    requires along { HasRoomAlong (setting machine.now scripts.now) known.now }
     requires from { NeedsChanges (setting machine.now scripts.now) wanted.now FEW }
     ensures ok { IfOk result (λ s. IsNearest (setting machine.now scripts.now) wanted.now s.items) }
-    ensures err { IfErr result (IsCause (setting machine.now scripts.now)) }
+    ensures along { IfOk result (λ s. HasRoomAlong (setting machine.now scripts.now) s.items) }
+    ensures err { IfErr result
+        (IsNearCause (setting machine.now scripts.now) wanted.now (changes known.now)) }
 {
     let below = changes_of(known) as u64;
     match nearest_below(alloc, machine, scripts, wanted, FEW, below)? {
@@ -112,7 +117,7 @@ fn nearest_below(
     requires order { from ≤ below }
     ensures ok { IfOk result (λ found. IsNearestBelow (setting machine.now scripts.now) wanted.now below
         (option_map (λ s. s.items) found)) }
-    ensures err { IfErr result (IsCause (setting machine.now scripts.now)) }
+    ensures err { IfErr result (IsNearCause (setting machine.now scripts.now) wanted.now below) }
 {
     for budget in from..below {
         if let Some(schedule) = first_within(alloc, machine, scripts, wanted, budget)? {

@@ -1,9 +1,11 @@
 //! The search of the schedules that change the processor only so often, depth first and processor 0
 //! first.
-ghost use Rattle.std.specs.Prelude.{◌≡◌, ◌<◌, ◌+◌, ◌^◌, ◌↔◌, [], IfErr, IfOk, IsTrue, OnOk, option_map, length};
-ghost use Rattle.hp_explore.specs.Faults.{IsCause, IsCauseHere};
+ghost use Rattle.std.specs.Prelude.{◌≡◌, ◌<◌, ◌≤◌, ◌+◌, ◌++◌, ◌∷◌, ◌^◌, ◌↔◌, [], IfErr, IfOk, IsTrue, OnOk, option_map, length};
+ghost use Rattle.hp_explore.specs.Faults.{IsCauseHere};
 ghost use Rattle.hp_schedules.specs.Schedules.{schedule_of};
 ghost use Rattle.hp_explore.specs.Settings.{setting};
+ghost use Rattle.hp_find.specs.Changes.{changes};
+ghost use Rattle.hp_find.specs.Faults.{IsPassCause};
 ghost use Rattle.hp_find.specs.Reaching.{IsFirstWithin, Reaches};
 ghost use Rattle.hp_find.specs.Searches.{IsDown, IsSearching, IsTurned, IsUp};
 
@@ -44,7 +46,8 @@ impl<'a> Model for Search<'a> {
 }
 
 /// The first schedule in the order of the search that ends as is wanted and changes the processor
-/// at most so often. Errors come as those of `explore`, but never `TooMany`.
+/// at most so often. An error is `HistoryFull` where the search comes to a call for which the history
+/// has no room, or `OutOfMemory`.
 pub(crate) fn first_within(
     alloc: Global,
     machine: &Machine,
@@ -55,7 +58,7 @@ pub(crate) fn first_within(
     requires { length scripts.now < 2 ^ 32 }
     ensures ok { IfOk result (λ found. IsFirstWithin (setting machine.now scripts.now) wanted.now budget
         (option_map (λ s. s.items) found)) }
-    ensures err { IfErr result (IsCause (setting machine.now scripts.now)) }
+    ensures err { IfErr result (IsPassCause (setting machine.now scripts.now) wanted.now budget) }
 {
     let mut search = Search::start(alloc, machine, scripts)?;
     let processors = scripts.len() as u32;
@@ -100,7 +103,7 @@ impl<'a> Search<'a> {
         requires searching { IsSearching wanted.now budget self.old }
         requires processors { processors ≡ length self.old.path.setting.scripts }
         ensures ok { IfOk result (IsTurned wanted.now budget self.old self.new) }
-        ensures err { IfErr result (IsCause self.old.path.setting) }
+        ensures err { IfErr result (IsPassCause self.old.path.setting wanted.now budget) }
     {
         self.path.is_played();
         if self.next < processors {
@@ -120,6 +123,8 @@ impl<'a> Search<'a> {
         ensures ok { OnOk result (IsDown budget self.old self.new) }
         ensures err { IfErr result
             (IsCauseHere self.old.path.setting self.old.path.news self.old.next) }
+        ensures few { IfErr result
+            (λ _. changes (self.old.schedule ++ self.old.next ∷ []) ≤ budget) }
     {
         let cpu = Cpu(self.next);
         if changes_with(self.schedule.as_slice(), cpu) > u128::from(budget) {

@@ -1,6 +1,5 @@
 -- Why a search of a scenario has no answer.
 use Rattle.std.proofs.Common.{ℕ, List, refl, sym, subst}
-use Rattle.hp_explore.specs.Faults.{IsCause}
 use Rattle.hp_explore.specs.declared.exploring.ExploreFault.TheVariants as explore
 use Rattle.hp_find.specs.Faults.{IsFindCause}
 use Rattle.hp_find.specs.declared.fault.FindFault.{FindFault}
@@ -10,7 +9,7 @@ use Rattle.hp_lab_faults.specs.declared.fault.LabFault.{LabFault}
 use Rattle.hp_prepared.specs.Prepared.{IsPrepared, setting_of}
 use Rattle.hp_prepared.specs.declared.prepared.Prepared.{Prepared}
 use Rattle.hp_prepared.proofs.Known.{stopped_in, untold, untold_in}
-use Rattle.hp_lab.specs.Findings.{IsFindFaultOf, IsFindTold, IsTooMany}
+use Rattle.hp_lab.specs.Findings.{IsFindFaultOf, IsFindTold, IsSearchCause, IsTooMany}
 
 pub not_found : (input : List ℕ) (setup limit : ℕ) (wanted : List Wanted) (p : Prepared) (fault : FindFault)
     (told : LabFault)
@@ -20,7 +19,7 @@ not_found input setup limit wanted p search.TooMany told ready is cause =
     subst (IsFindFaultOf input setup limit wanted) (sym is)
     (refl, stopped_in (IsTooMany wanted limit) input setup p ready cause)
 not_found input setup limit wanted p search.HistoryFull told ready is cause =
-    untold_in (IsTooMany wanted limit) IsCause input setup limit p told ready
-    (untold IsCause (setting_of p) explore.HistoryFull told is cause)
+    untold_in (IsTooMany wanted limit) (IsSearchCause wanted limit) input setup limit p told ready
+    (untold (IsSearchCause wanted limit) (setting_of p) explore.HistoryFull told is cause)
 not_found input setup limit wanted p search.OutOfMemory told ready is cause =
     subst (IsFindFaultOf input setup limit wanted) (sym is) tt

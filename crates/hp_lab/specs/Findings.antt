@@ -1,8 +1,8 @@
 -- What is promised of a search, and when each fault comes.
 use Rattle.std.specs.Prelude.{◌≡◌, ℕ, Bool, true, false, List}
 use Rattle.hp_schedules.specs.Schedules.{Setting}
-use Rattle.hp_explore.specs.Faults.{IsCause}
-use Rattle.hp_find.specs.Faults.{IsFindCause, IsRecorded, IsWithin, SparesHistory}
+use Rattle.hp_explore.specs.declared.exploring.ExploreFault.{ExploreFault}
+use Rattle.hp_find.specs.Faults.{IsFindCause, IsRecorded, IsWithin, SparesHistory, find_fault_from}
 use Rattle.hp_find.specs.Reaching.{IsFound}
 use Rattle.hp_find.specs.declared.fault.FindFault.{FindFault}
 use Rattle.hp_find.specs.declared.fault.FindFault.TheVariants as search
@@ -28,14 +28,14 @@ IsFoundTold form names before g (Absent schedules) text found =
     (text ≡ absent_told form schedules) × (found ≡ false)
 
 -- of the first whose end has each of the wanted lines with the fewest changes of processor, or of
--- none; as far as the limit and the history allow it to be told
+-- none, as far as the limit and the history allow it to be told; its calls have room
 pub record IsFoundOn (form : ScheduleForm) (names : List (List ℕ)) (before : List Line) (g : Setting)
     (wanted : List Wanted) (limit : ℕ) (text : List ℕ) (found : Bool) : Type 0 where
   pub what : Found
   pub is : IsFound g wanted what
   pub few : IsWithin g wanted limit what
   pub room : SparesHistory g limit what
-  pub along : IsRecorded g limit what
+  pub along : IsRecorded g what
   pub told : IsFoundTold form names before g what text found
 
 -- a fault of a search is told so
@@ -56,7 +56,11 @@ IsFindingOf form input setup limit wanted text found =
 abbrev pub IsTooMany : List Wanted → (limit : ℕ) → Setting → Type 0
 IsTooMany wanted limit g = IsFindCause g wanted limit search.TooMany
 
--- when each fault comes
+-- the causes of a call's fault in a search
+abbrev pub IsSearchCause : List Wanted → (limit : ℕ) → Setting → ExploreFault → Type 0
+IsSearchCause wanted limit g fault = IsFindCause g wanted limit (find_fault_from fault)
+
+-- when each fault comes: a full history only by a call to which the search comes
 abbrev pub IsFindFaultOf : (input : List ℕ) → (setup limit : ℕ) → List Wanted → LabFault → Type 0
 IsFindFaultOf input setup limit wanted fault =
-    IsFaultWith (IsTooMany wanted limit) IsCause input setup limit fault
+    IsFaultWith (IsTooMany wanted limit) (IsSearchCause wanted limit) input setup limit fault

@@ -1,6 +1,5 @@
 //! A scenario searched for an end.
 ghost use Rattle.std.specs.Prelude.{◌≡◌, ◌^◌, ◌<◌, IfErr, IfOk, length, option_map, string_bytes};
-ghost use Rattle.hp_explore.specs.Faults.{IsCause};
 ghost use Rattle.hp_find.specs.Faults.{IsFindCause};
 ghost use Rattle.hp_prepared.specs.Prepared.{before_of, names_of, setting_of};
 ghost use Rattle.hp_lab.specs.Findings.{IsFindFaultOf, IsFindTold, IsFindingOf, IsFoundOn, IsFoundTold};
@@ -26,8 +25,9 @@ use std::alloc::{AllocError, Global};
 ///
 /// Errors: those of reading the scenario; NotForScript with the first line after the setup that
 /// cannot stand in a script; TooMany, where there are more interleavings than `limit`, and none with
-/// fewer than three changes ends so, and none of the first `limit`; HistoryFull; OutOfMemory, which
-/// may come in place of any answer.
+/// fewer than three changes ends so, and none of the first `limit`; HistoryFull where the search comes
+/// to a call for which the history has no room: as `find` of hp_find says; OutOfMemory, which may come
+/// in place of any answer.
 pub fn find_text<W: Watch>(
     alloc: Global,
     input: &[u8],
@@ -80,16 +80,15 @@ fn told_fault(alloc: Global, prepared: &Prepared, limit: u64, fault: FindFault) 
     }
 }
 
-/// What a search found, in a form. A fault is that of a call: what it found is played once more.
+/// What a search found, in a form: its calls are made once more. An error is out of memory.
 fn found_told(
     alloc: Global,
     prepared: &Prepared,
     found: &Found,
     form: ScheduleForm,
-) -> Result<Finding, ExploreFault>
-    ensures ok { IfOk result (λ f. IsFoundTold form (names_of prepared.now) (before_of prepared.now)
+) -> Result<Finding, AllocError>
+    ensures { IfOk result (λ f. IsFoundTold form (names_of prepared.now) (before_of prepared.now)
         (setting_of prepared.now) found.now (string_bytes f.text) f.is_found) }
-    ensures err { IfErr result (IsCause (setting_of prepared.now)) }
 {
     match found {
         Found::Nearest(schedule) => {
@@ -109,18 +108,20 @@ fn found_told(
     }
 }
 
-/// A schedule of the scripts in a form. A fault is that of a call: it is played once more.
+/// A schedule of the scripts in a form, which is played once more. An error is out of memory.
 fn schedule_told(
     alloc: Global,
     prepared: &Prepared,
     schedule: &[Cpu],
     form: ScheduleForm,
-) -> Result<String, ExploreFault>
-    ensures ok { IfOk result (λ text. string_bytes text ≡ found_text form (names_of prepared.now)
+) -> Result<String, AllocError>
+    ensures { IfOk result (λ text. string_bytes text ≡ found_text form (names_of prepared.now)
         (before_of prepared.now) (setting_of prepared.now) schedule.now) }
-    ensures err { IfErr result (IsCause (setting_of prepared.now)) }
 {
-    let played = prepared.played(alloc, schedule)?;
+    // The search has made these calls, so that only memory can be lacking.
+    let Ok(played) = prepared.played(alloc, schedule) else {
+        return Err(AllocError);
+    };
     let text = text_of(alloc, prepared, schedule, prepared.calls_of(&played), form)?;
     Ok(text)
 }

@@ -1,4 +1,6 @@
--- What the faults of the crates below are to the laboratory and to its program.
+-- What the faults of the crates below are to the laboratory and to its program, and of what its own say
+-- something.
+use Rattle.std.specs.Prelude.{Bool, true, false}
 use Rattle.hp_scenario.specs.declared.fault.ScenarioFault.{ScenarioFault}
 use Rattle.hp_scenario.specs.declared.fault.ScenarioFault.TheVariants as scenario
 use Rattle.hp_scripts.specs.declared.fault.StartFault.{StartFault}
@@ -8,7 +10,7 @@ use Rattle.hp_streams.specs.declared.reading.ReadFault.TheVariants as reading
 use Rattle.hp_lab_faults.specs.declared.fault.LabFault.{LabFault}
 use Rattle.hp_lab_faults.specs.declared.fault.LabFault.TheVariants.{NotJson, BadShape, Layout, BadLine, NotForScript, OutOfMemory}
 use Rattle.hp_lab_faults.specs.declared.program_fault.ProgramFault.{ProgramFault}
-use Rattle.hp_lab_faults.specs.declared.program_fault.ProgramFault.TheVariants.{Lab, ReadFailed, TooLong}
+use Rattle.hp_lab_faults.specs.declared.program_fault.ProgramFault.TheVariants.{Lab, NotOpened, ReadFailed, Scenario, TooLong}
 
 -- the fault of reading a scenario, which is never that a line is not for workers
 abbrev pub fault_from : ScenarioFault → LabFault
@@ -29,3 +31,26 @@ abbrev pub read_fault_from : ReadFault → ProgramFault
 read_fault_from reading.ReadFailed = ReadFailed
 read_fault_from reading.TooLong = TooLong
 read_fault_from reading.OutOfMemory = Lab OutOfMemory
+
+-- ---- of what the program's faults say something
+
+-- that the input was not read
+abbrev pub is_of_input : ProgramFault → Bool
+is_of_input NotOpened = true
+is_of_input ReadFailed = true
+is_of_input TooLong = true
+is_of_input fault = false
+
+-- that the input is no scenario: by an exploration's fault, and by any
+abbrev pub is_of_text : LabFault → Bool
+is_of_text NotJson = true
+is_of_text BadShape = true
+is_of_text (Layout fault) = true
+is_of_text (BadLine line) = true
+is_of_text fault = false
+
+abbrev pub is_of_scenario : ProgramFault → Bool
+is_of_scenario (Scenario scenario.OutOfMemory) = false
+is_of_scenario (Scenario fault) = true
+is_of_scenario (Lab fault) = is_of_text fault
+is_of_scenario fault = false

@@ -14,7 +14,8 @@ pub enum PartFault {
     /// The line is none of a part; or the input is empty.
     NotPart { line: u64 },
     /// The line is the head of a part of another search than the first: of another scenario or setup,
-    /// of another number of parts, or by another number of first calls.
+    /// of another number of parts, or by another number of first calls; or it is a head of this very
+    /// search, and not byte for byte as the search writes it.
     OtherSearch { line: u64 },
     /// The processors of the line are no complete interleaving of its part.
     NotOfPart { line: u64 },
@@ -30,7 +31,7 @@ pub enum PartFault {
     Twice { part: u64 },
     /// There are 2^64 interleavings or more.
     TooMany,
-    /// The scenario that the heads name is not explored.
+    /// The scenario that the heads name is not explored; or memory was refused, reading included.
     Lab(LabFault),
 }
 

@@ -1,7 +1,7 @@
 //! Why the program failed.
 ghost use Rattle.std.specs.Prelude.{◌≡◌};
 ghost use Rattle.hp_lab_faults.specs.declared.fault.LabFault.TheVariants.{OutOfMemory};
-ghost use Rattle.hp_lab_faults.specs.Faults.{read_fault_from};
+ghost use Rattle.hp_lab_faults.specs.Faults.{is_of_input, is_of_scenario, is_of_text, read_fault_from};
 ghost use Rattle.hp_lab_faults.specs.declared.program_fault.ProgramFault.TheVariants.{Lab, Parts, Scenario};
 
 use crate::fault::LabFault;
@@ -22,7 +22,8 @@ pub enum ProgramFault {
     ReadFailed,
     /// There are more than 16,777,216 bytes of input.
     TooLong,
-    /// The exploration failed.
+    /// The exploration failed; or memory was refused, at whatever the program was asked for, reading
+    /// included.
     Lab(LabFault),
     /// The parts have no sum.
     Parts(PartFault),
@@ -36,7 +37,9 @@ pub enum ProgramFault {
 
 impl ProgramFault {
     /// Whether it says that the input was not read.
-    pub fn is_of_input(&self) -> bool {
+    pub fn is_of_input(&self) -> bool
+        ensures { result ≡ is_of_input self.now }
+    {
         matches!(
             self,
             ProgramFault::NotOpened | ProgramFault::ReadFailed | ProgramFault::TooLong
@@ -44,7 +47,9 @@ impl ProgramFault {
     }
 
     /// Whether it says that the input is no scenario, of which `check` says more.
-    pub fn is_of_scenario(&self) -> bool {
+    pub fn is_of_scenario(&self) -> bool
+        ensures { result ≡ is_of_scenario self.now }
+    {
         match self {
             ProgramFault::Scenario(fault) => !matches!(fault, ScenarioFault::OutOfMemory),
             ProgramFault::Lab(fault) => is_of_text(*fault),
@@ -54,7 +59,9 @@ impl ProgramFault {
 }
 
 /// Whether an exploration failed because the input is no scenario.
-fn is_of_text(fault: LabFault) -> bool {
+fn is_of_text(fault: LabFault) -> bool
+    ensures { result ≡ is_of_text fault }
+{
     match fault {
         LabFault::NotJson => true,
         LabFault::BadShape => true,

@@ -1,13 +1,15 @@
 -- The first end with the lines is reached, and first by its first schedule; where there is none, no
 -- schedule reaches one.
-use Rattle.std.proofs.Common.{Global, List, None, Some, Vec, ap, arith, sum_by, sym, subst, ◌∙◌}
+use Rattle.std.proofs.Common.{ℕ, Global, List, None, Some, Vec, ap, arith, sum_by, sym, subst, ◌∙◌}
+use Rattle.std.proofs.lemmas.Result.{err_from_is_err_and}
 use Rattle.hp_units.specs.declared.Cpu.{Cpu}
 use Rattle.hp_explore.specs.Settings.{setting}
 use Rattle.hp_schedules.specs.declared.tally.Ending.{Ending}
 use Rattle.hp_wanted.specs.Ends.{HasNoSuchEnd, IsFirstSuchEnd}
-use Rattle.hp_find.specs.Faults.{few_changes}
-use Rattle.hp_find.specs.Reaching.{IsAbsent, NeedsChanges, ReachesFirst}
-use Rattle.hp_find.proofs.Levels.{first_cause, found_recorded, met_within, nearest_at, none_fills, none_reaches, such_reaches}
+use Rattle.hp_find.specs.Changes.{changes}
+use Rattle.hp_find.specs.Faults.{IsNearCause, few_changes}
+use Rattle.hp_find.specs.Reaching.{HasRoomAlong, IsAbsent, NeedsChanges, ReachesFirst}
+use Rattle.hp_find.proofs.Levels.{count_cause, few_cause, first_cause, known_recorded, led_cause, met_within, nearest_at, none_fills, none_reaches, such_reaches}
 use Rattle.hp_find.proofs.finding.find.Goals as goal
 
 pub nearest_to-requires-clause-known : goal.nearest_to-requires-clause-known
@@ -18,6 +20,51 @@ nearest_to-requires-clause-known g c =
     c.in_ok-explored.ensures.ok c.in_ok-explored.ensures.first c.in_ok-explored.ensures.ordered
     (subst (λ (ends : List Ending). IsFirstSuchEnd ends c.args.wanted.now c.in-Some-end_with.end.now)
     c.deref.ensures.value c.in-Some-end_with.ensures.some))
+
+pub nearest_to-requires-clause-along : goal.nearest_to-requires-clause-along
+nearest_to-requires-clause-along g c =
+    let start = setting c.args.machine.now c.args.scripts.now in
+    subst (HasRoomAlong start) (sym c.as_slice.ensures.value)
+    (known_recorded start c.args.wanted.now c.args.limit c.in_ok-explored.explored
+    c.in-Some-end_with.end.now c.in_ok-explored.ensures.room c.in_ok-explored.ensures.first
+    (subst (λ (ends : List Ending). IsFirstSuchEnd ends c.args.wanted.now c.in-Some-end_with.end.now)
+    c.deref.ensures.value c.in-Some-end_with.ensures.some))
+
+pub returns-in_err-schedule-clause-err : goal.returns-in_err-schedule-clause-err
+returns-in_err-schedule-clause-err g c =
+    let p = err_from_is_err_and c.from_residual.result c.from_residual.ensures.1 in
+    rw (p.1, p.2)
+    (few_cause (setting c.args.machine.now c.args.scripts.now) c.args.wanted.now c.args.limit _
+    c.in_err-schedule.ensures.err)
+
+pub returns-in_err-explored-clause-err : goal.returns-in_err-explored-clause-err
+returns-in_err-explored-clause-err g c =
+    let p =
+    err_from_is_err_and c.from_residual-in_err-explored.result c.from_residual-in_err-explored.ensures.1 in
+    let start = setting c.args.machine.now c.args.scripts.now in
+    let needs : NeedsChanges start c.args.wanted.now few_changes =
+    nearest_at (λ (s : Vec Cpu Global). s.items) start c.args.wanted.now few_changes
+    c.in_ok-schedule.field-0 None c.in_default.is c.in_ok-schedule.ensures.ok in
+    rw (p.1, p.2)
+    (count_cause start c.args.wanted.now c.args.limit _ needs c.in_err-explored.ensures.full)
+
+pub returns-in_err-schedule-in-Some-end_with-clause-err : goal.returns-in_err-schedule-in-Some-end_with-clause-err
+returns-in_err-schedule-in-Some-end_with-clause-err g c =
+    let p =
+    err_from_is_err_and c.from_residual-in_err-schedule-in-Some-end_with.result
+    c.from_residual-in_err-schedule-in-Some-end_with.ensures.1 in
+    let start = setting c.args.machine.now c.args.scripts.now in
+    let needs : NeedsChanges start c.args.wanted.now few_changes =
+    nearest_at (λ (s : Vec Cpu Global). s.items) start c.args.wanted.now few_changes
+    c.in_ok-schedule.field-0 None c.in_default.is c.in_ok-schedule.ensures.ok in
+    rw (p.1, p.2)
+    (led_cause start c.args.wanted.now c.args.limit c.in_ok-explored.explored c.in-Some-end_with.end.now _
+    needs c.in_ok-explored.ensures.room c.in_ok-explored.ensures.first c.in_ok-explored.ensures.many
+    (subst (λ (ends : List Ending). IsFirstSuchEnd ends c.args.wanted.now c.in-Some-end_with.end.now)
+    c.deref.ensures.value c.in-Some-end_with.ensures.some)
+    (subst (λ (n : List ℕ). IsNearCause start c.args.wanted.now (changes n)
+    c.in_err-schedule-in-Some-end_with.field-0.0) c.as_slice.ensures.value
+    c.in_err-schedule-in-Some-end_with.ensures.err))
 
 pub returns-in-Some-end_with-clause-few : goal.returns-in-Some-end_with-clause-few
 returns-in-Some-end_with-clause-few g c few more =
@@ -51,7 +98,7 @@ returns-clause-err g c =
     c.in-None.ensures.none)
 
 pub returns-in-Some-clause-along : goal.returns-in-Some-clause-along
-returns-in-Some-clause-along g c cause =
+returns-in-Some-clause-along g c =
     (nearest_at (λ (s : Vec Cpu Global). s.items) (setting c.args.machine.now c.args.scripts.now)
     c.args.wanted.now few_changes c.in_ok-schedule.field-0 (Some c.in-Some.schedule)
     c.in-Some.is c.in_ok-schedule.ensures.ok).2
@@ -69,14 +116,7 @@ returns-in-Some-end_with-clause-room g c more =
     c.in_ok-explored.ensures.room c.in_ok-explored.ensures.many
 
 pub returns-in-Some-end_with-clause-along : goal.returns-in-Some-end_with-clause-along
-returns-in-Some-end_with-clause-along g c =
-    let start = setting c.args.machine.now c.args.scripts.now in
-    let needs : NeedsChanges start c.args.wanted.now few_changes =
-    nearest_at (λ (s : Vec Cpu Global). s.items) start c.args.wanted.now few_changes
-    c.in_ok-schedule.field-0 None c.in_default.is c.in_ok-schedule.ensures.ok in
-    let schedule = c.in_ok-schedule-in-Some-end_with.schedule.items in
-    found_recorded start c.args.limit c.in_ok-explored.explored schedule c.in_ok-explored.ensures.room
-    c.in_ok-explored.ensures.many (needs schedule c.in_ok-schedule-in-Some-end_with.ensures.ok.0)
+returns-in-Some-end_with-clause-along g c = c.in_ok-schedule-in-Some-end_with.ensures.along
 
 pub returns-then-explored-clause-few : goal.returns-then-explored-clause-few
 returns-then-explored-clause-few g c = c.in_ok-explored.ensures.few c.if-explored.true

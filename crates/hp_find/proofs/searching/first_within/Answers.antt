@@ -1,6 +1,9 @@
 -- The search begins before any call; where it found a schedule, that is one.
 use Rattle.std.proofs.Common.{ap, sym, subst, ◌∙◌}
+use Rattle.std.proofs.lemmas.Result.{err_from_is_err_and}
 use Rattle.hp_explore.specs.Settings.{setting}
+use Rattle.hp_schedules.specs.Schedules.{Setting}
+use Rattle.hp_find.specs.Faults.{IsPassCause}
 use Rattle.hp_find.specs.Searches.{IsCloser, IsSearching, IsTurned, SearchValue}
 use Rattle.hp_find.proofs.SearchTurns.{found_here, started}
 use Rattle.hp_find.proofs.searching.first_within.Goals as goal
@@ -21,6 +24,14 @@ returns-in-Found-clause-ok c =
     found_here (setting c.args.machine.now c.args.scripts.now) c.args.wanted.now c.args.budget
     c.turns.search c.turn.new.self c.in_ok-turn.field-0 c.into_schedule.result.items c.in_ok-turn.ensures.ok
     c.in-Found.is c.turns.invariant.same c.into_schedule.ensures
+
+pub returns-in_err-turn-clause-err : goal.returns-in_err-turn-clause-err
+returns-in_err-turn-clause-err c =
+    let p =
+    err_from_is_err_and c.from_residual-in_err-turn.result c.from_residual-in_err-turn.ensures.1 in
+    rw (p.1, p.2)
+    (subst (λ (g : Setting). IsPassCause g c.args.wanted.now c.args.budget c.in_err-turn.field-0.0)
+    c.turns.invariant.same c.in_err-turn.ensures.err)
 
 -- a turn that goes on comes closer
 closer : (c : In-On) → IsCloser c.args.wanted.now c.args.budget c.turns.search c.turn.new.self

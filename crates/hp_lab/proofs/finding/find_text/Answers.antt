@@ -1,9 +1,8 @@
 -- What holds on the machine where the search begins holds in the scenario.
 use Rattle.std.proofs.Common.{string_bytes}
 use Rattle.std.proofs.lemmas.Result.{err_from_is_err_and}
-use Rattle.hp_explore.specs.Faults.{IsCause}
 use Rattle.hp_prepared.proofs.Known.{held_in, unprepared_known}
-use Rattle.hp_lab.specs.Findings.{IsFoundOn, IsTooMany}
+use Rattle.hp_lab.specs.Findings.{IsFoundOn, IsSearchCause, IsTooMany}
 use Rattle.hp_lab.proofs.Findings.{not_found}
 use Rattle.hp_lab.proofs.finding.find_text.Goals as goal
 
@@ -12,8 +11,9 @@ returns-in_err-prepared-clause-err g c =
     let p =
     err_from_is_err_and c.from_residual.result c.from_residual.ensures.1 in
     rw (p.1, p.2)
-    (unprepared_known (IsTooMany c.args.wanted.now c.args.limit) IsCause c.args.input.now c.args.setup
-    c.args.limit _ c.in_err-prepared.ensures.err)
+    (unprepared_known (IsTooMany c.args.wanted.now c.args.limit)
+    (IsSearchCause c.args.wanted.now c.args.limit) c.args.input.now c.args.setup c.args.limit _
+    c.in_err-prepared.ensures.err)
 
 pub returns-in-Ok-clause-ok : goal.returns-in-Ok-clause-ok
 returns-in-Ok-clause-ok g c =

@@ -3,9 +3,9 @@ use Rattle.std.proofs.Common.{List, string_bytes, subst, sym}
 use Rattle.std.proofs.lemmas.Result.{err_from_is_err_and}
 use Rattle.hp_schedules.specs.declared.scripts.Line.{Line as Step}
 use Rattle.hp_explore.specs.Settings.{setting}
-use Rattle.hp_find.proofs.Levels.{find_cause}
+use Rattle.hp_find.specs.Faults.{IsFindCause}
 use Rattle.hp_lab.specs.Findings.{IsFoundOn, IsFoundTold}
-use Rattle.hp_prepared.specs.Prepared.{before_of, names_of, setting_of}
+use Rattle.hp_prepared.specs.Prepared.{before_of, names_of}
 use Rattle.hp_lab.proofs.finding.found.Goals as goal
 
 pub returns-clause-ok : goal.returns-clause-ok
@@ -23,13 +23,13 @@ returns-clause-ok g c =
       told =
           subst (λ (ss : List (List Step)). IsFoundTold c.args.form (names_of p) (before_of p)
           (setting p.start.machine ss) c.in_ok-found.found (string_bytes f.text) f.is_found)
-          (sym c.as_slice-scripts.ensures.value) c.in_ok-finding.ensures.ok;
+          (sym c.as_slice-scripts.ensures.value) c.in_ok-finding.ensures;
     })
 
-pub returns-in_err-finding-clause-err : goal.returns-in_err-finding-clause-err
-returns-in_err-finding-clause-err g c =
-    let p =
-    err_from_is_err_and c.from_residual-in_err-finding.result c.from_residual-in_err-finding.ensures.1 in
+pub returns-in_err-found-clause-err : goal.returns-in_err-found-clause-err
+returns-in_err-found-clause-err g c =
+    let p = err_from_is_err_and c.from_residual.result c.from_residual.ensures.1 in
     rw (p.1, p.2)
-    (find_cause (setting_of c.args.prepared.now) c.args.wanted.now c.args.limit _
-    c.in_err-finding.ensures.err)
+    (subst (λ (ss : List (List Step)). IsFindCause (setting c.args.prepared.now.start.machine ss)
+    c.args.wanted.now c.args.limit c.in_err-found.field-0.0) c.as_slice-scripts.ensures.value
+    c.in_err-found.ensures.err)

@@ -3,10 +3,10 @@ use Rattle.hp_prepared.specs.Prepared.{before_of, names_of, setting_of}
 use Rattle.hp_lab.specs.Texts.{schedule_text}
 use Rattle.hp_lab.proofs.finding.schedule_told.Goals as goal
 
-pub returns-clause-ok : goal.returns-clause-ok
-returns-clause-ok c =
+pub returns : goal.returns
+returns c =
     let p = c.args.prepared.now in
     c.in_ok-text.ensures
     ∙ ap
     (schedule_text c.args.form (names_of p) (before_of p) (setting_of p).layout c.args.schedule.now)
-    (c.calls_of.ensures ∙ c.in_ok-played.ensures.calls)
+    (c.calls_of.ensures ∙ c.in-Ok.ensures.calls)

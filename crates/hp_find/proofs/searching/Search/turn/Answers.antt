@@ -3,9 +3,8 @@ use Rattle.std.proofs.Common.{◌≡◌, ◌<◌, Some, length, ap, subst, arith
 use Rattle.std.proofs.lemmas.Bool.{iff_false}
 use Rattle.std.proofs.lemmas.Result.{err_from_is_err_and}
 use Rattle.hp_schedules.specs.Schedules.{plays, schedule_of}
-use Rattle.hp_explore.proofs.Filled.{cause_of_call}
 use Rattle.hp_find.specs.Searches.{SearchValue}
-use Rattle.hp_find.proofs.SearchTurns.{found_at, gone_down, gone_up}
+use Rattle.hp_find.proofs.SearchTurns.{found_at, gone_down, gone_up, pass_cause}
 use Rattle.hp_find.proofs.searching.Search.turn.Goals as goal
 
 pub returns-then-self-processors-clause-ok : goal.returns-then-self-processors-clause-ok
@@ -49,7 +48,7 @@ returns-in_err-down-clause-err c =
     let v = c.args.self.now in
     let p = err_from_is_err_and c.from_residual.result c.from_residual.ensures.1 in
     rw (p.1, p.2)
-    (cause_of_call v.path.setting v.path.news v.next c.in_err-down.field-0.0
+    (pass_cause c.args.wanted.now c.args.budget v c.in_err-down.field-0.0
     (subst (λ (w : SearchValue). plays w.path.setting (schedule_of w.path.news) ≡ Some w.path.news)
     c.self.view_is c.is_played.ensures)
-    c.in_err-down.ensures.err)
+    c.requires.searching c.in_err-down.ensures.few c.in_err-down.ensures.err)
