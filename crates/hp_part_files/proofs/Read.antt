@@ -3,6 +3,8 @@ use Rattle.std.proofs.Common.{◌≡◌, ℕ, ◌+◌, ◌<◌, ◌≤◌, Optio
 use Rattle.std.specs.List.{All}
 use Rattle.std.proofs.lemmas.List.{flat_map_more, length-append, length-take-le, take-append-drop, take-append-le, take_all}
 use Rattle.std.proofs.lemmas.List.Elements.{All-nil, All-push}
+use Rattle.std.proofs.lemmas.Option.{same_Some}
+use Rattle.std.specs.Prelude.{option_and_then}
 use Rattle.hp_schedules.specs.declared.tally.Ending.{Ending}
 use Rattle.hp_schedules.specs.Schedules.{Setting}
 use Rattle.hp_schedules.specs.Parts.{EndsInPart}
@@ -11,9 +13,10 @@ use Rattle.hp_schedules.specs.Outcomes.{OutcomeValue}
 use Rattle.hp_part_lines.specs.Cuts.{IsLineAt, line_number}
 use Rattle.hp_part_lines.specs.Ends.{IsEndOf}
 use Rattle.hp_part_lines.specs.Gathering.{GatheringValue, PartEndsValue}
-use Rattle.hp_part_lines.specs.Heads.{HeadValue, IsNumber, SearchValue, head_line, part_in}
+use Rattle.hp_part_lines.specs.Heads.{HeadValue, IsHead, IsNumber, SearchValue, head_from, head_line, part_in}
 use Rattle.hp_part_lines.specs.Ordering.{AreAll, IsOrderFault, lists_of}
 use Rattle.hp_part_lines.specs.Reading.{IsLine}
+use Rattle.hp_scenario.specs.Scenario.{json_of}
 use Rattle.hp_part_lines.specs.declared.ordering.OrderFault.{OrderFault}
 use Rattle.hp_part_lines.specs.declared.ordering.OrderFault.TheVariants as order
 use Rattle.hp_part_lines.specs.declared.reading.PartLine.TheVariants.{End}
@@ -124,7 +127,7 @@ line_passed input place text within here =
     let front : List ℕ = take place input ++ (text ++ newline) in
     let whole : front ++ rest ≡ input =
     append_assoc (take place input) (text ++ newline) rest
-    ∙ (ap (λ (l : List ℕ). take place input ++ l) (append_assoc text newline rest ∙ sym here)
+    ∙ (ap (λ (l : List ℕ). take place input ++ l) (append_assoc text newline rest ∙ sym here.0)
     ∙ take-append-drop place input) in
     let long : length front ≡ place + (length text + 1) =
     omega (
@@ -270,7 +273,14 @@ some_lists (l ∷ lists) some = omega arith
 pub line_within : (input text : List ℕ) → IsLineAt input 0 text → length text + 1 ≤ length input
 line_within input text here =
     let rest : List ℕ = drop (0 + length text + 1) input in
-    omega (arith, ap (λ (l : List ℕ). length l) here, length-append text (10 ∷ rest))
+    omega (arith, ap (λ (l : List ℕ). length l) here.0, length-append text (10 ∷ rest))
+
+-- a text that is not written as the head that it says is none
+pub not_head : (text : List ℕ) (head h : HeadValue) → option_and_then head_from (json_of text) ≡ Some head
+    → (text ≡ head_line head.search head.number head.ends → ⊥) → IsHead text h → ⊥
+not_head text head h known other is =
+    other (subst (λ (x : HeadValue). text ≡ head_line x.search x.number x.ends)
+    (same_Some _ _ (sym is.0 ∙ known)) is.1)
 
 -- there are too many
 pub too_many : (input : List ℕ) (names : List (List ℕ)) (g : Setting) (s : SearchValue)

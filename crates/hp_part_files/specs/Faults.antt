@@ -1,5 +1,5 @@
 -- Why parts have no sum: each fault only where it has this cause.
-use Rattle.std.specs.Prelude.{◌≡◌, ◌⊎◌, ℕ, ◌+◌, ◌≤◌, ◌^◌, List, length, take}
+use Rattle.std.specs.Prelude.{◌≡◌, ◌⊎◌, ℕ, ◌+◌, ◌<◌, ◌≤◌, ◌^◌, List, length, take}
 use Rattle.hp_schedules.specs.declared.tally.Ending.{Ending}
 use Rattle.hp_schedules.specs.Outcomes.{OutcomeValue}
 use Rattle.hp_schedules.specs.Schedules.{Setting}
@@ -109,10 +109,13 @@ IsUnread input names g s fault =
     × (fault ≡ fault_of_line cause (line_number input place)) × IsLineAt input place text
     × IsGathering names g s (take place input) v × IsLineFault names g s v text cause
 
--- a line without a newline
-abbrev pub IsUnended : (input : List ℕ) → PartFault → Type 0
-IsUnended input fault =
-    (place : ℕ) × (fault ≡ part.NotPart (line_number input place)) × HasNoNewline input place
+-- a last line without a newline, after lines that are taken
+abbrev pub IsUnended : (input : List ℕ) → (names : List (List ℕ)) → Setting → SearchValue → PartFault
+    → Type 0
+IsUnended input names g s fault =
+    (place : ℕ) × (v : GatheringValue) × (place < length input)
+    × (fault ≡ part.NotPart (line_number input place)) × HasNoNewline input place
+    × IsGathering names g s (take place input) v
 
 -- the last part has another number of ends than its head names
 abbrev pub IsLastCut : (input : List ℕ) → (names : List (List ℕ)) → Setting → SearchValue → PartFault
@@ -146,7 +149,7 @@ abbrev pub IsUntoldSum : (input : List ℕ) → (names : List (List ℕ)) → Se
 IsUntoldSum input names g s (part.Lab fault) = IsUntold IsCause g fault
 IsUntoldSum input names g s fault =
     IsUnread input names g s fault
-    ⊎ (IsUnended input fault ⊎ (IsLastCut input names g s fault ⊎ IsUnsummed input names g s fault))
+    ⊎ (IsUnended input names g s fault ⊎ (IsLastCut input names g s fault ⊎ IsUnsummed input names g s fault))
 
 -- nor have they in a scenario that is not made ready
 abbrev pub IsUnsummedIn : (input : List ℕ) → SearchValue → PartFault → Type 0

@@ -1,5 +1,7 @@
 //! The sum of parts.
-ghost use Rattle.std.specs.Prelude.{◌≡◌, ◌+◌, ◌^◌, ◌<◌, IfErr, IfOk, length, string_bytes};
+ghost use Rattle.std.specs.Prelude.{◌≡◌, ◌+◌, ◌^◌, ◌<◌, IfErr, IfOk, Some, length, string_bytes};
+ghost use Rattle.serde_json.specs.View.{view};
+ghost use Rattle.hp_scenario.specs.Scenario.{json_of};
 ghost use Rattle.hp_prepared.specs.Ends.{AreEndsTold};
 ghost use Rattle.hp_prepared.specs.Holding.{HoldsIn};
 ghost use Rattle.hp_prepared.specs.Prepared.{before_of, names_of, setting_of};
@@ -20,6 +22,7 @@ use hp_part_lines::{
 use hp_parts::{SumFault, sum};
 use hp_prepared::{Finding, Prepared, prepare};
 use hp_schedules::Ending;
+use serde_json::Value;
 use std::alloc::Global;
 
 /// The whole exploration that parts add up to, as `explore_text` tells it. The bytes are the text of
@@ -45,14 +48,29 @@ pub fn sum_text(alloc: Global, input: &[u8], form: EndsForm) -> Result<Finding, 
     let Some(value) = json_in(alloc, text)? else {
         return Err(PartFault::NotPart { line: 1 });
     };
-    let Some(head) = head_from(&value) else {
+    sum_of(alloc, input, text, &value, form)
+}
+
+/// The sum of parts, where the first line is the text that a value is read from.
+fn sum_of(
+    alloc: Global,
+    input: &[u8],
+    text: &[u8],
+    value: &Value,
+    form: EndsForm,
+) -> Result<Finding, PartFault>
+    requires line { IsLineAt input.now 0 text.now }
+    requires value { Some (view value.now) ≡ json_of text.now }
+    ensures ok { IfOk result (λ f. IsSumOf form input.now (string_bytes f.text) f.is_found) }
+    ensures err { IfErr result (IsSumFault input.now) }
+{
+    let Some(head) = head_from(value) else {
         return Err(PartFault::NotPart { line: 1 });
     };
     if !is_head(alloc, &head.search, head.number, head.ends, text)? {
         return Err(PartFault::NotPart { line: 1 });
     }
-    let start = text.len() + 1;
-    sum_after(alloc, input, &head, start, form)
+    sum_after(alloc, input, &head, text.len() + 1, form)
 }
 
 /// The sum of the parts of a search, where so many bytes are the head of the first.

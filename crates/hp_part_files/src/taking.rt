@@ -1,5 +1,6 @@
 //! The lines of parts, one after another.
-ghost use Rattle.std.specs.Prelude.{◌≡◌, ◌↔◌, ◌^◌, ◌<◌, IfErr, IfOk, IsTrue, OnOk, length};
+ghost use Rattle.std.specs.Prelude.{◌≡◌, ◌↔◌, ℕ, ◌^◌, ◌<◌, IfErr, IfOk, IsTrue, List, OnOk, length};
+ghost use Rattle.hp_schedules.specs.Schedules.{Setting};
 ghost use Rattle.hp_prepared.specs.Prepared.{names_of, setting_of};
 ghost use Rattle.hp_part_lines.specs.Ends.{IsEndOf};
 ghost use Rattle.hp_part_lines.specs.Heads.{IsNumber, part_in};
@@ -77,7 +78,7 @@ fn take_line(
     let line = line_in(alloc, text)?;
     match line {
         PartLine::Head { number, ends } => {
-            take_head(alloc, prepared, search, gathered, text, number, ends)
+            take_head(alloc, search, gathered, text, number, ends)
         }
         PartLine::End { count, schedule } => {
             take_end(alloc, prepared, search, gathered, text, count, schedule)
@@ -90,7 +91,6 @@ fn take_line(
 /// Takes the head of the part with a number, which names so many ends.
 fn take_head(
     alloc: Global,
-    prepared: &Prepared,
     search: &Search<'_>,
     gathered: &mut Gathering,
     text: &[u8],
@@ -98,12 +98,11 @@ fn take_head(
     ends: u64,
 ) -> Result<(), LineFault>
     requires { IsLine text.now (line.Head number ends) }
-    ensures ok { OnOk result (IsTaken (names_of prepared.now) (setting_of prepared.now) search.now
-        gathered.old text.now gathered.new) }
-    ensures err { IfErr result (IsLineFault (names_of prepared.now) (setting_of prepared.now) search.now
-        gathered.old text.now) }
+    ensures ok { OnOk result ((names : List (List ℕ)) (g : Setting)
+        → IsTaken names g search.now gathered.old text.now gathered.new) }
+    ensures err { IfErr result (λ fault. (names : List (List ℕ)) (g : Setting)
+        → IsLineFault names g search.now gathered.old text.now fault) }
 {
-    let _ = prepared;
     let Some(part) = PartNumber::new(number, u64::from(search.of)) else {
         return Err(LineFault::NotPart);
     };

@@ -1,5 +1,5 @@
 -- What a line is, by the value that its text is.
-use Rattle.std.proofs.Common.{◌≡◌, ℕ, List, Option, Some, None, Ok, Err, option_map, refl, sym, subst, ap, ◌∙◌}
+use Rattle.std.proofs.Common.{◌≡◌, ℕ, List, Option, Some, None, Ok, Err, refl, sym, subst, ap, ◌∙◌}
 use Rattle.std.specs.Prelude.{option_and_then}
 use Rattle.serde_json.specs.View.{view}
 use Rattle.serde_json.specs.declared.value.Value.{Value}
@@ -31,8 +31,6 @@ some_of fault None x is = cc
 some_of fault (Some y) x is = cc
 
 -- the head that a text is
-pub head_known : (text : List ℕ) (o : Option Value) (v : Value) (h : HeadValue)
-    → option_map (λ (w : Value). view w) o ≡ json_of text → o ≡ Some v → Some h ≡ head_from (view v)
-    → option_and_then head_from (json_of text) ≡ Some h
-head_known text o v h json is head =
-    ap (option_and_then head_from) (sym json ∙ ap (option_map (λ (w : Value). view w)) is) ∙ sym head
+pub head_known : (text : List ℕ) (v : Value) (h : HeadValue) → Some (view v) ≡ json_of text
+    → Some h ≡ head_from (view v) → option_and_then head_from (json_of text) ≡ Some h
+head_known text v h json head = ap (option_and_then head_from) (sym json) ∙ sym head

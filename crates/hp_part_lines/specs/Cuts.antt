@@ -1,10 +1,12 @@
 -- The lines of a text, and the parts that they are of.
-use Rattle.std.specs.Prelude.{◌≡◌, ℕ, ◌+◌, ◌==◌, List, ◌∷◌, ◌++◌, count_by, drop, length, take, None}
+use Rattle.std.specs.Prelude.{◌≡◌, ℕ, ◌+◌, ◌==◌, List, ◌∷◌, ◌++◌, count_by, drop, length, take, Some, None}
 use Rattle.memchr.specs.Find.{IsFirstByte, is_byte}
 
--- from a place on stands a text, and a newline after it
+-- from a place on stands a text, and a newline after it, which is the first one from there on (memchr)
 abbrev pub IsLineAt : (input : List ℕ) → (place : ℕ) → (text : List ℕ) → Type 0
-IsLineAt input place text = drop place input ≡ text ++ 10 ∷ drop (place + length text + 1) input
+IsLineAt input place text =
+    (drop place input ≡ text ++ 10 ∷ drop (place + length text + 1) input)
+    × IsFirstByte (is_byte 10) (drop place input) (Some (length text))
 
 -- from a place on there is no newline (memchr)
 abbrev pub HasNoNewline : (input : List ℕ) → (place : ℕ) → Type 0

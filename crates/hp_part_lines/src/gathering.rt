@@ -1,5 +1,5 @@
 //! The parts that are read.
-ghost use Rattle.std.specs.Prelude.{◌≡◌, ◌++◌, ◌∷◌, ◌^◌, ◌<◌, ◌↔◌, [], IfOk, IsTrue, OnOk, length};
+ghost use Rattle.std.specs.Prelude.{◌≡◌, ◌++◌, ◌∷◌, ◌^◌, ◌<◌, ◌↔◌, [], IfOk, IsTrue, OnErr, OnOk, length};
 
 use hp_schedules::Ending;
 use std::alloc::{AllocError, Global};
@@ -107,6 +107,7 @@ impl Gathering {
           last = record { number = number; ends = [] };
           named = named;
         }) }
+        ensures err { OnErr result (self.new ≡ self.old) }
     {
         self.done.reserve(1)?;
         let ends = replace(&mut self.ends, Vec::new(alloc));
@@ -123,6 +124,7 @@ impl Gathering {
           last = record { number = self.old.last.number; ends = self.old.last.ends ++ end ∷ [] };
           named = self.old.named;
         }) }
+        ensures err { OnErr result (self.new ≡ self.old) }
     {
         self.ends.reserve(1)?;
         self.ends.push_reserved(end);

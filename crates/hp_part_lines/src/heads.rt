@@ -1,7 +1,7 @@
 //! The head of a part.
 ghost use Rattle.std.specs.Prelude.{◌≡◌, ◌++◌, ◌↔◌, IfOk, IfSome, IsTrue, OnOk, option_map, string_bytes};
 ghost use Rattle.serde_json.specs.View.{view};
-ghost use Rattle.hp_part_lines.specs.Heads.{IsNumber, head_calls, head_counts, head_ends, head_from as head, head_line, head_numbers, head_of, head_part, head_setup, head_with as with_numbers, part_in};
+ghost use Rattle.hp_part_lines.specs.Heads.{IsNumber, head_calls, head_counts, head_from as head, head_line, head_of, head_part, head_with as with_numbers, part_in};
 
 use crate::reading::{narrow, number_at, text_at};
 use hp_escapes::{Brackets, write_escaped};
@@ -116,7 +116,7 @@ pub fn write_head(
     ensures { OnOk result
         (string_bytes out.new ≡ string_bytes out.old ++ head_line search.now number ends) }
 {
-    write_numbers(out, search, number)?;
+    write_numbers(out, number, search.of, search.calls)?;
     write_counts(out, search.setup, ends)?;
     write_escaped(out, search.scenario, Brackets::Kept)?;
     out.push_str("\"}")?;
@@ -140,33 +140,14 @@ pub fn is_head(
 }
 
 /// Writes which part it is of how many, and by how many first calls they go.
-fn write_numbers(out: &mut String, search: &Search<'_>, number: u32) -> Result<(), AllocError>
-    ensures { OnOk result (string_bytes out.new ≡ string_bytes out.old ++ head_numbers search.now number) }
+fn write_numbers(out: &mut String, number: u32, of: u32, calls: u32) -> Result<(), AllocError>
+    ensures { OnOk result (string_bytes out.new
+        ≡ string_bytes out.old ++ (head_part number ++ head_of of ++ head_calls calls)) }
 {
-    write_part(out, number)?;
-    write_of(out, search.of)?;
-    write_calls(out, search.calls)
-}
-
-/// Writes which part it is.
-fn write_part(out: &mut String, number: u32) -> Result<(), AllocError>
-    ensures { OnOk result (string_bytes out.new ≡ string_bytes out.old ++ head_part number) }
-{
-    write!(out, "{{\"part\": {number}")
-}
-
-/// Writes how many parts there are.
-fn write_of(out: &mut String, of: u32) -> Result<(), AllocError>
-    ensures { OnOk result (string_bytes out.new ≡ string_bytes out.old ++ head_of of) }
-{
-    write!(out, ", \"of\": {of}")
-}
-
-/// Writes by how many first calls the parts go.
-fn write_calls(out: &mut String, calls: u32) -> Result<(), AllocError>
-    ensures { OnOk result (string_bytes out.new ≡ string_bytes out.old ++ head_calls calls) }
-{
-    write!(out, ", \"calls\": {calls}")
+    write!(
+        out,
+        "{{\"part\": {number}, \"of\": {of}, \"calls\": {calls}"
+    )
 }
 
 /// Writes how many lines of the scenario are its setup, how many ends the part has, and the key of the
@@ -174,21 +155,8 @@ fn write_calls(out: &mut String, calls: u32) -> Result<(), AllocError>
 fn write_counts(out: &mut String, setup: u64, ends: u64) -> Result<(), AllocError>
     ensures { OnOk result (string_bytes out.new ≡ string_bytes out.old ++ head_counts setup ends) }
 {
-    write_setup(out, setup)?;
-    write_ends(out, ends)?;
-    out.push_str(", \"scenario\": \"")
-}
-
-/// Writes how many lines of the scenario are its setup.
-fn write_setup(out: &mut String, setup: u64) -> Result<(), AllocError>
-    ensures { OnOk result (string_bytes out.new ≡ string_bytes out.old ++ head_setup setup) }
-{
-    write!(out, ", \"setup\": {setup}")
-}
-
-/// Writes how many ends the part has.
-fn write_ends(out: &mut String, ends: u64) -> Result<(), AllocError>
-    ensures { OnOk result (string_bytes out.new ≡ string_bytes out.old ++ head_ends ends) }
-{
-    write!(out, ", \"ends\": {ends}")
+    write!(
+        out,
+        ", \"setup\": {setup}, \"ends\": {ends}, \"scenario\": \""
+    )
 }

@@ -1,5 +1,4 @@
 use Rattle.std.proofs.Common.{◌≡◌, ℕ, false, true, ap, sym, ◌∙◌, arith, inr, refl}
-use Rattle.hp_prepared.specs.Prepared.{names_of, setting_of}
 use Rattle.hp_schedules.specs.PartNumbers.{NumberValue}
 use Rattle.hp_part_lines.specs.Heads.{SearchValue, head_line}
 use Rattle.hp_part_files.proofs.Read.{head_taken}
@@ -9,7 +8,7 @@ pub returns-in_default-clause-err : goal.returns-in_default-clause-err
 returns-in_default-clause-err c =
     let of : c.from.result ≡ c.args.search.now.of =
     c.from.ensures ∙ ap (λ (s : SearchValue). s.of) c.search.view_is in
-    inr (
+    λ names g. inr (
       c.args.number,
       c.args.ends,
       c.requires,
@@ -20,7 +19,7 @@ returns-in_default-clause-err c =
     )
 
 pub returns-then-not-is_whole-clause-err : goal.returns-then-not-is_whole-clause-err
-returns-then-not-is_whole-clause-err c = (
+returns-then-not-is_whole-clause-err c = λ names g. (
   (
     c.number-then-not-is_whole.ensures,
     λ whole.
@@ -39,7 +38,7 @@ returns-clause-ok c =
     let there = c.in-Some.ensures.some.0 refl in
     let number : c.number-2.result ≡ c.args.number =
     c.number-2.ensures ∙ ap (λ (n : NumberValue). n.number) c.in-Some.ensures.is in
-    head_taken (names_of c.args.prepared.now) (setting_of c.args.prepared.now) s c.args.gathered.now
+    λ names g. head_taken names g s c.args.gathered.now
     c.begin.new.self c.number-2.result c.args.ends c.args.text.now
     (c.in_ok-is_head.ensures.0 c.if-not-branch.false
     ∙ ap (λ (n : ℕ). head_line s n c.args.ends) (c.number.ensures ∙ sym c.number-2.ensures))
