@@ -235,7 +235,7 @@ def check_parts(checks, lab, scripts):
     checks.same("sum of nothing", (1, "", "hotplug_lab: line 1 is none of a part\n"),
                 lab.call("sum", "-"))
     refused = ("hotplug_lab: --part may be I/N, with I from 1 to N, and N at most 1000000\n")
-    for part in ("", "1", "0/2", "3/2", "1/0", "x/2", "1/x", "1/1000001", "-1/2", "1/2/3"):
+    for part in ("", "1", "0/2", "3/2", "1/0", "x/2", "1/x", "1/1000001", "-1/2", "1/2/3", "+1/2", "01/2"):
         checks.same(f"explore --part {part!r}", (2, "", refused),
                     lab.call("explore", f"--part={part}", scenario=scripts))
     for jobs, expected in (("0", 2), ("1", 0), ("2", 0), ("256", 0), ("257", 2)):

@@ -4,6 +4,7 @@ use crate::checks::{ALL, LIMIT};
 use clap::ArgMatches;
 use hp_ends::{EndsForm, ScheduleForm};
 use hp_lab_command::{FILE, FIND, JOBS, JSON, NEVER, PART, PROGRESS, SCENARIO};
+use hp_numbers::number64;
 use hp_schedules::PartNumber;
 use hp_trace::View;
 use hp_wanted::Wanted;
@@ -122,14 +123,6 @@ fn files_of<'m, 'a>(names: Option<&'m [&'a str]>) -> &'m [&'a str] {
     match names {
         Some(names) => names,
         None => &[],
-    }
-}
-
-/// The number that a text is.
-fn number64(text: &str) -> Option<u64> {
-    match text.parse::<u64>() {
-        Ok(number) => Some(number),
-        Err(_error) => None,
     }
 }
 
