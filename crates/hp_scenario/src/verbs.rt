@@ -19,9 +19,9 @@ pub(crate) fn event_from<'a>(verb: &str, args: &[&'a str]) -> Option<Request<'a>
 {
     match args {
         [word] => Some(Request::Plain(Work::Event(event_of_number(verb, word)?))),
-        [first, second] => of_two(verb, first, second),
-        [name, page, index] => of_three(verb, name, page, index),
-        [name, page, index, value] => of_four(verb, name, page, index, value),
+        [first, second] => request_of_two(verb, first, second),
+        [name, page, index] => request_of_three(verb, name, page, index),
+        [name, page, index, value] => request_of_four(verb, name, page, index, value),
         _ => None,
     }
 }
@@ -58,6 +58,7 @@ fn named<'a>(name: &'a str, access: Access) -> Option<Request<'a>>
 }
 
 /// The event of a verb with one number.
+#[inline(always)]
 #[tactic(auto, unfolding(crate::specs::Lines::event_of_number))]
 fn event_of_number(verb: &str, word: &str) -> Option<Event>
     ensures { result ≡ says.event_of_number verb.now word.now }
@@ -92,8 +93,9 @@ fn event_of_number(verb: &str, word: &str) -> Option<Event>
 }
 
 /// A verb with two words.
+#[inline(always)]
 #[tactic(auto, unfolding(crate::specs::Lines::request_of_two))]
-fn of_two<'a>(verb: &str, first: &'a str, second: &str) -> Option<Request<'a>>
+fn request_of_two<'a>(verb: &str, first: &'a str, second: &str) -> Option<Request<'a>>
     ensures { option_map request_seen result ≡ says.request_of_two verb.now first.now second.now }
 {
     match verb {
@@ -120,8 +122,9 @@ fn of_two<'a>(verb: &str, first: &'a str, second: &str) -> Option<Request<'a>>
 }
 
 /// `read`, the verb with three words.
+#[inline(always)]
 #[tactic(auto, unfolding(crate::specs::Lines::request_of_three))]
-fn of_three<'a>(verb: &str, name: &'a str, page: &str, index: &str) -> Option<Request<'a>>
+fn request_of_three<'a>(verb: &str, name: &'a str, page: &str, index: &str) -> Option<Request<'a>>
     ensures { option_map request_seen result ≡ says.request_of_three verb.now name.now page.now index.now }
 {
     if verb != "read" {
@@ -133,8 +136,9 @@ fn of_three<'a>(verb: &str, name: &'a str, page: &str, index: &str) -> Option<Re
 }
 
 /// `write`, the verb with four words.
+#[inline(always)]
 #[tactic(auto, unfolding(crate::specs::Lines::request_of_four))]
-fn of_four<'a>(
+fn request_of_four<'a>(
     verb: &str,
     name: &'a str,
     page: &str,

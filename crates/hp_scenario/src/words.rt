@@ -1,26 +1,42 @@
 //! The words of a line, and the names among them.
-ghost use Rattle.std.specs.Prelude.{◌≡◌, OnOk, map};
-ghost use Rattle.std.specs.List.{list_all};
+ghost use Rattle.std.specs.Prelude.{◌≡◌, ◌==◌, ◌∷◌, [], MatchOption, OnOk, map};
+ghost use Rattle.std.specs.List.{list_all, position};
 ghost use Rattle.hp_scenario.specs.Words.{is_name_byte as name_byte, is_name as names, words_of};
 
 use std::alloc::AllocError;
 
 /// Makes `words` the words between single spaces.
+#[tactic(auto, using(crate::proofs::WordsCut::last_word))]
 pub(crate) fn split_words<'a>(words: &mut Vec<&'a str>, text: &'a str) -> Result<(), AllocError>
     ensures { OnOk result (map (λ w. w.now) words.new.items ≡ words_of text.now) }
 {
     words.clear();
-    let bytes = text.as_bytes();
-    let mut start = 0;
-    for end in 0..bytes.len() {
-        if bytes[end] != b' ' {
-            continue;
-        }
-        words.push(&text[start..end])?;
-        start = end + 1;
+    let mut rest = text;
+    'cut: while let Some((word, more)) = cut_word(rest) {
+        words.push(word)?;
+        rest = more;
     }
-    words.push(&text[start..])?;
+    words.push(rest)?;
     Ok(())
+}
+
+/// The first word, and what comes after the space that ends it; none where the text is one word.
+#[tactic(auto, using(crate::proofs::WordsCut::cut_at_spaces))]
+fn cut_word<'a>(text: &'a str) -> Option<(&'a str, &'a str)>
+    ensures { MatchOption result (words_of text.now ≡ text.now ∷ [])
+        (λ cut. words_of text.now ≡ cut.0.now ∷ words_of cut.1.now) }
+{
+    match space_in(text.as_bytes()) {
+        Some(end) => Some((&text[..end], &text[end + 1..])),
+        None => None,
+    }
+}
+
+/// Where the first space stands.
+fn space_in(text: &[u8]) -> Option<usize>
+    ensures { result ≡ position (λ b. b == 32) text.now }
+{
+    text.iter().position(|byte| *byte == b' ')
 }
 
 fn is_name_byte(byte: u8) -> bool
@@ -32,12 +48,7 @@ fn is_name_byte(byte: u8) -> bool
 fn are_name_bytes(bytes: &[u8]) -> bool
     ensures { result ≡ list_all name_byte bytes.now }
 {
-    for byte in bytes {
-        if !is_name_byte(*byte) {
-            return false;
-        }
-    }
-    true
+    bytes.iter().all(|byte| is_name_byte(*byte))
 }
 
 /// Whether the word may stand as a name.

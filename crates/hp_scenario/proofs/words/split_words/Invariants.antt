@@ -1,5 +1,10 @@
-use Rattle.hp_scenario.proofs.WordsCut.{IsCut}
+use Rattle.std.proofs.Common.{◌≡◌, ℕ, List, ◌++◌, Bor, IsUtf8, length, map}
+use Rattle.hp_scenario.specs.Words.{words_of}
 use Rattle.hp_scenario.proofs.words.split_words.Given as goal
 
-abbrev pub invariant-loop-end : goal.invariant-loop-end
-invariant-loop-end l = IsCut l.text l.words.items l.start l.end
+abbrev pub invariant-cut : goal.invariant-cut
+invariant-cut l =
+    (map (λ (w : Bor (List ℕ)). w.now) l.words.items ++ words_of l.rest ≡ words_of l.text) × IsUtf8 l.rest
+
+abbrev pub decreases-cut : goal.decreases-cut
+decreases-cut l = length (words_of l.rest)
