@@ -13,7 +13,7 @@ use Rattle.hp_units.specs.Memory.{FreeAreas, free_list, class_index}
 use Rattle.hp_units.specs.FreeAreas.{is_on, without, with_back, without_free}
 use Rattle.hp_units.specs.Placement.{free_places}
 use Rattle.hp_buddy.specs.Buddy.{AreApart, MayBeGiven}
-use Rattle.hp_buddy.specs.Moves.{move_one, move_first}
+use Rattle.hp_buddy.specs.Moves.{move_one}
 use Rattle.hp_lemmas.proofs.Places.{HasOrder, class_index-lt, covered-in}
 use Rattle.hp_lemmas.proofs.Joins.{is_on-none, without_free-places}
 use Rattle.hp_buddy.proofs.Gives.{without_free-apart}
@@ -78,6 +78,12 @@ move_one-moves l a from to order f low h =
 -- and then others
 pub moves-then : (l : LayoutParts) (a b c : FreeAreas) → Moves l a b → Moves l b c → Moves l a c
 moves-then l a b c h k = record { apart = k.apart; places = λ frame. k.places frame ∙ h.places frame }
+
+-- one block after another, of so many frames from the first one on
+abbrev pub move_first : FreeAreas → (from to : Class) → (order first count : ℕ) → FreeAreas
+move_first a from to order first zero = a
+move_first a from to order first (suc count) =
+    move_one (move_first a from to order first count) from to order (first + count)
 
 -- so many frames from the first one on
 pub move_first-moves : (l : LayoutParts) (a : FreeAreas) (from to : Class) (order first count : ℕ)

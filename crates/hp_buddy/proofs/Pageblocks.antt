@@ -17,12 +17,12 @@ use Rattle.hp_units.specs.FreeAreas.{is_on, class_of_kind}
 use Rattle.hp_units.specs.Isolation.{move_free, move_free_below, move_pageblock}
 use Rattle.hp_units.specs.Placement.{free_places}
 use Rattle.hp_buddy.specs.Buddy.{AreApart}
-use Rattle.hp_buddy.specs.Moves.{move_first, free_one, free_count, free_total}
+use Rattle.hp_buddy.specs.Moves.{free_one, free_count}
 use Rattle.hp_lemmas.proofs.Sizes.{with_free_list-size}
 use Rattle.hp_lemmas.proofs.Places.{HasOrder, class_index-lt, with_free_list-places}
 use Rattle.hp_lemmas.proofs.Lists.{on-places, off-free}
 use Rattle.hp_buddy.proofs.Apart.{has_order, kind-apart}
-use Rattle.hp_buddy.proofs.Moves.{Moves, moves-then, move_first-moves, is_among, staying, going, move_first-parted, move_first-on}
+use Rattle.hp_buddy.proofs.Moves.{Moves, moves-then, move_first, move_first-moves, is_among, staying, going, move_first-parted, move_first-on}
 
 -- ---- the frames of a pageblock
 
@@ -199,6 +199,12 @@ orders-le a class frame (suc order) has once =
         (λ o low. lone a class order o frame (omega arith) (omega arith) (λ same. omega arith) once e) in
         omega arith
     step false e h = omega arith
+
+-- how many free blocks start at so many frames from the first one on, of each order below one
+abbrev pub free_total : FreeAreas → Class → (first count order : ℕ) → ℕ
+free_total a class first count zero = 0
+free_total a class first count (suc order) =
+    free_total a class first count order + free_count a class order first count
 
 -- of no frames
 total-none : (a : FreeAreas) (class : Class) (first order : ℕ) → free_total a class first 0 order ≡ 0

@@ -8,10 +8,10 @@ use Rattle.hp_units.specs.LayoutParts.{LayoutParts}
 use Rattle.hp_units.specs.Memory.{FreeAreas, free_list}
 use Rattle.hp_units.specs.FreeAreas.{is_on, with_back, without_free}
 use Rattle.hp_buddy.specs.Buddy.{AreApart}
-use Rattle.hp_buddy.specs.Moves.{move_one, move_first}
+use Rattle.hp_buddy.specs.Moves.{move_one}
 use Rattle.hp_lemmas.proofs.Places.{HasOrder}
 use Rattle.hp_buddy.proofs.Apart.{has_order}
-use Rattle.hp_buddy.proofs.Moves.{move_first-on}
+use Rattle.hp_buddy.proofs.Moves.{move_first, move_first-on}
 
 -- a frame that starts no free block stays
 stays : (m : FreeAreas) (from to : Class) (order x : ℕ) → is_on x (free_list m from order) ≡ false

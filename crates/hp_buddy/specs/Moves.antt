@@ -10,12 +10,6 @@ move_one a from to order frame =
     if is_on frame (free_list a from order) then with_back (without_free a from order frame) to order frame
     else a
 
--- the same of so many frames from the first one on
-abbrev pub move_first : FreeAreas → (from to : Class) → (order first count : ℕ) → FreeAreas
-move_first a from to order first zero = a
-move_first a from to order first (suc count) =
-    move_one (move_first a from to order first count) from to order (first + count)
-
 -- 1 if a free block of a class and an order starts at a frame, and 0 otherwise
 abbrev pub free_one : FreeAreas → Class → (order frame : ℕ) → ℕ
 free_one a class order frame = if is_on frame (free_list a class order) then 1 else 0
@@ -25,9 +19,3 @@ abbrev pub free_count : FreeAreas → Class → (order first count : ℕ) → �
 free_count a class order first zero = 0
 free_count a class order first (suc count) =
     free_count a class order first count + free_one a class order (first + count)
-
--- and of each order below one
-abbrev pub free_total : FreeAreas → Class → (first count order : ℕ) → ℕ
-free_total a class first count zero = 0
-free_total a class first count (suc order) =
-    free_total a class first count order + free_count a class order first count

@@ -41,7 +41,7 @@ fuller : (limit most before m n : ℕ) → m ≤ n → (nat_le limit m || nat_le
 fuller limit most before m n less full = grind (arith, nat_tests)
 
 -- a history that is full after some records is so after more
-full_on : (g : Setting) (few more : List Record) → length few ≤ length more → is_full_after g few ≡ true
+pub full_on : (g : Setting) (few more : List Record) → length few ≤ length more → is_full_after g few ≡ true
     → is_full_after g more ≡ true
 full_on g few more less full =
     fuller g.layout.history 18446744073709551615 g.before (length (g.start ++ few)) (length (g.start ++ more))

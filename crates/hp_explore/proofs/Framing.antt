@@ -4,7 +4,7 @@ use Rattle.std.proofs.lemmas.List.{append-nil, length_push, map-append, reverse-
 use Rattle.hp_units.specs.declared.events.Event.{Event}
 use Rattle.hp_units.specs.declared.replies.Record.{Record}
 use Rattle.hp_places.specs.Rooms.{is_full_after}
-use Rattle.hp_explore.specs.Frames.{AreBelow, AreWalked, path_of}
+use Rattle.hp_explore.specs.Frames.{AreBelow, AreWalked}
 use Rattle.hp_places.specs.Frames.{IsFrame}
 use Rattle.hp_schedules.specs.Parts.{IsOn, PartValue}
 use Rattle.hp_explore.specs.Paths.{IsBack, PathValue}
@@ -17,6 +17,7 @@ use Rattle.hp_places.proofs.OfPart.{comes_on}
 use Rattle.hp_places.proofs.Entered.{frame_grows}
 use Rattle.hp_places.proofs.Rooms.{done_begins, done_down, done_over, done_past}
 use Rattle.hp_places.proofs.Noting.{over_next}
+use Rattle.hp_explore.proofs.Paths.{path_of}
 
 -- ---- as the ends grow
 

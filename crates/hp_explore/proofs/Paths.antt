@@ -5,7 +5,6 @@ use Rattle.hp_units.specs.declared.events.Event.{Event}
 use Rattle.hp_units.specs.declared.replies.Record.{Record}
 use Rattle.hp_steps.specs.Steps.{StepsValue}
 use Rattle.hp_schedules.specs.Cursors.{AreCursors}
-use Rattle.hp_explore.specs.Frames.{path_of}
 use Rattle.hp_explore.specs.Paths.{IsAdvanced, IsBack, IsForth, IsPath, IsTakenBack, IsTurned, IsWayBack, PathValue}
 use Rattle.hp_schedules.specs.Schedules.{Setting, next_call, record_of_call}
 use Rattle.hp_places.specs.Walks.{IsAt}
@@ -13,6 +12,10 @@ use Rattle.hp_schedules.specs.declared.cursors.Cursor.{Cursor}
 use Rattle.hp_explore.specs.declared.exploring.ExploreFault.{ExploreFault}
 use Rattle.hp_explore.specs.declared.ways.Turn.{Turn}
 use Rattle.hp_explore.specs.declared.ways.Way.{Way}
+
+-- where scripts stand after new records
+abbrev pub path_of : Setting → List Record → PathValue
+path_of g news = record { setting = g; news = news }
 
 reverse_push : (turns : List Turn) (turn : Turn) → reverse (turns ++ turn ∷ []) ≡ turn ∷ reverse turns
 reverse_push turns turn = reverse-append turns (turn ∷ [])

@@ -7,7 +7,7 @@ use Rattle.hp_units.specs.History.{effect_of}
 use Rattle.hp_units.specs.declared.events.Event.{Event}
 use Rattle.hp_schedules.specs.Alike.{leaves_steps}
 use Rattle.hp_places.specs.Rooms.{is_full_after}
-use Rattle.hp_explore.specs.Frames.{AreBelow, AreWalked, path_of}
+use Rattle.hp_explore.specs.Frames.{AreBelow, AreWalked}
 use Rattle.hp_memory.specs.Memory.{MemoryValue}
 use Rattle.hp_places.specs.Frames.{IsArrival, IsFrame, IsLeaving}
 use Rattle.hp_places.specs.Places.{memory_at}
@@ -22,6 +22,7 @@ use Rattle.hp_places.specs.declared.frames.Frame.{Frame}
 use Rattle.hp_schedules.proofs.Alike.{call_leaves, event_kept}
 use Rattle.hp_schedules.specs.declared.tally.Ending.{Ending}
 use Rattle.hp_explore.proofs.Framing.{back_setting, back_shorter, walk_back, walk_leads, walk_passes}
+use Rattle.hp_explore.proofs.Paths.{path_of}
 
 -- a processor asked for nothing
 pub passed_on : (p q : PathValue) (part : PartValue) (ends : List Ending) (frame later : Frame)

@@ -5,7 +5,6 @@ use Rattle.hp_units.specs.declared.replies.Record.{Record}
 use Rattle.hp_places.specs.Rooms.{is_full_after}
 use Rattle.hp_places.specs.Frames.{IsFrame}
 use Rattle.hp_schedules.specs.Parts.{IsOn, PartValue}
-use Rattle.hp_explore.specs.Paths.{PathValue}
 use Rattle.hp_schedules.specs.Schedules.{Setting, next_call, plays, schedule_of}
 use Rattle.hp_explore.specs.Fronts.{AreFirstInPart}
 use Rattle.hp_places.specs.Seen.{IsMemo, IsOnWay}
@@ -15,9 +14,6 @@ use Rattle.hp_schedules.specs.declared.tally.Ending.{Ending}
 use Rattle.hp_explore.specs.declared.walk.Turned.{Turned}
 use Rattle.hp_explore.specs.declared.walk.Turned.TheVariants.{On, Over, Full}
 use Rattle.hp_explore.specs.declared.walk.Walk.{Walk}
-
-abbrev pub path_of : Setting → List Record → PathValue
-path_of g news = record { setting = g; news = news }
 
 -- the turns of a place whose next processor is this: all before it was walked, and whether a script
 -- asked for anything so far is known

@@ -1,29 +1,15 @@
 -- No schedule before the first one of the first end with the wanted lines ends so.
-use Rattle.std.proofs.Common.{◌≡◌, ℕ, List, [], ◌∷◌, Some, slice_get, sym, subst, ◌∙◌, arith, inl, inr}
+use Rattle.std.proofs.Common.{◌≡◌, ℕ, List, Some, slice_get, sym, subst, ◌∙◌, arith, inl, inr}
 use Rattle.std.proofs.lemmas.Bool.{cases_lt}
 use Rattle.std.proofs.lemmas.Option.{same_Some}
 use Rattle.hp_schedules.specs.Ends.{AreCounted, AreInOrder}
 use Rattle.hp_schedules.specs.Orders.{IsBefore}
 use Rattle.hp_schedules.specs.Outcomes.{OutcomeValue}
 use Rattle.hp_schedules.specs.declared.tally.Ending.{Ending}
-use Rattle.hp_schedules.proofs.Regions.{not_before_itself}
+use Rattle.hp_schedules.proofs.Regions.{before_before, not_before_itself}
 use Rattle.hp_wanted.specs.Ends.{IsFirstSuchEnd}
 use Rattle.hp_wanted.specs.Wanted.{Meets}
 use Rattle.hp_wanted.specs.declared.wanted.Wanted.{Wanted}
-
--- what stands before one that stands before a third
-pub before_before : (s t u : List ℕ) → IsBefore s t → IsBefore t u → IsBefore s u
-before_before s [] u h k = absurd h
-before_before s (c ∷ t) [] h k = absurd k
-before_before [] (c ∷ t) (b ∷ u) h k = absurd h
-before_before (d ∷ s) (c ∷ t) (b ∷ u) h k =
-    elim h [
-      | inl less ↦ elim k [ inl more ↦ inl (omega arith) | inr e ↦ inl (omega (arith, e.0)) ]
-      | inr e ↦ elim k [
-        | inl more ↦ inl (omega (arith, e.0))
-        | inr f ↦ inr (e.0 ∙ f.0, before_before s t u e.1 f.1)
-      ]
-    ]
 
 -- of what the ends count nothing with the lines stands before the first schedule of the first such end
 pub none_before : (E : List ℕ → OutcomeValue → Type 0) (ends : List Ending) (wanted : List Wanted)

@@ -19,7 +19,8 @@ use Rattle.hp_find.specs.Reaching.{HasRoomAlong, IsAbsent, IsAbsentAmongFirst, I
 use Rattle.hp_wanted.specs.Wanted.{Meets}
 use Rattle.hp_find.specs.declared.fault.FindFault.TheVariants.{TooMany}
 use Rattle.hp_wanted.specs.declared.wanted.Wanted.{Wanted}
-use Rattle.hp_find.proofs.Firsts.{before_before, none_before}
+use Rattle.hp_schedules.proofs.Regions.{before_before}
+use Rattle.hp_find.proofs.Firsts.{none_before}
 use Rattle.hp_find.proofs.Rooms.{room_before}
 
 -- the first that has no more changes than each needs

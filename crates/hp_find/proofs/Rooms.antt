@@ -1,7 +1,5 @@
 -- The room for the calls of a schedule that grows and is taken back.
-use Rattle.std.proofs.Common.{◌≡◌, ℕ, ◌+◌, ◌≤◌, true, false, List, [], ◌∷◌, ◌++◌, length, Option, Some, None, refl, ap, sym, subst, ◌∙◌, arith, inl, inr}
-use Rattle.std.specs.Prelude.{◌||◌, nat_le}
-use Rattle.std.proofs.lemmas.Bool.Decides.{nat_tests}
+use Rattle.std.proofs.Common.{◌≡◌, ℕ, ◌+◌, true, false, List, [], ◌∷◌, ◌++◌, length, Option, Some, None, refl, ap, sym, subst, ◌∙◌, arith, inl, inr}
 use Rattle.std.proofs.lemmas.List.{append-nil, append_assoc, length-append, length_push, same_from_push}
 use Rattle.std.proofs.lemmas.Option.{none-some}
 use Rattle.hp_units.specs.declared.events.Event.{Event}
@@ -12,6 +10,7 @@ use Rattle.hp_schedules.specs.Orders.{IsBefore}
 use Rattle.hp_schedules.specs.Schedules.{Setting, next_call, plays, record_of_call}
 use Rattle.hp_schedules.proofs.Plays.{plays_push, stops}
 use Rattle.hp_places.proofs.Rooms.{push_extends, was_room}
+use Rattle.hp_explore.proofs.Filled.{full_on}
 use Rattle.hp_find.specs.Reaching.{HasRoomAlong}
 
 -- no call has room
@@ -53,10 +52,6 @@ room_back g p cpu along fills =
 
 -- ---- a schedule that a walk came to
 
-fuller : (limit most before m n : ℕ) → m ≤ n → (nat_le limit m || nat_le most (before + m)) ≡ true
-    → (nat_le limit n || nat_le most (before + n)) ≡ true
-fuller limit most before m n less full = grind (arith, nat_tests)
-
 -- where a call has no room the one after it has none either
 full_next : (g : Setting) (s : List ℕ) (h : HasNoRoom g s) (cpu : ℕ) (rest : List ℕ) (news : List Record)
     → plays g ((s ++ h.cpu ∷ []) ++ cpu ∷ rest) ≡ Some news
@@ -71,14 +66,7 @@ full_next g s h cpu rest news played = by_next (next_call g cpu later) refl
 
     full : is_full_after g later ≡ true
     full =
-        fuller g.layout.history 18446744073709551615 g.before (length (g.start ++ h.news))
-        (length (g.start ++ later))
-        (omega (
-          arith,
-          length-append g.start h.news,
-          length-append g.start later,
-          length_push h.news (record_of_call g h.news h.cpu h.event),
-        )) h.full
+        full_on g h.news later (omega (arith, length_push h.news (record_of_call g h.news h.cpu h.event))) h.full
 
     by_next : (next : Option Event) → next_call g cpu later ≡ next
         → (k : HasNoRoom g (s ++ h.cpu ∷ [])) × (k.cpu ≡ cpu)

@@ -6,12 +6,32 @@ use Rattle.std.specs.Option.{option_map_or}
 use Rattle.std.proofs.lemmas.Bool.{le-ltb, ltb-true}
 use Rattle.std.proofs.Math.Nat.{add-mul}
 use Rattle.std.specs.Prelude.{◌||◌}
-use Rattle.hp_units.specs.Driver.{Ends, IsDriverRun, cause_after, cause_of, end_after, is_migrate, next_after, next_event, next_drain, migrate_or_cancel, opened_by, operation_of, tried}
+use Rattle.hp_units.specs.Driver.{AllNext, Ends, IsDriverRun, cause_after, cause_of, end_after, is_migrate, next_after, next_event, next_drain, migrate_or_cancel, opened_by, operation_of, tried}
 use Rattle.hp_ops.specs.Names.{Item, Event, Begin, DrainFor, Migrate, Commit, Cancel, Reply, Done, Moved, Opened, Refused, Refusal, NoFrame, NoOp, NothingToMove, NotFree, Receipt, OpEnd, EndsDone, EndsRefused, EndsCancelled, EndsUndone, Driver, Stage, Begins, DrainsFor, Migrates, Commits, Cancels, Ended}
 use Rattle.hp_ops.specs.Ports.{IsBeginReply, IsDriverReply, IsGiven, IsLiveReply, PortValue, has_opened, is_opened, with_receipts}
-use Rattle.hp_ops.specs.Stages.{IsAfter, MovesOn, end_in, event_in, work_in}
-use Rattle.hp_ops.specs.Courses.{IsUnderWay, calls_left, calls_to_turn, operation_in}
+use Rattle.hp_ops.specs.Stages.{IsAfter, MovesOn, end_in, event_in, operation_in, work_in}
 use Rattle.hp_ops.proofs.Receipts.{all_push, next_push, count_push, end_push}
+
+-- ---- a run that goes on
+
+-- the receipts so far are a run, which the driver is at, and the event is next
+pub record IsUnderWay (cpus turns : ℕ) (plan : List Item) (d : Driver) (next : Event)
+    (receipts : List Receipt) : Type 0 where
+  pub events : AllNext cpus turns plan [] receipts
+  pub after : IsAfter cpus turns receipts d
+  pub next_is : next_event cpus turns plan receipts ≡ Some next
+  pub operation : operation_of receipts ≡ operation_in next
+
+-- at most so many calls come before the next migration is over, the event's own included
+abbrev pub calls_to_turn : (cpus : ℕ) → Event → ℕ
+calls_to_turn cpus (Begin plan) = cpus + 4
+calls_to_turn cpus (DrainFor op cpu) = (cpus - cpu) + 2
+calls_to_turn cpus (Commit op) = cpus + 3
+calls_to_turn cpus event = 1
+
+-- at most so many calls are left
+abbrev pub calls_left : Driver → Event → ℕ
+calls_left d event = d.left * (d.cpus + 3) + calls_to_turn d.cpus event
 
 -- ---- what the next event is
 

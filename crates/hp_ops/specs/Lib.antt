@@ -1,4 +1,3 @@
-pub mod Courses
 pub mod Names
 pub mod Ports
 pub mod Stages

@@ -3,6 +3,14 @@ use Rattle.std.specs.Prelude.{◌≡◌, ℕ, ◌-◌, List, [], ◌∷◌, ◌+
 use Rattle.hp_units.specs.Driver.{cause_of, end_after, end_of, next_after, next_drain, next_event, tried}
 use Rattle.hp_ops.specs.Names.{Item, Event, Begin, DrainFor, Migrate, Commit, Cancel, Reply, Refused, Refusal, NoOp, Receipt, OpEnd, EndsUndone, Driver, Stage, Begins, DrainsFor, Migrates, Commits, Cancels, Ended}
 
+-- the operation that a driver's event works on
+abbrev pub operation_in : Event → Option ℕ
+operation_in (DrainFor op cpu) = Some op
+operation_in (Migrate op) = Some op
+operation_in (Commit op) = Some op
+operation_in (Cancel op) = Some op
+operation_in event = None
+
 -- the event of a stage, where it is work on an operation
 abbrev pub work_in : Stage → Option Event
 work_in (DrainsFor op cpu) = Some (DrainFor op cpu)

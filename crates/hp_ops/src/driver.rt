@@ -1,8 +1,8 @@
 //! The driver of a plan's operation.
 ghost use Rattle.std.specs.Prelude.{◌≡◌, None};
 ghost use Rattle.hp_units.specs.Driver.{IsDriverRun};
-ghost use Rattle.hp_ops.specs.Courses.{operation_in};
 ghost use Rattle.hp_ops.specs.Ports.{Gains};
+ghost use Rattle.hp_ops.specs.Stages.{operation_in};
 
 use crate::port::Port;
 use crate::stages::Driver;

@@ -8,10 +8,10 @@ use Rattle.hp_schedules.specs.Outcomes.{OutcomeValue}
 use Rattle.hp_schedules.specs.Orders.{HasCount, IsBefore, IsFirst}
 use Rattle.hp_schedules.proofs.Counting.{either_listed, get_longer, same_count}
 use Rattle.hp_schedules.proofs.Counts.{end_stays, get_set_cases}
-use Rattle.hp_schedules.proofs.Regions.{not_before_itself}
+use Rattle.hp_schedules.proofs.Regions.{before_before, not_before_itself}
 use Rattle.hp_parts.specs.Adding.{AddsEnd, AddsMore, AddsOther, earlier}
 use Rattle.hp_parts.proofs.Added.{apart_more, apart_other, sum_more, sum_other}
-use Rattle.hp_parts.proofs.Orders.{before_before, earlier_of}
+use Rattle.hp_parts.proofs.Orders.{earlier_of}
 
 -- ---- one end
 

@@ -40,20 +40,6 @@ pub after_not_less : (s t : List ℕ) → IsBefore t s → is_lt (slice_cmp nat_
 after_not_less s t h =
     ap is_lt (nat_list_cmp_total.antisymm s t ∙ ap ordering_reverse (before_less t s h))
 
--- what stands before one that stands before a third
-pub before_before : (s t u : List ℕ) → IsBefore s t → IsBefore t u → IsBefore s u
-before_before s [] u h k = absurd h
-before_before s (c ∷ t) [] h k = absurd k
-before_before [] (c ∷ t) (b ∷ u) h k = absurd h
-before_before (d ∷ s) (c ∷ t) (b ∷ u) h k =
-    elim h [
-      | inl less ↦ elim k [ inl more ↦ inl (omega arith) | inr e ↦ inl (omega (arith, e.0)) ]
-      | inr e ↦ elim k [
-        | inl more ↦ inl (omega (arith, e.0))
-        | inr f ↦ inr (e.0 ∙ f.0, before_before s t u e.1 f.1)
-      ]
-    ]
-
 -- of two schedules one stands before the other, or goes on from it
 pub sides : (s t : List ℕ) → IsBefore s t ⊎ (IsBefore t s ⊎ (Extends t s ⊎ Extends s t))
 sides [] t = inr (inr (inl (t, refl)))

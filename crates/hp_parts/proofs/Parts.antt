@@ -14,7 +14,7 @@ use Rattle.hp_schedules.specs.Parts.{EndsInPart, part_number}
 use Rattle.hp_schedules.specs.Schedules.{EndsWith, Setting}
 use Rattle.hp_schedules.proofs.Counts.{none_counted, same_counted}
 use Rattle.hp_parts.specs.Adding.{AddsEnds, AddsLists, AreSorted}
-use Rattle.hp_parts.specs.Sums.{AreParts, EndsBelow}
+use Rattle.hp_parts.specs.Sums.{AreParts}
 use Rattle.hp_parts.proofs.Complete.{compared}
 use Rattle.hp_parts.proofs.Orders.{before_less}
 use Rattle.hp_parts.proofs.Joining.{joined}
@@ -33,6 +33,11 @@ pub number_below : (processors of : ℕ) (s : List ℕ) → 0 < of → part_numb
 number_below processors of s some = number_from processors of 0 s some
 
 -- ---- one part after another
+
+-- a schedule of a part below a number is complete, with this outcome
+abbrev pub EndsBelow : Setting → (of calls below : ℕ) → List ℕ → OutcomeValue → Type 0
+EndsBelow g of calls below s x =
+    EndsWith g s x × (part_number (length g.scripts) of (take calls s) < below)
 
 -- no schedule is of a part below the first
 pub none_below : (g : Setting) (of calls : ℕ) → AreCounted (EndsBelow g of calls 0) []

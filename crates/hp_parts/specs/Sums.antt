@@ -1,10 +1,9 @@
 -- The ends of all parts of a search.
-use Rattle.std.specs.Prelude.{◌≡◌, ℕ, ◌<◌, List, Some, length, slice_get, take}
+use Rattle.std.specs.Prelude.{◌≡◌, ℕ, ◌<◌, List, Some, length, slice_get}
 use Rattle.hp_schedules.specs.Ends.{AreCounted}
-use Rattle.hp_schedules.specs.Outcomes.{OutcomeValue}
-use Rattle.hp_schedules.specs.Parts.{EndsInPart, PartValue, part_number}
+use Rattle.hp_schedules.specs.Parts.{EndsInPart, PartValue}
 use Rattle.hp_explore.specs.Faults.{FillsPart}
-use Rattle.hp_schedules.specs.Schedules.{EndsWith, Setting}
+use Rattle.hp_schedules.specs.Schedules.{Setting}
 use Rattle.hp_schedules.specs.declared.tally.Ending.{Ending}
 
 -- the part with an index of so many, which go by so many first calls
@@ -26,8 +25,3 @@ AreApart ends =
 -- the history has room for each call of each part
 abbrev pub HaveRoom : Setting → (of calls : ℕ) → Type 0
 HaveRoom g of calls = (k : ℕ) → k < of → FillsPart g (part of calls k) → ⊥
-
--- a schedule of a part below a number is complete, with this outcome
-abbrev pub EndsBelow : Setting → (of calls below : ℕ) → List ℕ → OutcomeValue → Type 0
-EndsBelow g of calls below s x =
-    EndsWith g s x × (part_number (length g.scripts) of (take calls s) < below)

@@ -11,13 +11,13 @@ use Rattle.hp_places.specs.declared.frames.Entry.{Entry}
 use Rattle.hp_places.specs.declared.frames.Entry.TheVariants.{Counted, Open}
 use Rattle.hp_places.specs.declared.frames.Frame.{Frame}
 use Rattle.hp_places.specs.declared.frames.Kept.{Kept}
-use Rattle.hp_schedules.specs.Parts.{AllOfPart, ComesTo, IsOfPart, NoneOfPart, PartValue}
+use Rattle.hp_schedules.specs.Parts.{AllOfPart, ComesTo, IsOfPart, PartValue}
 use Rattle.hp_schedules.specs.Schedules.{Setting, schedule_of}
 use Rattle.hp_schedules.specs.Shares.{AddsShares}
 use Rattle.hp_schedules.specs.declared.rows.Share.{Share}
 use Rattle.hp_schedules.specs.declared.tally.Ending.{Ending}
 use Rattle.hp_places.proofs.Grown.{grow_none, grow_twice}
-use Rattle.hp_places.proofs.OfPart.{all_of, none_of}
+use Rattle.hp_places.proofs.OfPart.{NoneOfPart, all_of, none_of}
 use Rattle.hp_places.proofs.Rooms.{done_apart}
 
 -- ---- as the ends grow

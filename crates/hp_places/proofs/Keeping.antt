@@ -15,7 +15,7 @@ use Rattle.hp_schedules.specs.Schedules.{Setting, plays, schedule_of}
 use Rattle.hp_places.specs.Seen.{AreSamePlaces, Grow, IsMemo, IsOnWay, IsRow, IsRowAmong, IsSeen, MemoValue, SeenValue, key_in, width_of}
 use Rattle.hp_schedules.specs.Shares.{AddsCounts, AddsShares, AreAtEnds, AreNoMore, AreSince, amount_of}
 use Rattle.hp_places.specs.Standing.{AreSameNumbers, IsKey, IsStanding, KeepMeanings, StandingValue}
-use Rattle.hp_places.specs.Walks.{BeforeInPart, CountsBefore, CountsThrough, HasRoomFrom, IsAt, IsPartWalkedBefore, IsPartWalkedThrough, ThroughInPart}
+use Rattle.hp_places.specs.Walks.{BeforeInPart, HasRoomFrom, IsAt, IsPartWalkedBefore, IsPartWalkedThrough, ThroughInPart}
 use Rattle.hp_schedules.specs.declared.rows.Share.{Share}
 use Rattle.hp_schedules.specs.declared.tally.Ending.{Ending}
 use Rattle.hp_places.proofs.Grown.{grow_added, seen_grows}
@@ -56,6 +56,14 @@ grown_no_more old new earlier is grow = subst (λ (ks : List ℕ). AreNoMore ks 
         ]
 
 -- ---- a place that was walked
+
+-- the ends are those of a part's schedules before where the walk stands, and up to the last one that
+-- goes on from there
+abbrev pub CountsBefore : Setting → PartValue → StepsValue → List Ending → Type 0
+CountsBefore g part p ends = AreCounted (BeforeInPart g part (schedule_of p.records)) ends
+
+abbrev pub CountsThrough : Setting → PartValue → StepsValue → List Ending → Type 0
+CountsThrough g part p ends = AreCounted (ThroughInPart g part (schedule_of p.records)) ends
 
 pub place_kept : (g : Setting) (part : PartValue) (p : StepsValue) (seen : SeenValue) (old new : List Ending)
     (earlier : List ℕ) (shares : List Share)

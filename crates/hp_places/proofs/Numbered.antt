@@ -12,12 +12,13 @@ use Rattle.hp_laws.proofs.Net.{net-push}
 use Rattle.hp_schedules.specs.Alike.{leaves_steps}
 use Rattle.hp_schedules.specs.Numbers.{KeepNumbers}
 use Rattle.hp_places.specs.Numbered.{AreNamed, IsBegun, IsEntryOf, IsInFront, IsMadeBy, IsNumbered, IsStateAt, NumbersOn, entry_below, in_front, opening_of, openings_of}
-use Rattle.hp_schedules.specs.Openings.{AreOpen, NumberedOpening, Opening, after_cancel, after_work, change_of, changed, openings_after}
+use Rattle.hp_schedules.specs.Openings.{AreOpen, NumberedOpening, Opening, after_cancel, after_work, change_of}
 use Rattle.hp_schedules.specs.Schedules.{Setting}
 use Rattle.hp_schedules.specs.declared.changes.Change.TheVariants.{Stays, Begins, Works, Cancels, Ends}
 use Rattle.hp_places.specs.declared.openings.Entry.{Entry}
 use Rattle.hp_schedules.proofs.Numberings.{made_added}
 use Rattle.hp_schedules.proofs.Opened.{none_after, open_more}
+use Rattle.hp_schedules.proofs.Openings.{changed, openings_after}
 
 -- ---- openings that numbers name
 

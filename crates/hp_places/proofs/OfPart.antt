@@ -5,7 +5,7 @@ use Rattle.hp_units.specs.declared.replies.Record.{Record}
 use Rattle.hp_schedules.specs.Alike.{AreAlike, UndoNothing}
 use Rattle.hp_schedules.specs.Ends.{AreCounted}
 use Rattle.hp_schedules.specs.Orders.{Extends}
-use Rattle.hp_schedules.specs.Parts.{AllOfPart, ComesTo, IsOfPart, IsOn, NoneOfPart, PartValue, part_number}
+use Rattle.hp_schedules.specs.Parts.{AllOfPart, ComesTo, IsOfPart, IsOn, PartValue, part_number}
 use Rattle.hp_schedules.specs.Schedules.{Setting, plays}
 use Rattle.hp_schedules.specs.Shares.{AddsCounts}
 use Rattle.hp_schedules.specs.declared.tally.Ending.{Ending}
@@ -25,6 +25,10 @@ same_number n part p s long on =
 pub all_of : (n : ℕ) (part : PartValue) (p : List ℕ) → part.calls ≤ length p → IsOfPart n part p
     → AllOfPart n part p
 all_of n part p long of s on = same_number n part p s long on ∙ of
+
+-- a search of a part goes on from none of the schedules that go on from a place
+abbrev pub NoneOfPart : (processors : ℕ) → PartValue → List ℕ → Type 0
+NoneOfPart processors part place = (s : List ℕ) → Extends s place → ComesTo processors part s → ⊥
 
 pub none_of : (n : ℕ) (part : PartValue) (p : List ℕ) → part.calls ≤ length p → (IsOfPart n part p → ⊥)
     → NoneOfPart n part p

@@ -12,7 +12,7 @@ use Rattle.hp_places.specs.Rooms.{HasNoRoom, is_full_after}
 use Rattle.hp_schedules.specs.Notes.{AddsEnd, AddsOne, IsNoted}
 use Rattle.hp_schedules.specs.Orders.{Extends, IsBefore}
 use Rattle.hp_schedules.specs.Outcomes.{OutcomeValue}
-use Rattle.hp_schedules.specs.Parts.{ComesTo, NoneOfPart, PartValue}
+use Rattle.hp_schedules.specs.Parts.{ComesTo, PartValue}
 use Rattle.hp_schedules.specs.Schedules.{Setting, next_call, play_one, plays, record_of_call}
 use Rattle.hp_schedules.specs.Shares.{AddsCounts}
 use Rattle.hp_places.specs.Walks.{BeforeInPart, HasPartRoomBefore, HasPartRoomFrom, HasRoomFrom, IsPartWalkedBefore, IsPartWalkedThrough, ThroughInPart}
@@ -20,6 +20,7 @@ use Rattle.hp_schedules.specs.declared.tally.Ending.{Ending}
 use Rattle.hp_schedules.proofs.Alike.{PlaysAlike, all_calls, call_same, played_alike}
 use Rattle.hp_schedules.proofs.Counts.{get_set_cases, same_counted}
 use Rattle.hp_places.proofs.Merges.{turned}
+use Rattle.hp_places.proofs.OfPart.{NoneOfPart}
 use Rattle.hp_schedules.proofs.Plays.{asks_within, plays_on, plays_push, stops}
 use Rattle.hp_places.proofs.Walks.{walk_begins, walk_down, walk_over, walk_past}
 use Rattle.hp_schedules.proofs.Regions.{before_first, before_longer, before_next, extends_before, extends_cons}

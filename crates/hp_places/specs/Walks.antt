@@ -75,14 +75,6 @@ pub record IsPartWalkedThrough (g : Setting) (part : PartValue) (place : List �
   pub room : HasPartRoomBefore g part place
   pub onward : HasPartRoomFrom g part place
 
--- the ends are those of its schedules before where the walk stands, and up to the last one that goes
--- on from there
-abbrev pub CountsBefore : Setting → PartValue → StepsValue → List Ending → Type 0
-CountsBefore g part p ends = AreCounted (BeforeInPart g part (schedule_of p.records)) ends
-
-abbrev pub CountsThrough : Setting → PartValue → StepsValue → List Ending → Type 0
-CountsThrough g part p ends = AreCounted (ThroughInPart g part (schedule_of p.records)) ends
-
 -- the schedule that led to where the walk stands is noted, with the outcome there for so many processors
 abbrev pub IsEndNoted : (processors : ℕ) → StepsValue → List Ending → List Ending → Type 0
 IsEndNoted processors p old new =

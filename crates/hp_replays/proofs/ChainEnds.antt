@@ -14,16 +14,24 @@ use Rattle.hp_laws.proofs.Replays.{take_one}
 use Rattle.hp_plain.specs.Image.{Pictured}
 use Rattle.hp_history.specs.Course.{CourseValue, last_serial, started}
 use Rattle.hp_history.specs.Kept.{pictured}
-use Rattle.hp_history.specs.Volumes.{records_in, state_after}
+use Rattle.hp_history.specs.Volumes.{IsChain, records_in, state_after}
 use Rattle.hp_history.specs.declared.volumes.Volume.{Volume}
 use Rattle.hp_history.proofs.Chains.{chain_more, count_more, state_more}
-use Rattle.hp_replays.specs.Chains.{EndsVolumes, FollowsEnd, IsChainFault, IsFaultAfter, RefutesChain, chain_fault, sealed_after}
+use Rattle.hp_replays.specs.Chains.{FollowsEnd, IsChainFault, IsFaultAfter, RefutesChain, chain_fault, sealed_after}
 use Rattle.hp_replays.specs.Replaying.{IsCourseOf, IsFault, Refutes}
 use Rattle.hp_replays.specs.declared.replaying.ReplayFault.{ReplayFault}
 use Rattle.hp_replays.specs.declared.replaying.ReplayFault.TheVariants.{WrongReply, WrongSerial, OutOfMemory as ReplayOutOfMemory}
 use Rattle.hp_replays.specs.declared.chains.ChainFault.{ChainFault}
 use Rattle.hp_replays.specs.declared.chains.ChainFault.TheVariants.{WrongCount, WrongBase, Replay, OutOfMemory}
 use Rattle.hp_replays.proofs.Replays.{refutes}
+
+-- the course has no records, and begins where volumes lead to
+pub record EndsVolumes (l : LayoutParts) (volumes : List Volume) (end : CourseValue) : Type 0 where
+  pub start : end ≡ started end.layout end.base end.before
+  pub layout : end.layout ≡ l
+  pub count : end.before ≡ records_in volumes
+  pub state : end.base ≡ state_after l volumes
+  pub chain : IsChain l volumes
 
 -- no volumes
 pub ends_none : (l : LayoutParts) (volumes : List Volume) (end : CourseValue)

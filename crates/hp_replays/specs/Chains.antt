@@ -53,14 +53,6 @@ RefutesChain l volumes OutOfMemory = Unit {0}
 
 -- ---- a course that is sealed after each volume
 
--- the course has no records, and begins where volumes lead to
-pub record EndsVolumes (l : LayoutParts) (volumes : List Volume) (end : CourseValue) : Type 0 where
-  pub start : end ≡ started end.layout end.base end.before
-  pub layout : end.layout ≡ l
-  pub count : end.before ≡ records_in volumes
-  pub state : end.base ≡ state_after l volumes
-  pub chain : IsChain l volumes
-
 -- a volume's count and base are those that such a course begins with
 pub record FollowsEnd (end : CourseValue) (v : Volume) : Type 0 where
   pub count : v.before ≡ end.before

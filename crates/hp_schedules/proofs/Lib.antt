@@ -16,6 +16,7 @@ pub mod Lines
 pub mod Numberings
 pub mod OneCalls
 pub mod Opened
+pub mod Openings
 pub mod Placed
 pub mod Places
 pub mod Plays

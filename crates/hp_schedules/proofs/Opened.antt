@@ -21,8 +21,9 @@ use Rattle.hp_laws.proofs.Records.{with_good}
 use Rattle.hp_laws.proofs.Replays.{net_bad}
 use Rattle.hp_laws.proofs.Undo.{sole_sound}
 use Rattle.hp_schedules.specs.Alike.{AreJoined, leaves_steps}
-use Rattle.hp_schedules.specs.Openings.{AreOpen, Opening, after_cancel, after_work, change_by, change_of, changed, openings_after}
+use Rattle.hp_schedules.specs.Openings.{AreOpen, Opening, after_cancel, after_work, change_by, change_of}
 use Rattle.hp_schedules.specs.declared.changes.Change.TheVariants.{Stays, Ends}
+use Rattle.hp_schedules.proofs.Openings.{changed, openings_after}
 
 -- ---- where an operation is sole
 

@@ -1,5 +1,5 @@
 -- Schedules before and after a place of the walk.
-use Rattle.std.proofs.Common.{◌≡◌, ℕ, ◌+◌, ◌<◌, ◌≤◌, List, [], ◌∷◌, ◌++◌, refl, sym, subst, arith, inl, inr}
+use Rattle.std.proofs.Common.{◌≡◌, ℕ, ◌+◌, ◌<◌, ◌≤◌, List, [], ◌∷◌, ◌++◌, refl, sym, subst, ◌∙◌, arith, inl, inr}
 use Rattle.std.specs.Prelude.{◌⊎◌}
 use Rattle.std.proofs.lemmas.Bool.{cases_lt}
 use Rattle.hp_schedules.specs.Orders.{Extends, IsBefore}
@@ -14,6 +14,20 @@ pub not_before_longer : (p q : List ℕ) → IsBefore p (p ++ q) → ⊥
 not_before_longer [] [] h = h
 not_before_longer [] (c ∷ q) h = h
 not_before_longer (c ∷ p) q h = elim h [ inl l ↦ absurd (omega arith) | inr e ↦ not_before_longer p q e.1 ]
+
+-- what stands before one that stands before a third
+pub before_before : (s t u : List ℕ) → IsBefore s t → IsBefore t u → IsBefore s u
+before_before s [] u h k = absurd h
+before_before s (c ∷ t) [] h k = absurd k
+before_before [] (c ∷ t) (b ∷ u) h k = absurd h
+before_before (d ∷ s) (c ∷ t) (b ∷ u) h k =
+    elim h [
+      | inl less ↦ elim k [ inl more ↦ inl (omega arith) | inr e ↦ inl (omega (arith, e.0)) ]
+      | inr e ↦ elim k [
+        | inl more ↦ inl (omega (arith, e.0))
+        | inr f ↦ inr (e.0 ∙ f.0, before_before s t u e.1 f.1)
+      ]
+    ]
 
 -- one processor more in front
 pub extends_cons : (c d : ℕ) (s p : List ℕ) → d ≡ c → Extends s p → Extends (d ∷ s) (c ∷ p)

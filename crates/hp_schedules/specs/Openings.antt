@@ -52,14 +52,3 @@ change_by event = Ends
 
 abbrev pub change_of : Record → Change
 change_of r = if is_refused r.reply then Stays else change_by r.event
-
--- those after a record with this serial, by what it does in a state
-abbrev pub changed : (here : Memory) (serial : ℕ) → List Opening → Change → List Opening
-changed here serial was Stays = was
-changed here serial was Begins = record { op = serial; memory = here } ∷ was
-changed here serial was (Works op) = after_work op was
-changed here serial was (Cancels op) = after_cancel op was
-changed here serial was Ends = []
-
-abbrev pub openings_after : (here : Memory) → List Opening → Record → List Opening
-openings_after here was r = changed here r.serial was (change_of r)

@@ -39,7 +39,3 @@ IsOn processors part place = part.calls < length place → IsOfPart processors p
 -- all schedules that go on from a place belong to a part
 abbrev pub AllOfPart : (processors : ℕ) → PartValue → List ℕ → Type 0
 AllOfPart processors part place = (s : List ℕ) → Extends s place → IsOfPart processors part s
-
--- and a search of the part goes on from none of them
-abbrev pub NoneOfPart : (processors : ℕ) → PartValue → List ℕ → Type 0
-NoneOfPart processors part place = (s : List ℕ) → Extends s place → ComesTo processors part s → ⊥

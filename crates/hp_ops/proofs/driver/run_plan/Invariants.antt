@@ -1,6 +1,6 @@
 use Rattle.std.proofs.Common.{None}
-use Rattle.hp_ops.specs.Courses.{IsUnderWay, calls_left}
 use Rattle.hp_ops.specs.Ports.{Gains}
+use Rattle.hp_ops.proofs.Runs.{IsUnderWay, calls_left}
 use Rattle.hp_ops.proofs.driver.run_plan.Given as goal
 
 -- the receipts so far are a run, and the event is next

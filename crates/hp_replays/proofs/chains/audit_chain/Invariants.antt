@@ -1,7 +1,7 @@
 -- The journal is sealed, and begins where the volumes so far lead to, as the base does.
 use Rattle.std.proofs.Common.{◌≡◌, take}
 use Rattle.hp_history.specs.Kept.{pictured}
-use Rattle.hp_replays.specs.Chains.{EndsVolumes}
+use Rattle.hp_replays.proofs.ChainEnds.{EndsVolumes}
 use Rattle.hp_replays.proofs.chains.audit_chain.Given as goal
 
 abbrev pub invariant-loop-place : goal.invariant-loop-place

@@ -6,9 +6,9 @@ use Rattle.hp_units.specs.Arithmetic.{frame_count, pageblock_size}
 use Rattle.hp_units.specs.Memory.{FreeAreas}
 use Rattle.hp_tape.specs.Tapes.{NotesAreas}
 use Rattle.hp_buddy.specs.Buddy.{AreApart}
-use Rattle.hp_buddy.specs.Moves.{free_one, free_count, move_first, move_one}
+use Rattle.hp_buddy.specs.Moves.{free_one, free_count, move_one}
 use Rattle.hp_buddy.proofs.Apart.{has_order}
-use Rattle.hp_buddy.proofs.Moves.{move_first-moves}
+use Rattle.hp_buddy.proofs.Moves.{move_first, move_first-moves}
 use Rattle.hp_buddy.proofs.Calls.{notes-then, room_left}
 use Rattle.hp_buddy.proofs.Pageblocks.{frame_in, count-within, one-same, move_free-first}
 use Rattle.hp_buddy.proofs.Strides.{ends-within, stride, whole}

@@ -1,7 +1,8 @@
 use Rattle.std.proofs.Common.{◌≡◌, ◌*◌, ◌^◌}
 use Rattle.hp_units.specs.Arithmetic.{pageblock_size}
 use Rattle.hp_tape.specs.Tapes.{NotesAreas}
-use Rattle.hp_buddy.specs.Moves.{free_count, move_first}
+use Rattle.hp_buddy.specs.Moves.{free_count}
+use Rattle.hp_buddy.proofs.Moves.{move_first}
 use Rattle.hp_buddy.proofs.buddy.Buddy.move_order.Given as goal
 
 abbrev pub invariant-loop-at : goal.invariant-loop-at

@@ -7,9 +7,9 @@ use Rattle.hp_units.specs.Isolation.{move_free}
 use Rattle.hp_tape.specs.Deltas.{FitsAreas, IsOfAreas, areas_undo}
 use Rattle.hp_tape.proofs.Leads.{notes-more}
 use Rattle.hp_buddy.specs.Buddy.{BuddyValue, AreApart}
-use Rattle.hp_buddy.specs.Moves.{free_count, free_total}
+use Rattle.hp_buddy.specs.Moves.{free_count}
 use Rattle.hp_buddy.proofs.Calls.{notes-then, room_left}
-use Rattle.hp_buddy.proofs.Pageblocks.{move_free_below-moves, order_count, below_next, total_next, total-le}
+use Rattle.hp_buddy.proofs.Pageblocks.{move_free_below-moves, order_count, below_next, free_total, total_next, total-le}
 use Rattle.hp_buddy.proofs.buddy.Buddy.move_orders.Goals as goal
 
 pub move_order-requires-clause-apart : goal.move_order-requires-clause-apart

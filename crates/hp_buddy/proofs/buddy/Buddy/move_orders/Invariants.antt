@@ -2,7 +2,7 @@ use Rattle.std.proofs.Common.{◌≡◌, ◌*◌}
 use Rattle.hp_units.specs.Arithmetic.{pageblock_size}
 use Rattle.hp_units.specs.Isolation.{move_free_below}
 use Rattle.hp_tape.specs.Tapes.{NotesAreas}
-use Rattle.hp_buddy.specs.Moves.{free_total}
+use Rattle.hp_buddy.proofs.Pageblocks.{free_total}
 use Rattle.hp_buddy.proofs.buddy.Buddy.move_orders.Given as goal
 
 abbrev pub invariant-loop-order : goal.invariant-loop-order

@@ -5,8 +5,7 @@ use Rattle.hp_units.specs.LayoutParts.{LayoutParts}
 use Rattle.hp_steps.specs.Steps.{StepsValue}
 use Rattle.hp_explore.specs.Settings.{setting}
 use Rattle.hp_explore.proofs.Machines.{reached_start}
-use Rattle.hp_explore.specs.Frames.{path_of}
-use Rattle.hp_explore.proofs.Paths.{path_begins}
+use Rattle.hp_explore.proofs.Paths.{path_begins, path_of}
 use Rattle.hp_explore.proofs.Stepped.{machine_at}
 use Rattle.hp_explore.proofs.path.Path.start.Goals as goal
 use Rattle.hp_explore.proofs.path.Path.start.Goals.{In_ok-here}
