@@ -14,21 +14,19 @@ use Rattle.hp_part_lines.specs.Cuts.{IsLineAt, line_number}
 use Rattle.hp_part_lines.specs.Ends.{IsEndOf}
 use Rattle.hp_part_lines.specs.Gathering.{GatheringValue, PartEndsValue}
 use Rattle.hp_part_lines.specs.Heads.{HeadValue, IsHead, IsNumber, SearchValue, head_from, head_line, part_in}
-use Rattle.hp_part_lines.specs.Ordering.{AreAll, IsOrderFault, lists_of}
+use Rattle.hp_part_lines.specs.Ordering.{AreAll, lists_of}
 use Rattle.hp_part_lines.specs.Reading.{IsLine}
 use Rattle.hp_scenario.specs.Scenario.{json_of}
-use Rattle.hp_part_lines.specs.declared.ordering.OrderFault.{OrderFault}
-use Rattle.hp_part_lines.specs.declared.ordering.OrderFault.TheVariants as order
 use Rattle.hp_part_lines.specs.declared.reading.PartLine.TheVariants.{End}
 use Rattle.hp_part_files.specs.Gathered.{IsGathered, IsGathering, IsOwn, lines_of}
 use Rattle.std.specs.Global.{Vec}
-use Rattle.hp_explore.specs.Faults.{IsCause}
 use Rattle.hp_prepared.specs.Faults.{IsUntold}
 use Rattle.hp_prepared.specs.Prepared.{IsPrepared, names_of, setting_of}
 use Rattle.hp_lab_faults.specs.declared.fault.LabFault.{LabFault}
+use Rattle.hp_lab_faults.specs.declared.fault.LabFault.TheVariants as lab
 use Rattle.hp_prepared.specs.declared.prepared.Prepared.{Prepared}
-use Rattle.hp_prepared.proofs.Known.{held_in, untold_in}
-use Rattle.hp_part_files.specs.Faults.{IsLineFault, IsMisplaced, IsTooMany, IsUnpushed, IsUnsummedIn, IsUntoldEnds, IsUntoldSum, fault_of_line, fault_of_order}
+use Rattle.hp_prepared.proofs.Known.{held_in}
+use Rattle.hp_part_files.specs.Faults.{IsCauseAlong, IsCauseIn, IsLineFault, IsMisplaced, IsTooMany, IsUnplayed, IsUnpushed, IsUnsummedIn, IsUntoldSum, fault_of_line}
 use Rattle.hp_lab_faults.specs.declared.part_fault.PartFault.{PartFault}
 use Rattle.hp_lab_faults.specs.declared.part_fault.PartFault.TheVariants as part
 use Rattle.hp_part_files.specs.declared.line_fault.LineFault.{LineFault}
@@ -202,20 +200,40 @@ not_pushed names g s v text e NotOfPart line own h = absurd h
 not_pushed names g s v text e Changed line own h = record { end = e; line = line; own = own; other = h }
 not_pushed names g s v text e Stopped line own h = absurd h
 not_pushed names g s v text e (OtherCount number) line own h = absurd h
-not_pushed names g s v text e (Lab fault) line own h = h
+not_pushed names g s v text e (Lab fault) line own h =
+    subst (λ (f : LabFault). IsUntold (IsCauseIn text) g f) (sym h) tt
+
+-- why the schedule that a line names was not played
+pub not_played : (names : List (List ℕ)) (g : Setting) (s : SearchValue) (v : GatheringValue) (text : List ℕ)
+    (count : ℕ) (schedule : Vec ℕ) (fault : LineFault)
+    → IsLine text (End count schedule) → IsUnplayed g schedule.items fault
+    → IsLineFault names g s v text fault
+not_played names g s v text count schedule fault line h =
+    subst (IsLineFault names g s v text) (sym h.1) (by_fault h.0 h.2)
+  where
+    by_fault : (why : LabFault) → IsUntold (IsCauseAlong schedule.items) g why
+        → IsUntold (IsCauseIn text) g why
+    by_fault lab.NotJson h = absurd h
+    by_fault lab.BadShape h = absurd h
+    by_fault (lab.Layout f) h = absurd h
+    by_fault (lab.BadLine n) h = absurd h
+    by_fault (lab.NotForScript place why) h = absurd h
+    by_fault (lab.TooMany n) h = absurd h
+    by_fault (lab.HistoryFull needed) h = ((count, schedule, line, h.0), h.1)
+    by_fault lab.OutOfMemory h = tt
 
 -- the last part of a text has another number of ends than its head names
 pub last_cut : (input : List ℕ) (names : List (List ℕ)) (g : Setting) (s : SearchValue) (place number : ℕ)
     (v : GatheringValue)
     → length input ≤ place → IsGathering names g s (take place input) v → number ≡ v.last.number
     → (v.named ≡ length v.last.ends → ⊥) → IsUntoldSum input names g s (part.OtherCount number)
-last_cut input names g s place number v past h is other = inr (inr (inl (
+last_cut input names g s place number v past h is other = inr (inr (inr (inl (
   number,
   v,
   refl,
   subst (λ (l : List ℕ). IsGathering names g s l v) (take_all place input past) h,
   (is, other),
-)))
+))))
 
 -- a line of the text is not taken
 pub unread : (input : List ℕ) (names : List (List ℕ)) (g : Setting) (s : SearchValue) (place n : ℕ)
@@ -224,46 +242,14 @@ pub unread : (input : List ℕ) (names : List (List ℕ)) (g : Setting) (s : Sea
     → IsGathering names g s (take place input) v → IsLineFault names g s v text cause
     → IsUntoldSum input names g s fault
 unread input names g s place n text v cause fault is at here so_far h =
-    subst (IsUntoldSum input names g s) (sym (is ∙ ap (fault_of_line cause) at)) (by_cause cause h)
-  where
-    by_cause : (c : LineFault) → IsLineFault names g s v text c
-        → IsUntoldSum input names g s (fault_of_line c (line_number input place))
-    by_cause NotPart h = inl (place, text, v, NotPart, refl, here, so_far, h)
-    by_cause OtherSearch h = inl (place, text, v, OtherSearch, refl, here, so_far, h)
-    by_cause NotOfPart h = inl (place, text, v, NotOfPart, refl, here, so_far, h)
-    by_cause Changed h = inl (place, text, v, Changed, refl, here, so_far, h)
-    by_cause Stopped h = inl (place, text, v, Stopped, refl, here, so_far, h)
-    by_cause (OtherCount m) h = inl (place, text, v, OtherCount m, refl, here, so_far, h)
-    by_cause (Lab f) h = h
+    inr (inl (place, text, v, cause, is ∙ ap (fault_of_line cause) at, here, so_far, h))
 
 -- the parts are not all there once
 pub misplaced : (input : List ℕ) (names : List (List ℕ)) (g : Setting) (s : SearchValue)
     (parts : List PartEndsValue) (fault : PartFault)
     → IsGathered names g s input parts → IsMisplaced parts s.of fault → IsUntoldSum input names g s fault
 misplaced input names g s parts fault read h =
-    subst (IsUntoldSum input names g s) (sym h.1) (by_cause h.0 h.2)
-  where
-    by_cause : (why : OrderFault) → IsOrderFault parts s.of why
-        → IsUntoldSum input names g s (fault_of_order why)
-    by_cause (order.Missing n) h =
-        inr (inr (inr (record { parts = parts; read = read; cause = inl (order.Missing n, refl, h) })))
-    by_cause (order.Twice n) h =
-        inr (inr (inr (record { parts = parts; read = read; cause = inl (order.Twice n, refl, h) })))
-    by_cause order.OutOfMemory h = tt
-
--- the sum of all parts is not told
-pub untold_ends : (input : List ℕ) (names : List (List ℕ)) (g : Setting) (s : SearchValue) (fault : PartFault)
-    → IsUntoldEnds g fault → IsUntoldSum input names g s fault
-untold_ends input names g s (part.NotPart n) h = absurd h
-untold_ends input names g s (part.OtherSearch n) h = absurd h
-untold_ends input names g s (part.NotOfPart n) h = absurd h
-untold_ends input names g s (part.Changed n) h = absurd h
-untold_ends input names g s (part.Stopped n) h = absurd h
-untold_ends input names g s (part.OtherCount n) h = absurd h
-untold_ends input names g s (part.Missing n) h = absurd h
-untold_ends input names g s (part.Twice n) h = absurd h
-untold_ends input names g s part.TooMany h = absurd h
-untold_ends input names g s (part.Lab fault) h = h
+    inr (inr (inr (inr (record { parts = parts; read = read; cause = inl h }))))
 
 pub some_lists : (lists : List (Vec Ending)) → 0 < length (lists_of lists) → 0 < length lists
 some_lists [] some = some
@@ -287,40 +273,12 @@ pub too_many : (input : List ℕ) (names : List (List ℕ)) (g : Setting) (s : S
     (parts : List PartEndsValue) (lists : List (List Ending)) (fault : PartFault)
     → IsGathered names g s input parts → AreAll parts s.of lists → IsTooMany lists fault
     → IsUntoldSum input names g s fault
-too_many input names g s parts lists (part.NotPart n) read all h = absurd h
-too_many input names g s parts lists (part.OtherSearch n) read all h = absurd h
-too_many input names g s parts lists (part.NotOfPart n) read all h = absurd h
-too_many input names g s parts lists (part.Changed n) read all h = absurd h
-too_many input names g s parts lists (part.Stopped n) read all h = absurd h
-too_many input names g s parts lists (part.OtherCount n) read all h = absurd h
-too_many input names g s parts lists (part.Missing n) read all h = absurd h
-too_many input names g s parts lists (part.Twice n) read all h = absurd h
-too_many input names g s parts lists part.TooMany read all h =
-    inr (inr (inr (record { parts = parts; read = read; cause = inr (lists, all, h) })))
-too_many input names g s parts lists (part.Lab fault) read all h =
-    subst (λ (f : LabFault). IsUntold IsCause g f) (sym h) tt
+too_many input names g s parts lists fault read all h =
+    inr (inr (inr (inr (record { parts = parts; read = read; cause = inr (lists, all, h) }))))
 
 -- the sum has no answer after a scenario was made ready
 pub unsummed_in : (input : List ℕ) (s : SearchValue) (p : Prepared) (fault : PartFault)
     → IsPrepared s.scenario s.setup p → IsUntoldSum input (names_of p) (setting_of p) s fault
     → IsUnsummedIn input s fault
-unsummed_in input s p (part.NotPart n) ready h =
-    held_in (λ names before g. IsUntoldSum input names g s (part.NotPart n)) s.scenario s.setup p ready h
-unsummed_in input s p (part.OtherSearch n) ready h =
-    held_in (λ names before g. IsUntoldSum input names g s (part.OtherSearch n)) s.scenario s.setup p ready h
-unsummed_in input s p (part.NotOfPart n) ready h =
-    held_in (λ names before g. IsUntoldSum input names g s (part.NotOfPart n)) s.scenario s.setup p ready h
-unsummed_in input s p (part.Changed n) ready h =
-    held_in (λ names before g. IsUntoldSum input names g s (part.Changed n)) s.scenario s.setup p ready h
-unsummed_in input s p (part.Stopped n) ready h =
-    held_in (λ names before g. IsUntoldSum input names g s (part.Stopped n)) s.scenario s.setup p ready h
-unsummed_in input s p (part.OtherCount n) ready h =
-    held_in (λ names before g. IsUntoldSum input names g s (part.OtherCount n)) s.scenario s.setup p ready h
-unsummed_in input s p (part.Missing n) ready h =
-    held_in (λ names before g. IsUntoldSum input names g s (part.Missing n)) s.scenario s.setup p ready h
-unsummed_in input s p (part.Twice n) ready h =
-    held_in (λ names before g. IsUntoldSum input names g s (part.Twice n)) s.scenario s.setup p ready h
-unsummed_in input s p part.TooMany ready h =
-    held_in (λ names before g. IsUntoldSum input names g s part.TooMany) s.scenario s.setup p ready h
-unsummed_in input s p (part.Lab fault) ready h =
-    untold_in (λ (g : Setting). ⊥) IsCause s.scenario s.setup 0 p fault ready h
+unsummed_in input s p fault ready h =
+    inr (held_in (λ names before g. IsUntoldSum input names g s fault) s.scenario s.setup p ready h)

@@ -3,9 +3,13 @@ use Rattle.std.specs.Prelude.{◌≡◌, ◌⊎◌, ℕ, ◌+◌, ◌<◌, ◌�
 use Rattle.hp_schedules.specs.declared.tally.Ending.{Ending}
 use Rattle.hp_schedules.specs.Outcomes.{OutcomeValue}
 use Rattle.hp_schedules.specs.Schedules.{Setting}
-use Rattle.hp_explore.specs.Faults.{IsCause}
-use Rattle.hp_prepared.specs.Faults.{IsFaultOf, IsUntold}
+use Rattle.hp_explore.specs.Faults.{FillsAlong}
+use Rattle.hp_explore.specs.declared.exploring.ExploreFault.{ExploreFault}
+use Rattle.hp_explore.specs.declared.exploring.ExploreFault.TheVariants as explore
+use Rattle.hp_prepared.specs.Faults.{IsUntold}
 use Rattle.hp_prepared.specs.Holding.{HoldsIn}
+use Rattle.hp_prepared.specs.Prepared.{IsUnprepared}
+use Rattle.hp_lab_faults.specs.declared.fault.LabFault.{LabFault}
 use Rattle.hp_lab_faults.specs.declared.fault.LabFault.TheVariants.{OutOfMemory}
 use Rattle.hp_schedules.specs.Parts.{EndsInPart}
 use Rattle.hp_parts.specs.Adding.{counted_by}
@@ -67,16 +71,27 @@ pub record IsChanged (names : List (List ℕ)) (g : Setting) (s : SearchValue) (
   pub own : EndsInPart g (part_in s v.last.number) end.first.items end.outcome
   pub other : text ≡ end_line names g (length v.last.ends + 1) end → ⊥
 
--- its schedule is not played
-abbrev pub IsUnplayed : Setting → LineFault → Type 0
-IsUnplayed g (Lab fault) = IsUntold IsCause g fault
-IsUnplayed g fault = ⊥
+-- the cause of a fault of playing a schedule: the history has no room for a call of this very schedule
+abbrev pub IsCauseAlong : (schedule : List ℕ) → Setting → ExploreFault → Type 0
+IsCauseAlong schedule g explore.HistoryFull = FillsAlong g schedule
+IsCauseAlong schedule g explore.OutOfMemory = Unit {0}
+
+-- and of playing the schedule that an end's line names
+abbrev pub IsCauseIn : (text : List ℕ) → Setting → ExploreFault → Type 0
+IsCauseIn text g explore.HistoryFull =
+    (count : ℕ) × (schedule : Vec ℕ) × IsLine text (End count schedule) × FillsAlong g schedule.items
+IsCauseIn text g explore.OutOfMemory = Unit {0}
+
+-- a schedule is not played
+abbrev pub IsUnplayed : Setting → (schedule : List ℕ) → LineFault → Type 0
+IsUnplayed g schedule fault = (why : LabFault) × (fault ≡ Lab why) × IsUntold (IsCauseAlong schedule) g why
 
 -- an end is not added to a part
 abbrev pub IsUnpushed : (names : List (List ℕ)) → Setting → GatheringValue → (text : List ℕ) → Ending
     → LineFault → Type 0
 IsUnpushed names g v text end Changed = text ≡ end_line names g (length v.last.ends + 1) end → ⊥
-IsUnpushed names g v text end fault = IsUnplayed g fault
+IsUnpushed names g v text end (Lab fault) = fault ≡ OutOfMemory
+IsUnpushed names g v text end fault = ⊥
 
 -- why a line is not taken after the lines before it
 abbrev pub IsLineFault : (names : List (List ℕ)) → Setting → SearchValue → GatheringValue → (text : List ℕ)
@@ -87,7 +102,7 @@ IsLineFault names g s v text NotOfPart = IsOfNoPart g s v text
 IsLineFault names g s v text Changed = IsChanged names g s v text
 IsLineFault names g s v text Stopped = IsLine text Stop
 IsLineFault names g s v text (OtherCount number) = IsAfterOther s v text number
-IsLineFault names g s v text (Lab fault) = IsUntold IsCause g fault
+IsLineFault names g s v text (Lab fault) = IsUntold (IsCauseIn text) g fault
 
 -- ---- the parts
 
@@ -102,7 +117,7 @@ IsMisplaced parts of fault = (why : OrderFault) × (fault ≡ fault_of_order why
 
 -- ---- the whole
 
--- why the parts after a first head have no sum
+-- why the parts after a first head have no sum: a line, where each line before it is taken
 abbrev pub IsUnread : (input : List ℕ) → (names : List (List ℕ)) → Setting → SearchValue → PartFault → Type 0
 IsUnread input names g s fault =
     (place : ℕ) × (text : List ℕ) × (v : GatheringValue) × (cause : LineFault)
@@ -130,11 +145,6 @@ IsTooMany lists part.TooMany = 2 ^ 64 ≤ counted_by lists
 IsTooMany lists (part.Lab fault) = fault ≡ OutOfMemory
 IsTooMany lists fault = ⊥
 
--- the ends of all parts are not told
-abbrev pub IsUntoldEnds : Setting → PartFault → Type 0
-IsUntoldEnds g (part.Lab fault) = IsUntold IsCause g fault
-IsUntoldEnds g fault = ⊥
-
 -- the parts of a text are not all there once, or there are too many interleavings
 pub record IsUnsummed (input : List ℕ) (names : List (List ℕ)) (g : Setting) (s : SearchValue)
     (fault : PartFault) : Type 0 where
@@ -146,16 +156,16 @@ pub record IsUnsummed (input : List ℕ) (names : List (List ℕ)) (g : Setting)
 -- after a first head, the parts of a search of a scenario that was made ready have no sum
 abbrev pub IsUntoldSum : (input : List ℕ) → (names : List (List ℕ)) → Setting → SearchValue → PartFault
     → Type 0
-IsUntoldSum input names g s (part.Lab fault) = IsUntold IsCause g fault
 IsUntoldSum input names g s fault =
-    IsUnread input names g s fault
-    ⊎ (IsUnended input names g s fault ⊎ (IsLastCut input names g s fault ⊎ IsUnsummed input names g s fault))
+    (fault ≡ part.Lab OutOfMemory)
+    ⊎ (IsUnread input names g s fault
+    ⊎ (IsUnended input names g s fault ⊎ (IsLastCut input names g s fault ⊎ IsUnsummed input names g s fault)))
 
--- nor have they in a scenario that is not made ready
+-- the scenario is not made ready, or the parts have no sum after it is
 abbrev pub IsUnsummedIn : (input : List ℕ) → SearchValue → PartFault → Type 0
-IsUnsummedIn input s (part.Lab fault) = IsFaultOf s.scenario s.setup 0 fault
 IsUnsummedIn input s fault =
-    HoldsIn (λ names before g. IsUntoldSum input names g s fault) s.scenario s.setup
+    ((why : LabFault) × (fault ≡ part.Lab why) × IsUnprepared s.scenario s.setup why)
+    ⊎ HoldsIn (λ names before g. IsUntoldSum input names g s fault) s.scenario s.setup
 
 -- the text begins with a head
 abbrev pub BeginsWith : (input : List ℕ) → HeadValue → Type 0

@@ -15,7 +15,6 @@ mod line_fault;
 mod parts;
 mod summing;
 mod taking;
-mod telling;
 mod writing;
 
 pub use parts::part_text;

@@ -8,12 +8,13 @@ ghost use Rattle.hp_prepared.specs.Prepared.{before_of, names_of, setting_of};
 ghost use Rattle.hp_part_lines.specs.Cuts.{IsLineAt};
 ghost use Rattle.hp_part_lines.specs.Heads.{IsNumber, head_line};
 ghost use Rattle.hp_part_lines.specs.Ordering.{AreAll, AreWithin, lists_of};
-ghost use Rattle.hp_part_files.specs.Faults.{IsMisplaced, IsSumFault, IsTooMany, IsUnsummedIn, IsUntoldEnds, IsUntoldSum, fault_of_order};
+ghost use Rattle.hp_lab_faults.specs.declared.fault.LabFault.TheVariants.{OutOfMemory};
+ghost use Rattle.hp_lab_faults.specs.declared.part_fault.PartFault.TheVariants as part;
+ghost use Rattle.hp_part_files.specs.Faults.{IsMisplaced, IsSumFault, IsTooMany, IsUnsummedIn, IsUntoldSum, fault_of_order};
 ghost use Rattle.hp_part_files.specs.Sums.{IsSum, IsSumOf, IsSumOn};
 ghost use Rattle.hp_part_files.specs.Taking.{HasRead};
 
 use crate::taking::gather;
-use crate::telling::told_fault;
 use hp_ends::EndsForm;
 use hp_lab_faults::{LabFault, PartFault};
 use hp_part_lines::{
@@ -36,8 +37,9 @@ use std::alloc::Global;
 /// Errors: that of the first line that is none of a part, is changed, begins a part of another search,
 /// or says that a part stopped at its limit; OtherCount with the number of a part, counted from 1, that
 /// has fewer ends than its head names, or more; Twice or Missing with the first number that is so;
-/// TooMany where there are 2^64 interleavings or more; those of the scenario, as `explore_text` has
-/// them; OutOfMemory, which may come in place of any answer.
+/// TooMany where there are 2^64 interleavings or more; HistoryFull where the history has no room for a
+/// call of the schedule in the first line at fault; those of reading the scenario, and NotForScript, as
+/// `explore_text` has them; OutOfMemory, which may come in place of any answer.
 pub fn sum_text(alloc: Global, input: &[u8], form: EndsForm) -> Result<Finding, PartFault>
     ensures ok { IfOk result (λ f. IsSumOf form input.now (string_bytes f.text) f.is_found) }
     ensures err { IfErr result (IsSumFault input.now) }
@@ -152,7 +154,7 @@ fn summed(alloc: Global, lists: &[Vec<Ending>]) -> Result<Vec<Ending>, PartFault
     }
 }
 
-/// All ends in a form. An error is that a schedule is not played.
+/// All ends in a form, whose schedules were played. An error is out of memory.
 fn told(
     alloc: Global,
     prepared: &Prepared,
@@ -161,10 +163,11 @@ fn told(
 ) -> Result<Finding, PartFault>
     ensures ok { IfOk result (λ f. AreEndsTold form (names_of prepared.now) (before_of prepared.now)
         (setting_of prepared.now) ends.now None (string_bytes f.text) f.is_found) }
-    ensures err { IfErr result (IsUntoldEnds (setting_of prepared.now)) }
+    ensures err { IfErr result (λ fault. fault ≡ part.Lab OutOfMemory) }
 {
+    // The calls of each schedule were made as its line was taken, so that only memory can be lacking.
     match prepared.ends_told(alloc, ends, None, form) {
         Ok(finding) => Ok(finding),
-        Err(fault) => Err(PartFault::Lab(told_fault(alloc, prepared, fault))),
+        Err(_) => Err(PartFault::Lab(LabFault::OutOfMemory)),
     }
 }

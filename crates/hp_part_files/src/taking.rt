@@ -12,7 +12,6 @@ ghost use Rattle.hp_part_files.specs.Taking.{HasRead, IsPushed, IsTaken};
 ghost use Rattle.hp_part_files.specs.Texts.{end_line};
 
 use crate::line_fault::LineFault;
-use crate::telling::told_fault;
 use crate::writing::write_end;
 use hp_lab_faults::PartFault;
 use hp_part_lines::{
@@ -21,7 +20,7 @@ use hp_part_lines::{
 use hp_prepared::Prepared;
 use hp_schedules::{Ending, Outcome, PartNumber};
 use hp_units::Cpu;
-use std::alloc::Global;
+use std::alloc::{AllocError, Global};
 
 /// The parts whose text the input is, where so many bytes are the head of the first.
 pub(crate) fn gather(
@@ -161,7 +160,7 @@ fn outcome_of(
     requires few { length prepared.now.start.scripts.items < 2 ^ 32 }
     requires number { IsNumber search.now number }
     ensures ok { IfOk result (IsEndOf (setting_of prepared.now) (part_in search.now number) schedule.now) }
-    ensures err { IfErr result (IsUnplayed (setting_of prepared.now)) }
+    ensures err { IfErr result (IsUnplayed (setting_of prepared.now) schedule.now) }
 {
     let part = search.part(number);
     let start = &prepared.start;
@@ -173,7 +172,7 @@ fn outcome_of(
         schedule,
     ) {
         Ok(outcome) => Ok(outcome),
-        Err(fault) => Err(LineFault::Lab(told_fault(alloc, prepared, fault))),
+        Err(fault) => Err(LineFault::Lab(prepared.told_fault(alloc, fault))),
     }
 }
 
@@ -197,21 +196,22 @@ fn push_end(
     Ok(())
 }
 
-/// Whether a text is the line of the end with a number. An error is that its schedule is not played.
+/// Whether a text is the line of the end with a number, whose schedule was played. An error is out of
+/// memory.
 fn is_end(
     alloc: Global,
     prepared: &Prepared,
     number: usize,
     end: &Ending,
     text: &[u8],
-) -> Result<bool, LineFault>
-    ensures ok { IfOk result (λ is. IsTrue is
+) -> Result<bool, AllocError>
+    ensures { IfOk result (λ is. IsTrue is
         ↔ (text.now ≡ end_line (names_of prepared.now) (setting_of prepared.now) number end.now)) }
-    ensures err { IfErr result (IsUnplayed (setting_of prepared.now)) }
 {
     let mut written = String::new(alloc);
+    // The calls of its schedule were made for its outcome, so that only memory can be lacking.
     match write_end(&mut written, alloc, prepared, number, end) {
         Ok(()) => Ok(text == written.as_bytes()),
-        Err(fault) => Err(LineFault::Lab(told_fault(alloc, prepared, fault))),
+        Err(_) => Err(AllocError),
     }
 }

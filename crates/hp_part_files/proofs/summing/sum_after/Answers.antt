@@ -1,6 +1,6 @@
-use Rattle.std.proofs.Common.{ℕ, List, ap, arith, subst, string_bytes, ◌∙◌}
-use Rattle.std.proofs.lemmas.Result.{IfErr-weaker, IfOk-weaker}
-use Rattle.hp_prepared.specs.Prepared.{IsPrepared, names_of, setting_of}
+use Rattle.std.proofs.Common.{ℕ, List, ap, arith, inl, refl, subst, string_bytes, ◌∙◌}
+use Rattle.std.proofs.lemmas.Result.{IfErr-weaker, IfOk-weaker, err_from_is_err_and}
+use Rattle.hp_prepared.specs.Prepared.{IsPrepared, IsUnprepared, names_of, setting_of}
 use Rattle.hp_prepared.proofs.Known.{held_in}
 use Rattle.hp_part_lines.specs.Heads.{HeadValue, SearchValue, head_line}
 use Rattle.hp_part_files.specs.Sums.{IsSumOn}
@@ -18,6 +18,22 @@ sum_on-requires-clause-read c =
       c.requires.start,
       line_within c.args.input.now (head_line h.search h.number h.ends)
           c.requires.line,
+    ))
+
+pub returns-in_err-prepared-clause-err : goal.returns-in_err-prepared-clause-err
+returns-in_err-prepared-clause-err c =
+    let s = c.args.head.now.search in
+    let same = c.search.view_is ∙ ap (λ (h : HeadValue). h.search) c.head.view_is in
+    let fault = c.in_err-prepared.field-0.0 in
+    let p = err_from_is_err_and c.from_residual.result c.from_residual.ensures.1 in
+    rw (p.1, p.2)
+    (inl (
+      fault,
+      refl,
+      subst (λ (n : ℕ). IsUnprepared s.scenario n fault) (ap (λ (v : SearchValue). v.setup) same)
+          (subst (λ (t : List ℕ). IsUnprepared t c.search.inside.setup fault)
+          (c.as_bytes.ensures.value ∙ ap (λ (v : SearchValue). v.scenario) same)
+          c.in_err-prepared.ensures.err),
     ))
 
 pub returns-clause-ok : goal.returns-clause-ok

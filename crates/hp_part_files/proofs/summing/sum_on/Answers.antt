@@ -1,4 +1,4 @@
-use Rattle.std.proofs.Common.{ℕ, List, None, ap, string_bytes, subst, ◌∙◌}
+use Rattle.std.proofs.Common.{ℕ, List, None, ap, inl, string_bytes, subst, ◌∙◌}
 use Rattle.std.proofs.lemmas.Result.{IfErr-weaker, IfOk-weaker, err_from_is_err_and}
 use Rattle.std.specs.Global.{Vec}
 use Rattle.hp_schedules.specs.declared.tally.Ending.{Ending}
@@ -8,7 +8,7 @@ use Rattle.hp_part_lines.specs.Ordering.{AreAll, lists_of}
 use Rattle.hp_part_lines.specs.Heads.{HeadValue, SearchValue}
 use Rattle.hp_part_files.specs.Faults.{IsMisplaced, IsTooMany}
 use Rattle.hp_part_files.specs.Sums.{IsSum}
-use Rattle.hp_part_files.proofs.Read.{misplaced, too_many, untold_ends}
+use Rattle.hp_part_files.proofs.Read.{misplaced, too_many}
 use Rattle.hp_part_files.proofs.summing.sum_on.Goals as goal
 
 pub returns-in_err-ends-clause-err : goal.returns-in_err-ends-clause-err
@@ -41,10 +41,7 @@ returns-in_err-lists-clause-err c =
 
 pub returns-clause-err : goal.returns-clause-err
 returns-clause-err c =
-    let g = setting_of c.args.prepared.now in
-    IfErr-weaker c.told.result _ _
-    (λ fault h. untold_ends c.args.input.now (names_of c.args.prepared.now) g c.args.head.now.search fault h)
-    c.told.ensures.err
+    IfErr-weaker c.told.result _ _ (λ fault h. inl h) c.told.ensures.err
 
 pub returns-clause-ok : goal.returns-clause-ok
 returns-clause-ok c =

@@ -30,14 +30,14 @@ loop-place-preserved c =
 
 pub returns-in_default-clause-err : goal.returns-in_default-clause-err
 returns-in_default-clause-err c =
-    inr (inl (
+    inr (inr (inl (
       c.loop-place.place,
       c.loop-place.gathered,
       c.loop-place-test.true,
       ap (λ (n : ℕ). part.NotPart n) c.line_number.ensures,
       c.in_default.ensures.none,
       c.loop-place.invariant.so_far,
-    ))
+    )))
 
 pub returns-in-Err-clause-err : goal.returns-in-Err-clause-err
 returns-in-Err-clause-err c =

@@ -1,7 +1,19 @@
-use Rattle.std.proofs.lemmas.Result.{IfErr-weaker, on_ok_weaker}
+use Rattle.std.proofs.Common.{ℕ, List, subst}
+use Rattle.std.proofs.lemmas.Result.{IfErr-weaker, err_from_is_err_and, on_ok_weaker}
 use Rattle.hp_prepared.specs.Prepared.{names_of, setting_of}
-use Rattle.hp_part_files.proofs.Read.{end_taken, no_end, not_pushed, own_end}
+use Rattle.hp_part_files.specs.Faults.{IsUnplayed}
+use Rattle.hp_part_files.proofs.Read.{end_taken, no_end, not_played, not_pushed, own_end}
 use Rattle.hp_part_files.proofs.taking.take_end.Goals as goal
+
+pub returns-in_err-outcome-clause-err : goal.returns-in_err-outcome-clause-err
+returns-in_err-outcome-clause-err c =
+    let g = setting_of c.args.prepared.now in
+    let fault = c.in_err-outcome.field-0.0 in
+    let p = err_from_is_err_and c.from_residual.result c.from_residual.ensures.1 in
+    rw (p.1, p.2)
+    (not_played (names_of c.args.prepared.now) g c.args.search.now c.args.gathered.now c.args.text.now
+    c.args.count c.args.schedule fault c.requires.line
+    (subst (λ (l : List ℕ). IsUnplayed g l fault) c.deref.ensures.value c.in_err-outcome.ensures.err))
 
 pub returns-in-Some-clause-ok : goal.returns-in-Some-clause-ok
 returns-in-Some-clause-ok c =

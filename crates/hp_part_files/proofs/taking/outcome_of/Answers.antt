@@ -1,0 +1,31 @@
+-- The history has no room only for a call of the schedule that is played.
+use Rattle.std.proofs.Common.{◌≡◌, ℕ, List, refl, subst}
+use Rattle.hp_schedules.specs.declared.scripts.Line.{Line as Step}
+use Rattle.hp_schedules.specs.Schedules.{Setting}
+use Rattle.hp_explore.specs.Faults.{FillsAlong}
+use Rattle.hp_explore.specs.Settings.{setting}
+use Rattle.hp_explore.specs.declared.exploring.ExploreFault.{ExploreFault}
+use Rattle.hp_explore.specs.declared.exploring.ExploreFault.TheVariants as explore
+use Rattle.hp_prepared.specs.Prepared.{setting_of}
+use Rattle.hp_prepared.proofs.Known.{untold}
+use Rattle.hp_part_files.specs.Faults.{IsCauseAlong}
+use Rattle.hp_part_files.proofs.taking.outcome_of.Goals as goal
+
+cause_along : (g : Setting) (schedule : List ℕ) (fault : ExploreFault)
+    → (fault ≡ explore.HistoryFull → FillsAlong g schedule) → IsCauseAlong schedule g fault
+cause_along g schedule explore.HistoryFull along = along refl
+cause_along g schedule explore.OutOfMemory along = tt
+
+pub returns-in-Err-clause-err : goal.returns-in-Err-clause-err
+returns-in-Err-clause-err c =
+    let p = c.args.prepared.now in
+    let schedule = c.args.schedule.now in
+    let fault = c.in-Err.fault in (
+      c.told_fault.result,
+      refl,
+      untold (IsCauseAlong schedule) (setting_of p) fault c.told_fault.result c.told_fault.ensures
+          (subst (λ (ss : List (List Step)). IsCauseAlong schedule (setting p.start.machine ss) fault)
+          c.as_slice.ensures.value
+          (cause_along (setting p.start.machine c.as_slice.result.now) schedule fault
+          c.in-Err.ensures.along)),
+    )
