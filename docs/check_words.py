@@ -230,8 +230,13 @@ def check_parts(checks, lab, scripts):
                     lab.call("sum", "--json", *files))
         checks.same("sum --scenario 1", lab.call("explore", "--scenario", "1", scenario=scripts),
                     lab.call("sum", "--scenario", "1", *files))
-        lost = (1, "", "hotplug_lab: file not opened\n")
-        checks.same("sum of no file", lost, lab.call("sum", files[0], Path(folder) / "none.json"))
+        none = Path(folder) / "none.json"
+        lost = (1, "", f"hotplug_lab: {none}: file not opened\n")
+        checks.same("sum of no file", lost, lab.call("sum", files[0], none))
+        checks.same("sum of no file, then one", lost, lab.call("sum", none, files[0]))
+        checks.same("sum of standard input and no file", lost, lab.call("sum", "-", none))
+        unread = (1, "", f"hotplug_lab: {folder}: reading failed\n")
+        checks.same("sum of a folder", unread, lab.call("sum", files[0], folder, none))
     checks.same("sum of nothing", (1, "", "hotplug_lab: line 1 is none of a part\n"),
                 lab.call("sum", "-"))
     refused = ("hotplug_lab: --part may be I/N, with I from 1 to N, and N at most 1000000\n")

@@ -9,6 +9,7 @@
 mod fault;
 mod part_fault;
 mod program_fault;
+mod said;
 
 pub use fault::LabFault;
 pub use part_fault::PartFault;

@@ -1,9 +1,11 @@
 //! Why parts have no sum.
-ghost use Rattle.std.specs.Prelude.{◌≡◌};
+ghost use Rattle.std.specs.Prelude.{◌≡◌, ◌++◌, Some};
+ghost use Rattle.hp_lab_faults.specs.FaultText.{part_fault_text, said_text};
 ghost use Rattle.hp_lab_faults.specs.declared.fault.LabFault.TheVariants.{OutOfMemory};
 ghost use Rattle.hp_lab_faults.specs.declared.part_fault.PartFault.TheVariants.{Lab};
 
 use crate::fault::LabFault;
+use crate::said::Said;
 use std::alloc::AllocError;
 use std::error::Error;
 use std::fmt;
@@ -36,33 +38,51 @@ pub enum PartFault {
 }
 
 impl fmt::Display for PartFault {
+    ghost use Rattle.hp_lab_faults.specs.FaultText.{part_fault_text};
+
+    ghost output = { λ f. Some (part_fault_text f) };
+
     fn fmt<W: fmt::Write>(&self, f: &mut fmt::Formatter<W>) -> fmt::Result {
-        match self {
-            PartFault::NotPart { line } => write!(f, "line {line} is none of a part"),
-            PartFault::OtherSearch { line } => {
-                write!(f, "line {line} begins a part of another search")
-            }
-            PartFault::NotOfPart { line } => {
-                write!(
-                    f,
-                    "line {line}: its processors are no interleaving of its part"
-                )
-            }
-            PartFault::Changed { line } => {
-                write!(f, "line {line} is not what its interleaving leads to")
-            }
-            PartFault::Stopped { line } => write!(f, "line {line}: the part stopped at its limit"),
-            PartFault::OtherCount { part } => {
-                write!(
-                    f,
-                    "part {part} has another number of ends than its first line says"
-                )
-            }
-            PartFault::Missing { part } => write!(f, "part {part} is missing"),
-            PartFault::Twice { part } => write!(f, "part {part} comes twice"),
-            PartFault::TooMany => write!(f, "more than 2^64-1 interleavings"),
-            PartFault::Lab(fault) => write!(f, "{fault}"),
-        }
+        let (before, said, after) = said_of_parts(*self);
+        write!(f, "{before}{said}{after}")
+    }
+}
+
+/// What is said of why parts have no sum: a text, what comes after it, and the end.
+pub(crate) fn said_of_parts(fault: PartFault) -> (&'static str, Said, &'static str)
+    ensures { result.0.now ++ said_text result.1 ++ result.2.now ≡ part_fault_text fault }
+{
+    match fault {
+        PartFault::NotPart { line } => ("line ", Said::Number(line), " is none of a part"),
+        PartFault::OtherSearch { line } => (
+            "line ",
+            Said::Number(line),
+            " begins a part of another search",
+        ),
+        PartFault::NotOfPart { line } => (
+            "line ",
+            Said::Number(line),
+            ": its processors are no interleaving of its part",
+        ),
+        PartFault::Changed { line } => (
+            "line ",
+            Said::Number(line),
+            " is not what its interleaving leads to",
+        ),
+        PartFault::Stopped { line } => (
+            "line ",
+            Said::Number(line),
+            ": the part stopped at its limit",
+        ),
+        PartFault::OtherCount { part } => (
+            "part ",
+            Said::Number(u64::from(part)),
+            " has another number of ends than its first line says",
+        ),
+        PartFault::Missing { part } => ("part ", Said::Number(part), " is missing"),
+        PartFault::Twice { part } => ("part ", Said::Number(part), " comes twice"),
+        PartFault::TooMany => ("more than 2^64-1 interleavings", Said::Nothing, ""),
+        PartFault::Lab(fault) => ("", Said::Lab(fault), ""),
     }
 }
 

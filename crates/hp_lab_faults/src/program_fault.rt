@@ -1,11 +1,13 @@
 //! Why the program failed.
-ghost use Rattle.std.specs.Prelude.{◌≡◌};
+ghost use Rattle.std.specs.Prelude.{◌≡◌, ◌++◌, Some};
+ghost use Rattle.hp_lab_faults.specs.FaultText.{program_fault_text, said_text, scenario_fault_text};
 ghost use Rattle.hp_lab_faults.specs.declared.fault.LabFault.TheVariants.{OutOfMemory};
 ghost use Rattle.hp_lab_faults.specs.Faults.{is_of_input, is_of_scenario, is_of_text, read_fault_from};
 ghost use Rattle.hp_lab_faults.specs.declared.program_fault.ProgramFault.TheVariants.{Lab, Parts, Scenario};
 
 use crate::fault::LabFault;
-use crate::part_fault::PartFault;
+use crate::part_fault::{PartFault, said_of_parts};
+use crate::said::Said;
 use hp_scenario::ScenarioFault;
 use hp_streams::ReadFault;
 use std::alloc::AllocError;
@@ -72,19 +74,43 @@ fn is_of_text(fault: LabFault) -> bool
 }
 
 impl fmt::Display for ProgramFault {
+    ghost use Rattle.hp_lab_faults.specs.FaultText.{program_fault_text};
+
+    ghost output = { λ f. Some (program_fault_text f) };
+
     fn fmt<W: fmt::Write>(&self, f: &mut fmt::Formatter<W>) -> fmt::Result {
-        match self {
-            ProgramFault::NotOpened => write!(f, "file not opened"),
-            ProgramFault::ReadFailed => write!(f, "reading failed"),
-            ProgramFault::TooLong => write!(f, "input too long"),
-            ProgramFault::Lab(fault) => write!(f, "{fault}"),
-            ProgramFault::Parts(fault) => write!(f, "{fault}"),
-            ProgramFault::Scenario(fault) => write!(f, "{fault}"),
-            ProgramFault::PastEnd { asked, lines } => {
-                write!(f, "{asked} is past the last line, {lines}")
-            }
-            ProgramFault::WriteFailed => write!(f, "writing failed"),
-        }
+        let (before, said, after) = said_of(*self);
+        write!(f, "{before}{said}{after}")
+    }
+}
+
+/// What is said of why the program failed: a text, what comes after it, and the end.
+fn said_of(fault: ProgramFault) -> (&'static str, Said, &'static str)
+    ensures { result.0.now ++ said_text result.1 ++ result.2.now ≡ program_fault_text fault }
+{
+    match fault {
+        ProgramFault::NotOpened => ("file not opened", Said::Nothing, ""),
+        ProgramFault::ReadFailed => ("reading failed", Said::Nothing, ""),
+        ProgramFault::TooLong => ("input too long", Said::Nothing, ""),
+        ProgramFault::Lab(fault) => ("", Said::Lab(fault), ""),
+        ProgramFault::Parts(fault) => said_of_parts(fault),
+        ProgramFault::Scenario(fault) => said_of_scenario(fault),
+        ProgramFault::PastEnd { asked, lines } => ("", Said::Past { asked, lines }, ""),
+        ProgramFault::WriteFailed => ("writing failed", Said::Nothing, ""),
+    }
+}
+
+/// What is said of why a text is no scenario, likewise.
+fn said_of_scenario(fault: ScenarioFault) -> (&'static str, Said, &'static str)
+    ensures { result.0.now ++ said_text result.1 ++ result.2.now ≡ scenario_fault_text fault }
+{
+    match fault {
+        ScenarioFault::NotJson => ("not JSON", Said::Nothing, ""),
+        ScenarioFault::BadShape => ("wrong shape", Said::Nothing, ""),
+        ScenarioFault::Layout(fault) => ("layout fault ", Said::Layout(fault), ""),
+        ScenarioFault::BadLine { line } => ("line ", Said::Number(line), " not understood"),
+        ScenarioFault::NotForRun { line } => ("line ", Said::Number(line), " not for run"),
+        ScenarioFault::OutOfMemory => ("out of memory", Said::Nothing, ""),
     }
 }
 

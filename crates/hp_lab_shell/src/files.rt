@@ -1,16 +1,31 @@
 //! Several files as one text.
 
+use crate::messages::file_name;
 use hp_lab_faults::ProgramFault;
 use hp_streams::{Counted, read_all};
 use std::alloc::Global;
 use std::fs;
 use std::io::Read;
 
+/// Why files were not read, and which of them it was.
+#[derive(Clone, Copy)]
+pub(crate) struct Unread<'a> {
+    /// The name of the file; none of standard input.
+    pub name: Option<&'a str>,
+    /// What failed.
+    pub fault: ProgramFault,
+}
+
 /// The bytes of files, one after another; `-` names standard input.
-pub(crate) fn bytes_of(rt: &HostRuntime, names: &[&str]) -> Result<Vec<u8>, ProgramFault> {
+pub(crate) fn bytes_of<'a>(rt: &HostRuntime, names: &[&'a str]) -> Result<Vec<u8>, Unread<'a>> {
     let mut bytes = Vec::new(rt.alloc());
     for name in names {
-        push_file(rt, &mut bytes, name)?;
+        if let Err(fault) = push_file(rt, &mut bytes, name) {
+            return Err(Unread {
+                name: file_name(name),
+                fault,
+            });
+        }
     }
     Ok(bytes)
 }

@@ -15,12 +15,9 @@ pub(crate) fn say_unbegun(rt: &HostRuntime, unbegun: &[Unbegun]) {
     }
 }
 
-/// The name of the file where only one is named, and it is not standard input.
-pub(crate) fn only_name<'a>(names: &[&'a str]) -> Option<&'a str> {
-    match names {
-        [name] if *name != "-" => Some(name),
-        _ => None,
-    }
+/// The name of a file; none of standard input, which `-` names.
+pub(crate) fn file_name(name: &str) -> Option<&str> {
+    if name == "-" { None } else { Some(name) }
 }
 
 /// Says on standard error what failed, by the name of the file where that was not read, and what says

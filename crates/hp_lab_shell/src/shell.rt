@@ -2,7 +2,7 @@
 
 use crate::files::bytes_of;
 use crate::laboratory::Laboratory;
-use crate::messages::{only_name, say_fault, say_unbegun, say_words};
+use crate::messages::{file_name, say_fault, say_unbegun, say_words};
 use crate::progress::{Progress, Shown, shown_on};
 use crate::words::{Request, Word, is_past_the_found, part_from, request_from, texts_from};
 use clap::ArgMatches;
@@ -17,20 +17,42 @@ use std::process::ExitCode;
 use std::thread::Threads;
 use std::{env, fs, io};
 
-/// Does a word on the files that are named, or else on standard input, and answers the exit status.
+/// Does a word on the files that are named, or else on standard input, or says what failed, and answers
+/// the exit status.
 fn serve_request<L: Laboratory, T: Threads + Sync>(
     rt: &HostRuntime,
     lab: &L,
     threads: &T,
     request: Request<'_, '_, '_>,
-) -> Result<u8, ProgramFault> {
+) -> u8 {
     let shown = shown_on(rt.stderr().is_terminal(), request.progress);
     match request.files {
-        [] => serve_input(rt, lab, threads, request.word, rt.stdin(), shown),
-        [name] => serve_file(rt, lab, threads, request.word, name, shown),
-        names => {
-            let bytes = bytes_of(rt, names)?;
-            serve_input(rt, lab, threads, request.word, bytes.as_slice(), shown)
+        [] => {
+            let served = serve_input(rt, lab, threads, request.word, rt.stdin(), shown);
+            status_of(rt, None, served)
+        }
+        [name] => {
+            let served = serve_file(rt, lab, threads, request.word, name, shown);
+            status_of(rt, file_name(name), served)
+        }
+        names => match bytes_of(rt, names) {
+            Ok(bytes) => {
+                let served = serve_input(rt, lab, threads, request.word, bytes.as_slice(), shown);
+                status_of(rt, None, served)
+            }
+            Err(unread) => status_of(rt, unread.name, Err(unread.fault)),
+        },
+    }
+}
+
+/// The exit status that a word came to; or 1 after a fault, which standard error has, with the name of
+/// the file where that was not read.
+fn status_of(rt: &HostRuntime, file: Option<&str>, served: Result<u8, ProgramFault>) -> u8 {
+    match served {
+        Ok(status) => status,
+        Err(fault) => {
+            say_fault(rt, file, fault);
+            1
         }
     }
 }
@@ -124,26 +146,10 @@ fn serve_matches<L: Laboratory, T: Threads + Sync>(
     };
     let part = part_from(matches);
     match request_from(matches, &wanted, part.as_ref()) {
-        Ok(request) => Ok(status_of(rt, lab, threads, request)),
+        Ok(request) => Ok(serve_request(rt, lab, threads, request)),
         Err(text) => {
             let _ = eprintln!(rt; "hotplug_lab: {text}");
             Ok(2)
-        }
-    }
-}
-
-/// Does what a request asks for, or says what failed, and answers the exit status.
-fn status_of<L: Laboratory, T: Threads + Sync>(
-    rt: &HostRuntime,
-    lab: &L,
-    threads: &T,
-    request: Request<'_, '_, '_>,
-) -> u8 {
-    match serve_request(rt, lab, threads, request) {
-        Ok(status) => status,
-        Err(fault) => {
-            say_fault(rt, only_name(request.files), fault);
-            1
         }
     }
 }
