@@ -13,7 +13,7 @@ use Rattle.hp_units.specs.declared.replies.Record.{Record}
 use Rattle.hp_laws.proofs.Lists.{get_end, get_left, get_push_cases, take_next}
 use Rattle.hp_machine.proofs.Replies.{receipts_more}
 use Rattle.hp_shared.specs.declared.marks.Mark.{Mark}
-use Rattle.hp_shared.specs.Marks.{AreMarks, AreSeated, AreSettledBefore, IsComparedBefore, IsMark, SeatDiffersBefore, lower}
+use Rattle.hp_shared.specs.Marks.{AreMarks, AreSeated, IsMark, lower}
 use Rattle.hp_shared.specs.Comparing.{IsCompared, IsOutcome, IsSeatAt, IsSeatOf, IsSettled, IsTwinless, IsUnseated, MismatchesAt, StraysAt, StraysHere}
 use Rattle.hp_shared.specs.Shared.{SeatValue}
 use Rattle.hp_shared.proofs.Outcomes.{joined, mapped}
@@ -257,6 +257,24 @@ strays_both xs ys seats o q low is first second =
     elim (either xs ys s.0 s.1 s.2) [ inl e ↦ inl (s.0, s.1, e, s.3) | inr e ↦ inr (e.0, s.1, e.1, s.3) ]))
 
 -- ---- seats
+
+-- the seats before a place have exactly their processors' records
+abbrev pub AreSettledBefore : List Record → List SeatValue → ℕ → Type 0
+AreSettledBefore history seats end =
+    (place : ℕ) (seat : SeatValue) → place < end → slice_get seats place ≡ Some seat
+    → seat.receipts ≡ receipts_of seat.cpu history
+
+-- the receipts of some seat before a place differ at the serial
+abbrev pub SeatDiffersBefore : List Record → List SeatValue → ℕ → ℕ → Type 0
+SeatDiffersBefore history seats end serial =
+    (place : ℕ) × (seat : SeatValue) × (place < end) × (slice_get seats place ≡ Some seat)
+    × DifferAt seat.receipts (receipts_of seat.cpu history) serial
+
+-- the outcome with the seats before a place
+abbrev pub IsComparedBefore : List Record → List SeatValue → ℕ → Option ℕ → Type 0
+IsComparedBefore history seats end =
+    IsOutcome (AreSeated history seats × AreSettledBefore history seats end)
+    (λ serial. StraysAt history seats serial ⊎ SeatDiffersBefore history seats end serial)
 
 same_never_differ : (xs ys : List Receipt) → xs ≡ ys → (n : ℕ) → DifferAt xs ys n → ⊥
 same_never_differ xs ys same n (inl own) =

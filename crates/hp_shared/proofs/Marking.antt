@@ -8,7 +8,7 @@ use Rattle.hp_units.specs.Receipts.{DifferAt}
 use Rattle.hp_units.specs.declared.replies.Receipt.{Receipt}
 use Rattle.hp_laws.proofs.Lists.{get_end, get_left, get_push_cases, get_some}
 use Rattle.hp_shared.specs.declared.marks.Mark.{Mark}
-use Rattle.hp_shared.specs.Marks.{Agrees, DiffersBefore, EntryDiffersAt, IsEndedBefore, IsMark, StandsAfter, lower}
+use Rattle.hp_shared.specs.Marks.{Agrees, DiffersBefore, EntryDiffersAt, IsMark, lower}
 use Rattle.hp_shared.specs.Comparing.{IsOutcome}
 use Rattle.hp_shared.proofs.Outcomes.{joined, mapped}
 
@@ -65,6 +65,18 @@ mark_stepped receipts done b m here low found is mark = record {
 }
 
 -- ---- the receipts after the records
+
+-- a receipt of a seat stands after the records' receipts, before a place
+abbrev pub StandsAfter : List Receipt → List Receipt → ℕ → ℕ → Type 0
+StandsAfter receipts done end serial =
+    (at : ℕ) × (a : Receipt) × (length done ≤ at) × (at < end) × (slice_get receipts at ≡ Some a)
+    × (a.serial ≡ serial)
+
+-- the outcome with the seat's receipts before a place
+abbrev pub IsEndedBefore : List Receipt → List Receipt → ℕ → Option ℕ → Type 0
+IsEndedBefore receipts done end =
+    IsOutcome (Agrees receipts done × (end ≤ length done))
+    (λ serial. DiffersBefore receipts done serial ⊎ StandsAfter receipts done end serial)
 
 -- before any of them
 pub ends_before_none : (receipts done : List Receipt) (m : Mark) → IsMark receipts done m

@@ -1,6 +1,6 @@
 -- How far a seat's receipts were compared with its processor's records.
-use Rattle.std.specs.Prelude.{◌≡◌, ◌≢◌, ℕ, ◌+◌, ◌^◌, ◌<◌, ◌≤◌, ◌⊎◌, List, ◌++◌, length, Option, Some, None, if◌then◌else◌, nat_le, slice_get}
-use Rattle.hp_units.specs.Receipts.{DifferAt, receipts_of}
+use Rattle.std.specs.Prelude.{◌≡◌, ◌≢◌, ℕ, ◌+◌, ◌^◌, ◌<◌, ◌⊎◌, List, ◌++◌, length, Option, Some, None, if◌then◌else◌, nat_le, slice_get}
+use Rattle.hp_units.specs.Receipts.{receipts_of}
 use Rattle.hp_units.specs.declared.replies.Receipt.{Receipt}
 use Rattle.hp_units.specs.declared.replies.Record.{Record}
 use Rattle.hp_shared.specs.declared.marks.Mark.{Mark}
@@ -32,18 +32,6 @@ pub record IsMark (receipts done : List Receipt) (m : Mark) : Type 0 where
   pub next : m.next ≡ length done
   pub lowest : IsOutcome (Agrees receipts done) (DiffersBefore receipts done) m.lowest
 
--- a receipt of a seat stands after the records' receipts, before a place
-abbrev pub StandsAfter : List Receipt → List Receipt → ℕ → ℕ → Type 0
-StandsAfter receipts done end serial =
-    (at : ℕ) × (a : Receipt) × (length done ≤ at) × (at < end) × (slice_get receipts at ≡ Some a)
-    × (a.serial ≡ serial)
-
--- the outcome with the seat's receipts before a place
-abbrev pub IsEndedBefore : List Receipt → List Receipt → ℕ → Option ℕ → Type 0
-IsEndedBefore receipts done end =
-    IsOutcome (Agrees receipts done × (end ≤ length done))
-    (λ serial. DiffersBefore receipts done serial ⊎ StandsAfter receipts done end serial)
-
 -- each seat's mark after the records so far
 abbrev pub AreMarks : List Record → List SeatValue → List Mark → Type 0
 AreMarks history seats marks =
@@ -67,21 +55,3 @@ AreSeated history seats = (at : ℕ) (r : Record) → slice_get history at ≡ S
 -- the outcome of looking for records of no seat
 abbrev pub AreStrays : List Record → List SeatValue → Option ℕ → Type 0
 AreStrays records seats = IsOutcome (AreSeated records seats) (StraysAt records seats)
-
--- the seats before a place have exactly their processors' records
-abbrev pub AreSettledBefore : List Record → List SeatValue → ℕ → Type 0
-AreSettledBefore history seats end =
-    (place : ℕ) (seat : SeatValue) → place < end → slice_get seats place ≡ Some seat
-    → seat.receipts ≡ receipts_of seat.cpu history
-
--- the receipts of some seat before a place differ at the serial
-abbrev pub SeatDiffersBefore : List Record → List SeatValue → ℕ → ℕ → Type 0
-SeatDiffersBefore history seats end serial =
-    (place : ℕ) × (seat : SeatValue) × (place < end) × (slice_get seats place ≡ Some seat)
-    × DifferAt seat.receipts (receipts_of seat.cpu history) serial
-
--- the outcome with the seats before a place
-abbrev pub IsComparedBefore : List Record → List SeatValue → ℕ → Option ℕ → Type 0
-IsComparedBefore history seats end =
-    IsOutcome (AreSeated history seats × AreSettledBefore history seats end)
-    (λ serial. StraysAt history seats serial ⊎ SeatDiffersBefore history seats end serial)
