@@ -1,9 +1,58 @@
--- Lists of frames that are compared as slices.
-use Rattle.std.proofs.Common.{◌≡◌, ◌≢◌, ℕ, List, Bool, true, false, Decides, MatchBool, refl, sym, ◌∙◌}
+-- Lists that are compared by `==`.
+use Rattle.std.proofs.Common.{◌≡◌, ◌≢◌, ℕ, List, Bool, true, false, Option, None, Some, Decides, MatchBool, ap, nat_eq, refl, rules, ◌&&◌}
+use Rattle.std.specs.Cmp.Lexicographic.{pointwise, pointwise_decides}
+use Rattle.std.specs.Option.{option_eq}
+use Rattle.hp_units.specs.declared.rows.Claim.{Claim}
+use Rattle.hp_units.specs.declared.rows.Row.{Row}
+use Rattle.hp_units.specs.declared.rows.State.{State}
+use Rattle.hp_units.specs.declared.rows.Zone.{Zone}
+use Rattle.hp_units.specs.contracts.rows.ClaimPartialEq.TheImpl as claim
+use Rattle.hp_units.specs.contracts.rows.RowPartialEq.TheImpl as row
+use Rattle.hp_units.specs.contracts.rows.StatePartialEq.TheImpl as state
+use Rattle.hp_units.specs.contracts.rows.ZonePartialEq.TheImpl as zone
 use Rattle.std.proofs.lemmas.Bool.{false≢true}
+use Rattle.std.proofs.lemmas.Bool.Decides.{Decides-eqb}
+use Rattle.std.proofs.lemmas.Slice.Eq.{slice_eq-Decides}
 
--- a test that decides whether two lists are the same, of equal lists
-pub cases_of : (r : Bool) (seen others xs ys : List ℕ) → seen ≡ xs → others ≡ ys → Decides r (seen ≡ others)
-    → MatchBool r (xs ≡ ys) (xs ≢ ys)
-cases_of true seen others xs ys e f d = sym e ∙ d.0 refl ∙ f
-cases_of false seen others xs ys e f d = λ (same : xs ≡ ys). false≢true (d.1 (e ∙ same ∙ sym f))
+told : {P : Type 0} (r : Bool) → Decides r P → MatchBool r P (P → ⊥)
+told true d = d.0 refl
+told false d = λ same. false≢true (d.1 same)
+
+-- what `==` says of two lists, where `==` of their items decides whether these are the same
+pub lists_told : {A : Type 0} {E : A → A → Bool} → ((x y : A) → Decides (E x y) (x ≡ y)) → (xs ys : List A)
+    → (r : Bool) → r ≡ pointwise E xs ys → MatchBool r (xs ≡ ys) (xs ≢ ys)
+lists_told decides xs ys r is = told r (slice_eq-Decides decides xs ys r is)
+
+pub options_decided : {A : Type 0} {E : A → A → Bool} → ((x y : A) → Decides (E x y) (x ≡ y))
+    → (x y : Option A) → Decides (option_eq E x y) (x ≡ y)
+options_decided decides None None = search rules
+options_decided decides None (Some y) = search rules
+options_decided decides (Some x) None = search rules
+options_decided decides (Some x) (Some y) = search (decides x y, rules)
+
+pub numbers_decided : (xs ys : List ℕ) → Decides (pointwise nat_eq xs ys) (xs ≡ ys)
+numbers_decided xs ys = pointwise_decides Decides-eqb xs ys
+
+states_decided : (x y : State) → Decides (state.ghosts.eq x y) (x ≡ y)
+states_decided x y = search rules
+
+zones_decided : (x y : Zone) → Decides (zone.ghosts.eq x y) (x ≡ y)
+zones_decided x y = search rules
+
+claims_decided : (x y : Claim) → Decides (claim.ghosts.eq x y) (x ≡ y)
+claims_decided x y = search rules
+
+both_decided : {P Q : Type 0} (a b : Bool) → Decides a P → Decides b Q → Decides (a && b) (P × Q)
+both_decided true b p q = (λ t. (p.0 refl, q.0 t), λ both. q.1 both.1)
+both_decided false b p q = (λ t. absurd (false≢true t), λ both. absurd (false≢true (p.1 both.0)))
+
+pub rows_decided : (x y : Row) → Decides (row.ghosts.eq x y) (x ≡ y)
+rows_decided x y =
+    let parts = both_decided _ _ (states_decided x.state y.state) (both_decided _ _
+    (options_decided zones_decided x.zone y.zone) (options_decided claims_decided x.claim y.claim)) in (
+      λ same. let p = parts.0 same in search (p, rules),
+      λ equal. parts.1 (
+        ap (λ (r : Row). r.state) equal,
+        (ap (λ (r : Row). r.zone) equal, ap (λ (r : Row). r.claim) equal),
+      ),
+    )

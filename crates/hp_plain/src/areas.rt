@@ -5,12 +5,9 @@ ghost use Rattle.hp_units.specs.FreeAreas.{with_back};
 ghost use Rattle.hp_units.specs.InLayout.{AreFreeAreasOf};
 ghost use Rattle.hp_units.specs.Memory.{class_index, free_list, with_kind};
 
-mod kinds;
-
 use crate::lists::FrameList;
 use crate::lists::many::{copy_of_lists, empty_lists, same_lists};
 use hp_units::{Class, Frame, Kind, Layout, Order, Pageblock};
-use kinds::same_kinds;
 use std::alloc::{AllocError, Global};
 use std::marker::Model;
 
@@ -105,4 +102,11 @@ fn list_number(class: Class, order: Order) -> usize
     ensures { result ≡ 5 * order + class_index class }
 {
     5 * order.0 as usize + class.index() as usize
+}
+
+/// Whether the kinds are the same.
+fn same_kinds(kinds: &[Kind], others: &[Kind]) -> bool
+    ensures { MatchBool result (kinds.now ≡ others.now) (kinds.now ≢ others.now) }
+{
+    kinds == others
 }

@@ -94,20 +94,5 @@ impl Blocks {
 fn same_rows(rows: &[Row], others: &[Row]) -> bool
     ensures { MatchBool result (rows.now ≡ others.now) (rows.now ≢ others.now) }
 {
-    if rows.len() != others.len() {
-        return false;
-    }
-    for number in 0..rows.len() {
-        if !same_row(rows[number], others[number]) {
-            return false;
-        }
-    }
-    true
-}
-
-/// Whether two rows are the same.
-fn same_row(row: Row, other: Row) -> bool
-    ensures { MatchBool result (row ≡ other) (row ≢ other) }
-{
-    row == other
+    rows == others
 }

@@ -8,9 +8,7 @@ ghost use Rattle.hp_plain.specs.Image.{IsPartOf, with_part};
 
 mod adds;
 mod boots;
-mod orders;
 
-use self::orders::same_orders;
 use crate::blocks::Blocks;
 use crate::frames::FreeFrames;
 use crate::pages::Pages;
@@ -209,4 +207,11 @@ impl Image {
     {
         self.pages.words_at(owner, page)
     }
+}
+
+/// Whether the kernel's blocks are the same.
+fn same_orders(kernel: &[Option<Order>], others: &[Option<Order>]) -> bool
+    ensures { MatchBool result (kernel.now ≡ others.now) (kernel.now ≢ others.now) }
+{
+    kernel == others
 }

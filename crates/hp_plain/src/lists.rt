@@ -1,5 +1,5 @@
 //! Lists of frames.
-ghost use Rattle.std.specs.Prelude.{◌≡◌, ◌≢◌, IfOk, [], ◌∷◌, ◌++◌, MatchBool, OnErr, OnOk};
+ghost use Rattle.std.specs.Prelude.{◌≡◌, IfOk, [], ◌∷◌, ◌++◌, OnErr, OnOk};
 
 pub(crate) mod many;
 
@@ -19,6 +19,20 @@ impl Model for FrameList {
     ghost Value = { List ℕ };
 
     ghost view = { λ f. f.frames.items };
+}
+
+impl PartialEq for FrameList {
+    ghost use Rattle.std.specs.Prelude.{nat_eq};
+    ghost use Rattle.std.specs.Cmp.{partial_equiv_from_equiv};
+    ghost use Rattle.std.specs.Cmp.Lexicographic.{nat_list_eq_equiv, pointwise};
+
+    ghost eq = { pointwise nat_eq };
+
+    ghost laws = { partial_equiv_from_equiv nat_list_eq_equiv };
+
+    fn eq(&self, other: &FrameList) -> bool {
+        self.frames.as_slice() == other.frames.as_slice()
+    }
 }
 
 impl FrameList {
@@ -44,13 +58,6 @@ impl FrameList {
     {
         let frames = Vec::from_slice(alloc, self.frames.as_slice())?;
         Ok(FrameList { frames })
-    }
-
-    /// Whether another list has the same frames in the same order.
-    pub(crate) fn same(&self, other: &FrameList) -> bool
-        ensures { MatchBool result (self.now ≡ other.now) (self.now ≢ other.now) }
-    {
-        self.frames.as_slice() == other.frames.as_slice()
     }
 
     /// One more frame at the back. After an error nothing has changed.

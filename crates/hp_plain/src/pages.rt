@@ -21,6 +21,21 @@ impl Model for OwnerFrames {
     ghost view = { λ o. o.pages.items };
 }
 
+impl PartialEq for OwnerFrames {
+    ghost use Rattle.std.specs.Prelude.{nat_eq};
+    ghost use Rattle.std.specs.Option.{option_eq};
+    ghost use Rattle.std.specs.Cmp.{nat_eq_equiv, partial_equiv_from_equiv};
+    ghost use Rattle.std.specs.Cmp.Lexicographic.{lists_per, options_equiv, pointwise};
+
+    ghost eq = { pointwise (option_eq nat_eq) };
+
+    ghost laws = { lists_per (partial_equiv_from_equiv (options_equiv nat_eq_equiv)) };
+
+    fn eq(&self, other: &OwnerFrames) -> bool {
+        self.pages == other.pages
+    }
+}
+
 impl OwnerFrames {
     /// So many pages, none mapped.
     fn empty(alloc: Global, pages: u32) -> Result<OwnerFrames, AllocError>
@@ -36,21 +51,6 @@ impl OwnerFrames {
     {
         let pages = Vec::from_slice(alloc, self.pages.as_slice())?;
         Ok(OwnerFrames { pages })
-    }
-
-    /// Whether other frames are the same.
-    fn same(&self, other: &OwnerFrames) -> bool
-        ensures { MatchBool result (self.now ≡ other.now) (self.now ≢ other.now) }
-    {
-        if self.pages.len() != other.pages.len() {
-            return false;
-        }
-        for page in 0..self.pages.len() {
-            if self.pages[page] != other.pages[page] {
-                return false;
-            }
-        }
-        true
     }
 
     /// The frame of a page, if it is mapped.
@@ -83,6 +83,21 @@ impl Model for OwnerWords {
     ghost view = { λ o. o.pages.items };
 }
 
+impl PartialEq for OwnerWords {
+    ghost use Rattle.std.specs.Prelude.{nat_eq};
+    ghost use Rattle.std.specs.Option.{option_eq};
+    ghost use Rattle.std.specs.Cmp.{partial_equiv_from_equiv};
+    ghost use Rattle.std.specs.Cmp.Lexicographic.{lists_per, nat_list_eq_equiv, options_equiv, pointwise};
+
+    ghost eq = { pointwise (option_eq (pointwise nat_eq)) };
+
+    ghost laws = { lists_per (partial_equiv_from_equiv (options_equiv nat_list_eq_equiv)) };
+
+    fn eq(&self, other: &OwnerWords) -> bool {
+        self.pages == other.pages
+    }
+}
+
 impl OwnerWords {
     /// So many pages, none with words.
     fn empty(alloc: Global, pages: u32) -> Result<OwnerWords, AllocError>
@@ -106,21 +121,6 @@ impl OwnerWords {
         Ok(OwnerWords { pages })
     }
 
-    /// Whether other words are the same.
-    fn same(&self, other: &OwnerWords) -> bool
-        ensures { MatchBool result (self.now ≡ other.now) (self.now ≢ other.now) }
-    {
-        if self.pages.len() != other.pages.len() {
-            return false;
-        }
-        for page in 0..self.pages.len() {
-            if !same_words(&self.pages[page], &other.pages[page]) {
-                return false;
-            }
-        }
-        true
-    }
-
     /// The words of a page, if it is mapped.
     fn at(&self, page: Page) -> Option<&[u64]>
         ensures { option_map (λ words. words.now) result ≡ slice_index_or self.now page None }
@@ -137,17 +137,6 @@ impl OwnerWords {
         ensures { self.new ≡ slice_set self.old page (Some words) }
     {
         self.pages[page.0 as usize] = Some(words);
-    }
-}
-
-/// Whether two entries are the same.
-fn same_words(words: &Option<Words>, other: &Option<Words>) -> bool
-    ensures { MatchBool result (words.now ≡ other.now) (words.now ≢ other.now) }
-{
-    match (words, other) {
-        (Some(words), Some(other)) => words.as_slice() == other.as_slice(),
-        (None, None) => true,
-        _ => false,
     }
 }
 
@@ -280,28 +269,12 @@ fn copy_of_contents(alloc: Global, contents: &[OwnerWords]) -> Result<Vec<OwnerW
 fn same_table(table: &[OwnerFrames], others: &[OwnerFrames]) -> bool
     ensures { MatchBool result (table.now ≡ others.now) (table.now ≢ others.now) }
 {
-    if table.len() != others.len() {
-        return false;
-    }
-    for owner in 0..table.len() {
-        if !table[owner].same(&others[owner]) {
-            return false;
-        }
-    }
-    true
+    table == others
 }
 
 /// Whether the contents are the same.
 fn same_contents(contents: &[OwnerWords], others: &[OwnerWords]) -> bool
     ensures { MatchBool result (contents.now ≡ others.now) (contents.now ≢ others.now) }
 {
-    if contents.len() != others.len() {
-        return false;
-    }
-    for owner in 0..contents.len() {
-        if !contents[owner].same(&others[owner]) {
-            return false;
-        }
-    }
-    true
+    contents == others
 }

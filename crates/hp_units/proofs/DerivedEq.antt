@@ -2,6 +2,10 @@
 use Rattle.std.proofs.Common.{◌≡◌, Bool, true, false, List, [], ◌∷◌, refl, ap, subst, inl, inr, rules}
 use Rattle.std.specs.Prelude.{IsTrue, ◌↔◌}
 use Rattle.hp_units.specs.declared.replies.Refusal.{Refusal}
+use Rattle.std.specs.Bool.{Decides}
+use Rattle.std.specs.Cmp.Lexicographic.{pointwise, pointwise_decides}
+use Rattle.hp_units.specs.declared.plans.Item.{Item}
+use Rattle.hp_units.specs.contracts.plans.ItemPartialEq.TheImpl as item
 use Rattle.hp_units.specs.contracts.replies.Refusal.{enum}
 use Rattle.hp_units.specs.contracts.replies.RefusalPartialEq.TheImpl.{ghosts}
 use denote.Struct.Field.{Field}
@@ -42,3 +46,9 @@ tells_equal N each tell x y = (
 
 pub refusals_equal : (x y : Refusal) → IsTrue (ghosts.eq x y) ↔ (x ≡ y)
 refusals_equal x y = tells_equal enum _ (search rules) x y
+
+items_decided : (x y : Item) → Decides (item.ghosts.eq x y) (x ≡ y)
+items_decided x y = search rules
+
+pub plans_equal : (x y : List Item) → IsTrue (pointwise item.ghosts.eq x y) ↔ (x ≡ y)
+plans_equal x y = pointwise_decides items_decided x y

@@ -8,7 +8,7 @@ use std::alloc::{AllocError, Global};
 
 /// One event, made by one processor. Its refusals and what it does are those of the definitions in
 /// specs/Refusals and specs/Step; of an UndoAfter, and of a Cancel that restores, in specs/History.
-#[derive(Drop)]
+#[derive(PartialEq, Drop)]
 pub enum Event {
     /// The kernel takes a block of 2^order frames: of order 0 from the processor's list, else from
     /// the free areas (Gorman, chapter 6). Answered with its first frame.
@@ -150,104 +150,6 @@ impl Event {
     pub fn same(&self, other: &Event) -> bool
         ensures { IsTrue result ↔ (self.now ≡ other.now) }
     {
-        match *self {
-            Event::Begin { ref plan } => match *other {
-                Event::Begin { plan: ref other } => plan.same(other),
-                _ => false,
-            },
-            Event::KernelAlloc { order } => match *other {
-                Event::KernelAlloc { order: other } => order.0 == other.0,
-                _ => false,
-            },
-            Event::KernelFree { frame } => match *other {
-                Event::KernelFree { frame: other } => frame.0 == other.0,
-                _ => false,
-            },
-            Event::Map { owner, page } => match *other {
-                Event::Map {
-                    owner: other_owner,
-                    page: other_page,
-                } => owner.0 == other_owner.0 && page.0 == other_page.0,
-                _ => false,
-            },
-            Event::Unmap { owner, page } => match *other {
-                Event::Unmap {
-                    owner: other_owner,
-                    page: other_page,
-                } => owner.0 == other_owner.0 && page.0 == other_page.0,
-                _ => false,
-            },
-            Event::Write {
-                owner,
-                page,
-                index,
-                value,
-            } => match *other {
-                Event::Write {
-                    owner: other_owner,
-                    page: other_page,
-                    index: other_index,
-                    value: other_value,
-                } => owner.0 == other_owner.0
-                    && page.0 == other_page.0
-                    && index == other_index
-                    && value == other_value,
-                _ => false,
-            },
-            Event::Read { owner, page, index } => match *other {
-                Event::Read {
-                    owner: other_owner,
-                    page: other_page,
-                    index: other_index,
-                } => owner.0 == other_owner.0 && page.0 == other_page.0 && index == other_index,
-                _ => false,
-            },
-            Event::Drain { cpu } => match *other {
-                Event::Drain { cpu: other } => cpu.0 == other.0,
-                _ => false,
-            },
-            Event::Online { block, zone } => match *other {
-                Event::Online {
-                    block: other_block,
-                    zone: other_zone,
-                } => block.0 == other_block.0 && zone == other_zone,
-                _ => false,
-            },
-            Event::DrainFor { op, cpu } => match *other {
-                Event::DrainFor {
-                    op: other_op,
-                    cpu: other_cpu,
-                } => op.0 == other_op.0 && cpu.0 == other_cpu.0,
-                _ => false,
-            },
-            Event::Migrate { op } => match *other {
-                Event::Migrate { op: other } => op.0 == other.0,
-                _ => false,
-            },
-            Event::Commit { op } => match *other {
-                Event::Commit { op: other } => op.0 == other.0,
-                _ => false,
-            },
-            Event::Cancel { op } => match *other {
-                Event::Cancel { op: other } => op.0 == other.0,
-                _ => false,
-            },
-            Event::UndoAfter { serial } => match *other {
-                Event::UndoAfter { serial: other } => serial.0 == other.0,
-                _ => false,
-            },
-            Event::Probe { address } => match *other {
-                Event::Probe { address: other } => address == other,
-                _ => false,
-            },
-            Event::Remove { block } => match *other {
-                Event::Remove { block: other } => block.0 == other.0,
-                _ => false,
-            },
-            Event::SetAuto { auto } => match *other {
-                Event::SetAuto { auto: other } => auto == other,
-                _ => false,
-            },
-        }
+        *self == *other
     }
 }

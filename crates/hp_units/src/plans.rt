@@ -31,6 +31,21 @@ impl Model for Plan {
     ghost view = { λ p. p.items.value.items };
 }
 
+impl PartialEq for Plan {
+    ghost use Rattle.std.specs.Cmp.Lexicographic.{lists_per, pointwise};
+    ghost use Rattle.std.specs.Cmp.Rules.{comparing};
+    ghost use Rattle.std.proofs.Common.{rules};
+    ghost use Rattle.hp_units.specs.contracts.plans.ItemPartialEq.TheImpl.{ghosts};
+
+    ghost eq = { pointwise ghosts.eq };
+
+    ghost laws = { lists_per (Prim.search (comparing, rules)) };
+
+    fn eq(&self, other: &Plan) -> bool {
+        self.items.as_slice() == other.items.as_slice()
+    }
+}
+
 impl Plan {
     /// The plan of these items, in a place of its own, for which it takes memory. An error is out
     /// of memory.
@@ -61,30 +76,8 @@ impl Plan {
     pub fn same(&self, other: &Plan) -> bool
         ensures { IsTrue result ↔ (self.now ≡ other.now) }
     {
-        are_same(self.items.as_slice(), other.items.as_slice())
+        *self == *other
     }
-}
-
-/// Whether the items are the same in the same order.
-fn are_same(items: &[Item], others: &[Item]) -> bool
-    ensures { IsTrue result ↔ (items.now ≡ others.now) }
-{
-    if items.len() != others.len() {
-        return false;
-    }
-    for (place, item) in items.iter().enumerate() {
-        if !is_same(item, &others[place]) {
-            return false;
-        }
-    }
-    true
-}
-
-/// Whether the items are the same.
-fn is_same(item: &Item, other: &Item) -> bool
-    ensures { IsTrue result ↔ (item.now ≡ other.now) }
-{
-    item.block == other.block && item.wish == other.wish
 }
 
 /// The 8-byte words of a page, in a place of their own, so that tables of words stay small.
@@ -99,6 +92,20 @@ impl Model for Words {
     ghost Value = { List ℕ };
 
     ghost view = { λ p. p.words.value.items };
+}
+
+impl PartialEq for Words {
+    ghost use Rattle.std.specs.Prelude.{nat_eq};
+    ghost use Rattle.std.specs.Cmp.{partial_equiv_from_equiv};
+    ghost use Rattle.std.specs.Cmp.Lexicographic.{nat_list_eq_equiv, pointwise};
+
+    ghost eq = { pointwise nat_eq };
+
+    ghost laws = { partial_equiv_from_equiv nat_list_eq_equiv };
+
+    fn eq(&self, other: &Words) -> bool {
+        self.words.as_slice() == other.words.as_slice()
+    }
 }
 
 impl Words {
@@ -142,12 +149,5 @@ impl Words {
             Some(words) => Ok(Some(words.copy(alloc)?)),
             None => Ok(None),
         }
-    }
-
-    /// Whether the words are the same.
-    pub fn same(&self, other: &Words) -> bool
-        ensures { IsTrue result ↔ (self.now ≡ other.now) }
-    {
-        self.as_slice() == other.as_slice()
     }
 }

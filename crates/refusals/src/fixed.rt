@@ -52,7 +52,6 @@ fn with_event(case: &Case<'_>, machine: &mut Machine, image: &Image, tape: &mut 
             && is_image(image)
             && is_noted(tape)
             && event.same(&event)
-            && words.same(&words)
             && words.as_slice() == [7, 9].as_slice()
             && is_refused(case.alloc, machine),
     )

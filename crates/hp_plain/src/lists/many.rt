@@ -33,13 +33,5 @@ pub(crate) fn copy_of_lists(
 pub(crate) fn same_lists(lists: &[FrameList], others: &[FrameList]) -> bool
     ensures { MatchBool result (lists.now ≡ others.now) (lists.now ≢ others.now) }
 {
-    if lists.len() != others.len() {
-        return false;
-    }
-    for number in 0..lists.len() {
-        if !lists[number].same(&others[number]) {
-            return false;
-        }
-    }
-    true
+    lists == others
 }

@@ -1,9 +1,8 @@
--- Lists that are as long and the same at each number are the same.
-use Rattle.std.proofs.Common.{[], arith}
-use Rattle.std.proofs.lemmas.List.{ext_get_or}
+use Rattle.std.specs.Cmp.Lexicographic.{pointwise_decides}
+use Rattle.std.proofs.lemmas.Bool.Decides.{Decides-eqb}
+use Rattle.hp_plain.proofs.EqualLists.{lists_told, options_decided}
 use Rattle.hp_plain.proofs.pages.same_table.Goals as goal
 
 pub returns : goal.returns
 returns c =
-    ext_get_or [] c.args.table.now c.args.others.now (omega arith)
-    (λ k h. c.loop-owner.invariant k (omega arith))
+    lists_told (pointwise_decides (options_decided Decides-eqb)) c.args.table.now c.args.others.now c.eq.result c.eq.ensures

@@ -1,9 +1,6 @@
--- Lists that are as long and the same at each number are the same.
-use Rattle.std.proofs.Common.{[], arith}
-use Rattle.std.proofs.lemmas.List.{ext_get_or}
+use Rattle.hp_plain.proofs.EqualLists.{lists_told, numbers_decided}
 use Rattle.hp_plain.proofs.lists.many.same_lists.Goals as goal
 
 pub returns : goal.returns
 returns c =
-    ext_get_or [] c.args.lists.now c.args.others.now (omega arith)
-    (λ k h. c.loop-number.invariant k (omega arith))
+    lists_told numbers_decided c.args.lists.now c.args.others.now c.eq.result c.eq.ensures
