@@ -7,7 +7,7 @@ use Rattle.hp_plain.specs.Image.{Pictured}
 use Rattle.hp_scenario.specs.Calls.{HasPassed, IsOpened}
 use Rattle.hp_scenario.specs.declared.calls.Calls.{Calls}
 use Rattle.hp_scenario.specs.declared.lines.Line.{Line}
-use Rattle.hp_scenario.proofs.CallsPassed.{all_read, none_passed, one_passed}
+use Rattle.hp_scenario.proofs.CallsPassed.{none_passed, one_passed, with_all}
 use Rattle.hp_scenario.specs.Calls.{Passes}
 use Rattle.hp_text.specs.State.{state_text}
 use Rattle.hp_commands.specs.Called.{WritesAll}
@@ -59,8 +59,8 @@ called_text input start new layout names first m image old out text opened laid 
     let lines = ran.0 in
     let same : layout ≡ new.layout = laid ∙ sym (ran.1.2.2 ∙ ran.1.1.3) in
     ran_text input (record { layout = new.layout; names = new.names.keys; lines = lines }) first m
-    lines image old out text (all_read input start new lines opened ran.1) (boot ∙ ap booted same) refl
-    none ran.2 pictured
+    lines image old out text (with_all input start new lines lines opened ran.1 refl)
+    (boot ∙ ap booted same) refl none ran.2 pictured
     (e ∙ ap (λ (ns : List (List ℕ)). out ++ state_text image.layout ns image.memory) named)
 
 -- what is a text for every input that was opened so, is one for this input

@@ -45,11 +45,12 @@ pub enum ProgramFault {
     WrongReply { serial: Serial },
     /// The record at this place, counted from 0, hasn't the next serial.
     WrongSerial { at: u64 },
-    /// The history leads to another state than the machine's.
+    /// The sealed volumes lead to another state than the one that the machine's history begins with.
     AuditDiffers,
     /// The writer failed.
     WriteFailed,
-    /// The volume at this place, counted from 0, does not follow those before it.
+    /// The volume at this place, counted from 0, does not follow those before it; or, where the place
+    /// is their number, together they do not hold all sealed records.
     BrokenChain { at: u64 },
 }
 

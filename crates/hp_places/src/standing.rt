@@ -99,11 +99,10 @@ impl Standing {
             → leaves_steps (effect_of latest.now.event) ≡ true
             → IsStanding g (news ++ latest.now ∷ []) self.new) }
     {
-        self.before.reserve(1)?;
         let was = self.here;
         let openings = self.openings.after(was.openings, was.state, latest)?;
         self.exchanges.go_on(alloc, latest.cpu, latest)?;
-        self.before.push_reserved(was);
+        self.before.push(was)?;
         self.here = Stop {
             openings,
             state: None,

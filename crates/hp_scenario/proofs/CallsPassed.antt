@@ -3,7 +3,7 @@ use Rattle.std.proofs.Common.{◌≡◌, ℕ, ◌<◌, List, [], ◌∷◌, ◌+
 use Rattle.json.specs.Token.{Token}
 use Rattle.json.specs.Lex.{tokens}
 use Rattle.hp_scenario.specs.Calls.{AreAll, Ends, HasPassed, IsOpened, Passes}
-use Rattle.hp_scenario.specs.Scenario.{ScenarioValue, Script, lines_from, scenario_in}
+use Rattle.hp_scenario.specs.Scenario.{Script, lines_from, scenario_in}
 use Rattle.hp_scenario.specs.Usual.{AreTexts, strings_then}
 use Rattle.hp_scenario.specs.declared.calls.Calls.{Calls}
 use Rattle.hp_scenario.specs.declared.lines.Line.{Line}
@@ -33,7 +33,7 @@ pub passes_shorter : (now next : Calls) (line : Line) → Passes now line next
 passes_shorter now next line one = omega (arith, ap (λ (ts : List Token). length ts) one.1)
 
 -- all lines are those of the scenario
-pub all_read : (bytes : List ℕ) (start new : Calls) (lines : List Line) → IsOpened bytes start
+all_read : (bytes : List ℕ) (start new : Calls) (lines : List Line) → IsOpened bytes start
     → AreAll start lines new
     → scenario_in bytes ≡ Ok (record { layout = new.layout; names = new.names.keys; lines = lines })
 all_read bytes start new lines opened all =
@@ -57,9 +57,12 @@ all_read bytes start new lines opened all =
     scenario_is bytes bytes (record { layout = new.layout; names = new.names.keys; lines = lines })
     opened.0 refl (rw layout_is whole)
 
--- and so is what is made of them
-pub all_seen : (bytes : List ℕ) (start new : Calls) (lines : List Line) (made : ScenarioValue)
-    → IsOpened bytes start → AreAll start lines new
-    → made ≡ record { layout = new.layout; names = new.names.keys; lines = lines }
-    → scenario_in bytes ≡ Ok made
-all_seen bytes start new lines made opened all is = all_read bytes start new lines opened all ∙ ap Ok (sym is)
+-- and so are the same lines as they are kept
+pub with_all : (bytes : List ℕ) (start new : Calls) (lines kept : List Line) → IsOpened bytes start
+    → AreAll start lines new → kept ≡ lines
+    → scenario_in bytes ≡ Ok (record { layout = new.layout; names = new.names.keys; lines = kept })
+with_all bytes start new lines kept opened all is =
+    subst
+    (λ (ls : List Line). scenario_in bytes
+    ≡ Ok (record { layout = new.layout; names = new.names.keys; lines = ls }))
+    (sym is) (all_read bytes start new lines opened all)

@@ -1,5 +1,6 @@
 pub mod CallsPassed
 pub mod Each
+mod EventWords
 mod FormPairs
 pub mod Json
 pub mod KnownNames

@@ -1,13 +1,14 @@
--- A loop over the lines, and what is left of them.
+-- A loop over the lines, what is left of them, and the scenario that they make.
 use Rattle.std.proofs.Common.{◌≡◌, ℕ, suc, ◌+◌, ◌≤◌, List, [], ◌∷◌, ◌++◌, length, drop, slice_get, Option, Some, None, Result, Ok, Err, refl, sym, ap, ◌∙◌, add-one, option_map}
 use Rattle.std.proofs.Math.Seq.{drop-cons}
 use Rattle.std.proofs.lemmas.List.{drop_all}
 use Rattle.std.proofs.lemmas.Option.{get_or_from_slice_get, slice_get_within}
+use Rattle.hp_units.specs.LayoutParts.{LayoutParts, layout_fault}
 use Rattle.hp_scenario.specs.declared.lines.Line.{Line}
 use Rattle.hp_scenario.specs.declared.fault.ScenarioFault.{ScenarioFault}
 use Rattle.hp_scenario.specs.declared.fault.ScenarioFault.TheVariants.{BadLine}
 use Rattle.hp_scenario.specs.Names.{Numbered, line_in}
-use Rattle.hp_scenario.specs.Scenario.{Script, with_line, lines_from}
+use Rattle.hp_scenario.specs.Scenario.{Script, with_line, nothing, lines_from, layout_or, scenario_if, scenario_with}
 
 -- a line, with the names after it
 abbrev pub with_names : List (List ℕ) → Line → Numbered
@@ -56,3 +57,15 @@ pub lines_done : (xs : List (List ℕ)) (i : ℕ) (script : Script) (total : Res
     → length xs ≤ i → lines_from (i + 1) script (drop i xs) ≡ total → total ≡ Ok script
 unfolding lines_from
 lines_done xs i script total le so_far = sym so_far ∙ ap (lines_from (i + 1) script) (drop_all _ _ le)
+
+-- ---- the whole
+
+-- a scenario of its layout and its lines
+pub all_made : (p : Option LayoutParts) (c : Option (List (List ℕ))) (parts : LayoutParts)
+    (calls : List (List ℕ)) (layout : LayoutParts) (names : List (List ℕ)) (lines kept : List Line)
+    → p ≡ Some parts → c ≡ Some calls → layout_or parts (layout_fault parts) ≡ Ok layout
+    → lines_from 1 nothing calls ≡ Ok (record { names = names; lines = lines }) → kept ≡ lines
+    → scenario_if p c ≡ Ok (record { layout = layout; names = names; lines = kept })
+unfolding scenario_with
+all_made p c parts calls layout names lines kept some_parts some_calls sound read same =
+    rw (some_parts, some_calls, sound, read, same) refl

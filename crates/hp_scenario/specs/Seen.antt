@@ -1,14 +1,13 @@
 -- What a contract sees of a scenario, and of what a line says.
 use Rattle.hp_scenario.specs.Asked as asks
 use Rattle.hp_scenario.specs.Lines as said
-use Rattle.hp_scenario.specs.Scenario.{ScenarioValue, Script}
+use Rattle.hp_scenario.specs.Scenario.{ScenarioValue}
 use Rattle.hp_scenario.specs.declared.asked.Asked.{Asked}
 use Rattle.hp_scenario.specs.declared.asked.Asked.TheVariants as asked
 use Rattle.hp_scenario.specs.declared.requests.Request.{Request}
 use Rattle.hp_scenario.specs.declared.requests.Request.TheVariants.{Plain, Named}
 use Rattle.hp_scenario.specs.declared.requests.Said.{Said}
 use Rattle.hp_scenario.specs.declared.scenario.Scenario as whole
-use Rattle.hp_scenario.specs.declared.scenario.Script as part
 
 abbrev pub request_seen : Request → said.Request
 request_seen (Plain work) = said.plain work
@@ -16,9 +15,6 @@ request_seen (Named name access) = said.named name.now access
 
 abbrev pub said_seen : Said → said.Said
 said_seen s = record { cpu = s.cpu; request = request_seen s.request }
-
-abbrev pub script_seen : part.Script → Script
-script_seen s = record { names = s.names.keys; lines = s.lines.items }
 
 abbrev pub scenario_seen : whole.Scenario → ScenarioValue
 scenario_seen s = record { layout = s.layout; names = s.names.keys; lines = s.lines }

@@ -1,10 +1,10 @@
 //! Scenarios in their usual form, read token by token: `layout` with its numbers in their usual
 //! order and then `boot`, and then `calls`. No tree is made, and no memory is kept for the lines that
 //! were taken.
-ghost use Rattle.std.specs.Prelude.{◌≡◌, ◌∷◌, [], IfOk, IfSome, IsTrue, Ok};
+ghost use Rattle.std.specs.Prelude.{◌≡◌, ◌∷◌, [], IfOk, IfSome, IsTrue, List, Ok, ℕ};
 ghost use Rattle.hp_scenario.specs.Seen.{scenario_seen};
 ghost use Rattle.hp_scenario.specs.Scenario.{scenario_in};
-ghost use Rattle.hp_scenario.specs.Calls.{AreAll, Goes, IsFront, IsOpened};
+ghost use Rattle.hp_scenario.specs.Calls.{AreAll, Goes, IsOpened};
 
 use crate::lines::{Line, Lines};
 use crate::names::line_from;
@@ -42,30 +42,10 @@ pub enum Next {
 pub(crate) fn read_usual(alloc: Global, bytes: &[u8]) -> Result<Option<Scenario>, AllocError>
     ensures { IfOk result (λ s. IfSome s (λ s. scenario_in bytes.now ≡ Ok (scenario_seen s))) }
 {
-    let Some(mut calls) = Calls::open(alloc, bytes)? else {
-        return Ok(None);
-    };
-    let mut lines = Vec::new(alloc);
-    if !take_all(alloc, &mut calls, &mut lines)? {
-        return Ok(None);
+    match Calls::open(alloc, bytes)? {
+        Some(calls) => calls.into_scenario(alloc),
+        None => Ok(None),
     }
-    Ok(Some(calls.with_lines(lines)))
-}
-
-/// The layout that comes next in a scenario, up to the first of its lines.
-fn front_after(alloc: Global, reader: &mut PlainReader<'_>) -> Result<Option<Layout>, AllocError>
-    ensures { IfOk result (λ l. IfSome l (λ l. IsFront l reader.old reader.new)) }
-{
-    if !takes_object(reader) || !takes_key(reader, "layout") {
-        return Ok(None);
-    }
-    let Some(layout) = layout_after(alloc, reader)? else {
-        return Ok(None);
-    };
-    if !takes_array(reader, "calls") {
-        return Ok(None);
-    }
-    Ok(Some(layout))
 }
 
 impl<'a> Calls<'a> {
@@ -77,9 +57,15 @@ impl<'a> Calls<'a> {
             return Ok(None);
         };
         let mut reader = PlainReader::new(text);
-        let Some(layout) = front_after(alloc, &mut reader)? else {
+        if !takes_object(&mut reader) || !takes_key(&mut reader, "layout") {
+            return Ok(None);
+        }
+        let Some(layout) = layout_after(alloc, &mut reader)? else {
             return Ok(None);
         };
+        if !takes_array(&mut reader, "calls") {
+            return Ok(None);
+        }
         Ok(Some(Calls {
             layout,
             names: IndexSet::new(alloc),
@@ -102,16 +88,21 @@ impl<'a> Calls<'a> {
         &self.names
     }
 
-    /// The scenario of these lines, all that were taken.
-    fn with_lines(self, lines: Vec<Line>) -> Scenario
-        ensures { scenario_seen result
-            ≡ record { layout = self.entry.layout; names = self.entry.names.keys; lines = lines.items } }
+    /// The scenario, of which no line was taken yet. None says nothing: it may still be one.
+    fn into_scenario(self, alloc: Global) -> Result<Option<Scenario>, AllocError>
+        ensures { (bytes : List ℕ) → IsOpened bytes self.entry
+            → IfOk result (λ s. IfSome s (λ s. scenario_in bytes ≡ Ok (scenario_seen s))) }
     {
-        Scenario {
-            layout: self.layout,
-            names: self.names,
-            lines: Lines::new(lines),
+        let mut calls = self;
+        let mut lines = Vec::new(alloc);
+        if !take_all(alloc, &mut calls, &mut lines)? {
+            return Ok(None);
         }
+        Ok(Some(Scenario {
+            layout: calls.layout,
+            names: calls.names,
+            lines: Lines::new(lines),
+        }))
     }
 
     /// What comes next. After an error, after the end and once it is unsure, nothing is said of

@@ -1,5 +1,5 @@
 //! Names are numbered in the order in which they first occur.
-ghost use Rattle.std.specs.Prelude.{◌≡◌, IfOk, IfSome, OnOk, Some, option_map};
+ghost use Rattle.std.specs.Prelude.{◌≡◌, IfOk, IfSome, Some, option_map};
 ghost use Rattle.std.specs.List.{position};
 ghost use Rattle.std.specs.Str.{bytes_eq};
 ghost use Rattle.indexmap.specs.IndexSet.{insert_key};
@@ -40,8 +40,8 @@ fn numbered_work(
     names: &mut IndexSet<Text>,
     request: Request<'_>,
 ) -> Result<Work, AllocError>
-    ensures names { OnOk result (names.new.keys ≡ names_with names.old.keys (request_seen request.entry)) }
-    ensures work { IfOk result (λ work. work ≡ work_of names.old.keys (request_seen request.entry)) }
+    ensures { IfOk result (λ work. (names.new.keys ≡ names_with names.old.keys (request_seen request.entry))
+        × (work ≡ work_of names.old.keys (request_seen request.entry))) }
 {
     match request {
         Request::Plain(work) => Ok(work),
@@ -54,8 +54,8 @@ fn numbered_work(
 
 /// The number of a name, which becomes the last one where it is new.
 fn owner_of(alloc: Global, names: &mut IndexSet<Text>, name: &str) -> Result<Owner, AllocError>
-    ensures names { OnOk result (names.new.keys ≡ insert_key bytes_eq names.old.keys name.now) }
-    ensures owner { IfOk result (λ owner. owner ≡ owner_of names.old.keys name.now) }
+    ensures { IfOk result (λ owner. (names.new.keys ≡ insert_key bytes_eq names.old.keys name.now)
+        × (owner ≡ owner_of names.old.keys name.now)) }
 {
     let index = index_of(alloc, names, name)?;
     let Ok(index) = u32::try_from(index) else {
@@ -68,8 +68,8 @@ fn owner_of(alloc: Global, names: &mut IndexSet<Text>, name: &str) -> Result<Own
 /// that is new or one of many.
 #[tactic(auto, using(crate::proofs::KnownNames::known_place, crate::proofs::KnownNames::known_stays))]
 fn index_of(alloc: Global, names: &mut IndexSet<Text>, name: &str) -> Result<usize, AllocError>
-    ensures names { OnOk result (names.new.keys ≡ insert_key bytes_eq names.old.keys name.now) }
-    ensures index { IfOk result (λ index. index ≡ owner_of names.old.keys name.now) }
+    ensures { IfOk result (λ index. (names.new.keys ≡ insert_key bytes_eq names.old.keys name.now)
+        × (index ≡ owner_of names.old.keys name.now)) }
 {
     if let Some(index) = known_index(names, name) {
         return Ok(index);

@@ -1,5 +1,5 @@
 //! What a line says, with a name as it is written.
-ghost use Rattle.std.specs.Prelude.{◌≡◌, map, Err, IfOk, MatchResult, Ok, is_some, option_map};
+ghost use Rattle.std.specs.Prelude.{◌≡◌, map, IfOk, is_some, option_map};
 ghost use Rattle.hp_scenario.specs.Lines as says;
 ghost use Rattle.hp_scenario.specs.Seen.{request_seen, said_seen};
 
@@ -53,18 +53,7 @@ pub fn is_line(alloc: Global, text: &str) -> Result<bool, AllocError>
     ensures { IfOk result (λ is. is ≡ is_some (says.line_says text.now)) }
 {
     let mut words = Vec::new(alloc);
-    let said = line_says(alloc, &mut words, text);
-    says_something(&said)
-}
-
-/// Whether what was asked of a text is something. An error is out of memory.
-fn says_something(said: &Result<Option<Said<'_>>, AllocError>) -> Result<bool, AllocError>
-    ensures { MatchResult said.now (λ said. result ≡ Ok (is_some said)) (λ fault. result ≡ Err fault) }
-{
-    match said {
-        Ok(said) => Ok(said.is_some()),
-        Err(fault) => Err(*fault),
-    }
+    Ok(line_says(alloc, &mut words, text)?.is_some())
 }
 
 /// What the words of a line say.

@@ -1,11 +1,11 @@
 //! A scenario.
-ghost use Rattle.std.specs.Prelude.{◌≡◌, ◌≤◌, [], length, option_map, vec_capacity};
+ghost use Rattle.std.specs.Prelude.{◌≡◌, [], option_map};
 ghost use Rattle.serde_json.specs.View.{view};
 ghost use Rattle.hp_units.specs.LayoutParts.{layout_fault};
 ghost use Rattle.hp_units.specs.PartsSeen.{parts_seen};
 ghost use Rattle.hp_scenario.specs.Gives.{Gives, or_fault};
 ghost use Rattle.hp_scenario.specs.Scenario.{nothing, lines_from, layout_or, json_of, scenario_in, scenario_if, scenario_of};
-ghost use Rattle.hp_scenario.specs.Seen.{script_seen, scenario_seen};
+ghost use Rattle.hp_scenario.specs.Seen.{scenario_seen};
 
 use crate::calls::read_usual;
 use crate::fault::ScenarioFault;
@@ -27,13 +27,6 @@ pub struct Scenario {
     pub names: IndexSet<Text>,
     /// The lines in order.
     pub lines: Lines,
-}
-
-/// The owners' names and the lines.
-#[derive(Drop)]
-pub(crate) struct Script {
-    names: IndexSet<Text>,
-    lines: Vec<Line>,
 }
 
 impl Scenario {
@@ -100,14 +93,17 @@ fn scenario_with(
     ensures { Gives scenario_seen result
         (scenario_if (option_map parts_seen parts.entry) calls.entry) }
 {
-    let parts = parts.ok_or(ScenarioFault::BadShape)?;
-    let calls = calls.ok_or(ScenarioFault::BadShape)?;
+    let (Some(parts), Some(calls)) = (parts, calls) else {
+        return Err(ScenarioFault::BadShape);
+    };
     let layout = layout_from(alloc, &parts)?;
-    let script = read_lines(alloc, &calls)?;
+    let mut names = IndexSet::new(alloc);
+    let mut lines = Vec::new(alloc);
+    add_lines(alloc, &mut names, &mut lines, &calls)?;
     Ok(Scenario {
         layout,
-        names: script.names,
-        lines: Lines::new(script.lines),
+        names,
+        lines: Lines::new(lines),
     })
 }
 
@@ -122,17 +118,7 @@ fn layout_from(alloc: Global, parts: &Parts<'_>) -> Result<Layout, ScenarioFault
     }
 }
 
-/// The lines of the texts.
-fn read_lines(alloc: Global, texts: &Texts<'_>) -> Result<Script, ScenarioFault>
-    ensures { Gives script_seen result (lines_from 1 nothing texts.now) }
-{
-    let mut lines = Vec::with_capacity(alloc, texts.len())?;
-    let mut names = IndexSet::new(alloc);
-    add_lines(alloc, &mut names, &mut lines, texts)?;
-    Ok(Script { names, lines })
-}
-
-/// Adds the lines of the texts, for which there is room, and their names.
+/// Adds the lines of the texts, and their names.
 fn add_lines(
     alloc: Global,
     names: &mut IndexSet<Text>,
@@ -141,10 +127,10 @@ fn add_lines(
 ) -> Result<(), ScenarioFault>
     requires names { names.old.keys ≡ [] }
     requires lines { lines.old.items ≡ [] }
-    requires room { length texts.now ≤ vec_capacity lines.old }
     ensures { Gives (λ _. record { names = names.new.keys; lines = lines.new.items }) result
         (lines_from 1 nothing texts.now) }
 {
+    lines.reserve_exact(texts.len())?;
     let mut words = Vec::new(alloc);
     for index in 0..texts.len() {
         let Some(line) = line_from(alloc, names, &mut words, texts.at(index))? else {

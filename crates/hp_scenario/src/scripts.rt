@@ -1,5 +1,5 @@
 //! The lines of each processor.
-ghost use Rattle.std.specs.Prelude.{◌≡◌, true, ◌++◌, ◌∷◌, [], IfOk, IfSome, OnOk, length, map};
+ghost use Rattle.std.specs.Prelude.{◌≡◌, true, [], IfOk, IfSome, length, map};
 ghost use Rattle.std.specs.List.{list_all, range_with_len};
 ghost use Rattle.hp_scenario.specs.Gives.{Gives};
 ghost use Rattle.hp_scenario.specs.Scripts.{AreAllOf, AreForRun, first_unfit as unfit, is_for_run, script_of, scripts_of};
@@ -40,13 +40,6 @@ impl Script {
         ensures { result.now ≡ self.now }
     {
         self.lines.as_slice()
-    }
-
-    /// One line more, at the end. An error is out of memory.
-    fn push(&mut self, line: Line) -> Result<(), AllocError>
-        ensures { OnOk result (self.new ≡ self.old ++ line ∷ []) }
-    {
-        Ok(self.lines.push(line)?)
     }
 }
 
@@ -138,7 +131,7 @@ fn dealt_singly(
     let mut left = lines;
     left.reverse();
     while let Some(line) = left.pop() {
-        scripts[line.place()].push(line)?;
+        scripts[line.place()].lines.push(line)?;
     }
     Ok(scripts)
 }

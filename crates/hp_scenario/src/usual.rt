@@ -28,9 +28,10 @@ pub(crate) fn layout_after(
     let Some(numbers) = numbers_after(reader) else {
         return Ok(None);
     };
-    let Some(boot) = boot_after(alloc, reader)? else {
+    let mut boot = Vec::new(alloc);
+    if !takes_boot(reader, &mut boot)? {
         return Ok(None);
-    };
+    }
     layout_of(alloc, &numbers, &boot)
 }
 
@@ -109,27 +110,24 @@ fn whole_number(text: &str) -> Option<u64>
     Numeral::scan(bytes).to_u64()
 }
 
-/// What the blocks are at boot, where this comes next and then the layout's end.
-fn boot_after(alloc: Global, reader: &mut PlainReader<'_>) -> Result<Option<Vec<Boot>>, AllocError>
-    ensures { IfOk result (λ b. IfSome b (λ b. EndsWithBoots b.items reader.old reader.new)) }
+/// Takes what the blocks are at boot; whether this came next, and then the layout's end.
+fn takes_boot(reader: &mut PlainReader<'_>, boot: &mut Vec<Boot>) -> Result<bool, AllocError>
+    requires { boot.old.items ≡ [] }
+    ensures { IfOk result (λ sure. IsTrue sure → EndsWithBoots boot.new.items reader.old reader.new) }
 {
     if !takes_array(reader, "boot") {
-        return Ok(None);
+        return Ok(false);
     }
-    let mut boots = Vec::new(alloc);
     'words: while !reader.take_end_array() {
         let Some(Token::String(word)) = reader.next() else {
-            return Ok(None);
+            return Ok(false);
         };
-        let Some(boot) = boot_from(word) else {
-            return Ok(None);
+        let Some(block) = boot_from(word) else {
+            return Ok(false);
         };
-        boots.push(boot)?;
+        boot.push(block)?;
     }
-    if !takes_end(reader) {
-        return Ok(None);
-    }
-    Ok(Some(boots))
+    Ok(takes_end(reader))
 }
 
 /// Whether this key comes next.

@@ -44,15 +44,31 @@ told_at cpu (x ∷ news) (suc k) r here own = by_owner (eqb x.cpu cpu) refl (tol
 
 -- ---- as they are compared
 
+-- a record of another processor tells it nothing
+pub replies_past : (cpu : ℕ) (replies : List Reply) (news : List Record) (k : ℕ) (r : Record)
+    → slice_get news k ≡ Some r → eqb r.cpu cpu ≡ false → replies ≡ replies_to cpu (take k news)
+    → replies ≡ replies_to cpu (take (k + 1) news)
+replies_past cpu replies news k r here other so_far =
+    so_far
+    ∙ (sym (append-nil (replies_to cpu (take k news)))
+    ∙ (sym (told_push cpu (take k news) r false other)
+    ∙ ap (replies_to cpu) (sym (take_one news k r here))))
+
+-- one of its own tells it one reply
+pub replies_own : (cpu : ℕ) (replies : List Reply) (news : List Record) (k : ℕ) (r : Record)
+    → slice_get news k ≡ Some r → eqb r.cpu cpu ≡ true → replies ≡ replies_to cpu (take k news)
+    → replies ++ told r.reply ∷ [] ≡ replies_to cpu (take (k + 1) news)
+replies_own cpu replies news k r here own so_far =
+    ap (λ (xs : List Reply). xs ++ told r.reply ∷ []) so_far
+    ∙ (sym (told_push cpu (take k news) r true own)
+    ∙ ap (replies_to cpu) (sym (take_one news k r here)))
+
 -- another processor's record tells nothing
 pub told_past : (cpu : ℕ) (replies : List Reply) (news : List Record) (n k : ℕ) (r : Record)
     → slice_get news k ≡ Some r → eqb r.cpu cpu ≡ false → take n replies ≡ replies_to cpu (take k news)
     → take n replies ≡ replies_to cpu (take (k + 1) news)
 told_past cpu replies news n k r here other so_far =
-    so_far
-    ∙ (sym (append-nil (replies_to cpu (take k news)))
-    ∙ (sym (told_push cpu (take k news) r false other)
-    ∙ ap (replies_to cpu) (sym (take_one news k r here))))
+    replies_past cpu (take n replies) news k r here other so_far
 
 -- its own tells the next one
 pub told_more : (cpu : ℕ) (replies : List Reply) (news : List Record) (n k : ℕ) (r : Record)
@@ -60,10 +76,7 @@ pub told_more : (cpu : ℕ) (replies : List Reply) (news : List Record) (n k : �
     → take n replies ≡ replies_to cpu (take k news)
     → take (n + 1) replies ≡ replies_to cpu (take (k + 1) news)
 told_more cpu replies news n k r here own is so_far =
-    take_one replies n (told r.reply) is
-    ∙ (ap (λ (xs : List Reply). xs ++ told r.reply ∷ []) so_far
-    ∙ (sym (told_push cpu (take k news) r true own)
-    ∙ ap (replies_to cpu) (sym (take_one news k r here))))
+    take_one replies n (told r.reply) is ∙ replies_own cpu (take n replies) news k r here own so_far
 
 -- where it tells another, the replies are others
 pub told_here : (cpu : ℕ) (replies : List Reply) (news : List Record) (n k : ℕ) (r : Record)

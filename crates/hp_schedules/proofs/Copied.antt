@@ -1,6 +1,6 @@
 -- Copies of the first items of a list.
-use Rattle.std.proofs.Common.{◌≡◌, ℕ, ◌+◌, ◌<◌, List, [], ◌∷◌, ◌++◌, length, map, take, get_or, refl, ap, sym, ◌∙◌}
-use Rattle.std.proofs.lemmas.List.{map-append}
+use Rattle.std.proofs.Common.{◌≡◌, ℕ, ◌+◌, ◌<◌, List, [], ◌∷◌, ◌++◌, length, map, take, get_or, refl, ap, sym, ◌∙◌, arith}
+use Rattle.std.proofs.lemmas.List.{length-map, length-take-le, map-append}
 use Rattle.std.proofs.lemmas.Option.{slice_get_read}
 use Rattle.hp_laws.proofs.Replays.{take_one}
 
@@ -24,3 +24,16 @@ mapped_more {A} {B} f all old new at item less read so_far is =
     ∙ (sym (map-append f (take at all) (item ∷ []))
     ∙ ap (λ (items : List A). map f items)
     (sym (take_one all at item (slice_get_read all (length all) at item refl less read)))))
+
+-- there is room for the value of one item more
+pub has_room : {A B : Type 0} (f : A → B) (all : List A) (so_far : List B) (at capacity : ℕ)
+    → at < length all → so_far ≡ map f (take at all) → capacity ≡ length all → length so_far < capacity
+has_room {A} {B} f all so_far at capacity less is room =
+    omega (
+      arith,
+      ap (λ (xs : List B). length xs) is,
+      length-map (take at all) f,
+      length-take-le at all (omega arith),
+      room,
+      less,
+    )

@@ -133,18 +133,11 @@ impl Chains {
         ensures before { IsBefore self.now number result }
         ensures within { result < length self.now }
     {
+        let _ = &self.entries;
         match self.entry(number) {
             Some(entry) => entry.below,
-            None => self.empty(),
+            None => 0,
         }
-    }
-
-    /// The number of the empty chain.
-    fn empty(&self) -> usize
-        ensures { result < length self.now }
-    {
-        let _ = &self.entries;
-        0
     }
 
     /// The entry that made the chain of a number; none where the chain is empty, or there is no such number.

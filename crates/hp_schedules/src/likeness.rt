@@ -1,9 +1,9 @@
 //! Whether outcomes are the same, their digests, and copies of their replies.
 ghost use Rattle.std.specs.Prelude.{◌≡◌, ◌↔◌, IfOk, IsTrue, fold};
-ghost use Rattle.hp_schedules.specs.Digests.{digest_of, mixed_reply, replies_digest};
+ghost use Rattle.hp_schedules.specs.Digests.{mixed_reply, replies_digest};
 
-use crate::digests::{mixed, reply_number, row_number};
-use crate::outcomes::{Answers, Outcome};
+use crate::digests::{mixed, reply_number};
+use crate::outcomes::Answers;
 use hp_units::Reply;
 use std::alloc::{AllocError, Global};
 
@@ -44,35 +44,14 @@ pub(crate) fn copies_of(alloc: Global, all: &[Answers]) -> Result<Vec<Answers>, 
     let mut copies = Vec::new(alloc);
     for answers in all {
         copies.reserve(1)?;
-        let copy = copy_of(alloc, answers)?;
+        let copy = answers.copy(alloc)?;
         copies.push_reserved(copy);
     }
     Ok(copies)
 }
 
-/// A copy of a processor's replies. An error is out of memory.
-fn copy_of(alloc: Global, answers: &Answers) -> Result<Answers, AllocError>
-    ensures { IfOk result (λ copy. copy ≡ answers.now) }
-{
-    let mut replies = Vec::new(alloc);
-    replies.extend_from_slice(answers.as_slice())?;
-    Ok(Answers::new(replies))
-}
-
-/// A digest of how a schedule ends: of the processors' replies, and of the blocks' rows.
-#[tactic(auto, unfolding(crate::specs::Digests::digest_of))]
-pub(crate) fn outcome_digest(outcome: &Outcome) -> u64
-    ensures { result ≡ digest_of outcome.now }
-{
-    let mut digest = answers_digest(outcome.replies());
-    for row in outcome.blocks() {
-        digest = mixed(digest, row_number(row));
-    }
-    digest
-}
-
 /// A digest of the processors' replies.
-fn answers_digest(all: &[Answers]) -> u64
+pub(crate) fn answers_digest(all: &[Answers]) -> u64
     ensures { result ≡ replies_digest all.now }
 {
     let mut digest = 0;

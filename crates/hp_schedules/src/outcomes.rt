@@ -3,7 +3,8 @@ ghost use Rattle.std.specs.Prelude.{◌≡◌, ◌↔◌, IfOk, IsTrue, Some, sl
 ghost use Rattle.hp_schedules.specs.Digests.{digest_of};
 ghost use Rattle.hp_schedules.specs.Outcomes.{outcome_with, replies_below, replies_to, told};
 
-use crate::likeness::{copies_of, outcome_digest, same_answers};
+use crate::digests::{mixed, row_number};
+use crate::likeness::{answers_digest, copies_of, same_answers};
 use hp_units::{Cpu, Record, Reply, Row, Serial};
 use std::alloc::{AllocError, Global};
 use std::marker::Model;
@@ -47,11 +48,13 @@ impl Answers {
         replies.as_slice()
     }
 
-    /// These replies, with no memory taken.
-    pub(crate) fn new(replies: Vec<Reply>) -> Answers
-        ensures { result ≡ replies.items }
+    /// A copy. An error is out of memory.
+    pub(crate) fn copy(&self, alloc: Global) -> Result<Answers, AllocError>
+        ensures { IfOk result (λ copy. copy ≡ self.now) }
     {
-        Answers { replies }
+        let mut replies = Vec::new(alloc);
+        replies.extend_from_slice(self.as_slice())?;
+        Ok(Answers { replies })
     }
 }
 
@@ -89,10 +92,15 @@ impl Outcome {
     }
 
     /// A digest: that of the same outcome is the same.
+    #[tactic(auto, unfolding(crate::specs::Digests::digest_of))]
     pub fn digest(&self) -> u64
         ensures { result ≡ digest_of self.now }
     {
-        outcome_digest(self)
+        let mut digest = answers_digest(self.replies());
+        for row in self.blocks() {
+            digest = mixed(digest, row_number(row));
+        }
+        digest
     }
 
     /// A copy. An error is out of memory.

@@ -5,11 +5,11 @@ use Rattle.std.proofs.lemmas.Result.{IfOk-weaker}
 use Rattle.hp_units.specs.declared.replies.Record.{Record}
 use Rattle.hp_schedules.specs.Parts.{IsOn}
 use Rattle.hp_schedules.specs.Schedules.{schedule_of}
-use Rattle.hp_places.proofs.Entered.{entered_fresh, left_out, let_in}
+use Rattle.hp_places.proofs.Entered.{bare_fresh, entered_fresh, left_out, let_in}
 use Rattle.hp_places.proofs.arrivals.arrive.Goals as goal
 
-pub uncompared-requires-clause-way : goal.uncompared-requires-clause-way
-uncompared-requires-clause-way o c =
+pub come_to-requires-clause-way : goal.come_to-requires-clause-way
+come_to-requires-clause-way o c =
     let at = c.requires.arrival in
     (at.0, c.args.records.now, at.1.stood.place, at.1.stood.way)
 
@@ -29,13 +29,13 @@ returns-then-leaves_out-clause-ok o c =
 pub returns-then-records-calls-clause-ok : goal.returns-then-records-calls-clause-ok
 returns-then-records-calls-clause-ok o c =
     λ g at.
-    entered_fresh g c.args.records.now c.args.part c.args.tally.now.ends c.in_ok-frame.frame
+    entered_fresh g c.args.records.now c.args.part c.args.tally.now.ends c.new.result
     (inl (omega (
       arith,
       c.if-records-calls.true,
       c.calls.ensures,
       length-map c.args.records.now (λ (r : Record). r.cpu),
-    ))) at.walked (c.in_ok-frame.ensures.fresh c.args.tally.now.ends)
+    ))) at.walked (bare_fresh c.args.tally.now.ends c.new.result c.new.ensures)
 
 pub leaves_out-requires-clause-long : goal.leaves_out-requires-clause-long
 leaves_out-requires-clause-long o c = omega (arith, c.if-records-calls.false, c.calls.ensures)

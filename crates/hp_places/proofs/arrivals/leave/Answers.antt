@@ -1,6 +1,7 @@
 -- All that go on from there belong to the part.
 use Rattle.std.proofs.Common.{◌≡◌, ◌∙◌, Box, ap, arith, length, sym, subst}
 use Rattle.std.proofs.lemmas.List.{length-map}
+use Rattle.std.proofs.lemmas.Result.{on_ok_weaker}
 use Rattle.std.specs.Prelude.{option_map}
 use Rattle.std.specs.declared.alloc.Global.{Global}
 use Rattle.hp_units.specs.declared.replies.Record.{Record}
@@ -33,7 +34,7 @@ keeping c kept is g leaving = record {
         subst (IsPlaceKept g c.args.part c.args.records.now c.args.tally.now.ends) (sym is)
         (leaving.frame_is.kept c.in-Some.kept.value
         (ap (option_map (λ (boxed : Box Kept Global). boxed.value))
-        (sym c.into_kept-held.ensures ∙ c.in-Some.is)));
+        (sym c.into_kept.ensures ∙ c.in-Some.is)));
     through = leaving.through;
   };
   memo_is = leaving.memo_is;
@@ -49,8 +50,9 @@ keep-requires-clause-keeping c =
           leaving.0 leaving.1,
     )
 
-pub returns-in_ok-keep-clause-memo : goal.returns-in_ok-keep-clause-memo
-returns-in_ok-keep-clause-memo c =
-    λ g at. c.in_ok-keep.ensures.memo g c.args.records.now
-    (keeping (goal.at.returns-in_ok-keep-clause-memo c).In-Some c.into_inner.result c.into_inner.ensures
-    g at)
+pub returns-in-Some-clause-memo : goal.returns-in-Some-clause-memo
+returns-in-Some-clause-memo c =
+    on_ok_weaker c.keep.result
+    (λ more g at. more g c.args.records.now
+    (keeping (goal.at.returns-in-Some-clause-memo c).In-Some c.into_inner.result c.into_inner.ensures g at))
+    c.keep.ensures.memo

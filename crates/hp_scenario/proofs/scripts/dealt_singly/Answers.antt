@@ -32,13 +32,14 @@ loop-line-preserved c =
     c.in-Some.ensures.items c.loop-line.invariant.2 in
     let inside : c.place.result < length scripts =
     omega (arith, last.1, c.place.ensures, c.loop-line.invariant.1) in
-    let own : c.push.new.self ≡ get_or scripts c.place.result [] ++ c.in-Some.line ∷ [] =
-    c.in_ok-push.ensures ∙ ap (λ (script : List Line). script ++ c.in-Some.line ∷ [])
-    (c.index_mut.ensures.value ∙ get_or_default scripts c.place.result c.index_mut.result.now [] inside) in (
+    let own : c.push.new.self.items ≡ get_or scripts c.place.result [] ++ c.in-Some.line ∷ [] =
+    c.in_ok-push.ensures.items ∙ ap (λ (script : List Line). script ++ c.in-Some.line ∷ [])
+    (c.behind-scripts.view_is ∙ c.index_mut.ensures.value
+    ∙ get_or_default scripts c.place.result c.index_mut.result.now [] inside) in (
       one_dealt_at c.args.lines.items c.loop-line.left.items c.pop.new.self.items c.in-Some.line scripts
-          c.push.new.self c.place.result c.place.ensures c.in-Some.ensures.items own inside
+          c.push.new.self.items c.place.result c.place.ensures c.in-Some.ensures.items own inside
           c.loop-line.invariant.0,
-      length-set scripts c.place.result c.push.new.self ∙ c.loop-line.invariant.1,
+      length-set scripts c.place.result c.push.new.self.items ∙ c.loop-line.invariant.1,
       last.0,
     )
 

@@ -153,4 +153,4 @@ returns-in_err-forward-clause-err o c =
     rw (p.1, p.2)
     (cause_within w.path.setting w.part w.path.news c.args.frame.next w.tally.ends w.tally.limit
     c.in_err-forward.field-0.0 c.is_played.ensures c.requires.kept.walked.1.comes
-    c.requires.kept.walked.0.walked c.is_within.ensures c.in_err-forward.ensures.cause)
+    c.requires.kept.walked.0.walked (omega (arith, c.room.ensures)) c.in_err-forward.ensures.cause)

@@ -35,8 +35,7 @@ returns-clause-ok c =
       lists = c.after.new.self;
       exchanged = c.go_on.new.self;
       here = record { openings = c.in_ok-openings.openings; state = None };
-      before = c.push_reserved.new.self.items;
-    }) c.in_ok-openings.openings c.reserve.new.self.items refl c.after.ensures.kept refl
-    c.push_reserved.ensures.items c.in_ok-reserve.ensures.items
+      before = c.push.new.self.items;
+    }) c.in_ok-openings.openings refl c.after.ensures.kept refl c.in_ok-push.ensures.items
     (c.in_ok-openings.ensures.ok g old.codes news was.stops.1 leaves was.stops.0)
     (c.in_ok-go_on.ensures.ok g news was.exchanged) was

@@ -1,6 +1,10 @@
 -- The entry stands on the exchanges before its last.
+use Rattle.std.proofs.Common.{List, ap, arith, length}
 use Rattle.std.proofs.lemmas.Option.{slice_get_within}
+use Rattle.hp_units.specs.declared.replies.Receipt.{Receipt}
+use Rattle.hp_schedules.specs.Exchanges.{at_end, exchange_below}
 use Rattle.hp_schedules.proofs.Exchanged.{before_entry, before_none}
+use Rattle.hp_schedules.proofs.Numberings.{lists_many}
 use Rattle.hp_schedules.proofs.exchanges.Chains.before.Goals as goal
 
 pub returns-in-Some-clause-before : goal.returns-in-Some-clause-before
@@ -14,4 +18,12 @@ returns-in-Some-clause-within c =
 
 pub returns-in-None-clause-before : goal.returns-in-None-clause-before
 returns-in-None-clause-before c =
-    before_none c.args.self.now c.args.number c.empty.result c.in-None.ensures.none
+    before_none c.args.self.now c.args.number 0 c.in-None.ensures.none
+
+pub returns-in-None-clause-within : goal.returns-in-None-clause-within
+returns-in-None-clause-within c =
+    omega (
+      arith,
+      lists_many exchange_below at_end c.self.inside.entries.items,
+      ap (λ (chains : List (List Receipt)). length chains) c.self.view_is,
+    )

@@ -1,11 +1,10 @@
 use Rattle.std.proofs.Common.{◌≡◌, [], ◌∷◌, refl, arith}
 use Rattle.json.specs.Token.{Token}
 use Rattle.hp_scenario.proofs.UsualForm.{string_passed, boots_end, boots_grow, no_boots}
-use Rattle.hp_scenario.proofs.usual.boot_after.Goals as goal
+use Rattle.hp_scenario.proofs.usual.takes_boot.Goals as goal
 
 pub words-init : goal.words-init
-words-init c =
-    ([], refl, no_boots c.new-boots.result.items c.new-boots.ensures.items)
+words-init c = ([], refl, no_boots c.args.boot.now.items c.requires)
 
 pub words-preserved : goal.words-preserved
 words-preserved c =
@@ -15,13 +14,13 @@ words-preserved c =
       _,
       string_passed _ l.reader c.take_end_array.new.self c.next.new.self l.invariant.0 word l.invariant.1
           c.words-test.ensures first,
-      boots_grow l.invariant.0 word l.boots.items c.push.new.self.items c.in-Some.boot l.invariant.2
+      boots_grow l.invariant.0 word l.boot.items c.push.new.self.items c.in-Some.block l.invariant.2
           c.in-Some.ensures c.in_ok-push.ensures.items,
     )
 
 pub returns : goal.returns
-returns c =
+returns c over =
     let l = c.words in
-    boots_end _ _ l.reader c.take_end_array.new.self c.takes_end.new.reader l.invariant.0 l.boots.items
-    (c.if-not-takes_array.ensures refl) l.invariant.1 c.words-test.ensures (c.if-not-takes_end.ensures refl)
+    boots_end _ _ l.reader c.take_end_array.new.self c.takes_end.new.reader l.invariant.0 l.boot.items
+    (c.if-not-takes_array.ensures refl) l.invariant.1 c.words-test.ensures (c.takes_end.ensures over)
     l.invariant.2
