@@ -48,6 +48,13 @@ pages-kept i now new pages same e =
     e ∙ (ap (λ (j : Pictured). with_pages j pages) same
     ∙ ap (λ (ps : Pages). with_pages i ps) (sym (ap (λ (j : Pictured). j.memory.pages) e)))
 
+-- and kinds
+pub kinds-kept : (i now new : Pictured) (kinds : List Kind) → now ≡ with_kinds i now.memory.free.areas.kinds
+    → new ≡ with_kinds now kinds → new ≡ with_kinds i new.memory.free.areas.kinds
+kinds-kept i now new kinds same e =
+    e ∙ (ap (λ (j : Pictured). with_kinds j kinds) same
+    ∙ ap (λ (ks : List Kind). with_kinds i ks) (sym (ap (λ (j : Pictured). j.memory.free.areas.kinds) e)))
+
 -- ---- lists that get one frame more
 
 -- a free block is a part of the layout

@@ -1,9 +1,12 @@
 -- A table that is copied entry by entry.
-use Rattle.std.proofs.Common.{ℕ, ◌≡◌, ◌+◌, ◌*◌, ◌<◌, ◌≤◌, List, length, get_or, set, replicate, sym, ◌∙◌, ap, subst, arith, inl, inr}
+use Rattle.std.proofs.Common.{ℕ, ◌≡◌, ◌+◌, ◌*◌, ◌^◌, ◌<◌, ◌≤◌, Fits, w32, List, length, get_or, set, replicate, sym, ◌∙◌, ap, subst, arith, inl, inr}
+use Rattle.std.proofs.Math.Nat.{mul-le-mul}
+use Rattle.std.proofs.Math.Pow.{pow_mono}
 use Rattle.std.proofs.lemmas.Bool.{cases_eq}
 use Rattle.std.proofs.lemmas.List.{ext_get_or, get_or-replicate, get_or-set_other, get_or-set_same, length-replicate, length-set}
 use Rattle.hp_units.specs.declared.rows.Auto.{Auto}
 use Rattle.hp_units.specs.declared.rows.Row.{Row}
+use Rattle.hp_units.specs.LayoutParts.{LayoutParts, IsLayout}
 use Rattle.hp_units.specs.Memory.{Blocks}
 use Rattle.hp_images.specs.Tables.{AreCopied}
 
@@ -53,6 +56,21 @@ copied-all past none number wanted now all c =
 pub product-end : (a b c d size number : ℕ) → a ≡ c → b ≡ d → size ≡ c * d → a * b ≤ number → size ≤ number
 product-end a b c d size number e f is all =
     subst (λ (n : ℕ). n ≤ number) (ap (λ (n : ℕ). n * b) e ∙ (ap (λ (n : ℕ). c * n) f ∙ sym is)) all
+
+-- one of so many times so many
+pub product-low : (a b c d number : ℕ) → a ≡ c → b ≡ d → number < a * b → number < c * d
+product-low a b c d number e f low =
+    subst (λ (n : ℕ). number < n) (ap (λ (n : ℕ). n * b) e ∙ ap (λ (n : ℕ). c * n) f) low
+
+-- the number of all pageblocks fits a u32
+pub pageblocks-fit : (a b : ℕ) (l : LayoutParts) → IsLayout l → a ≡ l.blocks → b ≡ l.pageblocks
+    → Fits w32 (a * b)
+pageblocks-fit a b l layout e f =
+    let each : 2 ^ layout.pageblocks.0 ≤ 2 ^ 6 = pow_mono layout.pageblocks.1 in
+    let most : a * b ≤ 256 * 64 =
+    mul-le-mul {n₁ = a} {m₁ = b} {n₂ = 256} {m₂ = 64} (omega (arith, e, layout.blocks))
+    (omega (arith, f, each, layout.pageblocks.2)) in
+    omega (arith, most)
 
 -- blocks of the same rows
 pub same_blocks : (v w : Blocks) → v.rows ≡ w.rows → v.auto ≡ w.auto → v ≡ w

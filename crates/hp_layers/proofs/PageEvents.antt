@@ -32,6 +32,7 @@ use Rattle.hp_layers.specs.Frames.{IsGiven, IsTaken, free_of, give_back_bound, g
 use Rattle.hp_layers.specs.Layers.{AreOfOneLayout, ArePlaced, IsAnswered, state_of, view_of}
 use Rattle.hp_layers.proofs.Answers.{frames-one, give_back-few, give_back-is, hands-none, hands-some, noted, notes-then, unchanged}
 use Rattle.hp_layers.proofs.Lifts.{notes-free, notes-pages}
+use Rattle.hp_layers.proofs.Refusals.{IsWord}
 
 -- ---- the pages of a well placed state
 
@@ -237,26 +238,30 @@ unmap-done m f ps cpu owner page frame zone was mid now p low small is none layo
 
 -- ---- Write
 
-pub write-done : {before : List Delta} (m : Layers) (ps : PagesValue) (owner page index value frame : ℕ)
+pub write-done : {before : List Delta} (m : Layers) (ps : PagesValue) (owner page index value : ℕ)
     (was now : TapeValue)
-    → ArePlaced m → owner < m.layout.owners → page < m.layout.pages → index < m.layout.words
-    → entry_of m.pages.pages.table owner page ≡ Some frame → was.deltas ≡ before
+    → ArePlaced m → IsWord m.layout m.pages.pages.table owner page index → was.deltas ≡ before
     → ps.layout ≡ m.pages.layout → ps.pages ≡ write_frame m.pages.layout m.pages.pages owner page index value
     → NotesPages m.pages.layout 1 was now ps.pages m.pages.pages
     → IsAnswered m (Write owner page index value) (asked m.layout (state_of m) 0
     (Write owner page index value)) (record m { pages = ps }) before now.deltas Done
-write-done {before} m ps owner page index value frame was now p low small within is none layout_is set_is
-    notes =
+write-done {before} m ps owner page index value was now p word none layout_is set_is notes =
     let l = m.layout in
     let s = state_of m in
     let v = view_of m in
     let answers : asked l s 0 (Write owner page index value)
     ≡ done (with_pages s (write_word s.pages owner page index value)) =
-    rw (lt-leb l.owners owner low, lt-leb l.pages page small, lt-leb l.words index within, is) refl in
+    rw (
+      lt-leb l.owners owner word.owner_low,
+      lt-leb l.pages page word.page_low,
+      lt-leb l.words index word.index_low,
+      word.mapped,
+    ) refl in
     let seen : ps.pages ≡ page_frames_of l (write_word s.pages owner page index value) =
     set_is ∙ (ap (λ (k : LayoutParts). write_frame k m.pages.pages owner page index value) p.one.pages
     ∙ ap (λ (q : PageFrames). write_frame l q owner page index value) (pages_seen m p)
-    ∙ sym (view-write_word l s.pages owner page frame index value (pages_once m p) low small is)) in
+    ∙ sym (view-write_word l s.pages owner page word.frame index value (pages_once m p) word.owner_low word.page_low
+    word.mapped)) in
     let first =
     notes-pages v l 1 was now ps.pages m.pages.pages
     (subst (λ (k : LayoutParts). NotesPages k 1 was now ps.pages m.pages.pages) p.one.pages notes) in
@@ -273,22 +278,26 @@ write-done {before} m ps owner page index value frame was now p low small within
 
 -- ---- Read
 
-pub read-done : (m : Layers) (owner page index frame word : ℕ) (deltas : List Delta) → ArePlaced m
-    → owner < m.layout.owners → page < m.layout.pages → index < m.layout.words
-    → entry_of m.pages.pages.table owner page ≡ Some frame
-    → word ≡ slice_index (unwrap_or (words_of m.pages.layout m.pages.pages owner page) []) index
+pub read-done : (m : Layers) (owner page index value : ℕ) (deltas : List Delta) → ArePlaced m
+    → IsWord m.layout m.pages.pages.table owner page index
+    → value ≡ slice_index (unwrap_or (words_of m.pages.layout m.pages.pages owner page) []) index
     → IsAnswered m (Read owner page index) (asked m.layout (state_of m) 0 (Read owner page index)) m deltas
-    deltas (Word word)
-read-done m owner page index frame word deltas p low small within is read =
+    deltas (Word value)
+read-done m owner page index value deltas p word read =
     let l = m.layout in
     let s = state_of m in
-    let value : word ≡ read_word s.pages owner page index =
+    let seen : value ≡ read_word s.pages owner page index =
     read ∙ (ap (λ (k : LayoutParts). slice_index (unwrap_or (words_of k m.pages.pages owner page) []) index)
     p.one.pages
     ∙ (ap (λ (q : PageFrames). slice_index (unwrap_or (words_of l q owner page) []) index) (pages_seen m p)
-    ∙ view-read_word l s.pages owner page frame index (pages_once m p) is)) in
+    ∙ view-read_word l s.pages owner page word.frame index (pages_once m p) word.mapped)) in
     let answers : asked l s 0 (Read owner page index)
     ≡ record { memory = s; reply = Word (read_word s.pages owner page index) } =
-    rw (lt-leb l.owners owner low, lt-leb l.pages page small, lt-leb l.words index within, is) refl in
-    unchanged m (Read owner page index) _ deltas deltas (Word word) p
-    (answers ∙ ap (λ (n : ℕ). record { memory = s; reply = Word n }) (sym value)) refl
+    rw (
+      lt-leb l.owners owner word.owner_low,
+      lt-leb l.pages page word.page_low,
+      lt-leb l.words index word.index_low,
+      word.mapped,
+    ) refl in
+    unchanged m (Read owner page index) _ deltas deltas (Word value) p
+    (answers ∙ ap (λ (n : ℕ). record { memory = s; reply = Word n }) (sym seen)) refl

@@ -7,16 +7,19 @@ use Rattle.hp_units.specs.Choices.{first_some, unless_some}
 use Rattle.hp_units.specs.LayoutParts.{LayoutParts}
 use Rattle.hp_units.specs.Pages.{frame_at}
 use Rattle.hp_units.specs.ProcessorLists.{page_frame}
-use Rattle.hp_units.specs.Refusals.{event_refusals, page_refusals}
+use Rattle.hp_units.specs.Memory.{entry_of}
+use Rattle.hp_units.specs.Refusals.{event_refusals, page_refusals, word_refusals}
 use Rattle.hp_units.specs.Step.{answer}
 use Rattle.hp_units.specs.declared.events.Event.{Event}
 use Rattle.hp_units.specs.declared.replies.Refusal.{Refusal}
 use Rattle.hp_units.specs.declared.replies.Refusal.TheVariants.{AlreadyMapped, NoFrame, NoOwner, NoPage, NotMapped}
 use Rattle.hp_units.specs.declared.replies.Reply.TheVariants.{Refused}
 use Rattle.hp_tape.specs.declared.deltas.Delta.{Delta}
+use Rattle.hp_laws.proofs.EventSteps.{below}
+use Rattle.hp_laws.proofs.OwnedContents.{all_none}
 use Rattle.hp_plain.specs.Asked.{asked}
 use Rattle.hp_layers.specs.declared.layers.Layers.{Layers}
-use Rattle.hp_layers.specs.Layers.{ArePlaced, IsAnswered, state_of}
+use Rattle.hp_layers.specs.Layers.{AreOfOneLayout, ArePlaced, IsAnswered, state_of}
 use Rattle.hp_layers.proofs.Answers.{refused}
 
 -- an event whose first refusal is known
@@ -111,3 +114,51 @@ pub page-there : {page : ℕ} {m : Layers} {read most : ℕ} → ArePlaced m →
     → most ≡ m.layout.pages → page < m.pages.layout.pages
 page-there {page} p low is all =
     subst (λ (l : LayoutParts). page < l.pages) (sym p.one.pages) (read-lt low is all)
+
+-- ---- words
+
+-- an event of a word, whose refusal is known
+pub word-refused : (m : Layers) (event : Event) (owner page index : ℕ) (deltas : List Delta)
+    (reason : Refusal) (found : Option Refusal)
+    → ArePlaced m → event_refusals m.layout (state_of m) 0 event
+    ≡ word_refusals m.layout (state_of m) owner page index
+    → found ≡ Some reason
+    → found ≡ first_some (word_refusals m.layout (state_of m) owner page index)
+    → IsAnswered m event (asked m.layout (state_of m) 0 event) m deltas deltas (Refused reason)
+word-refused m event owner page index deltas reason found p of e first =
+    refused_for m 0 event deltas reason p (ap first_some of ∙ (sym first ∙ e))
+
+-- a word that is there, of a layout and a table of pages
+pub record IsWord (l : LayoutParts) (table : List (List (Option ℕ))) (owner page index : ℕ) : Type 0 where
+  pub owner_low : owner < l.owners
+  pub page_low : page < l.pages
+  pub index_low : index < l.words
+  pub frame : ℕ
+  pub mapped : entry_of table owner page ≡ Some frame
+
+-- that of an event that isn't refused
+pub word-there : (m : Layers) (owner page index : ℕ) (found : Option Refusal) → found ≡ None
+    → found ≡ first_some (word_refusals m.layout (state_of m) owner page index)
+    → IsWord m.layout m.pages.pages.table owner page index
+word-there m owner page index found e first =
+    let none = all_none (word_refusals m.layout (state_of m) owner page index) (sym first ∙ e) in
+    let held = there (entry_of m.pages.pages.table owner page) none.1.1.1.0 in
+    record {
+      owner_low = below m.layout.owners owner _ none.0;
+      page_low = below m.layout.pages page _ none.1.0;
+      index_low = below m.layout.words index _ none.1.1.0;
+      frame = held.0;
+      mapped = held.1;
+    }
+  where
+    there : (o : Option ℕ) → unless_some o NotMapped ≡ None → (frame : ℕ) × (o ≡ Some frame)
+    there None h = absurd (let e = h in cc)
+    there (Some frame) h = (frame, refl)
+
+-- it is one of the pages' own layout
+pub word-there_in_pages : (m : Layers) (owner page index : ℕ) (found : Option Refusal) → AreOfOneLayout m
+    → found ≡ None → found ≡ first_some (word_refusals m.layout (state_of m) owner page index)
+    → IsWord m.pages.layout m.pages.pages.table owner page index
+word-there_in_pages m owner page index found one e first =
+    subst (λ (l : LayoutParts). IsWord l m.pages.pages.table owner page index) (sym one.pages)
+    (word-there m owner page index found e first)

@@ -1,11 +1,12 @@
 -- The room that calls leave on a tape.
-use Rattle.std.proofs.Common.{ℕ, zero, suc, ◌+◌, ◌*◌, ◌<◌, ◌≤◌, List, [], ◌∷◌, Option, Fits, w64, sym, subst, arith}
+use Rattle.std.proofs.Common.{◌≡◌, ℕ, zero, suc, ◌+◌, ◌*◌, ◌^◌, ◌<◌, ◌≤◌, List, [], ◌∷◌, Option, Fits, w64, sym, subst, arith}
 use Rattle.std.proofs.Math.Nat.{mul-le-mul, mul-le-mul_right, suc-mul}
+use Rattle.std.proofs.Math.Pow.{pow_mono}
 use Rattle.std.proofs.lemmas.List.{length-append}
 use Rattle.hp_units.specs.LayoutParts.{LayoutParts, IsLayout}
 use Rattle.hp_units.specs.Memory.{FreeFrames, cached_list}
 use Rattle.hp_units.specs.declared.rows.Pool.TheVariants.{Nu as NuPool, Mm as MmPool}
-use Rattle.hp_tape.specs.Bounds.{take_one_from}
+use Rattle.hp_tape.specs.Bounds.{moved_block_bound, take_one_from}
 use Rattle.hp_tape.specs.Deltas.{FrameView, PageFrames}
 use Rattle.hp_tape.specs.Tapes.{HasRoom, NotesFree, NotesPages, TapeValue}
 use Rattle.hp_layers.specs.Frames.{kernel_block_bound, page_frame_bound}
@@ -74,3 +75,16 @@ pub room-each : (t : TapeValue) (done all each : ℕ) → done < all → HasRoom
 room-each t done all each low room =
     let more : suc done * each ≤ all * each = mul-le-mul_right each low in
     omega (arith, more, suc-mul done each, room)
+
+-- room for isolating or releasing all memory blocks fits
+pub moved-fits : (l : LayoutParts) (count each : ℕ) → IsLayout l → count ≤ 256 → each ≡ moved_block_bound l
+    → Fits w64 (count * each)
+moved-fits l count each layout few is =
+    let blocks : 2 ^ layout.pageblocks.0 ≤ 2 ^ 6 = pow_mono layout.pageblocks.1 in
+    let frames : 2 ^ l.order ≤ 2 ^ 10 = pow_mono layout.order in
+    let some : l.pageblocks * (1 + 2 * 2 ^ l.order) ≤ 64 * 2049 =
+    mul-le-mul {n₁ = l.pageblocks} {m₁ = 1 + 2 * 2 ^ l.order} {n₂ = 64} {m₂ = 2049}
+    (omega (arith, blocks, layout.pageblocks.2)) (omega (arith, frames)) in
+    let most : count * each ≤ 256 * 131137 =
+    mul-le-mul {n₁ = count} {m₁ = each} {n₂ = 256} {m₂ = 131137} few (omega (arith, is, some)) in
+    omega (arith, most)

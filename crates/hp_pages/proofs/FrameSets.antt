@@ -1,9 +1,10 @@
 -- Bits of words, and the lowest number that passes a test.
-use Rattle.std.proofs.Common.{Option, Some, None, zero, suc, ◌≡◌, ℕ, ◌<◌, ◌≤◌, ◌+◌, ◌-◌, ◌*◌, ◌/◌, ◌%◌, ◌^◌, Bool, true, false, cond, eqb, bit_and, bit_or, List, get_or, w64, refl, sym, ap, ◌∙◌, subst, inl, inr, arith}
+use Rattle.std.proofs.Common.{Option, Some, None, zero, suc, ◌≡◌, ℕ, ◌<◌, ◌≤◌, ◌+◌, ◌-◌, ◌*◌, ◌/◌, ◌%◌, ◌^◌, Bool, true, false, cond, eqb, bit_and, bit_or, List, length, get_or, set, w64, refl, sym, ap, ◌∙◌, subst, inl, inr, arith}
 use Rattle.std.specs.Prelude.{find}
 use Rattle.std.specs.List.{range_with_len}
 use Rattle.std.specs.Int.{bit_at, bit_not, trailing_zeros}
 use Rattle.std.proofs.lemmas.Bool.{cases_Bool, cases_eq, cases_lt, eq-eqb, ne_eqb}
+use Rattle.std.proofs.lemmas.List.{get_or-set_other, get_or-set_same}
 use Rattle.std.proofs.lemmas.Nat.{shr-shr, shr_le, div-mul-add, mod-mul-add}
 use Rattle.std.proofs.lemmas.Nat.Bits.{bit_at_set_same, bit_at_set_other, bit_at_clear_same, bit_at_clear_other, bit_at-zero, bit_at_above, bit_at-trailing_zeros}
 use Rattle.hp_pages.specs.FrameSets.{IsLowest, FindsLowest, bit_of, has}
@@ -165,3 +166,43 @@ found_is p first (suc count) found finds = elim (cases_Bool (p first)) [
   | inr not_here ↦
       rw not_here (found_is p (first + 1) count found (next_lowest p first count found not_here finds))
 ]
+
+-- ---- a set with one word changed
+
+-- a bit of a truth value
+bit-one : (b : Bool) → eqb (bit_of b) 1 ≡ b
+bit-one true = refl
+bit-one false = refl
+
+-- where one bit of the word of a frame changed
+pub has-set : (words : List ℕ) (frame before word : ℕ) (is_in : Bool) → frame < 64 * length words
+    → before ≡ get_or words (frame / 64) 0
+    → ((i : ℕ) → i < 64 → bit_at word i ≡ cond (eqb i (frame % 64)) (bit_of is_in) (bit_at before i))
+    → (n : ℕ) → has (set words (frame / 64) word) n ≡ cond (eqb n frame) is_in (has words n)
+has-set words frame before word is_in low old bits n = elim (cases_eq (n / 64) (frame / 64)) [
+  | inl same ↦
+      let now : get_or (set words (frame / 64) word) (n / 64) 0 ≡ word =
+      ap (λ k. get_or (set words (frame / 64) word) k 0) same
+      ∙ get_or-set_same words (frame / 64) word 0 (omega arith) in
+      let was : before ≡ get_or words (n / 64) 0 = old ∙ ap (λ k. get_or words k 0) (sym same) in
+      ap (λ w. eqb (bit_at w (n % 64)) 1) now ∙ (ap (λ b. eqb b 1) (bits (n % 64) (omega arith))
+      ∙ here same (get_or words (n / 64) 0) was)
+  | inr other ↦
+      ap (λ w. eqb (bit_at w (n % 64)) 1) (get_or-set_other words (frame / 64) (n / 64) word 0 other)
+      ∙ sym (ap (λ b. cond b is_in (has words n)) (ne_eqb n frame (λ e. other (ap (λ k. k / 64) e))))
+]
+  where
+    here : n / 64 ≡ frame / 64 → (w : ℕ) → before ≡ w
+        → eqb (cond (eqb (n % 64) (frame % 64)) (bit_of is_in) (bit_at before (n % 64))) 1
+        ≡ cond (eqb n frame) is_in (eqb (bit_at w (n % 64)) 1)
+    here same w was = elim (cases_eq n frame) [
+      | inl e ↦
+          ap (λ b. eqb (cond b (bit_of is_in) (bit_at before (n % 64))) 1)
+          (eq-eqb (n % 64) (frame % 64) (ap (λ k. k % 64) e))
+          ∙ (bit-one is_in ∙ sym (ap (λ b. cond b is_in (eqb (bit_at w (n % 64)) 1)) (eq-eqb n frame e)))
+      | inr other ↦
+          ap (λ b. eqb (cond b (bit_of is_in) (bit_at before (n % 64))) 1)
+          (ne_eqb (n % 64) (frame % 64) (λ e. other (omega (arith, same, e))))
+          ∙ (ap (λ v. eqb (bit_at v (n % 64)) 1) was
+          ∙ sym (ap (λ b. cond b is_in (eqb (bit_at w (n % 64)) 1)) (ne_eqb n frame other)))
+    ]

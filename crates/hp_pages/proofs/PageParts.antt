@@ -1,14 +1,14 @@
 -- Parts of the layer's view: buffers, pages, tapes, and the view without pages.
-use Rattle.std.proofs.Common.{◌≡◌, ℕ, zero, suc, ◌<◌, ◌+◌, List, [], ◌∷◌, ◌++◌, length, get_or, set, map, replicate, Option, Some, None, refl, sym, ap, ◌∙◌, subst, arith}
-use Rattle.std.specs.Prelude.{IfSome}
+use Rattle.std.proofs.Common.{◌≡◌, ℕ, zero, suc, ◌<◌, ◌+◌, List, [], ◌∷◌, ◌++◌, length, get_or, set, map, take, replicate, Option, Some, None, refl, sym, ap, ◌∙◌, subst, inl, inr, arith}
+use Rattle.std.specs.Prelude.{IfSome, option_map}
 use Rattle.std.specs.List.{AllByRecursion, range_with_len}
 use Rattle.std.specs.Option.{option_and_then}
-use Rattle.std.proofs.lemmas.Bool.{eq-eqb, ne_eqb, cond-true, cond-false}
-use Rattle.std.proofs.lemmas.List.{append_assoc, get_or-set_same, get_or-set_other, length-set, set-set, set_comm, set-get_or}
+use Rattle.std.proofs.lemmas.Bool.{cases_eq, eq-eqb, ne_eqb, cond-true, cond-false}
+use Rattle.std.proofs.lemmas.List.{append_assoc, get_or-set_same, get_or-set_other, length-set, set-set, set_comm, set-get_or, take_more}
 use Rattle.hp_units.specs.LayoutParts.{LayoutParts}
 use Rattle.hp_units.specs.Arithmetic.{frame_count}
 use Rattle.hp_units.specs.Boot.{empty_pages}
-use Rattle.hp_units.specs.Memory.{entry_of}
+use Rattle.hp_units.specs.Memory.{entry_of, with_entry}
 use Rattle.hp_units.specs.Pages.{page_at, page_from, words_at}
 use Rattle.hp_tape.specs.declared.deltas.Delta.{Delta}
 use Rattle.hp_tape.specs.Deltas.{PageFrames, buffer_for, buffer_of, page_frames_of}
@@ -49,6 +49,56 @@ are_of l t buffers zeros layer table = record {
   frames = layer.buffers_of;
   words = layer.words;
 }
+
+-- they stay so where one buffer changes
+pub layer-buffer : (l : LayoutParts) (t : TableValue) (buffers new : List (Option (List ℕ)))
+    (zeros : List ℕ) (frame : ℕ) (b : Option (List ℕ))
+    → AreLayerOf l t buffers zeros → frame < frame_count l → IfSome b (λ words. length words ≡ l.words)
+    → new ≡ set buffers frame b
+    → AreLayerOf l t new zeros
+layer-buffer l t buffers new zeros frame b are low sized e =
+    subst (λ (bs : List (Option (List ℕ))). AreLayerOf l t bs zeros) (sym e) (record {
+      frames = are.frames;
+      pages = are.pages;
+      owners = are.owners;
+      buffers_of = length-set buffers frame b ∙ are.buffers_of;
+      words = words_at;
+      zeros = are.zeros;
+      few_words = are.few_words;
+    })
+  where
+    words_at : (f : ℕ) → IfSome (get_or (set buffers frame b) f None) (λ words. length words ≡ l.words)
+    words_at f = elim (cases_eq f frame) [
+      | inl same ↦
+          subst (λ (o : Option (List ℕ)). IfSome o (λ words. length words ≡ l.words))
+          (sym (ap (λ (n : ℕ). get_or (set buffers frame b) n None) same
+          ∙ get_or-set_same buffers frame b None (omega (arith, are.buffers_of, low)))) sized
+      | inr other ↦
+          subst (λ (o : Option (List ℕ)). IfSome o (λ words. length words ≡ l.words))
+          (sym (get_or-set_other buffers frame f b None other)) (are.words f)
+    ]
+
+-- a word that changes leaves the size of a buffer
+pub same-size : (b : Option (List ℕ)) (size index value : ℕ) → IfSome b (λ words. length words ≡ size)
+    → IfSome (option_map (λ words. set words index value) b) (λ words. length words ≡ size)
+same-size None size index value sized = sized
+same-size (Some words) size index value sized = length-set words index value ∙ sized
+
+-- and where one entry does
+pub layer-entry : (l : LayoutParts) (t new : TableValue) (buffers : List (Option (List ℕ))) (zeros : List ℕ)
+    (owner page : ℕ) (entry : Option ℕ)
+    → AreLayerOf l t buffers zeros → new ≡ record t { rows = with_entry t.rows owner page entry }
+    → AreLayerOf l new buffers zeros
+layer-entry l t new buffers zeros owner page entry are e =
+    subst (λ (u : TableValue). AreLayerOf l u buffers zeros) (sym e) (record {
+      frames = are.frames;
+      pages = are.pages;
+      owners = length-set t.rows owner _ ∙ are.owners;
+      buffers_of = are.buffers_of;
+      words = are.words;
+      zeros = are.zeros;
+      few_words = are.few_words;
+    })
 
 -- the buffers are of the layout's frames and words
 pub record AreSized (l : LayoutParts) (v : PageFrames) : Type 0 where
@@ -201,3 +251,14 @@ new_is l layout rows buffers layout_is rows_are buffers_are =
     ∙ (ap (λ (v : PageFrames). value_with l v) (same_frames rows (replicate l.owners (replicate l.pages None))
     buffers (replicate (frame_count l) None) rows_are buffers_are)
     ∙ ap (λ (v : PageFrames). value_with l v) (sym (no_pages_is l)))
+
+-- ---- lists that are copied
+
+-- one item further
+pub copied-more : {X : Type 0} (xs items copy new : List X) (at : ℕ) (item x : X) → items ≡ xs
+    → at < length items → item ≡ get_or items at item → x ≡ item → copy ≡ take at xs → new ≡ copy ++ x ∷ []
+    → new ≡ take (at + 1) xs
+copied-more {X} xs items copy new at item x same low read is done e =
+    e ∙ (ap (λ (ys : List X). ys ++ x ∷ []) done
+    ∙ (ap (λ (y : X). take at xs ++ y ∷ []) (is ∙ (read ∙ ap (λ (ys : List X). get_or ys at item) same))
+    ∙ sym (take_more xs at item (subst (λ (ys : List X). at < length ys) same low))))

@@ -1,7 +1,7 @@
 -- A write of a word: what the call changes and notes is what the rule says.
-use Rattle.std.proofs.Common.{◌≡◌, ℕ, ◌<◌, Bool, false, List, [], ◌∷◌, ◌++◌, length, get_or, set, replicate, Option, Some, None, refl, sym, ap, ◌∙◌, subst, inl, inr, arith}
+use Rattle.std.proofs.Common.{◌≡◌, ◌≢◌, cond, ℕ, ◌<◌, Bool, false, List, [], ◌∷◌, ◌++◌, length, get_or, set, replicate, Option, Some, None, refl, sym, ap, ◌∙◌, subst, inl, inr, arith}
 use Rattle.std.specs.Prelude.{IfSome, IsSome, option_map, slice_get, slice_index, unwrap_or}
-use Rattle.std.proofs.lemmas.Bool.{cases_eq}
+use Rattle.std.proofs.lemmas.Bool.{cases_eq, eq-eqb, ne_eqb}
 use Rattle.std.proofs.lemmas.List.{get_or-set_same, length-replicate, length-set, set-set, set-get_or}
 use Rattle.std.proofs.lemmas.Option.{same_Some, slice_get-get_or}
 use Rattle.hp_units.specs.LayoutParts.{LayoutParts}
@@ -10,13 +10,37 @@ use Rattle.hp_units.specs.Pages.{fresh_words}
 use Rattle.hp_tape.specs.declared.deltas.Delta.TheVariants.{Word as WordDelta, Filled}
 use Rattle.hp_tape.specs.Deltas.{HasOneWord, PageFrames, buffer_for, buffer_of, is_blank, with_buffer}
 use Rattle.hp_tape.specs.Tapes.{TapeValue, NotesPages}
-use Rattle.hp_pages.specs.Pages.{write_at}
+use Rattle.hp_pages.specs.Pages.{spare_for, write_at}
 use Rattle.hp_pages.proofs.Blanks.{none-needed, some-needed, set-some, set-zero, zeros-blank}
 use Rattle.hp_lemmas.proofs.Tables.{get_set}
 use Rattle.hp_pages.proofs.PageParts.{AreSized, noted_one, same_frames}
 use Rattle.hp_pages.proofs.PageCalls.{kept-none}
 
 -- ---- write
+
+-- what a write asks for: zeros, where there is no buffer and the value isn't 0
+pub spare-some : (l : LayoutParts) (b : Option (List ℕ)) (value : ℕ) (words : List ℕ)
+    → spare_for l b value ≡ Some words → (b ≡ None) × (words ≡ fresh_words l) × (value ≢ 0)
+spare-some l None value words h =
+    let asked = λ (is_zero : Bool). cond is_zero None (Some (fresh_words l)) in
+    elim (cases_eq value 0) [
+      | inl same ↦ absurd (let e : None ≡ Some words = sym (ap asked (eq-eqb value 0 same)) ∙ h in cc)
+      | inr other ↦
+          (refl, same_Some words (fresh_words l) (sym h ∙ ap asked (ne_eqb value 0 other)), other)
+    ]
+spare-some l (Some buffer) value words h = absurd (let e = h in cc)
+
+-- where it asks for nothing, there is a buffer, or the value is 0
+pub spare-none : (l : LayoutParts) (b : Option (List ℕ)) (value : ℕ) → spare_for l b value ≡ None → b ≡ None
+    → value ≡ 0
+spare-none l None value h none =
+    let asked = λ (is_zero : Bool). cond is_zero None (Some (fresh_words l)) in
+    elim (cases_eq value 0) [
+      | inl same ↦ same
+      | inr other ↦
+          absurd (let e : Some (fresh_words l) ≡ None = sym (ap asked (ne_eqb value 0 other)) ∙ h in cc)
+    ]
+spare-none l (Some buffer) value h none = absurd (let e = none in cc)
 
 -- what the first word that is not 0 does, and notes
 pub written-fill : (l : LayoutParts) (v : PageFrames) (frame index value : ℕ) → index < l.words

@@ -3,7 +3,9 @@ ghost use Rattle.std.specs.Prelude.{◌≡◌, ◌<◌, List, IfOk, OnErr};
 ghost use Rattle.hp_units.specs.declared.events.Event.TheVariants.{Map, Read, Unmap, Write};
 ghost use Rattle.hp_tape.specs.declared.deltas.Delta.{Delta};
 ghost use Rattle.hp_plain.specs.Asked.{asked};
-ghost use Rattle.hp_layers.specs.Layers.{ArePlaced, IsAnswered, state_of};
+ghost use Rattle.hp_units.specs.Choices.{first_some};
+ghost use Rattle.hp_units.specs.Refusals.{word_refusals};
+ghost use Rattle.hp_layers.specs.Layers.{AreOfOneLayout, ArePlaced, IsAnswered, state_of};
 
 use super::Layers;
 use hp_tape::Tape;
@@ -86,7 +88,6 @@ impl Layers {
     }
 
     /// One word of a mapped page changes. The first that is not 0 takes memory for all words of the page.
-    #[tactic(auto, using(crate::proofs::Answers::refused))]
     pub(crate) fn write(
         &mut self,
         alloc: Global,
@@ -103,18 +104,9 @@ impl Layers {
         ensures err { OnErr result (self.new ≡ self.old) }
         ensures kept { OnErr result (tape.new ≡ tape.old) }
     {
-        if owner.0 >= self.layout.owners() {
-            return Ok(Reply::Refused(Refusal::NoOwner));
+        if let Some(refusal) = self.word_refusal(owner, page, index) {
+            return Ok(Reply::Refused(refusal));
         }
-        if page.0 >= self.layout.pages() {
-            return Ok(Reply::Refused(Refusal::NoPage));
-        }
-        if index >= self.layout.words() {
-            return Ok(Reply::Refused(Refusal::NoWord));
-        }
-        let Some(_frame) = self.pages.frame_at(owner, page) else {
-            return Ok(Reply::Refused(Refusal::NotMapped));
-        };
         let spare = self.pages.spare_for(alloc, owner, page, value)?;
         tape.reserve(1)?;
         self.pages.write(owner, page, index, value, spare, tape);
@@ -122,7 +114,6 @@ impl Layers {
     }
 
     /// One word of a mapped page is read.
-    #[tactic(auto, using(crate::proofs::Answers::unchanged))]
     pub(crate) fn read(&self, owner: Owner, page: Page, index: u32) -> Reply
         requires placed { ArePlaced self.now }
         ensures { (deltas : List Delta)
@@ -130,18 +121,31 @@ impl Layers {
             (asked self.now.layout (state_of self.now) 0 (Read owner page index)) self.now deltas deltas
             result }
     {
+        match self.word_refusal(owner, page, index) {
+            Some(refusal) => Reply::Refused(refusal),
+            None => Reply::Word(self.pages.read(owner, page, index)),
+        }
+    }
+
+    /// Why a word can't be read or written.
+    #[inline(always)]
+    fn word_refusal(&self, owner: Owner, page: Page, index: u32) -> Option<Refusal>
+        requires one { AreOfOneLayout self.now }
+        ensures { result
+            ≡ first_some (word_refusals self.now.layout (state_of self.now) owner page index) }
+    {
         if owner.0 >= self.layout.owners() {
-            return Reply::Refused(Refusal::NoOwner);
+            return Some(Refusal::NoOwner);
         }
         if page.0 >= self.layout.pages() {
-            return Reply::Refused(Refusal::NoPage);
+            return Some(Refusal::NoPage);
         }
         if index >= self.layout.words() {
-            return Reply::Refused(Refusal::NoWord);
+            return Some(Refusal::NoWord);
         }
-        let Some(_frame) = self.pages.frame_at(owner, page) else {
-            return Reply::Refused(Refusal::NotMapped);
-        };
-        Reply::Word(self.pages.read(owner, page, index))
+        match self.pages.frame_at(owner, page) {
+            Some(_frame) => None,
+            None => Some(Refusal::NotMapped),
+        }
     }
 }

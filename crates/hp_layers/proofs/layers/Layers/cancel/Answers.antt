@@ -1,6 +1,13 @@
-use Rattle.std.proofs.Common.{sym, ◌∙◌}
+use Rattle.std.proofs.Common.{◌<◌, ◌*◌, ℕ, List, [], length, get_or, not, sym, ◌∙◌, ap, subst, arith}
+use Rattle.hp_units.specs.Rows.{is_live}
+use Rattle.hp_units.specs.declared.events.Event.TheVariants.{Cancel}
+use Rattle.hp_units.specs.declared.replies.Refusal.TheVariants.{NoOp}
+use Rattle.hp_tape.specs.Bounds.{moved_block_bound}
+use Rattle.hp_tape.specs.Tapes.{HasRoom}
 use Rattle.hp_layers.proofs.Placed.{tidy-placed}
+use Rattle.hp_layers.proofs.Refusals.{holds-first, refused_for}
 use Rattle.hp_layers.proofs.Releases.{cancel-done}
+use Rattle.hp_layers.proofs.Rooms.{moved-fits}
 use Rattle.hp_layers.proofs.layers.Layers.cancel.Goals as goal
 
 pub release_blocks-requires-clause-tidy : goal.release_blocks-requires-clause-tidy
@@ -12,3 +19,28 @@ returns-clause-ok c =
     c.release_blocks.new.tape c.requires.placed c.reserve.ensures.deltas
     (sym c.is_live.ensures ∙ c.if-not-is_live.false) (c.deref.ensures.value ∙ c.in_ok-blocks.ensures.blocks)
     c.release_blocks.ensures
+
+pub returns-then-not-is_live-clause-ok : goal.returns-then-not-is_live-clause-ok
+returns-then-not-is_live-clause-ok c =
+    refused_for c.args.self.now 0 (Cancel c.args.op) c.args.tape.now.deltas NoOp c.requires.placed
+    (holds-first (not (is_live c.args.self.now.blocks.blocks c.args.op)) NoOp []
+    (ap not (sym c.is_live.ensures ∙ c.if-not-is_live.true)))
+
+pub overflow_mul-len : goal.overflow_mul-len
+overflow_mul-len c =
+    moved-fits c.args.self.now.layout c.len.result c.moved_block_room-each.result c.requires.placed.one.layout
+    (omega (arith, c.len.ensures, c.in_ok-blocks.blocks.ok, c.in_ok-blocks.ensures.few))
+    c.moved_block_room-each.ensures.is
+
+pub release_blocks-requires-clause-within : goal.release_blocks-requires-clause-within
+release_blocks-requires-clause-within c =
+    subst (λ (xs : List ℕ). (k : ℕ) → k < length xs → get_or xs k 0 < c.args.self.now.layout.blocks)
+    (sym c.deref.ensures.value) c.in_ok-blocks.ensures.within
+
+pub release_blocks-requires-clause-room : goal.release_blocks-requires-clause-room
+release_blocks-requires-clause-room c =
+    let tape = c.reserve.new.self in
+    subst (λ (n : ℕ). HasRoom tape (n * moved_block_bound c.args.self.now.layout))
+    (c.len.ensures ∙ sym c.deref.ensures.len)
+    (subst (λ (n : ℕ). HasRoom tape (c.len.result * n)) c.moved_block_room-each.ensures.is
+    c.in_ok-reserve.ensures.room)

@@ -1,16 +1,42 @@
-use Rattle.std.proofs.Common.{sym, ◌∙◌, arith}
+use Rattle.std.proofs.Common.{refl, sym, subst}
+use Rattle.std.specs.Prelude.{IsSome}
+use Rattle.hp_units.specs.declared.events.Event.TheVariants.{Write}
 use Rattle.hp_layers.proofs.PageEvents.{settled, write-done}
+use Rattle.hp_layers.proofs.Refusals.{word-refused, word-there, word-there_in_pages}
 use Rattle.hp_layers.proofs.layers.Layers.write.Goals as goal
 
-pub write-requires-clause-settled : goal.write-requires-clause-settled
-write-requires-clause-settled c = settled c.args.self.now c.requires.placed
+pub returns-in-Some-clause-ok : goal.returns-in-Some-clause-ok
+returns-in-Some-clause-ok c =
+    word-refused c.args.self.now (Write c.args.owner c.args.page c.args.index c.args.value) c.args.owner
+    c.args.page c.args.index c.args.tape.now.deltas c.in-Some.refusal c.word_refusal.result
+    c.requires.placed refl c.in-Some.is c.word_refusal.ensures
+
+pub spare_for-requires : goal.spare_for-requires
+spare_for-requires c =
+    let word =
+    word-there_in_pages c.args.self.now c.args.owner c.args.page c.args.index c.word_refusal.result
+    c.requires.placed.one c.in_default.is c.word_refusal.ensures in
+    record { owner = word.owner_low; page = word.page_low }
+
+pub write-requires : goal.write-requires
+write-requires c =
+    let word =
+    word-there_in_pages c.args.self.now c.args.owner c.args.page c.args.index c.word_refusal.result
+    c.requires.placed.one c.in_default.is c.word_refusal.ensures in
+    record {
+      owner = word.owner_low;
+      page = word.page_low;
+      index = word.index_low;
+      mapped = subst IsSome (sym word.mapped) refl;
+      spare = c.in_ok-spare.ensures;
+      settled = settled c.args.self.now c.requires.placed;
+      room = c.in_ok-reserve.ensures.room;
+    }
 
 pub returns-clause-ok : goal.returns-clause-ok
 returns-clause-ok c =
     write-done c.args.self.now c.write.new.self c.args.owner c.args.page c.args.index c.args.value
-    c.in-Some._frame c.reserve.new.self c.write.new.tape c.requires.placed
-    (omega (arith, c.if-owner-owners.false, c.owners.ensures.is, c.owner.view_is))
-    (omega (arith, c.if-page-pages.false, c.pages.ensures.is, c.page.view_is))
-    (omega (arith, c.if-index-words.false, c.words.ensures.is))
-    (sym c.frame_at.ensures.frame ∙ c.in-Some.is) c.reserve.ensures.deltas c.write.ensures.layout
-    c.write.ensures.written c.write.ensures.notes
+    c.reserve.new.self c.write.new.tape c.requires.placed
+    (word-there c.args.self.now c.args.owner c.args.page c.args.index c.word_refusal.result c.in_default.is
+    c.word_refusal.ensures)
+    c.reserve.ensures.deltas c.write.ensures.layout c.write.ensures.written c.write.ensures.notes

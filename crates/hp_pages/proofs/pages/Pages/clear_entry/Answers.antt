@@ -6,7 +6,7 @@ use Rattle.hp_tape.specs.Tapes.{NotesPages}
 use Rattle.hp_pages.specs.Pages.{ArePageFramesOf, PagesValue}
 use Rattle.hp_pages.specs.Places.{TableValue}
 use Rattle.hp_pages.proofs.PageCalls.{notes-clear}
-use Rattle.hp_pages.proofs.PageParts.{are_of}
+use Rattle.hp_pages.proofs.PageParts.{are_of, layer-entry}
 use Rattle.hp_pages.proofs.pages.Pages.clear_entry.Goals as goal
 
 pub returns-clause-notes : goal.returns-clause-notes
@@ -24,3 +24,8 @@ returns-clause-notes c =
     c.requires.owner c.requires.page c.requires.frame c.requires.mapped
     c.note.ensures.room (c.note.ensures.noted
     ∙ ap (λ (d : Delta). c.args.tape.now.deltas ++ d ∷ []) c.of_page.ensures)))
+
+pub invariant_of-self : goal.invariant_of-self
+invariant_of-self c =
+    layer-entry c.self.inside.layout c.self.inside.table c.set.new.self c.self.inside.buffers
+    c.self.inside.zeros c.args.owner c.args.page None c.self.invariant c.set.ensures.set

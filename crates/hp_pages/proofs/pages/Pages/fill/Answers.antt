@@ -1,10 +1,13 @@
-use Rattle.std.proofs.Common.{◌≡◌, Some, set, subst, sym}
+use Rattle.std.proofs.Common.{◌≡◌, ◌<◌, ℕ, Some, length, set, subst, sym, ◌∙◌, ap}
+use Rattle.std.proofs.lemmas.List.{length-replicate, length-set}
+use Rattle.hp_units.specs.LayoutParts.{LayoutParts}
+use Rattle.hp_units.specs.Arithmetic.{frame_count}
 use Rattle.hp_units.specs.Pages.{fresh_words}
 use Rattle.hp_tape.specs.Deltas.{with_buffer}
 use Rattle.hp_tape.specs.Tapes.{NotesPages}
 use Rattle.hp_pages.specs.Pages.{PagesValue, write_at}
 use Rattle.hp_pages.proofs.WordCalls.{notes-fill, written-fill}
-use Rattle.hp_pages.proofs.PageParts.{AreSized, sized_of}
+use Rattle.hp_pages.proofs.PageParts.{AreSized, layer-buffer, sized_of}
 use Rattle.hp_pages.proofs.pages.Pages.fill.Goals as goal
 
 pub returns-clause-written : goal.returns-clause-written
@@ -30,3 +33,14 @@ returns-clause-notes c =
     c.args.frame (Some (set (fresh_words l) c.args.index c.args.value))) v) (sym c.self.view_is)
     (notes-fill l v c.args.frame c.args.index c.args.value c.args.tape.now c.note.new.self sized
     c.requires.frame c.requires.index c.requires.none c.note.ensures.room c.note.ensures.noted))
+
+pub invariant_of-self : goal.invariant_of-self
+invariant_of-self c =
+    let l = c.self.inside.layout in
+    let same : c.args.self.now.layout ≡ l = sym (ap (λ (p : PagesValue). p.layout) c.self.view_is) in
+    layer-buffer l c.self.inside.table c.self.inside.buffers c.put.new.self c.self.inside.zeros c.args.frame
+    (Some c.set.new.self) c.self.invariant
+    (subst (λ (k : LayoutParts). c.args.frame < frame_count k) same c.requires.frame)
+    (ap length c.set.ensures ∙ (length-set c.args.words c.args.index c.args.value ∙ (ap length c.requires.words
+    ∙ (length-replicate {A = ℕ} c.args.self.now.layout.words 0 ∙ ap (λ (k : LayoutParts). k.words) same))))
+    c.put.ensures

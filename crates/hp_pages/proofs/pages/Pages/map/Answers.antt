@@ -1,11 +1,11 @@
 use Rattle.std.proofs.Common.{◌++◌, ◌∷◌, [], ◌∙◌}
 use Rattle.hp_tape.specs.declared.deltas.Delta.{Delta}
-use Rattle.std.proofs.Common.{ap, subst, sym}
+use Rattle.std.proofs.Common.{Some, ap, subst, sym}
 use Rattle.hp_tape.specs.Tapes.{NotesPages}
 use Rattle.hp_pages.specs.Pages.{ArePageFramesOf, AreSettled, PagesValue, map_frame}
 use Rattle.hp_pages.specs.Places.{TableValue}
 use Rattle.hp_pages.proofs.PageCalls.{notes-map, settled-map}
-use Rattle.hp_pages.proofs.PageParts.{are_of}
+use Rattle.hp_pages.proofs.PageParts.{are_of, layer-entry}
 use Rattle.hp_pages.proofs.pages.Pages.map.Goals as goal
 
 pub returns-clause-settled : goal.returns-clause-settled
@@ -33,3 +33,8 @@ returns-clause-notes c =
     c.requires.owner c.requires.page c.requires.frame c.requires.unmapped c.requires.free c.note.ensures.room
     (c.note.ensures.noted
     ∙ ap (λ (d : Delta). c.args.tape.now.deltas ++ d ∷ []) c.of_page.ensures)))
+
+pub invariant_of-self : goal.invariant_of-self
+invariant_of-self c =
+    layer-entry c.self.inside.layout c.self.inside.table c.set.new.self c.self.inside.buffers
+    c.self.inside.zeros c.args.owner c.args.page (Some c.args.frame) c.self.invariant c.set.ensures.set

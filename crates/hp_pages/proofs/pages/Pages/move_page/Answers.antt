@@ -1,14 +1,16 @@
 use Rattle.std.proofs.Common.{◌++◌, ◌∷◌, []}
 use Rattle.hp_tape.specs.declared.deltas.Delta.{Delta}
-use Rattle.std.proofs.Common.{◌≡◌, ◌<◌, ℕ, Option, Some, ap, subst, sym, ◌∙◌, arith}
+use Rattle.std.proofs.Common.{◌≡◌, ◌<◌, ℕ, Option, None, Some, get_or, set, refl, ap, subst, sym, ◌∙◌, arith}
 use Rattle.std.specs.Option.{option_map_or}
 use Rattle.hp_units.specs.Memory.{entry_of}
 use Rattle.hp_units.specs.Pages.{page_from}
+use Rattle.hp_units.specs.LayoutParts.{LayoutParts}
+use Rattle.hp_units.specs.Arithmetic.{frame_count}
 use Rattle.hp_tape.specs.Tapes.{NotesPages}
 use Rattle.hp_pages.specs.Pages.{AreSettled, PagesValue, move_entry, move_frame}
 use Rattle.hp_pages.specs.Places.{TableValue}
 use Rattle.hp_pages.proofs.PageCalls.{notes-move, settled-move}
-use Rattle.hp_pages.proofs.PageParts.{first_page}
+use Rattle.hp_pages.proofs.PageParts.{first_page, layer-buffer, layer-entry}
 use Rattle.hp_pages.proofs.pages.Pages.move_page.Goals as goal
 
 pub set-requires-clause-owner : goal.set-requires-clause-owner
@@ -113,3 +115,21 @@ returns-clause-moved c =
 
 pub returns-clause-layout : goal.returns-clause-layout
 returns-clause-layout c = ap (λ (w : PagesValue). w.layout) c.self.view_is
+
+pub invariant_of-self : goal.invariant_of-self
+invariant_of-self c =
+    let same : c.args.self.now.layout ≡ c.self.inside.layout =
+    sym (ap (λ (p : PagesValue). p.layout) c.self.view_is) in
+    let from_is = get_or c.self.inside.buffers c.args.from None in
+    let to_is = get_or c.self.inside.buffers c.args.to None in
+    let one = set c.self.inside.buffers c.args.from to_is in
+    let swapped =
+    layer-buffer c.self.inside.layout c.self.inside.table one c.swap.new.self c.self.inside.zeros c.args.to
+    from_is (layer-buffer c.self.inside.layout c.self.inside.table c.self.inside.buffers one
+    c.self.inside.zeros c.args.from to_is c.self.invariant
+    (subst (λ (l : LayoutParts). c.args.from < frame_count l) same c.requires.from)
+    (c.self.invariant.words c.args.to) refl)
+    (subst (λ (l : LayoutParts). c.args.to < frame_count l) same c.requires.to)
+    (c.self.invariant.words c.args.from) c.swap.ensures in
+    layer-entry c.self.inside.layout c.self.inside.table c.set.new.self c.swap.new.self c.self.inside.zeros
+    c.unwrap-owner.result.0 c.unwrap-owner.result.1 (Some c.args.to) swapped c.set.ensures.set

@@ -1,10 +1,12 @@
-use Rattle.std.proofs.Common.{List, ℕ, set, refl, subst, sym}
+use Rattle.std.proofs.Common.{◌≡◌, ◌<◌, List, ℕ, set, refl, ap, subst, sym}
 use Rattle.std.specs.Prelude.{option_map}
+use Rattle.hp_units.specs.LayoutParts.{LayoutParts}
+use Rattle.hp_units.specs.Arithmetic.{frame_count}
 use Rattle.hp_tape.specs.Deltas.{buffer_of, with_buffer}
 use Rattle.hp_tape.specs.Tapes.{NotesPages}
 use Rattle.hp_pages.specs.Pages.{PagesValue}
 use Rattle.hp_pages.proofs.WordCalls.{notes-changed}
-use Rattle.hp_pages.proofs.PageParts.{AreSized, sized_of}
+use Rattle.hp_pages.proofs.PageParts.{AreSized, layer-buffer, same-size, sized_of, view_of}
 use Rattle.hp_pages.proofs.pages.Pages.set_word.Goals as goal
 
 pub returns-clause-notes : goal.returns-clause-notes
@@ -22,3 +24,15 @@ returns-clause-notes c =
     (notes-changed l v c.args.frame c.args.index c.args.was c.args.now (buffer_of v c.args.frame)
     c.args.tape.now c.note.new.self sized c.requires.frame c.requires.index refl c.requires.was
     c.note.ensures.room c.note.ensures.noted))
+
+pub invariant_of-self : goal.invariant_of-self
+invariant_of-self c =
+    let same : c.args.self.now.layout ≡ c.self.inside.layout =
+    sym (ap (λ (p : PagesValue). p.layout) c.self.view_is) in
+    let buffer = buffer_of (view_of c.self.inside.table.rows c.self.inside.buffers) c.args.frame in
+    layer-buffer c.self.inside.layout c.self.inside.table c.self.inside.buffers c.set_word.new.self
+    c.self.inside.zeros c.args.frame
+    (option_map (λ (ws : List ℕ). set ws c.args.index c.args.now) buffer) c.self.invariant
+    (subst (λ (l : LayoutParts). c.args.frame < frame_count l) same c.requires.frame)
+    (same-size buffer c.self.inside.layout.words c.args.index c.args.now
+    (c.self.invariant.words c.args.frame)) c.set_word.ensures
