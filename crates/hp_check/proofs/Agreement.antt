@@ -59,8 +59,9 @@ warnings_none : (l : LayoutParts) (setup : ℕ) (lines : List Line)
     → count_by is_fault (warnings_of l setup lines) ≡ 0
 unfolding warnings_of
 warnings_none l setup lines =
-    each_none_fault (λ place. warned_at l setup (tally_of (take place lines)) place (slice_get lines place))
-    (length lines) (λ k. warned_at_none l setup (tally_of (take k lines)) k (slice_get lines k))
+    each_none_fault
+    (λ place. warned_at l setup (tally_of l.history (take place lines)) place (slice_get lines place))
+    (length lines) (λ k. warned_at_none l setup (tally_of l.history (take k lines)) k (slice_get lines k))
 
 repeat_none : (b : Bool) (p : Place) (k : Key)
     → count_by is_fault (cond b (finding.Repeat p k ∷ []) []) ≡ 0

@@ -1,5 +1,5 @@
 -- The warnings of lines, one line more after another.
-use Rattle.std.proofs.Common.{◌≡◌, ℕ, ◌+◌, ◌<◌, ◌≤◌, List, [], ◌∷◌, ◌++◌, length, get_or, slice_get, take, refl, sym, ap, ◌∙◌, arith}
+use Rattle.std.proofs.Common.{◌≡◌, ℕ, ◌+◌, ◌<◌, List, [], ◌∷◌, ◌++◌, length, get_or, slice_get, take, refl, sym, ap, ◌∙◌}
 use Rattle.std.specs.Bool.{nat_lt}
 use Rattle.std.proofs.lemmas.List.{take_more}
 use Rattle.std.proofs.lemmas.List.Sums.{fold_push}
@@ -7,7 +7,6 @@ use Rattle.std.proofs.lemmas.Option.{slice_get_read}
 use Rattle.hp_units.specs.LayoutParts.{LayoutParts}
 use Rattle.hp_scenario.specs.Asked as asks
 use Rattle.hp_scenario.specs.declared.lines.Line.{Line}
-use Rattle.hp_scenario.specs.declared.lines.Work.{Work}
 use Rattle.hp_check.specs.Each.{each_below}
 use Rattle.hp_check.specs.Tally.{TallyValue, after_asked, after_line, no_lines, tally_of}
 use Rattle.hp_check.specs.Warnings.{line_warning, warned, warned_at}
@@ -16,7 +15,8 @@ use Rattle.hp_check.proofs.Each.{each_more, each_none}
 
 -- the warning of the line at a place
 abbrev pub warning_at : LayoutParts → (setup : ℕ) → List Line → ℕ → List Finding
-warning_at l setup lines place = warned_at l setup (tally_of (take place lines)) place (slice_get lines place)
+warning_at l setup lines place =
+    warned_at l setup (tally_of l.history (take place lines)) place (slice_get lines place)
 
 pub none_warned : (l : LayoutParts) (setup : ℕ) (lines : List Line) (old : List Finding)
     → old ≡ old ++ each_below (warning_at l setup lines) 0
@@ -24,37 +24,24 @@ none_warned l setup lines old = each_none (warning_at l setup lines) old
 
 pub one_warned : (l : LayoutParts) (setup : ℕ) (lines : List Line) (i : ℕ) (line : Line) (t : TallyValue)
     (old found new : List Finding)
-    → i < length lines → line ≡ get_or lines i line → t ≡ tally_of (take i lines)
+    → i < length lines → line ≡ get_or lines i line → t ≡ tally_of l.history (take i lines)
     → found ≡ old ++ each_below (warning_at l setup lines) i
     → new ≡ found ++ warned (i + 1) (line_warning l t (nat_lt i setup) line)
     → new ≡ old ++ each_below (warning_at l setup lines) (i + 1)
 one_warned l setup lines i line t old found new lt at tallied so_far more =
     let here : warned (i + 1) (line_warning l t (nat_lt i setup) line) ≡ warning_at l setup lines i =
     ap (λ (u : TallyValue). warned (i + 1) (line_warning l u (nat_lt i setup) line)) tallied
-    ∙ ap (warned_at l setup (tally_of (take i lines)) i)
+    ∙ ap (warned_at l setup (tally_of l.history (take i lines)) i)
     (sym (slice_get_read lines (length lines) i line refl lt at)) in
     each_more (warning_at l setup lines) i old found new
     (warned (i + 1) (line_warning l t (nat_lt i setup) line)) so_far more here
 
-pub one_tallied : (lines : List Line) (i : ℕ) (line : Line) (t after : TallyValue) → i < length lines
-    → line ≡ get_or lines i line → t ≡ tally_of (take i lines)
-    → after ≡ after_asked t (asks.asked_by line.work)
-    → after ≡ tally_of (take (i + 1) lines)
-one_tallied lines i line t after lt at so_far is =
-    is ∙ ap (λ (u : TallyValue). after_line u line) so_far
-    ∙ sym (ap tally_of (take_more lines i line lt ∙ ap (λ (x : Line). take i lines ++ x ∷ []) (sym at))
-    ∙ fold_push after_line no_lines (take i lines) line)
-
--- a line makes at least one record or none
-asked_used : (t : TallyValue) (m : asks.Meaning) → (after_asked t m).used ≤ t.used + 1
-asked_used t (asks.event e) = omega arith
-asked_used t (asks.plan items turns) = omega arith
-asked_used t (asks.not_taken fault) = omega arith
-asked_used t (asks.cat path) = omega arith
-asked_used t asks.seal = omega arith
-
-pub used_more : (t after : TallyValue) (w : Work) (i : ℕ) → t.used ≤ i
-    → after ≡ after_asked t (asks.asked_by w) → after.used ≤ i + 1
-used_more t after w i so_far is =
-    let used : after.used ≡ (after_asked t (asks.asked_by w)).used = ap (λ (u : TallyValue). u.used) is in
-    omega (arith, so_far, used, asked_used t (asks.asked_by w))
+pub one_tallied : (history : ℕ) (lines : List Line) (i : ℕ) (line : Line) (t after : TallyValue)
+    → i < length lines → line ≡ get_or lines i line → t ≡ tally_of history (take i lines)
+    → after ≡ after_asked history t (asks.asked_by line.work)
+    → after ≡ tally_of history (take (i + 1) lines)
+one_tallied history lines i line t after lt at so_far is =
+    is ∙ ap (λ (u : TallyValue). after_line history u line) so_far
+    ∙ sym (ap (tally_of history)
+    (take_more lines i line lt ∙ ap (λ (x : Line). take i lines ++ x ∷ []) (sym at))
+    ∙ fold_push (after_line history) no_lines (take i lines) line)

@@ -5,12 +5,13 @@ use Rattle.std.specs.List.{list_all, list_any}
 use Rattle.std.specs.Option.{option_map, option_or}
 use Rattle.std.specs.Str.{bytes_eq}
 use Rattle.hp_numbers.specs.NumberWords.{number_of}
+use Rattle.hp_scenario.specs.Words.{is_name_byte}
 use Rattle.hp_check.specs.Cuts.{halves_of}
 use Rattle.hp_check.specs.Quotes.{quoted}
 use Rattle.hp_check.specs.declared.slips.Kind.{Kind}
 use Rattle.hp_check.specs.declared.slips.Kind.TheVariants.{Narrow, Wide, Name, Word}
 use Rattle.hp_check.specs.declared.slips.Why.{Why}
-use Rattle.hp_check.specs.declared.slips.Why.TheVariants.{Zero, PastNarrow, PastWide, Capitals, Long}
+use Rattle.hp_check.specs.declared.slips.Why.TheVariants.{Zero, PastNarrow, PastWide, Capitals, Other, Long}
 
 -- ---- a word
 
@@ -29,10 +30,15 @@ abbrev pub number_slip : (is_number : Bool) → List ℕ → (past : Why) → Op
 number_slip is_number word past =
     if is_number || not (are_digits word) then None else digits_slip word past
 
--- a name may have at most 32 bytes, none of them a capital
+abbrev pub are_name_bytes : List ℕ → Bool
+are_name_bytes word = list_all is_name_byte word
+
+-- a name has no capitals, nothing else that is in no name, and at most 32 bytes, each then a letter
 abbrev pub name_slip : List ℕ → Option Why
 name_slip word =
-    if has_capitals word then Some Capitals else (if nat_lt 32 (length word) then Some Long else None)
+    if has_capitals word then Some Capitals
+    else (if not (are_name_bytes word) then Some Other
+    else (if nat_lt 32 (length word) then Some Long else None))
 
 abbrev pub word_slip : List ℕ → Option Why
 word_slip word = if has_capitals word then Some Capitals else None
@@ -109,6 +115,7 @@ why_text Zero = codes " has a zero in front; "
 why_text PastNarrow = codes " is above 4294967295; "
 why_text PastWide = codes " is above 18446744073709551615; "
 why_text Capitals = codes " has capital letters; "
+why_text Other = codes " has other letters than a to z, 0 to 9 and _; "
 why_text Long = codes " has more than 32 letters; "
 
 abbrev pub slip_words : Option (List ℕ × Why) → List ℕ

@@ -1,5 +1,5 @@
 -- What the lines before a line make of the serials and of the history (own rule).
-use Rattle.std.specs.Prelude.{ℕ, ◌+◌, ◌-◌, ◌==◌, Bool, true, false, List, [], ◌∷◌, ◌++◌, fold, Option, Some, None, slice_get, if◌then◌else◌}
+use Rattle.std.specs.Prelude.{ℕ, ◌+◌, ◌-◌, ◌==◌, Bool, true, false, List, [], ◌∷◌, ◌++◌, fold, nat_le, Option, Some, None, slice_get, if◌then◌else◌}
 use Rattle.hp_units.specs.Marks.{is_opening, mark_of}
 use Rattle.hp_scenario.specs.Asked as asks
 use Rattle.hp_scenario.specs.declared.lines.Line.{Line}
@@ -15,36 +15,41 @@ pub record TallyValue : Type 0 where
 abbrev pub no_lines : TallyValue
 no_lines = record { begins = []; has_plan = false; used = 0 }
 
--- one record more
-abbrev pub after_record : TallyValue → (begins : Bool) → TallyValue
-after_record t begins = record {
+-- the records since the last seal are as many as the history takes
+abbrev pub is_full : (history : ℕ) → TallyValue → Bool
+is_full history t = nat_le history t.used
+
+-- one record more, where the history has room for it: a call that finds it full makes none
+abbrev pub after_record : (history : ℕ) → TallyValue → (begins : Bool) → TallyValue
+after_record history t begins = if is_full history t then t else record {
   begins = if t.has_plan then t.begins else t.begins ++ begins ∷ [];
   has_plan = t.has_plan;
   used = t.used + 1;
 }
 
--- the records of a plan more
-abbrev pub after_plan : TallyValue → TallyValue
-after_plan t = record { begins = t.begins; has_plan = true; used = t.used + 1 }
+-- the records of a plan more, where the history has room for its first
+abbrev pub after_plan : (history : ℕ) → TallyValue → TallyValue
+after_plan history t =
+    if is_full history t then t else record { begins = t.begins; has_plan = true; used = t.used + 1 }
 
 -- the records handed out
 abbrev pub after_seal : TallyValue → TallyValue
 after_seal t = record { begins = t.begins; has_plan = t.has_plan; used = 0 }
 
 -- what a line asks for more; a text that a control file does not take makes no record
-abbrev pub after_asked : TallyValue → asks.Meaning → TallyValue
-after_asked t (asks.event e) = after_record t (is_opening (mark_of e))
-after_asked t (asks.plan items turns) = after_plan t
-after_asked t (asks.not_taken fault) = t
-after_asked t (asks.cat path) = t
-after_asked t asks.seal = after_seal t
+abbrev pub after_asked : (history : ℕ) → TallyValue → asks.Meaning → TallyValue
+after_asked history t (asks.event e) = after_record history t (is_opening (mark_of e))
+after_asked history t (asks.plan items turns) = after_plan history t
+after_asked history t (asks.not_taken fault) = t
+after_asked history t (asks.cat path) = t
+after_asked history t asks.seal = after_seal t
 
-abbrev pub after_line : TallyValue → Line → TallyValue
-after_line t line = after_asked t (asks.asked_by line.work)
+abbrev pub after_line : (history : ℕ) → TallyValue → Line → TallyValue
+after_line history t line = after_asked history t (asks.asked_by line.work)
 
--- what lines make, one after another
-abbrev pub tally_of : List Line → TallyValue
-tally_of lines = fold after_line no_lines lines
+-- what lines make, one after another, with a history of so many records
+abbrev pub tally_of : (history : ℕ) → List Line → TallyValue
+tally_of history lines = fold (after_line history) no_lines lines
 
 -- the record of a serial begins an operation, or after a plan may do so
 abbrev pub begins_or : Bool → Option Bool → Bool

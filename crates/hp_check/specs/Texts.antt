@@ -103,7 +103,7 @@ warning_text (warning.Turns turns history) =
 warning_text (warning.Full history) =
     number_text (codes "warning: the lines before fill the history of ") history (codes " records")
 warning_text (warning.Echo fault) = codes "warning: echo: fault " ++ fault_name fault ++ newline
-warning_text warning.NoFile = codes "warning: cat: fault NoFile" ++ newline
+warning_text (warning.Cat fault) = codes "warning: cat: fault " ++ fault_name fault ++ newline
 warning_text (warning.NotForScript why) = codes "warning: not for a script: " ++ unfit_text why ++ newline
 
 abbrev pub key_count_text : Place → (count : ℕ) → List ℕ
@@ -126,7 +126,7 @@ shape_text lines (NotObject p) = place_text p ++ codes ": no object" ++ newline
 shape_text lines (KeyCount p n) = key_count_text p n
 shape_text lines (UnknownKey p k) = key_text p k (codes " is no key of it")
 shape_text lines (MissingKey p k) = key_text p (key_name k) (codes " is missing")
-shape_text lines (NotNumber k) = key_text place.Layout (key_name k) (codes " is no integer from 0 up")
+shape_text lines (NotNumber k) = key_text place.Layout (key_name k) (codes " is no integer from 0 to 2^64-1")
 shape_text lines (NotList k) = codes "`" ++ key_name k ++ codes "` is no list" ++ newline
 shape_text lines (NotBoot n) =
     number_text (codes "layout: word ") n (codes " of `boot` is none of normal, movable, offline, absent")

@@ -1,24 +1,27 @@
 -- When a line hardly does what is wanted (own rule): the first that applies.
-use Rattle.std.specs.Prelude.{ℕ, ◌+◌, ◌==◌, not, Bool, List, [], ◌∷◌, length, find, take, Option, Some, None, nat_lt, nat_le, slice_get, is_some, if◌then◌else◌}
+use Rattle.std.specs.Prelude.{ℕ, ◌+◌, ◌/◌, ◌%◌, ◌==◌, not, Bool, List, [], ◌∷◌, length, find, take, Option, Some, None, nat_lt, nat_le, slice_get, if◌then◌else◌}
 use Rattle.std.specs.Bool.{then_some}
 use Rattle.std.specs.Option.{option_map, option_or}
-use Rattle.hp_units.specs.Arithmetic.{frame_count}
+use Rattle.hp_units.specs.Arithmetic.{block_bytes, frame_count}
 use Rattle.hp_units.specs.LayoutParts.{LayoutParts}
 use Rattle.hp_units.specs.declared.events.Event.{Event}
 use Rattle.hp_units.specs.declared.events.Event.TheVariants as event
 use Rattle.hp_units.specs.declared.plans.Item.{Item}
 use Rattle.hp_requests.specs.Files.{file_at}
+use Rattle.hp_requests.specs.declared.fault.ControlFault.TheVariants as control
+use Rattle.hp_requests.specs.declared.files.File.{File}
+use Rattle.hp_requests.specs.declared.files.File.TheVariants as file
 use Rattle.hp_scenario.specs.Asked as asks
 use Rattle.hp_scenario.specs.declared.lines.Line.{Line}
 use Rattle.hp_scenario.specs.declared.lines.Work.{Work}
 use Rattle.hp_scenario.specs.declared.lines.Work.TheVariants as work
 use Rattle.hp_check.specs.Each.{each_below}
-use Rattle.hp_check.specs.Tally.{TallyValue, may_begin, tally_of}
+use Rattle.hp_check.specs.Tally.{TallyValue, is_full, may_begin, tally_of}
 use Rattle.hp_check.specs.Unfit.{unfit_warning, unless_last}
 use Rattle.hp_check.specs.declared.finding.Finding.{Finding}
 use Rattle.hp_check.specs.declared.finding.Finding.TheVariants as finding
 use Rattle.hp_check.specs.declared.finding.Warning.{Warning}
-use Rattle.hp_check.specs.declared.finding.Warning.TheVariants.{Past, NoBegin, Turns, Full, Echo, NoFile}
+use Rattle.hp_check.specs.declared.finding.Warning.TheVariants.{Past, NoBegin, Turns, Full, Echo, Cat}
 use Rattle.hp_check.specs.declared.finding.What.{What}
 use Rattle.hp_check.specs.declared.finding.What.TheVariants.{Processor, Owner, Page, Word, Order, Frame, Block}
 
@@ -38,6 +41,11 @@ abbrev pub plan_past : LayoutParts → List Item → Option Warning
 plan_past l plan =
     option_map (λ item. Past Block item.block l.blocks) (find (λ item. not (nat_lt item.block l.blocks)) plan)
 
+-- the memory block that begins at an address: at one that is no multiple of its bytes none does
+abbrev pub address_past : LayoutParts → (address : ℕ) → Option Warning
+address_past l address =
+    if address % block_bytes l == 0 then past Block (address / block_bytes l) l.blocks else None
+
 -- ---- operations, plans and histories
 
 -- no line before begins the operation of this number
@@ -49,9 +57,9 @@ no_begin t op = then_some (not (may_begin t op)) (NoBegin op)
 abbrev pub too_many_turns : LayoutParts → (turns : ℕ) → Option Warning
 too_many_turns l turns = then_some (not (nat_le (turns + l.cpus + 2) l.history)) (Turns turns l.history)
 
--- the lines before fill the history; it is said of the first call that finds it so
+-- the lines before fill the history; it is said of each call and each plan that finds it so
 abbrev pub full : LayoutParts → TallyValue → Option Warning
-full l t = then_some (t.used == l.history) (Full l.history)
+full l t = then_some (is_full l.history t) (Full l.history)
 
 -- ---- calls
 
@@ -71,7 +79,7 @@ event_warning l t (event.Migrate op) = no_begin t op
 event_warning l t (event.Commit op) = no_begin t op
 event_warning l t (event.Cancel op) = no_begin t op
 event_warning l t (event.UndoAfter serial) = None
-event_warning l t (event.Probe address) = None
+event_warning l t (event.Probe address) = address_past l address
 event_warning l t (event.Remove block) = past Block block l.blocks
 event_warning l t (event.SetAuto auto) = None
 
@@ -85,9 +93,19 @@ call_warning l t cpu e = option_or (caller_warning l t cpu) (event_warning l t e
 abbrev pub carried_warning : LayoutParts → TallyValue → (cpu : ℕ) → List Item → Option Warning
 carried_warning l t cpu plan = option_or (caller_warning l t cpu) (plan_past l plan)
 
--- there is no control file at a path that is read
-abbrev pub cat_warning : (path : List ℕ) → Option Warning
-cat_warning path = then_some (not (is_some (file_at path))) NoFile
+-- the fault of reading a file, where it has one in every state: of no file, of the one that is only
+-- written, and of a memory block past the layout
+abbrev pub file_warning : LayoutParts → Option File → Option Warning
+file_warning l None = Some (Cat control.NoFile)
+file_warning l (Some file.BlockSizeBytes) = None
+file_warning l (Some file.Buddyinfo) = None
+file_warning l (Some file.Probe) = Some (Cat control.WriteOnly)
+file_warning l (Some file.AutoOnlineBlocks) = None
+file_warning l (Some (file.OfBlock block kind)) =
+    then_some (not (nat_lt block l.blocks)) (Cat control.NoFile)
+
+abbrev pub cat_warning : LayoutParts → (path : List ℕ) → Option Warning
+cat_warning l path = file_warning l (file_at path)
 
 -- ---- lines
 
@@ -96,7 +114,7 @@ abbrev pub asked_warning : LayoutParts → TallyValue → (cpu : ℕ) → asks.M
 asked_warning l t cpu (asks.event e) = call_warning l t cpu e
 asked_warning l t cpu (asks.plan items turns) = carried_warning l t cpu items
 asked_warning l t cpu (asks.not_taken fault) = Some (Echo fault)
-asked_warning l t cpu (asks.cat path) = cat_warning path
+asked_warning l t cpu (asks.cat path) = cat_warning l path
 asked_warning l t cpu asks.seal = None
 
 -- the turns that a line names; those of a control file's plan are nobody's choice
@@ -124,5 +142,6 @@ warned_at l setup t place (Some line) = warned (place + 1) (line_warning l t (na
 -- the warnings of all lines, of which so many are the setup; they are counted from 1
 unfoldable pub warnings_of : LayoutParts → (setup : ℕ) → List Line → List Finding
 warnings_of l setup lines =
-    each_below (λ place. warned_at l setup (tally_of (take place lines)) place (slice_get lines place))
+    each_below
+    (λ place. warned_at l setup (tally_of l.history (take place lines)) place (slice_get lines place))
     (length lines)

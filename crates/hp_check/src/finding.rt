@@ -144,7 +144,7 @@ pub enum Shape {
     UnknownKey { place: Place, key: Text },
     /// A key that the object lacks.
     MissingKey { place: Place, key: Key },
-    /// A value that is no integer from 0 up, below 2^64.
+    /// A value that is no integer from 0 to 2^64-1.
     NotNumber(Key),
     /// A value that is no list.
     NotList(Key),
@@ -215,8 +215,9 @@ pub enum Warning {
     Full { history: u64 },
     /// An `echo` that its control file does not take.
     Echo(ControlFault),
-    /// A `cat` of no control file.
-    NoFile,
+    /// A `cat` that has this fault in every state: of no control file, of the one that is only
+    /// written, or of a memory block past the layout.
+    Cat(ControlFault),
     /// A line after the setup that cannot stand in a script.
     NotForScript(Unfit),
 }

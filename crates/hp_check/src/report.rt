@@ -147,9 +147,12 @@ fn write_shape(out: &mut String, lines: &[u64], shape: &Shape) -> Result<(), All
             write_key(out, *place, key.as_str(), " is no key of it")
         }
         Shape::MissingKey { place, key } => write_key(out, *place, key.name(), " is missing"),
-        Shape::NotNumber(key) => {
-            write_key(out, Place::Layout, key.name(), " is no integer from 0 up")
-        }
+        Shape::NotNumber(key) => write_key(
+            out,
+            Place::Layout,
+            key.name(),
+            " is no integer from 0 to 2^64-1",
+        ),
         Shape::NotList(key) => {
             let name = key.name();
             writeln!(out, "`{name}` is no list")
@@ -306,7 +309,7 @@ fn write_warning(out: &mut String, warning: Warning) -> Result<(), AllocError>
             " records",
         ),
         Warning::Echo(fault) => writeln!(out, "warning: echo: fault {fault}"),
-        Warning::NoFile => out.push_str("warning: cat: fault NoFile\n"),
+        Warning::Cat(fault) => writeln!(out, "warning: cat: fault {fault}"),
         Warning::NotForScript(why) => writeln!(out, "warning: not for a script: {why}"),
     }
 }

@@ -2,6 +2,7 @@
 ghost use Rattle.std.specs.Prelude.{◌≡◌, ◌++◌, OnOk, map, option_map, string_bytes};
 ghost use Rattle.std.specs.List.{list_all, list_any};
 ghost use Rattle.std.specs.Int.{is_in_range};
+ghost use Rattle.hp_scenario.specs.Words.{is_name_byte as name_byte};
 ghost use Rattle.hp_check.specs.Slips as means;
 
 use crate::cuts::halves;
@@ -33,7 +34,9 @@ pub(crate) enum Why {
     PastWide,
     /// A word with a letter from `A` to `Z`.
     Capitals,
-    /// A name of more than 32 bytes.
+    /// A name with a byte that is in no name.
+    Other,
+    /// A name of more than 32 letters.
     Long,
 }
 
@@ -51,6 +54,20 @@ fn has_capitals(word: &str) -> bool
     word.as_bytes().iter().any(|byte| byte.is_ascii_uppercase())
 }
 
+/// Whether a byte may stand in a name.
+fn is_name_byte(byte: u8) -> bool
+    ensures { result ≡ name_byte byte }
+{
+    byte.is_ascii_lowercase() || byte.is_ascii_digit() || byte == b'_'
+}
+
+/// Whether each byte of a word may stand in a name.
+fn are_name_bytes(word: &str) -> bool
+    ensures { result ≡ means.are_name_bytes word.now }
+{
+    word.as_bytes().iter().all(|byte| is_name_byte(*byte))
+}
+
 /// Why digits are no number, where they are none; `past` is that they are too many.
 fn number_slip(is_number: bool, word: &str, past: Why) -> Option<Why>
     ensures { result ≡ means.number_slip is_number word.now past }
@@ -65,12 +82,14 @@ fn number_slip(is_number: bool, word: &str, past: Why) -> Option<Why>
     }
 }
 
-/// Why a word is no name, where it has capitals or is too long.
+/// Why a word is no name, where it has capitals or other bytes of no name, or is too long.
 fn name_slip(word: &str) -> Option<Why>
     ensures { result ≡ means.name_slip word.now }
 {
     if has_capitals(word) {
         Some(Why::Capitals)
+    } else if !are_name_bytes(word) {
+        Some(Why::Other)
     } else if word.len() > 32 {
         Some(Why::Long)
     } else {
@@ -194,6 +213,7 @@ fn why_text(why: Why) -> &'static str
         Why::PastNarrow => " is above 4294967295; ",
         Why::PastWide => " is above 18446744073709551615; ",
         Why::Capitals => " has capital letters; ",
+        Why::Other => " has other letters than a to z, 0 to 9 and _; ",
         Why::Long => " has more than 32 letters; ",
     }
 }

@@ -1,10 +1,10 @@
 //! What the lines before a line make of the serials and of the history.
-ghost use Rattle.std.specs.Prelude.{◌≡◌, ◌+◌, ◌^◌, ◌<◌, OnOk};
+ghost use Rattle.std.specs.Prelude.{◌≡◌, OnOk};
 ghost use Rattle.hp_scenario.specs.Asked.{asked_by};
 ghost use Rattle.hp_check.specs.Tally as means;
 
 use hp_scenario::{Asked, Work};
-use hp_units::{Serial, mark_of};
+use hp_units::{Layout, Serial, mark_of};
 use std::alloc::{AllocError, Global};
 use std::marker::Model;
 
@@ -36,16 +36,15 @@ impl Tally {
         }
     }
 
-    /// Adds a line. An error is out of memory.
-    pub(crate) fn add(&mut self, work: &Work) -> Result<(), AllocError>
-        requires { self.old.used + 1 < 2 ^ 64 }
-        ensures { OnOk result (self.new ≡ means.after_asked self.old (asked_by work.now)) }
+    /// Adds a line on a layout. An error is out of memory.
+    pub(crate) fn add(&mut self, layout: &Layout, work: &Work) -> Result<(), AllocError>
+        ensures { OnOk result
+            (self.new ≡ means.after_asked layout.now.history self.old (asked_by work.now)) }
     {
         match work.asked() {
-            Asked::Event(event) => self.add_record(mark_of(event).is_opening()),
+            Asked::Event(event) => self.add_record(layout.history(), mark_of(event).is_opening()),
             Asked::Plan { plan: _, turns: _ } => {
-                self.has_plan = true;
-                self.used += 1;
+                self.add_plan(layout.history());
                 Ok(())
             }
             Asked::NotTaken(_fault) => Ok(()),
@@ -57,11 +56,13 @@ impl Tally {
         }
     }
 
-    /// Adds a record. An error is out of memory.
-    fn add_record(&mut self, begins: bool) -> Result<(), AllocError>
-        requires { self.old.used + 1 < 2 ^ 64 }
-        ensures { OnOk result (self.new ≡ means.after_record self.old begins) }
+    /// Adds a record, where the history has room for it. An error is out of memory.
+    fn add_record(&mut self, history: u64, begins: bool) -> Result<(), AllocError>
+        ensures { OnOk result (self.new ≡ means.after_record history self.old begins) }
     {
+        if self.is_full(history) {
+            return Ok(());
+        }
         if !self.has_plan {
             self.begins.push(begins)?;
         }
@@ -69,11 +70,21 @@ impl Tally {
         Ok(())
     }
 
-    /// How many records there are at least since the last seal.
-    pub(crate) fn used(&self) -> u64
-        ensures { result ≡ self.now.used }
+    /// Adds the records of a plan, where the history has room for the first.
+    fn add_plan(&mut self, history: u64)
+        ensures { self.new ≡ means.after_plan history self.old }
     {
-        self.used
+        if !self.is_full(history) {
+            self.has_plan = true;
+            self.used += 1;
+        }
+    }
+
+    /// Whether there are as many records since the last seal as a history takes.
+    pub(crate) fn is_full(&self, history: u64) -> bool
+        ensures { result ≡ means.is_full history self.now }
+    {
+        history <= self.used
     }
 
     /// Whether the record of a serial may begin an operation.

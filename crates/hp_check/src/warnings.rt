@@ -1,12 +1,12 @@
 //! Lines that hardly do what is wanted.
-ghost use Rattle.std.specs.Prelude.{◌≡◌, ◌++◌, OnOk};
+ghost use Rattle.std.specs.Prelude.{◌≡◌, ◌++◌, OnOk, Some};
 ghost use Rattle.hp_scenario.specs.Asked.{asked_by};
 ghost use Rattle.hp_check.specs.Warnings as means;
 
 use crate::finding::{Finding, Warning, What};
 use crate::tally::Tally;
 use crate::unfit::{unfit_warning, unless_last};
-use hp_requests::file_at;
+use hp_requests::{ControlFault, File, file_at};
 use hp_scenario::{Asked, Line, Work};
 use hp_units::{Cpu, Event, Layout, Owner, Page, Plan, Serial};
 use std::alloc::{AllocError, Global};
@@ -29,7 +29,7 @@ pub(crate) fn push_warnings(
         let line = &lines[index];
         let warning = line_warning(layout, &tally, (index as u64) < setup, line);
         push_warning(found, index as u64 + 1, warning)?;
-        tally.add(&line.work)?;
+        tally.add(layout, &line.work)?;
     }
     Ok(())
 }
@@ -78,11 +78,35 @@ fn asked_warning(layout: &Layout, tally: &Tally, cpu: Cpu, work: &Work) -> Optio
             caller_warning(layout, tally, cpu).or(plan_past(layout, plan))
         }
         Asked::NotTaken(fault) => Some(Warning::Echo(fault)),
-        Asked::Cat { path } => match file_at(path) {
-            Some(_file) => None,
-            None => Some(Warning::NoFile),
-        },
+        Asked::Cat { path } => cat_warning(layout, path),
         Asked::Seal => None,
+    }
+}
+
+/// The fault of reading the file at a path, if it has one in every state.
+fn cat_warning(layout: &Layout, path: &str) -> Option<Warning>
+    ensures { result ≡ means.cat_warning layout.now path.now }
+{
+    match file_at(path) {
+        Some(file) => file_warning(layout, file),
+        None => Some(Warning::Cat(ControlFault::NoFile)),
+    }
+}
+
+/// The fault of reading a file, if it has one in every state.
+fn file_warning(layout: &Layout, file: File) -> Option<Warning>
+    ensures { result ≡ means.file_warning layout.now (Some file) }
+{
+    match file {
+        File::Probe => Some(Warning::Cat(ControlFault::WriteOnly)),
+        File::OfBlock { block, file: _ } => {
+            if block.0 < layout.blocks() {
+                None
+            } else {
+                Some(Warning::Cat(ControlFault::NoFile))
+            }
+        }
+        File::BlockSizeBytes | File::Buddyinfo | File::AutoOnlineBlocks => None,
     }
 }
 
@@ -108,7 +132,7 @@ fn full(layout: &Layout, tally: &Tally) -> Option<Warning>
     ensures { result ≡ means.full layout.now tally.now }
 {
     let history = layout.history();
-    if tally.used() == history {
+    if tally.is_full(history) {
         Some(Warning::Full { history })
     } else {
         None
@@ -174,6 +198,26 @@ fn plan_past(layout: &Layout, plan: &Plan) -> Option<Warning>
     })
 }
 
+/// The memory block that begins at an address, if it is past the layout.
+fn address_past(layout: &Layout, address: u64) -> Option<Warning>
+    ensures { result ≡ means.address_past layout.now address }
+{
+    let bytes = layout.block_bytes();
+    if address % bytes != 0 {
+        return None;
+    }
+    let number = address / bytes;
+    let count = u64::from(layout.blocks());
+    if number < count {
+        return None;
+    }
+    Some(Warning::Past {
+        what: What::Block,
+        number,
+        count,
+    })
+}
+
 /// The number of an operation, if no line before begins it.
 fn no_begin(tally: &Tally, op: Serial) -> Option<Warning>
     ensures { result ≡ means.no_begin tally.now op }
@@ -211,7 +255,7 @@ fn event_warning(layout: &Layout, tally: &Tally, event: &Event) -> Option<Warnin
         Event::Commit { op } => no_begin(tally, *op),
         Event::Cancel { op } => no_begin(tally, *op),
         Event::UndoAfter { serial: _ } => None,
-        Event::Probe { address: _ } => None,
+        Event::Probe { address } => address_past(layout, *address),
         Event::Remove { block } => past(What::Block, block.0, layout.blocks()),
         Event::SetAuto { auto: _ } => None,
     }

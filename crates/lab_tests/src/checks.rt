@@ -23,7 +23,7 @@ const CHECKED: &[Checked] = &[
          \"owners\":2,\"pages\":2,\"words\":1,\"history\":40,\"boot\":[\"normal\",\"moveable\"]},\n\
          \"calls\":[\"0 drain 0\",\n5,\n\"0 walk\"]}",
         "layout: `ordr` is no key of it\nlayout: `order` is missing\n\
-         layout: `cpus` is no integer from 0 up\n\
+         layout: `cpus` is no integer from 0 to 2^64-1\n\
          layout: word 2 of `boot` is none of normal, movable, offline, absent\n\
          calls 2 (line 3): no text\ncalls 3 (line 4): `0 walk`: its second word is no verb\n\
          faults: 6, warnings: 0\n",
@@ -74,7 +74,9 @@ const CHECKED: &[Checked] = &[
          \"owners\":2,\"pages\":2,\"words\":1,\"history\":2,\"boot\":[\"normal\",\"movable\"]},\
          \"calls\":[\"0 drain 0\",\"0 drain 0\",\"0 drain 0\",\"0 drain 0\",\"0 seal\",\
          \"0 drain 0\"]}",
-        "calls 3 (line 1): warning: the lines before fill the history of 2 records\nfaults: 0, warnings: 1\n",
+        "calls 3 (line 1): warning: the lines before fill the history of 2 records\n\
+         calls 4 (line 1): warning: the lines before fill the history of 2 records\n\
+         faults: 0, warnings: 2\n",
     ),
     (
         "{\"calls\":[\"0 drain 0\",\n[1, {\"calls\": [2,\n3, 4]}, \"]\\\", [\"],\n\

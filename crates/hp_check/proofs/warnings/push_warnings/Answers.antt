@@ -1,17 +1,14 @@
-use Rattle.std.proofs.Common.{◌+◌, ◌++◌, Option, ap, ◌∙◌, arith}
-use Rattle.hp_check.specs.Tally.{TallyValue}
+use Rattle.std.proofs.Common.{◌+◌, ◌++◌, Option, ap, ◌∙◌}
 use Rattle.hp_check.specs.Warnings.{warned}
 use Rattle.hp_check.specs.declared.finding.Warning.{Warning}
-use Rattle.hp_check.proofs.Warned.{none_warned, one_tallied, one_warned, used_more}
+use Rattle.hp_check.proofs.Warned.{none_warned, one_tallied, one_warned}
 use Rattle.hp_check.proofs.warnings.push_warnings.Goals as goal
 
 pub loop-index-init : goal.loop-index-init
-loop-index-init c =
-    let used = ap (λ (t : TallyValue). t.used) c.new-tally.ensures in (
-      none_warned c.args.layout.now c.args.setup c.args.lines.now c.args.found.now.items,
-      c.new-tally.ensures,
-      omega (arith, used),
-    )
+loop-index-init c = (
+  none_warned c.args.layout.now c.args.setup c.args.lines.now c.args.found.now.items,
+  c.new-tally.ensures,
+)
 
 pub loop-index-preserved : goal.loop-index-preserved
 loop-index-preserved c =
@@ -21,7 +18,6 @@ loop-index-preserved c =
           c.args.found.now.items c.loop-index.found.items _ c.loop-index-test.true c.index-lines-index.is i.1
           i.0 (c.in_ok-push_warning.ensures ∙ ap (λ (w : Option Warning).
           c.loop-index.found.items ++ warned (c.loop-index.index + 1) w) c.line_warning-warning.ensures),
-      one_tallied c.args.lines.now c.loop-index.index line c.loop-index.tally _ c.loop-index-test.true
-          c.index-lines-index.is i.1 c.in_ok-add.ensures,
-      used_more c.loop-index.tally _ line.work c.loop-index.index i.2 c.in_ok-add.ensures,
+      one_tallied c.args.layout.now.history c.args.lines.now c.loop-index.index line c.loop-index.tally _
+          c.loop-index-test.true c.index-lines-index.is i.1 c.in_ok-add.ensures,
     )
