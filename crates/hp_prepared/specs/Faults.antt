@@ -1,8 +1,9 @@
 -- When each fault comes, and how that of a call is told.
-use Rattle.std.specs.Prelude.{◌≡◌, ℕ, List, Option, Err}
+use Rattle.std.specs.Prelude.{◌≡◌, ℕ, List, Option, Some, Err, slice_get}
 use Rattle.hp_schedules.specs.Interleavings.{IsRoomNeeded}
 use Rattle.hp_schedules.specs.Schedules.{Setting}
-use Rattle.hp_explore.specs.Faults.{IsCause}
+use Rattle.hp_schedules.specs.declared.tally.Ending.{Ending}
+use Rattle.hp_explore.specs.Faults.{FillsAlong, IsCause}
 use Rattle.hp_explore.specs.declared.exploring.ExploreFault.{ExploreFault}
 use Rattle.hp_explore.specs.declared.exploring.ExploreFault.TheVariants as explore
 use Rattle.hp_scenario.specs.declared.fault.ScenarioFault.{ScenarioFault}
@@ -14,6 +15,11 @@ use Rattle.hp_lab_faults.specs.declared.fault.LabFault.TheVariants.{NotJson, Bad
 use Rattle.hp_prepared.specs.Holding.{InScenario, IsStoppedAfter}
 
 -- ---- on a machine
+
+-- the history has no room for a call of the first schedule of one of these ends
+abbrev pub FillsAlongSome : Setting → List Ending → Type 0
+FillsAlongSome g ends =
+    (place : ℕ) × (e : Ending) × (slice_get ends place ≡ Some e) × FillsAlong g e.first.items
 
 -- `C` says which causes the fault of a call has; a full history is told with how much room it
 -- needs, where that is known

@@ -1,7 +1,9 @@
 //! Ends of interleavings in each form.
 ghost use Rattle.std.specs.Prelude.{◌≡◌, ◌++◌, IfErr, IfNone, IfOk, IfSome, OnOk, string_bytes, Some};
-ghost use Rattle.hp_explore.specs.Faults.{IsCause};
+ghost use Rattle.hp_explore.specs.Faults.{FillsAlong, IsCause};
+ghost use Rattle.hp_explore.specs.declared.exploring.ExploreFault.TheVariants.{HistoryFull};
 ghost use Rattle.hp_prepared.specs.Ends.{AreEndsTold, HasNoEnd, IsEndTold, IsNumbered, IsTold};
+ghost use Rattle.hp_prepared.specs.Faults.{FillsAlongSome};
 ghost use Rattle.hp_prepared.specs.Prepared.{before_of, names_of, setting_of};
 ghost use Rattle.hp_prepared.specs.Texts.{end_keys, exploration_text, numbered_text, objects_text, replay_text};
 
@@ -14,8 +16,8 @@ use hp_units::Cpu;
 use std::alloc::Global;
 
 impl Prepared {
-    /// An exploration of the scripts in a form, as hp_lab's `explore_text` tells it. A fault is that of
-    /// a call: the first interleaving of each end is played once more.
+    /// An exploration of the scripts in a form, as hp_lab's `explore_text` tells it. An error is that
+    /// of `ends_told`.
     pub fn exploration_told(
         &self,
         alloc: Global,
@@ -26,14 +28,17 @@ impl Prepared {
             (λ f. IsTold form (names_of self.now) (before_of self.now) (setting_of self.now) explored.now
             (string_bytes f.text) f.is_found) }
         ensures err { IfErr result (IsCause (setting_of self.now)) }
+        ensures along { IfErr result (λ fault. fault ≡ HistoryFull
+            → FillsAlongSome (setting_of self.now) explored.now.ends.items) }
     {
         let more = self.more_than(alloc, explored.is_whole)?;
         self.ends_told(alloc, &explored.ends, more, form)
     }
 
     /// Ends of interleavings of the scripts in a form, as `explore_text` tells them; where they are
-    /// not those of all interleavings, with what is known of how many there are. A fault is that of
-    /// a call: the first interleaving of each end is played once more.
+    /// not those of all interleavings, with what is known of how many there are. The first
+    /// interleaving of an end is played once more. So an error is `HistoryFull` where the history has
+    /// no room for a call of such an interleaving, or `OutOfMemory`.
     pub fn ends_told(
         &self,
         alloc: Global,
@@ -45,6 +50,8 @@ impl Prepared {
             (λ f. AreEndsTold form (names_of self.now) (before_of self.now) (setting_of self.now)
             ends.now more (string_bytes f.text) f.is_found) }
         ensures err { IfErr result (IsCause (setting_of self.now)) }
+        ensures along { IfErr result (λ fault. fault ≡ HistoryFull
+            → FillsAlongSome (setting_of self.now) ends.now) }
     {
         match form {
             EndsForm::Words => {
@@ -79,6 +86,8 @@ impl Prepared {
         ensures ok { OnOk result (string_bytes out.new ≡ string_bytes out.old
             ++ exploration_text (names_of self.now) (setting_of self.now) ends.now more) }
         ensures err { IfErr result (IsCause (setting_of self.now)) }
+        ensures along { IfErr result (λ fault. fault ≡ HistoryFull
+            → FillsAlongSome (setting_of self.now) ends.now) }
     {
         write_counts(out, ends, more)?;
         for index in 0..ends.len() {
@@ -98,6 +107,8 @@ impl Prepared {
         ensures ok { OnOk result (string_bytes out.new ≡ string_bytes out.old
             ++ numbered_text (names_of self.now) (setting_of self.now) number (Some end.now)) }
         ensures err { IfErr result (IsCause (setting_of self.now)) }
+        ensures along { IfErr result (λ fault. fault ≡ HistoryFull
+            → FillsAlong (setting_of self.now) end.now.first.items) }
     {
         let played = self.played(alloc, end.first.as_slice())?;
         let calls = self.calls_of(&played);
@@ -116,6 +127,8 @@ impl Prepared {
         ensures ok { OnOk result (string_bytes out.new ≡ string_bytes out.old
             ++ objects_text (names_of self.now) (setting_of self.now) ends.now) }
         ensures err { IfErr result (IsCause (setting_of self.now)) }
+        ensures along { IfErr result (λ fault. fault ≡ HistoryFull
+            → FillsAlongSome (setting_of self.now) ends.now) }
     {
         for index in 0..ends.len() {
             self.write_end_keys(out, alloc, index + 1, &ends[index])?;
@@ -126,7 +139,7 @@ impl Prepared {
 
     /// Writes the object of an end up to the bracket at its end: its number, how many interleavings
     /// lead to it, what the processors were answered, what became of the memory blocks, and the calls
-    /// of the first interleaving. A fault is that of a call: this is played once more.
+    /// of the first interleaving. This is played once more: an error is that of `played`.
     pub fn write_end_keys(
         &self,
         out: &mut String,
@@ -137,6 +150,8 @@ impl Prepared {
         ensures ok { OnOk result (string_bytes out.new
             ≡ string_bytes out.old ++ end_keys (names_of self.now) (setting_of self.now) number end.now) }
         ensures err { IfErr result (IsCause (setting_of self.now)) }
+        ensures along { IfErr result (λ fault. fault ≡ HistoryFull
+            → FillsAlong (setting_of self.now) end.now.first.items) }
     {
         let played = self.played(alloc, end.first.as_slice())?;
         let calls = self.calls_of(&played);
@@ -144,11 +159,13 @@ impl Prepared {
         Ok(())
     }
 
-    /// A schedule of the scripts as a scenario. A fault is that of a call: it is played once more.
+    /// A schedule of the scripts as a scenario. It is played once more: an error is that of `played`.
     fn replay_told(&self, alloc: Global, schedule: &[Cpu]) -> Result<String, ExploreFault>
         ensures ok { IfOk result (λ text. string_bytes text
             ≡ replay_text (names_of self.now) (before_of self.now) (setting_of self.now) schedule.now) }
         ensures err { IfErr result (IsCause (setting_of self.now)) }
+        ensures along { IfErr result (λ fault. fault ≡ HistoryFull
+            → FillsAlong (setting_of self.now) schedule.now) }
     {
         let played = self.played(alloc, schedule)?;
         let text = self.replay_of(alloc, self.calls_of(&played))?;
@@ -167,6 +184,8 @@ impl Prepared {
             (λ f. IsEndTold (names_of self.now) (before_of self.now) (setting_of self.now) ends.now more
             number (string_bytes f.text) f.is_found) }
         ensures err { IfErr result (IsCause (setting_of self.now)) }
+        ensures along { IfErr result (λ fault. fault ≡ HistoryFull
+            → FillsAlongSome (setting_of self.now) ends.now) }
     {
         match numbered_end(ends, number) {
             Some(end) => {

@@ -1,6 +1,7 @@
 //! A scenario made ready for a search: the machine after its setup, and the scripts of its later lines.
 ghost use Rattle.std.specs.Prelude.{◌≡◌, ◌^◌, ◌<◌, IfErr, IfOk, length, option_map, string_bytes};
-ghost use Rattle.hp_explore.specs.Faults.{IsCause};
+ghost use Rattle.hp_explore.specs.Faults.{FillsAlong, IsCause};
+ghost use Rattle.hp_explore.specs.declared.exploring.ExploreFault.TheVariants.{HistoryFull};
 ghost use Rattle.hp_schedules.specs.Schedules.{plays};
 ghost use Rattle.hp_prepared.specs.Ends.{IsMore};
 ghost use Rattle.hp_ends.specs.Replays.{replayed_text};
@@ -66,12 +67,15 @@ impl Prepared {
         front_of(self.scenario.lines.as_slice(), self.setup)
     }
 
-    /// The machine that a schedule of the scripts leads to; none where it cannot be played.
+    /// The machine that a schedule of the scripts leads to; none where it cannot be played. An error is
+    /// `HistoryFull` where the history has no room for a call of this schedule, or `OutOfMemory`.
     pub fn played(&self, alloc: Global, schedule: &[Cpu]) -> Result<Option<Machine>, ExploreFault>
         ensures calls { IfOk result
             (λ p. calls_in (setting_of self.now) p ≡ plays (setting_of self.now) schedule.now) }
         ensures on { IfOk result (GoesOn (setting_of self.now)) }
         ensures err { IfErr result (IsCause (setting_of self.now)) }
+        ensures along { IfErr result (λ fault. fault ≡ HistoryFull
+            → FillsAlong (setting_of self.now) schedule.now) }
     {
         play(alloc, &self.start.machine, &self.start.scripts, schedule)
     }

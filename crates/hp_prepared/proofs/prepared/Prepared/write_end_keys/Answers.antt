@@ -1,5 +1,7 @@
-use Rattle.std.proofs.Common.{List, Option, ◌++◌, ap, ◌∙◌, string_bytes}
+use Rattle.std.proofs.Common.{List, Option, ◌++◌, ap, ◌∙◌, string_bytes, subst}
+use Rattle.std.proofs.lemmas.Result.{err_from_is_err_and}
 use Rattle.hp_units.specs.declared.replies.Record.{Record}
+use Rattle.hp_explore.specs.Faults.{FillsAlong}
 use Rattle.hp_schedules.specs.Schedules.{plays}
 use Rattle.hp_ends.specs.Objects.{keys_text}
 use Rattle.hp_prepared.specs.Prepared.{names_of, setting_of}
@@ -12,3 +14,10 @@ returns-clause-ok c =
     ∙ ap (λ (calls : Option (List Record)). string_bytes c.args.out.now
     ++ keys_text (names_of c.args.self.now) c.args.number c.args.end.now calls)
     (c.calls_of-calls.ensures ∙ c.in_ok-played.ensures.calls ∙ ap (plays g) c.as_slice.ensures.value)
+
+pub returns-in_err-played-clause-along : goal.returns-in_err-played-clause-along
+returns-in_err-played-clause-along c =
+    let p = err_from_is_err_and c.from_residual.result c.from_residual.ensures.1 in
+    rw (p.1, p.2)
+    (λ full. subst (FillsAlong (setting_of c.args.self.now)) c.as_slice.ensures.value
+    (c.in_err-played.ensures.along full))

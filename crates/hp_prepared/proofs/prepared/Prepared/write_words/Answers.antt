@@ -1,5 +1,6 @@
 use Rattle.std.proofs.Common.{◌≡◌, ℕ, ◌+◌, ◌++◌, length, ap, ◌∙◌, append_assoc, refl, sym, string_bytes, arith}
 use Rattle.std.proofs.lemmas.Option.{slice_get_read}
+use Rattle.std.proofs.lemmas.Result.{err_from_is_err_and}
 use Rattle.hp_text.proofs.Texts.{texts_more, texts_none}
 use Rattle.hp_text.specs.State.{texts_below}
 use Rattle.hp_ends.specs.Words.{counts_text}
@@ -32,3 +33,17 @@ returns-clause-ok c =
     omega (arith, c.loop-index.auto.index-end, c.loop-index-test.false) in
     c.loop-index.invariant ∙ (ap (λ (k : ℕ). old ++ counts_text ends c.args.more ++ texts_below text k) all
     ∙ append_assoc old (counts_text ends c.args.more) (texts_below text (length ends)))
+
+pub returns-in_err-write_end-clause-along : goal.returns-in_err-write_end-clause-along
+returns-in_err-write_end-clause-along c =
+    let ends = c.args.ends.now in
+    let p =
+    err_from_is_err_and c.from_residual-in_err-write_end.result
+    c.from_residual-in_err-write_end.ensures.1 in
+    rw (p.1, p.2) (λ full. (
+      c.loop-index.index,
+      c.index-ends-index.result,
+      slice_get_read ends (length ends) c.loop-index.index c.index-ends-index.result refl
+          c.loop-index-test.true c.index-ends-index.is,
+      c.in_err-write_end.ensures.along full,
+    ))
