@@ -287,6 +287,8 @@ def check_picture(checks, lab):
     for cell, expected in (("0", 2), ("1", 0), ("32", 0), ("33", 2), ("256", 2), ("264", 2)):
         status, text, _ = lab.call("trace", "--svg", "--cell", cell, scenario=whole)
         checks.same(f"trace --svg --cell {cell}", (expected, expected == 0), (status, text != ""))
+    checks.same("trace --cell 8", (2, "", "hotplug_lab: --cell is for --svg alone\n"),
+                lab.call("trace", "--cell", "8", scenario=whole))
     for number, call in enumerate(CALLS, 1):
         shown = f"{number} {call}" in out
         checks.holds("trace --svg --to 4", shown == (number <= 4), f"line {number}: {shown}")
@@ -297,6 +299,8 @@ def check_lab(checks, lab):
     for word in ("check", "explore", "trace"):
         check_file(checks, lab, word, whole)
     checks.same("check", (0, "faults: 0, warnings: 0\n", ""), lab.call("check", scenario=whole))
+    checks.same("check of a name that is not UTF-8", (2, "", "hotplug_lab: a word of the command line is not UTF-8\n"),
+                lab.call("check", "name\udce9.json"))
     checks.same("check of a fault", 1, lab.call("check", scenario=scenario_of(["0 walk"]))[0])
     check_counts(checks, lab)
     check_explore(checks, lab)

@@ -6,8 +6,8 @@
 //! and all that is around the answers, stands in hp_lab_shell; here the words are answered. The exit
 //! status is 0; or 1 after a fault, which standard error names, and after a check that finds
 //! faults; or 2 where the command line is wrong; or 3 where a search finds nothing, or what is
-//! never to be, where an end that is asked for is not there, and where there are more
-//! interleavings than the limit. It is the same where standard error takes no text. The help is a
+//! never to be, where an end that is asked for is not there, and where only the first
+//! interleavings are told. It is the same where standard error takes no text. The help is a
 //! text like any other: where standard output does not take it, the status is 1.
 #![tactic(auto)]
 

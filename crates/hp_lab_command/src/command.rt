@@ -245,7 +245,8 @@ fn without_words<'a>(alloc: Global) -> Command<'a> {
         .after_help(
             "Exit status: 0; 1 after a fault, which standard error names, and after a check that \
              finds faults (warnings alone: 0); 2 for a wrong command line; 3 where --find finds \
-             nothing, where --never finds something, and where explore stops at its limit.",
+             nothing, where --never finds something, where no end has the number of --scenario, \
+             and, but for --scenario, where explore stops at its limit.",
         )
         .subcommand_required(true)
 }

@@ -1,7 +1,7 @@
 //! The command line of `hotplug_lab`: its words, their options and what the help says of each.
 //!
 //! A crate of its own, since it stands on clap alone and so is proved beside the laboratory's
-//! libraries. What the words mean is `hotplug_lab`'s, and is tried on the built program.
+//! libraries. What the words mean is hp_lab_shell's, and is tried on the built program.
 #![tactic(auto)]
 
 mod command;

@@ -183,7 +183,10 @@ fn run_words<L: Laboratory, T: Threads + Sync>(
         Err(error) if error.kind() == io::ErrorKind::OutOfMemory => {
             Err(ProgramFault::from(AllocError))
         }
-        Err(_) => Ok(2),
+        Err(_) => {
+            let _ = eprintln!(rt; "hotplug_lab: a word of the command line is not UTF-8");
+            Ok(2)
+        }
     }
 }
 

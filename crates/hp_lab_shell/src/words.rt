@@ -206,9 +206,13 @@ fn whole_word<'a>(asked: Exploration, words: &ArgMatches<'_>) -> Result<Word<'a>
 /// What the words of `trace` ask for.
 fn tracing_word<'a>(words: &ArgMatches<'_>) -> Result<Word<'a>, &'static str> {
     let view = view_from(words);
-    let cell = words.get_one::<u64>("cell").unwrap_or(CELL);
+    let cell = words.get_one::<u64>("cell");
     let is_picture = words.get_flag("svg");
-    if is_picture && (cell == 0 || cell > WIDEST_CELL) {
+    if !is_picture && cell.is_some() {
+        return Err("--cell is for --svg alone");
+    }
+    let cell = cell.unwrap_or(CELL);
+    if cell == 0 || cell > WIDEST_CELL {
         return Err("--cell may be 1 to 32");
     }
     if view.from > view.to {
