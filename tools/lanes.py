@@ -1,0 +1,19 @@
+#!/usr/bin/env python3
+"""Prints how many crates are to be proved side by side: one a processor, as far as memory holds.
+
+`./build` and `./check` hand it to rt as RT_JOBS. By its own plan rt wants up to three times the memory that a check
+takes, and so leaves processors idle; and where few crates are ready it gives each several processes, of which each
+reads all again. Where the kit says nothing of processors and memory, the line is empty, and rt plans by itself.
+"""
+from wrong_bodies import rt
+
+# The most memory that the check of a crate of this repository takes, in bytes (docs/BUILDING.md).
+CHECK = 3_000_000_000
+
+
+def lanes():
+    return max(1, min(rt.processors(), int(rt.free()) // CHECK))
+
+
+if __name__ == "__main__":
+    print(lanes() if hasattr(rt, "processors") and hasattr(rt, "free") else "")
