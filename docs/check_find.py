@@ -343,6 +343,7 @@ def refused(text, scenario, setup):
     head = json.loads(lines[heads[1]])
     moved = json.dumps({**head, "scenario": json.dumps(other)}) + "\n"
     by = json.dumps({**head, "calls": head["calls"] + 1}) + "\n"
+    past = json.dumps({**head, "part": 4}) + "\n"
     yield "", "line 1 is none of a part"
     for number, part in ((2, second), (3, third)):
         if part.count("\n") > 1:
@@ -354,6 +355,7 @@ def refused(text, scenario, setup):
     yield second + text, "part 2 comes twice"
     yield first + moved + third, f"line {heads[1] + 1} begins a part of another search"
     yield first + by + third, f"line {heads[1] + 1} begins a part of another search"
+    yield first + past + third, f"line {heads[1] + 1} begins a part of another search"
     yield first + "x\n" + second + third, f"line {heads[1] + 1} is none of a part"
     yield text + "{}\n", f"line {len(lines) + 1} is none of a part"
     yield text[:-1], f"line {len(lines)} is none of a part"

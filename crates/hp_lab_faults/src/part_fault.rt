@@ -13,11 +13,11 @@ use std::fmt;
 /// Why parts have no sum. Lines are counted from 1, and so are parts.
 #[derive(Clone, Copy, Debug, PartialEq, Eq, Drop)]
 pub enum PartFault {
-    /// The line is none of a part; or the input is empty.
+    /// The line is none of a part; or line 1 is no head of a part; or the input is empty.
     NotPart { line: u64 },
-    /// The line is the head of a part of another search than the first: of another scenario or setup,
-    /// of another number of parts, or by another number of first calls; or it is a head of this very
-    /// search, and not byte for byte as the search writes it.
+    /// The line is the head of a part of another search than the first: of another scenario or
+    /// setup, of another number of parts, or by another number of first calls; or its part is past
+    /// the last of this search; or it is not byte for byte as the search writes that part's head.
     OtherSearch { line: u64 },
     /// The processors of the line are no complete interleaving of its part.
     NotOfPart { line: u64 },

@@ -15,7 +15,7 @@ use Rattle.hp_schedules.specs.Parts.{EndsInPart}
 use Rattle.hp_parts.specs.Adding.{counted_by}
 use Rattle.hp_part_lines.specs.Cuts.{HasNoNewline, IsLineAt, line_number}
 use Rattle.hp_part_lines.specs.Gathering.{GatheringValue, PartEndsValue}
-use Rattle.hp_part_lines.specs.Heads.{HeadValue, IsHead, SearchValue, head_line, part_in}
+use Rattle.hp_part_lines.specs.Heads.{HeadValue, IsHead, IsNumber, SearchValue, head_line, part_in}
 use Rattle.hp_part_lines.specs.Ordering.{AreAll, IsOrderFault}
 use Rattle.hp_part_lines.specs.Reading.{IsLine}
 use Rattle.hp_part_lines.specs.declared.ordering.OrderFault.{OrderFault}
@@ -40,21 +40,20 @@ fault_of_line Stopped line = part.Stopped line
 fault_of_line (OtherCount number) line = part.OtherCount number
 fault_of_line (Lab fault) line = part.Lab fault
 
--- a head with the number of no part
-abbrev pub IsHeadOfNone : SearchValue → (text : List ℕ) → Type 0
-IsHeadOfNone s text =
-    (number : ℕ) × (ends : ℕ) × IsLine text (Head number ends)
-    × ((1 ≤ number) × (number ≤ s.of) × (s.of ≤ 1000000) → ⊥)
+-- the head of a part of the search, which names so many ends
+abbrev pub IsOwnHead : SearchValue → (text : List ℕ) → (number ends : ℕ) → Type 0
+IsOwnHead s text number ends = IsNumber s number × (text ≡ head_line s number ends)
 
--- a head of another search
+-- a head, and not that of a part of the search
 abbrev pub IsOtherHead : SearchValue → (text : List ℕ) → Type 0
 IsOtherHead s text =
-    (number : ℕ) × (ends : ℕ) × IsLine text (Head number ends) × (text ≡ head_line s number ends → ⊥)
+    (number : ℕ) × (ends : ℕ) × IsLine text (Head number ends) × (IsOwnHead s text number ends → ⊥)
 
--- a head of the search, and the part before it has another number of ends than its own head names
+-- the head of a part of the search, and the part before it has another number of ends than its own
+-- head names
 abbrev pub IsAfterOther : SearchValue → GatheringValue → (text : List ℕ) → (before : ℕ) → Type 0
 IsAfterOther s v text before =
-    IsLastOther v before × (number : ℕ) × (ends : ℕ) × (text ≡ head_line s number ends)
+    IsLastOther v before × (number : ℕ) × (ends : ℕ) × IsOwnHead s text number ends
 
 -- an end whose schedule is no complete one of the part
 pub record IsOfNoPart (g : Setting) (s : SearchValue) (v : GatheringValue) (text : List ℕ) : Type 0 where
@@ -96,7 +95,7 @@ IsUnpushed names g v text end fault = ⊥
 -- why a line is not taken after the lines before it
 abbrev pub IsLineFault : (names : List (List ℕ)) → Setting → SearchValue → GatheringValue → (text : List ℕ)
     → LineFault → Type 0
-IsLineFault names g s v text NotPart = IsLine text Other ⊎ IsHeadOfNone s text
+IsLineFault names g s v text NotPart = IsLine text Other
 IsLineFault names g s v text OtherSearch = IsOtherHead s text
 IsLineFault names g s v text NotOfPart = IsOfNoPart g s v text
 IsLineFault names g s v text Changed = IsChanged names g s v text
@@ -159,7 +158,8 @@ abbrev pub IsUntoldSum : (input : List ℕ) → (names : List (List ℕ)) → Se
 IsUntoldSum input names g s fault =
     (fault ≡ part.Lab OutOfMemory)
     ⊎ (IsUnread input names g s fault
-    ⊎ (IsUnended input names g s fault ⊎ (IsLastCut input names g s fault ⊎ IsUnsummed input names g s fault)))
+    ⊎ (IsUnended input names g s fault
+    ⊎ (IsLastCut input names g s fault ⊎ IsUnsummed input names g s fault)))
 
 -- the scenario is not made ready, or the parts have no sum after it is
 abbrev pub IsUnsummedIn : (input : List ℕ) → SearchValue → PartFault → Type 0

@@ -8,9 +8,9 @@ use std::alloc::AllocError;
 /// Why a line is not taken after the lines before it.
 #[derive(Drop)]
 pub(crate) enum LineFault {
-    /// It is none of a part.
+    /// It is no line of a part.
     NotPart,
-    /// It is the head of a part of another search.
+    /// It is a head, and not that of a part of the search.
     OtherSearch,
     /// Its processors are no complete interleaving of its part.
     NotOfPart,

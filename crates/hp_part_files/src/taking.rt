@@ -18,7 +18,7 @@ use hp_part_lines::{
     Gathering, Head, PartEnds, PartLine, Search, end_of, is_head, line_at, line_in, line_number,
 };
 use hp_prepared::Prepared;
-use hp_schedules::{Ending, Outcome, PartNumber};
+use hp_schedules::{Ending, Outcome};
 use hp_units::Cpu;
 use std::alloc::{AllocError, Global};
 
@@ -102,10 +102,12 @@ fn take_head(
     ensures err { IfErr result (λ fault. (names : List (List ℕ)) (g : Setting)
         → IsLineFault names g search.now gathered.old text.now fault) }
 {
-    let Some(part) = PartNumber::new(number, u64::from(search.of)) else {
-        return Err(LineFault::NotPart);
-    };
-    if !is_head(alloc, search, part.number(), ends, text)? {
+    let of = u64::from(search.of);
+    if number < 1 || number > of {
+        return Err(LineFault::OtherSearch);
+    }
+    let part = number as u32;
+    if !is_head(alloc, search, part, ends, text)? {
         return Err(LineFault::OtherSearch);
     }
     if !gathered.is_whole() {
@@ -113,7 +115,7 @@ fn take_head(
             part: gathered.number(),
         });
     }
-    gathered.begin(alloc, part.number(), ends)?;
+    gathered.begin(alloc, part, ends)?;
     Ok(())
 }
 
