@@ -5,7 +5,7 @@ use Rattle.std.specs.Bool.{then_some}
 use Rattle.std.specs.Option.{option_map, option_or}
 use Rattle.std.proofs.lemmas.List.{take_all}
 use Rattle.std.proofs.lemmas.Option.{slice_get-map, slice_get_within, same_Some}
-use Rattle.std.proofs.lemmas.Bool.{lt-ltb, le-ltb, lt-leb, le-leb, cases_lt}
+use Rattle.std.proofs.lemmas.Bool.{lt-ltb, le-ltb, lt-leb, le-leb, cases_lt, both_ways}
 use Rattle.hp_units.specs.Memory.{Memory}
 use Rattle.hp_units.specs.LayoutParts.{LayoutParts}
 use Rattle.hp_units.specs.Choices.{first_some}
@@ -14,14 +14,15 @@ use Rattle.hp_units.specs.Step.{Answered, answer, step}
 use Rattle.hp_tape.specs.declared.deltas.Delta.{Delta}
 use Rattle.hp_units.specs.Refusals.{event_refusals, refusal_of}
 use Rattle.hp_units.specs.Marks.{sole_at, tag_of}
-use Rattle.hp_units.specs.History.{Effect, Cancels, Looks, Acts, is_refused, is_look, net_with, net_with_effect, effect_of, cut_or_add, steps_until, count_above, net_of, value_of, reply_of, cancel_reply}
+use Rattle.hp_units.specs.History.{Effect, goes_back, Cancels, Looks, Acts, is_refused, is_look, net_with, net_with_effect, effect_of, cut_or_add, steps_until, count_above, net_of, value_of, reply_of, cancel_reply}
 use Rattle.hp_laws.proofs.Lists.{get_some}
 use Rattle.hp_laws.proofs.Undo.{steps_until_at, count_above_at, sole_within}
 use Rattle.hp_laws.proofs.Net.{Numbered}
 use Rattle.hp_laws.proofs.Earlier.{numbered_net}
+use Rattle.hp_laws.proofs.Steps.{steps}
 use Rattle.hp_history.specs.Entries.{AreNumbered, tag_in, tags_of}
 use Rattle.hp_history.specs.declared.entries.Entry.{Entry}
-use Rattle.hp_history.specs.Course.{CourseValue, IsHistory, last_serial}
+use Rattle.hp_history.specs.Course.{CourseValue, IsHistory, NeedsNoMemory, last_serial}
 use Rattle.hp_history.specs.Kept.{IsCourse, IsCut, IsStep, is_gone, may_cancel}
 use Rattle.hp_history.proofs.Journals.{entry_count}
 use Rattle.hp_history.proofs.Names.{Event, KernelAlloc, KernelFree, Map, Unmap, Write, Read, Drain, Online, Begin, DrainFor, Migrate, Commit, Cancel, UndoAfter, Probe, Remove, SetAuto, Reply, Undone, Restored, Refused, Refusal, NoCpu, NoOp, Gone, Record, Tag}
@@ -263,6 +264,15 @@ acts m cpu (UndoAfter serial) undo cancel = absurd (undo serial refl)
 acts m cpu (Probe address) undo cancel = act_step m cpu (Probe address) refl refl
 acts m cpu (Remove block) undo cancel = act_step m cpu (Remove block) refl refl
 acts m cpu (SetAuto auto) undo cancel = act_step m cpu (SetAuto auto) refl refl
+
+-- a step that is no undo may need memory
+pub step_needs : (m : CourseValue) (cpu : ℕ) (event : Event) → IsStep m cpu event
+    → ((serial : ℕ) → event ≡ UndoAfter serial → ⊥) → NeedsNoMemory m cpu event → ⊥
+step_needs m cpu event made undo (inl asked) = undo asked.0 asked.1
+step_needs m cpu event made undo (inr back) =
+    both_ways (goes_back (reply_of m.layout m.base m.before m.history cpu event))
+    (ap goes_back made.reply
+    ∙ (steps m.layout (value_of m.layout m.base m.history) (last_serial m + 1) cpu event).onward) back
 
 -- the journal has an entry for each step
 pub all_steps : (m : CourseValue) (es : List Entry) (ds : List Delta) (keep : ℕ) → IsCourse m es ds

@@ -1,9 +1,10 @@
 -- What a contract sees of a journal and of a course, what both keep, and what answering an event does.
-use Rattle.std.specs.Prelude.{ℕ, ◌≡◌, ◌+◌, Bool, List, [], ◌∷◌, ◌++◌, length, nat_le}
+use Rattle.std.specs.Prelude.{ℕ, ◌≡◌, ◌+◌, ◌⊎◌, Bool, true, List, [], ◌∷◌, ◌++◌, length, nat_le}
 use Rattle.hp_units.specs.LayoutParts.{LayoutParts}
 use Rattle.hp_units.specs.Memory.{Memory}
-use Rattle.hp_units.specs.History.{IsLegal, reply_of, value_of}
+use Rattle.hp_units.specs.History.{IsLegal, goes_back, reply_of, value_of}
 use Rattle.hp_units.specs.declared.events.Event.{Event}
+use Rattle.hp_units.specs.declared.events.Event.TheVariants.{UndoAfter}
 use Rattle.hp_units.specs.declared.replies.Record.{Record}
 use Rattle.hp_units.specs.declared.replies.Receipt.{Receipt}
 use Rattle.hp_units.specs.declared.replies.Reply.{Reply}
@@ -33,6 +34,13 @@ last_serial c = c.before + length c.history
 -- there is no further serial
 abbrev pub is_spent : CourseValue → Bool
 is_spent c = nat_le 18446744073709551615 (c.before + length c.history)
+
+-- the event is answered without memory: it is an undo, refused or not, or its reply says that an
+-- earlier state is back
+abbrev pub NeedsNoMemory : CourseValue → (cpu : ℕ) → Event → Type 0
+NeedsNoMemory c cpu event =
+    ((serial : ℕ) × (event ≡ UndoAfter serial))
+    ⊎ (goes_back (reply_of c.layout c.base c.before c.history cpu event) ≡ true)
 
 -- the record of a receipt
 abbrev pub record_of : ℕ → Receipt → Record

@@ -56,7 +56,6 @@ impl Model for Course {
 impl Course {
     /// The course of no records over a base state, after `before` earlier records. An error is out of memory.
     pub fn start(alloc: Global, base: &Image, before: u64) -> Result<Course, AllocError>
-        requires limits { IsLayout base.now.layout }
         requires placed { IsWellPlaced base.now.layout base.now.memory }
         ensures { IfOk result (λ course. course ≡ started base.now.layout base.now.memory before) }
     {

@@ -1,11 +1,11 @@
 //! A memory and the journal of its steps, which keeps no records.
-ghost use Rattle.std.specs.Prelude.{◌≡◌, ◌↔◌, ◌+◌, [], false, true, length, IfOk, IfNone, IfSome, OnErr, IsTrue};
+ghost use Rattle.std.specs.Prelude.{◌≡◌, ◌↔◌, ◌+◌, [], false, true, length, IfOk, IfNone, IfSome, IsOk, OnErr, IsTrue};
 ghost use Rattle.hp_units.specs.Boot.{boot_memory};
 ghost use Rattle.hp_units.specs.LayoutParts.{IsLayout};
 ghost use Rattle.hp_units.specs.Placement.{IsWellPlaced};
 ghost use Rattle.hp_units.specs.declared.events.Event.TheVariants.{Cancel, UndoAfter};
 ghost use Rattle.hp_units.specs.declared.replies.Reply.TheVariants.{Restored};
-ghost use Rattle.hp_history.specs.Course.{IsAnswered, IsHistory, is_spent, last_serial, receipt_for, started};
+ghost use Rattle.hp_history.specs.Course.{IsAnswered, IsHistory, NeedsNoMemory, is_spent, last_serial, receipt_for, started};
 ghost use Rattle.hp_history.specs.Kept.{IsCut, IsStep, is_gone, may_cancel};
 
 use crate::entries::{Entry, keep_step, kept_len, sole_place, start_of};
@@ -73,7 +73,6 @@ impl Journal {
     /// The journal of no records over a base state, after `before` earlier records. An error is out
     /// of memory.
     pub fn from_image(alloc: Global, base: &Image, before: u64) -> Result<Journal, AllocError>
-        requires limits { IsLayout base.now.layout }
         requires placed { IsWellPlaced base.now.layout base.now.memory }
         ensures { IfOk result (λ journal. journal ≡ started base.now.layout base.now.memory before) }
     {
@@ -120,7 +119,7 @@ impl Journal {
     /// Answers an event of a processor, where there is a further serial: the answer is the serial of
     /// the event's record and the reply. An undo goes back, and so does a Cancel where nothing but
     /// its operation's own work stands after its Begin; any other event makes a step. An error is
-    /// out of memory; then all is as before.
+    /// out of memory, which only a step may run into; then all is as before.
     #[inline(always)]
     pub fn answer(
         &mut self,
@@ -129,6 +128,7 @@ impl Journal {
         event: &Event,
     ) -> Result<(Serial, Reply), AllocError>
         requires free { is_spent self.old ≡ false }
+        ensures succeeds { NeedsNoMemory self.old cpu event.now → IsOk result }
         ensures err { OnErr result (self.new ≡ self.old) }
         ensures ok { IfOk result
             (λ answer. IsAnswered self.old cpu event.now (receipt_for event.now answer) self.new) }

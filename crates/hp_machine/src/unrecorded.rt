@@ -1,6 +1,6 @@
 //! A machine that keeps no records.
-ghost use Rattle.std.specs.Prelude.{◌≡◌, ◌↔◌, Err, IfOk, OnErr, IsTrue, length};
-ghost use Rattle.hp_history.specs.Course.{receipt_for};
+ghost use Rattle.std.specs.Prelude.{◌≡◌, ◌↔◌, false, Err, IfOk, IsOk, OnErr, IsTrue, length};
+ghost use Rattle.hp_history.specs.Course.{NeedsNoMemory, receipt_for};
 ghost use Rattle.hp_machine.specs.Machine.{IsCalled, IsSound, booted, is_full, sealed};
 ghost use Rattle.hp_machine.specs.MachinePorts.{IsPlanRun};
 
@@ -42,8 +42,8 @@ impl UnrecordedMachine {
 
     /// One call: the event of a processor is answered, with the serial of its record and the reply
     /// (own rule). It answers `HistoryFull` where the history holds its limit of records or the
-    /// last serial is 2^64 - 1, and otherwise `OutOfMemory` where it is out of memory; then all is
-    /// as before.
+    /// last serial is 2^64 - 1, and otherwise `OutOfMemory` where it is out of memory, which an undo
+    /// and a Cancel that restores never are; then all is as before.
     pub fn answer(
         &mut self,
         alloc: Global,
@@ -51,6 +51,7 @@ impl UnrecordedMachine {
         event: &Event,
     ) -> Result<(Serial, Reply), CallFault>
         ensures full { (result ≡ Err CallFault.HistoryFull) ↔ IsTrue (is_full self.old) }
+        ensures succeeds { is_full self.old ≡ false → NeedsNoMemory self.old cpu event.now → IsOk result }
         ensures err { OnErr result (self.new ≡ self.old) }
         ensures ok { IfOk result
             (λ answer. IsCalled self.old cpu event.now (receipt_for event.now answer) self.new) }
@@ -121,8 +122,8 @@ impl UnrecordedMachine {
         self.journal.image(alloc)
     }
 
-    /// Whether there is no room for a further record.
-    fn is_full(&self) -> bool
+    /// Whether there is no room for a further record: then a call is answered `HistoryFull`.
+    pub fn is_full(&self) -> bool
         ensures { result ≡ is_full self.now }
     {
         self.journal.len() >= self.journal.memory().layout().history() || self.journal.is_spent()

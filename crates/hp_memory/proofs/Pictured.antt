@@ -76,9 +76,6 @@ blocks-is l s i new is e = e ∙ ap (λ (j : Pictured). with_blocks j s.blocks) 
 
 -- ---- what the parts of placed layers are
 
-pub areas-limits : (m : Layers) → ArePlaced m → IsLayout m.frames.buddy.layout
-areas-limits m p = subst IsLayout (sym p.one.buddy) p.one.layout
-
 pub areas-within : (m : Layers) → ArePlaced m → AreFreeAreasOf m.frames.buddy.layout m.frames.buddy.areas
 areas-within m p =
     subst (λ (k : LayoutParts). AreFreeAreasOf k m.frames.buddy.areas) (sym p.one.buddy)
@@ -97,9 +94,6 @@ kinds-none m kinds p e =
     copied-none plain_kind plain_kind (pageblock_count m.layout) m.frames.buddy.areas.kinds kinds e
     p.placed.in_order.shape.kinds
 
-pub cpus-limits : (m : Layers) → ArePlaced m → IsLayout m.frames.cpus.layout
-cpus-limits m p = subst IsLayout (sym p.one.cpus) p.one.layout
-
 pub cpus-within : (m : Layers) → ArePlaced m → (cpu : ℕ) (pool : Pool) (frame : ℕ)
     → is_on frame (list_of m.frames.cpus cpu pool) ≡ true → IsFrame m.frames.cpus.layout frame
 cpus-within m p cpu pool frame on =
@@ -113,9 +107,6 @@ pub cached-none : (m : Layers) (lists : List (List ℕ)) → ArePlaced m
     → lists ≡ replicate (3 * m.layout.cpus) [] → AreCopied [] [] 0 m.frames.cpus.cached lists
 cached-none m lists p e =
     copied-none [] [] (3 * m.layout.cpus) m.frames.cpus.cached lists e p.placed.in_order.shape.cached
-
-pub pages-limits : (m : Layers) → ArePlaced m → IsLayout m.pages.layout
-pages-limits m p = subst IsLayout (sym p.one.pages) p.one.layout
 
 pub pages-within : (m : Layers) → ArePlaced m → ArePageFramesOf m.pages.layout m.pages.pages
 pages-within m p =

@@ -1,6 +1,5 @@
 //! One step from an Image to an Image.
 ghost use Rattle.std.specs.Prelude.{◌≡◌, IfOk};
-ghost use Rattle.hp_units.specs.LayoutParts.{IsLayout};
 ghost use Rattle.hp_units.specs.Placement.{IsWellPlaced};
 ghost use Rattle.hp_units.specs.Step.{step};
 
@@ -29,7 +28,6 @@ pub fn step_of_image(
     cpu: Cpu,
     event: &Event,
 ) -> Result<ImageStep, AllocError>
-    requires limits { IsLayout image.now.layout }
     requires placed { IsWellPlaced image.now.layout image.now.memory }
     ensures image { IfOk result (λ s. s.image ≡ record {
       layout = image.now.layout;

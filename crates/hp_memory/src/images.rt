@@ -14,12 +14,12 @@ use std::alloc::{AllocError, Global};
 
 /// The layers of an Image whose state is well placed.
 pub(crate) fn layers_of(alloc: Global, image: &Image) -> Result<Layers, AllocError>
-    requires limits { IsLayout image.now.layout }
     requires placed { IsWellPlaced image.now.layout image.now.memory }
     ensures placed { IfOk result ArePlaced }
     ensures layout { IfOk result (λ m. m.layout ≡ image.now.layout) }
     ensures state { IfOk result (λ m. state_of m ≡ image.now.memory) }
 {
+    keeps_limits(image);
     let buddy = buddy_of(alloc, image)?;
     let cpus = cpus_of(alloc, image)?;
     let pages = pages_of(alloc, image)?;
@@ -32,6 +32,13 @@ pub(crate) fn layers_of(alloc: Global, image: &Image) -> Result<Layers, AllocErr
         kernel,
         blocks,
     })
+}
+
+/// The layout of every Image is within the limits.
+fn keeps_limits(image: &Image)
+    ensures { IsLayout image.now.layout }
+{
+    let _ = image.layout().order();
 }
 
 /// An Image of the layers' state.

@@ -50,7 +50,6 @@ impl Memory {
 
     /// The layers of a well placed state. An error is out of memory.
     pub fn from_image(alloc: Global, image: &Image) -> Result<Memory, AllocError>
-        requires limits { IsLayout image.now.layout }
         requires placed { IsWellPlaced image.now.layout image.now.memory }
         ensures { IfOk result
             (λ memory. memory ≡ record { layout = image.now.layout; state = image.now.memory }) }

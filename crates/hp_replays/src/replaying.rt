@@ -2,7 +2,6 @@
 ghost use Rattle.std.specs.Prelude.{◌≡◌, IfErr, IfOk, OnOk};
 ghost use Rattle.hp_units.specs.Boot.{boot_memory};
 ghost use Rattle.hp_units.specs.History.{IsLegal, value_of};
-ghost use Rattle.hp_units.specs.LayoutParts.{IsLayout};
 ghost use Rattle.hp_units.specs.Placement.{IsWellPlaced};
 ghost use Rattle.hp_history.specs.Course.{started};
 ghost use Rattle.hp_replays.specs.Replaying.{IsCourseOf, IsFault, IsFaultHere, IsFollowed, Refutes};
@@ -57,7 +56,6 @@ pub fn replay_from(
     before: u64,
     records: &[Record],
 ) -> Result<Image, ReplayFault>
-    requires limits { IsLayout base.now.layout }
     requires placed { IsWellPlaced base.now.layout base.now.memory }
     ensures legal { OnOk result (IsLegal base.now.layout base.now.memory before records.now) }
     ensures value { IfOk result (λ image. image ≡ record {

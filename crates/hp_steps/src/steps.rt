@@ -1,6 +1,5 @@
 //! A memory, the records of its steps, and the way back over them.
 ghost use Rattle.std.specs.Prelude.{◌≡◌, [], IfOk, OnErr};
-ghost use Rattle.hp_units.specs.LayoutParts.{IsLayout};
 ghost use Rattle.hp_units.specs.Placement.{IsWellPlaced};
 ghost use Rattle.hp_units.specs.declared.replies.Record.{Record as StepRecord};
 ghost use Rattle.hp_steps.specs.Steps.{IsLater, IsStepped, StepsValue};
@@ -46,7 +45,6 @@ impl Model for Steps {
 impl Steps {
     /// A well placed state, after the steps of these records. An error is out of memory.
     pub fn start(alloc: Global, image: &Image, records: Vec<Record>) -> Result<Steps, AllocError>
-        requires limits { IsLayout image.now.layout }
         requires placed { IsWellPlaced image.now.layout image.now.memory }
         ensures { IfOk result (λ steps. steps ≡ record {
           layout = image.now.layout;

@@ -14,7 +14,6 @@ use std::alloc::{AllocError, Global};
 
 /// The free areas of an Image whose state is well placed. An error is out of memory.
 pub fn buddy_of(alloc: Global, image: &Image) -> Result<Buddy, AllocError>
-    requires limits { IsLayout image.now.layout }
     requires placed { IsWellPlaced image.now.layout image.now.memory }
     ensures { IfOk result
         (λ buddy. buddy ≡ record { layout = image.now.layout; areas = image.now.memory.free.areas }) }
@@ -27,7 +26,6 @@ pub fn buddy_of(alloc: Global, image: &Image) -> Result<Buddy, AllocError>
 
 /// The free blocks of an Image come onto empty lists.
 fn load_lists(buddy: &mut Buddy, image: &Image)
-    requires limits { IsLayout image.now.layout }
     requires placed { IsWellPlaced image.now.layout image.now.memory }
     requires layout { buddy.old.layout ≡ image.now.layout }
     requires none { AreCopied [] [] 0 image.now.memory.free.areas.lists buddy.old.areas.lists }
@@ -64,7 +62,6 @@ fn load_list(buddy: &mut Buddy, image: &Image, class: Class, order: Order)
 
 /// The kinds of an Image's pageblocks come in.
 fn load_kinds(buddy: &mut Buddy, image: &Image)
-    requires limits { IsLayout image.now.layout }
     requires placed { IsWellPlaced image.now.layout image.now.memory }
     requires layout { buddy.old.layout ≡ image.now.layout }
     requires none { AreCopied plain_kind plain_kind 0 image.now.memory.free.areas.kinds

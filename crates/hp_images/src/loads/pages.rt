@@ -15,7 +15,6 @@ use std::alloc::{AllocError, Global};
 
 /// The owners' pages of an Image whose state is well placed. An error is out of memory.
 pub fn pages_of(alloc: Global, image: &Image) -> Result<Pages, AllocError>
-    requires limits { IsLayout image.now.layout }
     requires placed { IsWellPlaced image.now.layout image.now.memory }
     ensures { IfOk result (λ pages. pages ≡ record {
       layout = image.now.layout;
@@ -30,7 +29,6 @@ pub fn pages_of(alloc: Global, image: &Image) -> Result<Pages, AllocError>
 
 /// The entries of an Image's pages come into an empty table.
 fn load_table(pages: &mut Pages, image: &Image)
-    requires limits { IsLayout image.now.layout }
     requires placed { IsWellPlaced image.now.layout image.now.memory }
     requires layout { pages.old.layout ≡ image.now.layout }
     requires none { AreCopied [] (replicate image.now.layout.pages None) 0 image.now.memory.pages.table
@@ -45,7 +43,6 @@ fn load_table(pages: &mut Pages, image: &Image)
 
 /// The entries of one owner's pages come into an empty row.
 fn load_row(pages: &mut Pages, image: &Image, owner: Owner)
-    requires limits { IsLayout image.now.layout }
     requires placed { IsWellPlaced image.now.layout image.now.memory }
     requires layout { pages.old.layout ≡ image.now.layout }
     requires owner { owner < image.now.layout.owners }
@@ -84,7 +81,6 @@ fn load_entry(pages: &mut Pages, image: &Image, owner: Owner, page: Page)
 
 /// The words of an Image's pages come into the buffers of their frames. An error is out of memory.
 fn load_buffers(alloc: Global, pages: &mut Pages, image: &Image) -> Result<(), AllocError>
-    requires limits { IsLayout image.now.layout }
     requires placed { IsWellPlaced image.now.layout image.now.memory }
     requires layout { pages.old.layout ≡ image.now.layout }
     requires table { pages.old.pages.table ≡ image.now.memory.pages.table }
@@ -108,7 +104,6 @@ fn load_buffer(
     image: &Image,
     frame: Frame,
 ) -> Result<(), AllocError>
-    requires limits { IsLayout image.now.layout }
     requires placed { IsWellPlaced image.now.layout image.now.memory }
     requires layout { pages.old.layout ≡ image.now.layout }
     requires table { pages.old.pages.table ≡ image.now.memory.pages.table }

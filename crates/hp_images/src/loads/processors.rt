@@ -15,7 +15,6 @@ use std::alloc::{AllocError, Global};
 
 /// The processors' lists of an Image whose state is well placed. An error is out of memory.
 pub fn cpus_of(alloc: Global, image: &Image) -> Result<Cpus, AllocError>
-    requires limits { IsLayout image.now.layout }
     requires placed { IsWellPlaced image.now.layout image.now.memory }
     ensures { IfOk result
         (λ cpus. cpus ≡ record { layout = image.now.layout; cached = image.now.memory.free.cached }) }
@@ -27,7 +26,6 @@ pub fn cpus_of(alloc: Global, image: &Image) -> Result<Cpus, AllocError>
 
 /// The single frames of an Image come onto empty lists.
 fn load_lists(cpus: &mut Cpus, image: &Image)
-    requires limits { IsLayout image.now.layout }
     requires placed { IsWellPlaced image.now.layout image.now.memory }
     requires layout { cpus.old.layout ≡ image.now.layout }
     requires none { AreCopied [] [] 0 image.now.memory.free.cached cpus.old.cached }

@@ -2,7 +2,6 @@
 ghost use Rattle.std.specs.Prelude.{◌≡◌, ◌+◌, ◌*◌, ◌<◌, ◌≤◌, [], OnOk, length};
 ghost use Rattle.hp_units.specs.Arithmetic.{pageblock_count};
 ghost use Rattle.hp_units.specs.InLayout.{AreFreeAreasOf};
-ghost use Rattle.hp_units.specs.LayoutParts.{IsLayout};
 ghost use Rattle.hp_units.specs.Memory.{free_list, kind_of, plain_kind, with_free_list, with_kind};
 ghost use Rattle.hp_units.specs.Rows.{with_areas};
 ghost use Rattle.hp_images.specs.Tables.{AreCopied};
@@ -14,7 +13,6 @@ use std::alloc::{AllocError, Global};
 
 /// The free areas come into an Image that has none. An error is out of memory.
 pub fn put_areas(alloc: Global, image: &mut Image, buddy: &Buddy) -> Result<(), AllocError>
-    requires limits { IsLayout buddy.now.layout }
     requires layout { image.old.layout ≡ buddy.now.layout }
     requires within { AreFreeAreasOf buddy.now.layout buddy.now.areas }
     requires lists { AreCopied [] [] 0 buddy.now.areas.lists image.old.memory.free.areas.lists }
@@ -29,7 +27,6 @@ pub fn put_areas(alloc: Global, image: &mut Image, buddy: &Buddy) -> Result<(), 
 
 /// The free blocks come onto empty lists.
 fn put_lists(alloc: Global, image: &mut Image, buddy: &Buddy) -> Result<(), AllocError>
-    requires limits { IsLayout buddy.now.layout }
     requires layout { image.old.layout ≡ buddy.now.layout }
     requires within { AreFreeAreasOf buddy.now.layout buddy.now.areas }
     requires lists { AreCopied [] [] 0 buddy.now.areas.lists image.old.memory.free.areas.lists }
@@ -83,7 +80,6 @@ fn put_list(
 
 /// The kinds of the pageblocks come in.
 fn put_kinds(image: &mut Image, buddy: &Buddy) -> Result<(), AllocError>
-    requires limits { IsLayout buddy.now.layout }
     requires layout { image.old.layout ≡ buddy.now.layout }
     requires within { AreFreeAreasOf buddy.now.layout buddy.now.areas }
     requires kinds { AreCopied plain_kind plain_kind 0 buddy.now.areas.kinds

@@ -1,6 +1,5 @@
 //! The owners' pages in an Image.
 ghost use Rattle.std.specs.Prelude.{◌≡◌, ◌<◌, [], None, OnOk, length, replicate, slice_index_or, slice_set};
-ghost use Rattle.hp_units.specs.LayoutParts.{IsLayout};
 ghost use Rattle.hp_units.specs.Memory.{entry_of, with_entry};
 ghost use Rattle.hp_pages.specs.Pages.{ArePageFramesOf, AreSettled, pages_of, words_of, words_row};
 ghost use Rattle.hp_images.specs.Tables.{AreCopied};
@@ -12,7 +11,6 @@ use std::alloc::{AllocError, Global};
 
 /// The owners' pages come into an Image that has none. An error is out of memory.
 pub fn put_pages(alloc: Global, image: &mut Image, pages: &Pages) -> Result<(), AllocError>
-    requires limits { IsLayout pages.now.layout }
     requires layout { image.old.layout ≡ pages.now.layout }
     requires pages { ArePageFramesOf pages.now.layout pages.now.pages }
     requires settled { AreSettled pages.now.pages }
@@ -31,7 +29,6 @@ pub fn put_pages(alloc: Global, image: &mut Image, pages: &Pages) -> Result<(), 
 
 /// The pages of one owner come in, of whom there are none.
 fn put_row(alloc: Global, image: &mut Image, pages: &Pages, owner: Owner) -> Result<(), AllocError>
-    requires limits { IsLayout pages.now.layout }
     requires layout { image.old.layout ≡ pages.now.layout }
     requires pages { ArePageFramesOf pages.now.layout pages.now.pages }
     requires settled { AreSettled pages.now.pages }

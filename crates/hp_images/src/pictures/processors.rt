@@ -2,7 +2,6 @@
 ghost use Rattle.std.specs.Prelude.{◌≡◌, ℕ, ◌+◌, ◌*◌, ◌<◌, ◌≤◌, true, [], OnOk, length};
 ghost use Rattle.hp_units.specs.Arithmetic.{IsFrame};
 ghost use Rattle.hp_units.specs.FreeAreas.{is_on};
-ghost use Rattle.hp_units.specs.LayoutParts.{IsLayout};
 ghost use Rattle.hp_units.specs.Memory.{cached_list, with_cached_list};
 ghost use Rattle.hp_units.specs.declared.rows.Pool.{Pool};
 ghost use Rattle.hp_cpus.specs.Cpus.{list_of};
@@ -16,7 +15,6 @@ use std::alloc::{AllocError, Global};
 
 /// The processors' lists come into an Image whose lists are empty. An error is out of memory.
 pub fn put_cpus(alloc: Global, image: &mut Image, cpus: &Cpus) -> Result<(), AllocError>
-    requires limits { IsLayout cpus.now.layout }
     requires layout { image.old.layout ≡ cpus.now.layout }
     requires within { (cpu : ℕ) (pool : Pool) (frame : ℕ) → is_on frame (list_of cpus.now cpu pool) ≡ true
         → IsFrame cpus.now.layout frame }

@@ -1,12 +1,8 @@
 -- Each part of the state in its turn.
 use Rattle.std.proofs.Common.{sym, ◌∙◌, ap}
 use Rattle.hp_layers.specs.Layers.{state_of}
-use Rattle.hp_memory.proofs.Pictured.{areas-is, areas-limits, areas-within, blocks-is, blocks-within, cached-none, contents-none, cpus-limits, cpus-size, cpus-within, free-is, kernel-is, kernel-none, kernel-orders, kernel-size, kinds-none, lists-none, none-is, pages-is, pages-limits, pages-put, pages-settled, pages-within, rows-none, table-none}
+use Rattle.hp_memory.proofs.Pictured.{areas-is, areas-within, blocks-is, blocks-within, cached-none, contents-none, cpus-size, cpus-within, free-is, kernel-is, kernel-none, kernel-orders, kernel-size, kinds-none, lists-none, none-is, pages-is, pages-put, pages-settled, pages-within, rows-none, table-none}
 use Rattle.hp_memory.proofs.images.image_of.Goals as goal
-
-pub put_areas-requires-clause-limits : goal.put_areas-requires-clause-limits
-put_areas-requires-clause-limits c =
-    areas-limits c.args.layers.now c.requires.placed
 
 pub put_areas-requires-clause-layout : goal.put_areas-requires-clause-layout
 put_areas-requires-clause-layout c =
@@ -26,10 +22,6 @@ pub put_areas-requires-clause-kinds : goal.put_areas-requires-clause-kinds
 put_areas-requires-clause-kinds c =
     kinds-none c.args.layers.now _ c.requires.placed (ap (λ i. i.memory.free.areas.kinds) (none-is
     c.args.layers.now.layout c.in_ok-image.image c.in_ok-image.ensures.layout c.in_ok-image.ensures.memory))
-
-pub put_cpus-requires-clause-limits : goal.put_cpus-requires-clause-limits
-put_cpus-requires-clause-limits c =
-    cpus-limits c.args.layers.now c.requires.placed
 
 pub put_cpus-requires-clause-layout : goal.put_cpus-requires-clause-layout
 put_cpus-requires-clause-layout c =
@@ -54,10 +46,6 @@ put_cpus-requires-clause-lists c =
     (none-is c.args.layers.now.layout c.in_ok-image.image c.in_ok-image.ensures.layout
     c.in_ok-image.ensures.memory)
     c.in_ok-put_areas.ensures))
-
-pub put_pages-requires-clause-limits : goal.put_pages-requires-clause-limits
-put_pages-requires-clause-limits c =
-    pages-limits c.args.layers.now c.requires.placed
 
 pub put_pages-requires-clause-layout : goal.put_pages-requires-clause-layout
 put_pages-requires-clause-layout c =

@@ -1,20 +1,18 @@
 -- Each volume that is not at fault leads on; in the end the journal begins at the state after all of them.
 use Rattle.std.proofs.lemmas.Option.{slice_get_read}
 use Rattle.std.proofs.lemmas.Result.{err_from_is_err_and}
-use Rattle.std.proofs.Common.{◌∙◌, length, refl, sym, subst}
-use Rattle.hp_units.specs.LayoutParts.{IsLayout}
+use Rattle.std.proofs.Common.{◌∙◌, length, refl}
 use Rattle.hp_laws.proofs.Boots.{boot-placed}
 use Rattle.hp_replays.proofs.ChainEnds.{begins_with, begun_at_boot, chain_refuted, end_placed, end_shown, ends_all, ends_more, ends_none, fault_after}
 use Rattle.hp_replays.proofs.chains.audit_chain.Goals as goal
 
-pub from_image-requires-clause-limits : goal.from_image-requires-clause-limits
-from_image-requires-clause-limits c =
-    subst IsLayout (sym c.in_ok-base.ensures.layout) c.in_ok-base.ensures.limits
-
-pub from_image-requires-clause-placed : goal.from_image-requires-clause-placed
-from_image-requires-clause-placed c =
-    rw (c.in_ok-base.ensures.layout, c.in_ok-base.ensures.memory)
-    (boot-placed c.args.layout.now c.in_ok-base.ensures.limits)
+pub from_image-requires : goal.from_image-requires
+from_image-requires c =
+    record {
+      placed =
+          rw (c.in_ok-base.ensures.layout, c.in_ok-base.ensures.memory)
+          (boot-placed c.args.layout.now c.in_ok-base.ensures.limits);
+    }
 
 pub loop-place-init : goal.loop-place-init
 loop-place-init c =

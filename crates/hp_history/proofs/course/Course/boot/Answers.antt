@@ -1,17 +1,15 @@
 -- The state at boot is well placed.
-use Rattle.std.proofs.Common.{rules, sym, subst}
-use Rattle.hp_units.specs.LayoutParts.{IsLayout}
+use Rattle.std.proofs.Common.{rules}
 use Rattle.hp_laws.proofs.Boots.{boot-placed}
 use Rattle.hp_history.proofs.course.Course.boot.Goals as goal
 
-pub from_image-requires-clause-limits : goal.from_image-requires-clause-limits
-from_image-requires-clause-limits c =
-    subst IsLayout (sym c.in_ok-base.ensures.layout) c.in_ok-base.ensures.limits
-
-pub from_image-requires-clause-placed : goal.from_image-requires-clause-placed
-from_image-requires-clause-placed c =
-    rw (c.in_ok-base.ensures.layout, c.in_ok-base.ensures.memory)
-    (boot-placed c.args.layout.now c.in_ok-base.ensures.limits)
+pub from_image-requires : goal.from_image-requires
+from_image-requires c =
+    record {
+      placed =
+          rw (c.in_ok-base.ensures.layout, c.in_ok-base.ensures.memory)
+          (boot-placed c.args.layout.now c.in_ok-base.ensures.limits);
+    }
 
 pub returns-in_err-base-clause-start : goal.returns-in_err-base-clause-start
 returns-in_err-base-clause-start c = search rules

@@ -1,6 +1,8 @@
-use Rattle.std.proofs.Common.{rules}
--- An event that is no UndoAfter and no Cancel is a step.
-use Rattle.hp_history.proofs.Cuts.{acts}
+use Rattle.std.proofs.Common.{refl, sym, subst, rules}
+-- An event that is no UndoAfter and no Cancel is a step, and only a step may need memory.
+use Rattle.hp_history.specs.Kept.{IsStep}
+use Rattle.hp_history.proofs.Cuts.{acts, step_needs}
+use Rattle.hp_history.proofs.Names.{Event}
 use Rattle.hp_history.proofs.journal.Journal.answer.Goals as goal
 
 pub act-requires-in_default : goal.act-requires-in_default
@@ -8,6 +10,24 @@ act-requires-in_default c = record {
   free = c.requires.free;
   step = acts c.args.self.now c.args.cpu c.args.event.now c.in_default.not-UndoAfter c.in_default.not-Cancel;
 }
+
+pub returns-in-UndoAfter-clause-succeeds : goal.returns-in-UndoAfter-clause-succeeds
+returns-in-UndoAfter-clause-succeeds c = λ _. refl
+
+pub returns-in-Some-clause-succeeds : goal.returns-in-Some-clause-succeeds
+returns-in-Some-clause-succeeds c = λ _. refl
+
+pub returns-in-None-clause-succeeds : goal.returns-in-None-clause-succeeds
+returns-in-None-clause-succeeds c =
+    λ need. absurd (step_needs c.args.self.now c.args.cpu c.args.event.now
+    (subst (λ (e : Event). IsStep c.args.self.now c.args.cpu e) (sym c.in-Cancel.is) c.in-None.ensures.step)
+    (λ serial e. cc (e, c.in-Cancel.is)) need)
+
+pub returns-in_default-clause-succeeds : goal.returns-in_default-clause-succeeds
+returns-in_default-clause-succeeds c =
+    λ need. absurd (step_needs c.args.self.now c.args.cpu c.args.event.now
+    (acts c.args.self.now c.args.cpu c.args.event.now c.in_default.not-UndoAfter c.in_default.not-Cancel)
+    c.in_default.not-UndoAfter need)
 
 pub returns-in-UndoAfter-clause-err : goal.returns-in-UndoAfter-clause-err
 returns-in-UndoAfter-clause-err c = search rules
@@ -27,5 +47,8 @@ returns-in-None-clause-err c = search rules
 pub returns-in-None-clause-ok : goal.returns-in-None-clause-ok
 returns-in-None-clause-ok c = search rules
 
-pub returns-in_default : goal.returns-in_default
-returns-in_default c = search rules
+pub returns-in_default-clause-err : goal.returns-in_default-clause-err
+returns-in_default-clause-err c = search rules
+
+pub returns-in_default-clause-ok : goal.returns-in_default-clause-ok
+returns-in_default-clause-ok c = search rules

@@ -10,7 +10,6 @@ load_lists-requires c =
     let new = c.in_ok-buddy.ensures.value ∙ ap (λ l. record { layout = l; areas = empty_areas l })
     c.layout.ensures in
     record {
-      limits = c.requires.limits;
       placed = c.requires.placed;
       layout = ap (λ b. b.layout) new;
       none = copied-none [] [] _ _ _ (ap (λ b. b.areas.lists) new) c.requires.placed.in_order.shape.lists;
@@ -21,7 +20,6 @@ load_kinds-requires c =
     let new = c.in_ok-buddy.ensures.value ∙ ap (λ l. record { layout = l; areas = empty_areas l })
     c.layout.ensures in
     record {
-      limits = c.requires.limits;
       placed = c.requires.placed;
       layout = c.load_lists.ensures.layout ∙ ap (λ b. b.layout) new;
       none =

@@ -1,6 +1,6 @@
 -- One kind further.
 use Rattle.std.proofs.Common.{◌<◌, ℕ, sym, ◌∙◌, ap, refl, subst}
-use Rattle.hp_units.specs.LayoutParts.{LayoutParts}
+use Rattle.hp_units.specs.LayoutParts.{IsLayout, LayoutParts}
 use Rattle.hp_units.specs.Arithmetic.{pageblock_count}
 use Rattle.hp_units.specs.Memory.{plain_kind}
 use Rattle.hp_images.proofs.FilledLists.{same_areas}
@@ -9,7 +9,8 @@ use Rattle.hp_images.proofs.loads.areas.load_kinds.Goals as goal
 
 pub overflow_mul-number-end : goal.overflow_mul-number-end
 overflow_mul-number-end c =
-    pageblocks-fit c.blocks-2.result c.pageblocks.result c.args.image.now.layout c.requires.limits
+    pageblocks-fit c.blocks-2.result c.pageblocks.result c.args.image.now.layout
+    (subst IsLayout c.layout.ensures c.blocks-2.ensures.layout)
     (c.blocks-2.ensures.is ∙ ap (λ k. k.blocks) c.layout.ensures)
     (c.pageblocks.ensures.is ∙ ap (λ k. k.pageblocks) c.layout-2.ensures)
 

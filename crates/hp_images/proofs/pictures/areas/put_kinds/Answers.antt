@@ -1,5 +1,6 @@
 -- One kind further.
 use Rattle.std.proofs.Common.{◌<◌, ℕ, sym, ◌∙◌, ap, refl, subst, arith}
+use Rattle.hp_units.specs.LayoutParts.{IsLayout}
 use Rattle.hp_units.specs.Memory.{plain_kind}
 use Rattle.hp_images.proofs.Images.{kinds-kept, with_kinds}
 use Rattle.hp_images.proofs.Tables.{copied-all, copied-next, pageblocks-fit, product-end, product-low}
@@ -7,7 +8,8 @@ use Rattle.hp_images.proofs.pictures.areas.put_kinds.Goals as goal
 
 pub overflow_mul-number-end : goal.overflow_mul-number-end
 overflow_mul-number-end c =
-    pageblocks-fit c.blocks-2.result c.pageblocks.result c.args.buddy.now.layout c.requires.limits
+    pageblocks-fit c.blocks-2.result c.pageblocks.result c.args.buddy.now.layout
+    (subst IsLayout (c.layout.ensures ∙ c.requires.layout) c.blocks-2.ensures.layout)
     (c.blocks-2.ensures.is ∙ ap (λ k. k.blocks) (c.layout.ensures ∙ c.requires.layout))
     (c.pageblocks.ensures.is ∙ ap (λ k. k.pageblocks) (c.layout-2.ensures ∙ c.requires.layout))
 

@@ -29,3 +29,9 @@ returns-clause-err c = search rules
 
 pub returns-clause-ok : goal.returns-clause-ok
 returns-clause-ok c = search rules
+
+pub returns-then-is_full-clause-succeeds : goal.returns-then-is_full-clause-succeeds
+returns-then-is_full-clause-succeeds c = search rules
+
+pub returns-clause-succeeds : goal.returns-clause-succeeds
+returns-clause-succeeds c = search rules
