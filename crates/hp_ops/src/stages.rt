@@ -1,5 +1,5 @@
 //! How far the driver of a plan is: what it asks for next, or how its run ended.
-ghost use Rattle.std.specs.Prelude.{◌≡◌, ◌-◌, ◌≤◌, ℕ, [], IfOk, List, None, Some, cond};
+ghost use Rattle.std.specs.Prelude.{◌≡◌, ◌-◌, ◌≤◌, ℕ, [], IfOk, List, None, OnErr, Some, cond};
 ghost use Rattle.hp_units.specs.Driver.{cause_after, is_migrate};
 ghost use Rattle.hp_ops.specs.Names.{Begin, Cancel, Commit, DrainFor, Item, Migrate};
 ghost use Rattle.hp_ops.specs.Stages.{EndsAs, Follows, IsAfter, IsRound, MovesOn, end_in, event_in, undone_by, work_in};
@@ -53,9 +53,11 @@ impl Driver {
     }
 
     /// The event to ask for next, or `None` where the run is over (Linux, memory hotplug:
-    /// offlining; own rule). An error is out of memory: a Begin has a copy of the plan.
+    /// offlining; own rule). An error is out of memory: a Begin has a copy of the plan, and only
+    /// where a Begin comes next is there one.
     pub fn next(&self, alloc: Global, plan: &Plan) -> Result<Option<Event>, AllocError>
-        ensures { IfOk result (λ next. next ≡ event_in plan.now self.now.stage) }
+        ensures ok { IfOk result (λ next. next ≡ event_in plan.now self.now.stage) }
+        ensures err { OnErr result (event_in plan.now self.now.stage ≡ Some (Begin plan.now)) }
     {
         match self.stage {
             Stage::Begin => Ok(Some(Event::Begin {
