@@ -232,7 +232,13 @@ audit_fails input ends volumes m count AuditDiffers ran h =
     )
 audit_fails input ends volumes m count WriteFailed ran h = absurd h
 audit_fails input ends volumes m count (BrokenChain n) ran h =
-    (tt, inr (tt, refuted input ends volumes m count (BrokenChain n) ran h))
+    let parted = ap (λ (r : Result ScenarioValue ScenarioFault). r >>= scripts_of) ran.read ∙ ran.parted in (
+      tt,
+      (
+        differing input ran.scenario.layout ran.scripts ends volumes m count parted ran.worked h.1,
+        inr (tt, refuted input ends volumes m count (BrokenChain n) ran h),
+      ),
+    )
 
 -- ---- the text of an audit
 

@@ -1,8 +1,12 @@
 -- From the parts of a run to the whole: what was read, how its lines were parted and worked off, and why not.
-use Rattle.std.proofs.Common.{◌≡◌, ℕ, List, length, Option, Some, None, Result, Ok, sym, ap, subst, ◌∙◌, inl, inr}
+use Rattle.std.proofs.Common.{◌≡◌, ℕ, ◌<◌, List, length, Option, Some, None, Result, Ok, sym, ap, subst, ◌∙◌, arith, inl, inr}
+use Rattle.std.specs.Prelude.{◌≢◌, ◌⊎◌}
+use Rattle.std.proofs.lemmas.List.FromFn.{length-map-range_with_len}
+use Rattle.std.proofs.lemmas.Option.{slice_get_within}
 use Rattle.hp_units.specs.Boot.{boot_memory}
 use Rattle.hp_units.specs.LayoutParts.{LayoutParts}
 use Rattle.hp_machine.specs.Machine.{MachineValue}
+use Rattle.hp_history.specs.Volumes.{records_in}
 use Rattle.hp_history.specs.declared.volumes.Volume.{Volume}
 use Rattle.hp_scenario.specs.declared.fault.ScenarioFault.{ScenarioFault}
 use Rattle.hp_scenario.specs.declared.fault.ScenarioFault.TheVariants as scenario
@@ -13,17 +17,19 @@ use Rattle.hp_scenario.specs.Scripts.{scripts_of}
 use Rattle.hp_shared.specs.declared.closing.CloseFault.{CloseFault}
 use Rattle.hp_shared.specs.declared.closing.CloseFault.TheVariants as closing
 use Rattle.hp_shared.specs.Closing.{HasCause, IsClosed}
-use Rattle.hp_shared.specs.Shared.{SeatValue, first_seats}
+use Rattle.hp_shared.specs.Shared.{SeatValue, first_seat, first_seats}
+use Rattle.hp_shared.specs.Volumes.{IsMiscounted}
 use Rattle.hp_workers.specs.declared.fault.RunFault.{RunFault}
 use Rattle.hp_workers.specs.declared.fault.RunFault.TheVariants as running
 use Rattle.hp_workers.specs.declared.lines.LineEnd.{LineEnd}
+use Rattle.hp_workers.specs.Seals.{seals_in_all}
 use Rattle.hp_workers.specs.Workers.{AreGathered, IsRunEnd}
 use Rattle.hp_commands.specs.Faults.{IsFaultOf, IsUnfinished, IsWorkFault, close_fault_from, fault_from, run_fault_from}
 use Rattle.hp_commands.specs.Runs.{IsRunOf, IsWorkedOff}
 use Rattle.hp_commands.specs.declared.fault.ProgramFault.{ProgramFault}
 use Rattle.hp_commands.specs.declared.fault.ProgramFault.TheVariants.{ReadFailed, TooLong, NotJson, BadShape, Layout, BadLine, NotForRun, OutOfMemory, NotStarted, SeatMissing, Mismatch, WrongReply, WrongSerial, AuditDiffers, WriteFailed, BrokenChain}
 use Rattle.hp_commands.specs.declared.commands.Command.TheVariants.{Run}
-use Rattle.hp_commands.proofs.Seated.{has_each}
+use Rattle.hp_commands.proofs.Seated.{has_each, not_first, seals_counted}
 use Rattle.hp_commands.proofs.Unfit.{only_not_for_run}
 
 -- ---- why not
@@ -50,20 +56,45 @@ unfit input s (scenario.NotForRun line) read h =
     (tt, ap (λ (r : Result ScenarioValue ScenarioFault). r >>= scripts_of) read ∙ h)
 unfit input s scenario.OutOfMemory read h = tt
 
+-- the worker that was not started is of another processor than the first
+other_than_first : (l : LayoutParts) (scripts : List (List Line)) (news : List SeatValue)
+    (volumes : List Volume) (ends : List (List LineEnd)) (cpu : ℕ)
+    → length scripts ≡ l.cpus
+    → IsRunEnd l (first_seats l.cpus) scripts news volumes ends (Some (running.NotStarted cpu))
+    → (0 < cpu) × (cpu < l.cpus)
+other_than_first l scripts news volumes ends cpu count (inl unstarted) =
+    let bad : Some (running.NotStarted cpu) ≡ Some running.OutOfMemory = unstarted.fault_is in absurd cc
+other_than_first l scripts news volumes ends cpu count (inr all) =
+    not_first l scripts news all.handed ends cpu count all.workers
+
 -- a worker was not started, or it was out of memory
 pub unstarted : (l : LayoutParts) (olds : List SeatValue) (scripts : List (List Line)) (news : List SeatValue)
     (volumes : List Volume) (ends : List (List LineEnd)) (ended : Option RunFault) (fault : RunFault)
-    → olds ≡ first_seats l.cpus → ended ≡ Some fault → IsRunEnd l olds scripts news volumes ends ended
-    → IsWorkFault l scripts (run_fault_from fault)
-unstarted l olds scripts news volumes ends ended (running.NotStarted cpu) first is run = record {
-  seats = news;
-  volumes = volumes;
-  ends = ends;
-  run =
-      subst (λ (f : Option RunFault). IsRunEnd l (first_seats l.cpus) scripts news volumes ends f) is
-      (subst (λ (xs : List SeatValue). IsRunEnd l xs scripts news volumes ends ended) first run);
-}
-unstarted l olds scripts news volumes ends ended running.OutOfMemory first is run = tt
+    → olds ≡ first_seats l.cpus → ended ≡ Some fault → length scripts ≡ l.cpus
+    → IsRunEnd l olds scripts news volumes ends ended → IsWorkFault l scripts (run_fault_from fault)
+unstarted l olds scripts news volumes ends ended (running.NotStarted cpu) first is count run =
+    let here : IsRunEnd l (first_seats l.cpus) scripts news volumes ends (Some (running.NotStarted cpu)) =
+    subst (λ (f : Option RunFault). IsRunEnd l (first_seats l.cpus) scripts news volumes ends f) is
+    (subst (λ (xs : List SeatValue). IsRunEnd l xs scripts news volumes ends ended) first run) in
+    let other = other_than_first l scripts news volumes ends cpu count here in
+    (other.0, other.1, record { seats = news; volumes = volumes; ends = ends; run = here })
+unstarted l olds scripts news volumes ends ended running.OutOfMemory first is count run = tt
+
+-- a volume that does not follow is there, so a line seals
+some_seals : (l : LayoutParts) (scripts : List (List Line)) (seats : List SeatValue)
+    (ends : List (List LineEnd)) (volumes : List Volume) (at : ℕ)
+    → length scripts ≡ l.cpus → AreGathered l (first_seats l.cpus) scripts seats volumes ends None
+    → HasCause l seats volumes (closing.WrongVolume at) → seals_in_all scripts ≢ 0
+some_seals l scripts seats ends volumes at count all cause none = by_place cause.fault.1.wrong
+  where
+    by_place : IsMiscounted volumes at
+        ⊎ ((at ≡ length volumes) × (records_in volumes ≢ cause.seen.machine.before)) → ⊥
+    by_place (inl (v, here, other)) =
+        let inside = slice_get_within volumes at v here in omega (arith, inside, all.few, none)
+    by_place (inr (last, other)) =
+        let full : length seats ≡ l.cpus =
+        all.workers.seats ∙ length-map-range_with_len first_seat 0 l.cpus in
+        other (sym (seals_counted l scripts seats volumes ends None count all) ∙ (cause.all full).handed)
 
 -- the machine was not closed: no seat is missing
 pub unclosed : (l : LayoutParts) (scripts : List (List Line)) (seats : List SeatValue)
@@ -72,8 +103,10 @@ pub unclosed : (l : LayoutParts) (scripts : List (List Line)) (seats : List Seat
     → HasCause l seats volumes fault → IsWorkFault l scripts (close_fault_from fault)
 unclosed l scripts seats ends volumes closing.SeatMissing count all cause =
     absurd (cause.fault (has_each l scripts seats all.handed ends None count all.workers))
-unclosed l scripts seats ends volumes (closing.WrongVolume at) count all cause =
-    record { seats = seats; volumes = volumes; ends = ends; workers = all; cause = cause }
+unclosed l scripts seats ends volumes (closing.WrongVolume at) count all cause = (
+  some_seals l scripts seats ends volumes at count all cause,
+  record { seats = seats; volumes = volumes; ends = ends; workers = all; cause = cause },
+)
 unclosed l scripts seats ends volumes (closing.Mismatch serial) count all cause =
     record { seats = seats; volumes = volumes; ends = ends; workers = all; cause = cause }
 unclosed l scripts seats ends volumes closing.OutOfMemory count all cause = tt
@@ -105,8 +138,17 @@ work_fails input s scripts (WrongReply serial) read parted h = absurd h
 work_fails input s scripts (WrongSerial at) read parted h = absurd h
 work_fails input s scripts AuditDiffers read parted h = absurd h
 work_fails input s scripts WriteFailed read parted h = absurd h
-work_fails input s scripts (BrokenChain at) read parted h =
-    (tt, inl (unfinished input s scripts (BrokenChain at) read parted h))
+work_fails input s scripts (BrokenChain at) read parted h = (
+  tt,
+  (
+    (
+      scripts,
+      ap (λ (r : Result ScenarioValue ScenarioFault). r >>= scripts_of) read ∙ parted,
+      h.0,
+    ),
+    inl (unfinished input s scripts (BrokenChain at) read parted h),
+  ),
+)
 
 -- in the layout of the machine that was booted
 pub work_fails_at : (input : List ℕ) (s : ScenarioValue) (l : LayoutParts) (scripts : List (List Line))

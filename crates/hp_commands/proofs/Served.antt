@@ -75,7 +75,8 @@ fault_of_read command a b input read written WriteFailed p end h = absurd h
 fault_of_read command a b input read written (BrokenChain n) p end h = (
   h.0,
   given a b input p end
-      (λ i. IsUnfinished i (BrokenChain n) ⊎ (IsAudit command × IsRefuted i (BrokenChain n))) h.1,
+      (λ i. SealsSome i
+      × (IsUnfinished i (BrokenChain n) ⊎ (IsAudit command × IsRefuted i (BrokenChain n)))) h.1,
 )
 
 -- the lines' text and the state's, where they are due

@@ -1,10 +1,12 @@
 -- What the functions that write a line did, said as their contracts say it.
-use Rattle.std.proofs.Common.{◌≡◌, ℕ, List, ◌++◌, Result, Ok, refl, sym, ap, subst, ◌∙◌, inl, inr}
+use Rattle.std.proofs.Common.{◌≡◌, ℕ, List, [], ◌++◌, Some, None, Result, Ok, refl, sym, ap, subst, ◌∙◌, inl, inr}
 use Rattle.hp_units.specs.declared.plans.Item.{Item}
+use Rattle.hp_units.specs.declared.replies.CallFault.{CallFault}
 use Rattle.hp_units.specs.declared.replies.OpEnd.{OpEnd}
+use Rattle.hp_units.specs.declared.replies.OpEnd.TheVariants.{Left}
 use Rattle.hp_memory.specs.Memory.{MemoryValue}
 use Rattle.hp_machine.specs.Machine.{MachineValue}
-use Rattle.hp_machine.specs.MachinePorts.{IsPlanRun}
+use Rattle.hp_machine.specs.MachinePorts.{HasCause, IsPlanRun}
 use Rattle.hp_requests.specs.declared.fault.ControlFault.{ControlFault}
 use Rattle.hp_requests.specs.declared.fault.ControlFault.TheVariants.{NoFile, ReadOnly, BadText, OutOfMemory, WriteOnly}
 use Rattle.hp_requests.specs.Gives.{Fails}
@@ -16,6 +18,18 @@ use Rattle.hp_commands.specs.Plans.{WritesPlan}
 use Rattle.hp_commands.specs.Serial.{GrowsBy}
 
 -- ---- a plan
+
+-- no call was made, and the fault has its cause
+pub left_unasked : (m : MachineValue) (cpu turns : ℕ) (plan : List Item) (fault : CallFault)
+    → HasCause (Some fault) m → IsPlanRun m cpu turns plan (Left None fault) m
+left_unasked m cpu turns plan fault cause =
+    record {
+      receipts = [];
+      fault = Some fault;
+      calls = refl;
+      cause = cause;
+      run = record { events = tt; ends = refl };
+    }
 
 pub plan_written : (m new : MachineValue) (cpu turns : ℕ) (plan copied : List Item) (end : OpEnd)
     (old out : List ℕ)

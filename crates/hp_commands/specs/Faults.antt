@@ -1,5 +1,5 @@
 -- Which fault comes when.
-use Rattle.std.specs.Prelude.{◌≡◌, ◌⊎◌, ℕ, ◌<◌, List, length, Option, Some, None, Ok, Err, IfSome}
+use Rattle.std.specs.Prelude.{◌≡◌, ◌≢◌, ◌⊎◌, ℕ, ◌<◌, List, length, Option, Some, None, Ok, Err, IfSome}
 use Rattle.hp_units.specs.LayoutParts.{LayoutParts}
 use Rattle.hp_machine.specs.Machine.{MachineValue}
 use Rattle.hp_history.specs.declared.volumes.Volume.{Volume}
@@ -19,6 +19,7 @@ use Rattle.hp_shared.specs.declared.closing.CloseFault.TheVariants as closing
 use Rattle.hp_streams.specs.Reading.{limit}
 use Rattle.hp_streams.specs.declared.reading.ReadFault.{ReadFault}
 use Rattle.hp_streams.specs.declared.reading.ReadFault.TheVariants as reading
+use Rattle.hp_workers.specs.Seals.{seals_in_all}
 use Rattle.hp_workers.specs.Workers.{AreGathered, IsRunEnd}
 use Rattle.hp_workers.specs.declared.lines.LineEnd.{LineEnd}
 use Rattle.hp_workers.specs.declared.fault.RunFault.{RunFault}
@@ -85,13 +86,15 @@ pub record IsUnclosed (l : LayoutParts) (scripts : List (List Line)) (why : Clos
   pub workers : AreGathered l (first_seats l.cpus) scripts seats volumes ends None
   pub cause : HasCause l seats volumes why
 
--- why scripts are not worked off: a worker was not started, or the machine was not closed. That a
--- seat is missing never comes
+-- why scripts are not worked off: a worker of another processor than the first was not started, or
+-- the machine was not closed. That a seat is missing never comes
 abbrev pub IsWorkFault : LayoutParts → List (List Line) → ProgramFault → Type 0
 IsWorkFault l scripts OutOfMemory = Unit {0}
-IsWorkFault l scripts (NotStarted cpu) = IsStopped l scripts (running.NotStarted cpu)
+IsWorkFault l scripts (NotStarted cpu) =
+    (0 < cpu) × (cpu < l.cpus) × IsStopped l scripts (running.NotStarted cpu)
 IsWorkFault l scripts (Mismatch serial) = IsUnclosed l scripts (closing.Mismatch serial)
-IsWorkFault l scripts (BrokenChain at) = IsUnclosed l scripts (closing.WrongVolume at)
+IsWorkFault l scripts (BrokenChain at) =
+    (seals_in_all scripts ≢ 0) × IsUnclosed l scripts (closing.WrongVolume at)
 IsWorkFault l scripts _ = ⊥
 
 -- the bytes are a scenario whose scripts are not worked off, with this fault
@@ -126,7 +129,8 @@ IsAudit Run = ⊥
 IsAudit Audit = Unit {0}
 
 -- when each fault of a command comes: `read` and `written` say that a reader's or a writer's call
--- failed. That a seat is missing, or that a machine's own history is found wrong, never comes
+-- failed. That a seat is missing, or that a machine's own history is found wrong, never comes; nor
+-- what is found of volumes where no line seals
 abbrev pub IsFaultOf : Command → (known : Option (List ℕ)) (read written : Type 0) → ProgramFault → Type 0
 IsFaultOf command known read written ReadFailed = read
 IsFaultOf command known read written TooLong = IfSome known (λ input. limit < length input)
@@ -149,4 +153,5 @@ IsFaultOf command known read written AuditDiffers =
 IsFaultOf command known read written WriteFailed = written
 IsFaultOf command known read written (BrokenChain at) =
     HasWorkers command × IfSome known
-    (λ input. IsUnfinished input (BrokenChain at) ⊎ (IsAudit command × IsRefuted input (BrokenChain at)))
+    (λ input. SealsSome input
+    × (IsUnfinished input (BrokenChain at) ⊎ (IsAudit command × IsRefuted input (BrokenChain at))))

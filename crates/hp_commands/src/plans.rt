@@ -1,11 +1,13 @@
 //! A plan's line.
-ghost use Rattle.std.specs.Prelude.{OnOk, string_bytes};
+ghost use Rattle.std.specs.Prelude.{ℕ, List, OnOk, string_bytes};
+ghost use Rattle.hp_units.specs.declared.plans.Item.{Item};
+ghost use Rattle.hp_machine.specs.MachinePorts.{IsPlanRun};
 ghost use Rattle.hp_commands.specs.Plans.{WritesPlan};
 ghost use Rattle.hp_commands.specs.Serial.{GrowsBy};
 
 use hp_machine::UnrecordedMachine;
 use hp_text::write_plan_end;
-use hp_units::{Cpu, Plan};
+use hp_units::{CallFault, Cpu, OpEnd, Plan};
 use std::alloc::{AllocError, Global};
 
 /// Runs a plan's driver with at most `turns` migrations, and writes how it ended.
@@ -20,7 +22,35 @@ pub fn write_plan(
     ensures { OnOk result (GrowsBy (string_bytes out.old) (string_bytes out.new)
         (λ text. WritesPlan machine.old cpu turns plan.now text machine.new)) }
 {
-    let plan = plan.copy(alloc)?;
-    let end = machine.run_plan(alloc, cpu, plan, turns);
+    let end = run_to_end(alloc, machine, cpu, plan, turns);
     write_plan_end(out, end)
+}
+
+/// Runs a plan's driver, and answers how it ended. Where memory is refused before its first call, the
+/// operation is left before it begins.
+fn run_to_end(
+    alloc: Global,
+    machine: &mut UnrecordedMachine,
+    cpu: Cpu,
+    plan: &Plan,
+    turns: u32,
+) -> OpEnd
+    ensures { IsPlanRun machine.old cpu turns plan.now result machine.new }
+{
+    match plan.copy(alloc) {
+        Ok(plan) => machine.run_plan(alloc, cpu, plan, turns),
+        Err(AllocError) => left(machine),
+    }
+}
+
+/// The end of any plan that is out of memory before its first call.
+fn left(machine: &UnrecordedMachine) -> OpEnd
+    ensures { (cpu turns : ℕ) (plan : List Item) → IsPlanRun machine.now cpu turns plan result machine.now }
+{
+    let fault = if machine.is_full() {
+        CallFault::HistoryFull
+    } else {
+        CallFault::OutOfMemory
+    };
+    OpEnd::Left { op: None, fault }
 }

@@ -1,10 +1,10 @@
 -- What the lock showed at the end, by what was compared.
-use Rattle.std.proofs.Common.{◌≡◌, ℕ, List, refl, sym, subst, ◌∙◌}
+use Rattle.std.proofs.Common.{◌≡◌, ℕ, List, length, refl, sym, subst, ◌∙◌}
 use Rattle.hp_units.specs.LayoutParts.{LayoutParts}
 use Rattle.hp_history.specs.declared.volumes.Volume.{Volume}
 use Rattle.hp_machine.specs.Machine.{MachineValue, last_serial}
 use Rattle.hp_shared.specs.declared.closing.CloseFault.{CloseFault}
-use Rattle.hp_shared.specs.Closing.{HasFault, IsChecked, IsClosed}
+use Rattle.hp_shared.specs.Closing.{AreCounted, HasCause, HasFault, IsChecked, IsClosed}
 use Rattle.hp_shared.specs.Shared.{IsShared, LockedValue, SeatValue}
 use Rattle.hp_shared.proofs.Sealing.{counted_all}
 
@@ -40,4 +40,16 @@ closed l v m count seats volumes kept own checked = record {
             checked.records ∙ sym (counted_all volumes v.machine (last_serial v.machine) checked.reach refl);
       });
   checked = subst (λ (x : MachineValue). IsChecked x l.cpus seats volumes count) (sym own) checked;
+}
+
+-- a machine that was not closed: the seats count what the lock showed
+pub caused : (l : LayoutParts) (old new : LockedValue) (seats same : List SeatValue) (volumes : List Volume)
+    (why : CloseFault)
+    → new ≡ old → same ≡ seats → (length seats ≡ l.cpus → AreCounted seats old) → IsShared l new
+    → HasFault new.machine l.cpus same volumes why → HasCause l seats volumes why
+caused l old new seats same volumes why still back counted kept fault = record {
+  seen = new;
+  shared = kept;
+  all = λ each. subst (AreCounted seats) (sym still) (counted each);
+  fault = subst (λ (xs : List SeatValue). HasFault new.machine l.cpus xs volumes why) back fault;
 }

@@ -1,5 +1,5 @@
 -- When a shared machine is closed, and why it is not.
-use Rattle.std.specs.Prelude.{◌≡◌, ℕ, List, length}
+use Rattle.std.specs.Prelude.{◌≡◌, ℕ, List, length, sum_by}
 use Rattle.hp_units.specs.LayoutParts.{LayoutParts}
 use Rattle.hp_history.specs.declared.volumes.Volume.{Volume}
 use Rattle.hp_machine.specs.Machine.{MachineValue}
@@ -34,9 +34,24 @@ pub record IsClosed (l : LayoutParts) (seats : List SeatValue) (volumes : List V
   pub shared : IsShared l (record { machine = m; total = count })
   pub checked : IsChecked m l.cpus seats volumes count
 
--- the fault has its cause in what the lock showed
+-- how many receipts all seats have, and how many records their seals handed out
+abbrev pub receipts_in : List SeatValue → ℕ
+receipts_in seats = sum_by (λ seat. length seat.receipts) seats
+
+abbrev pub handed_in : List SeatValue → ℕ
+handed_in seats = sum_by (λ seat. seat.sealed) seats
+
+-- the seats have as many receipts as there are records, and their seals handed out as many records as
+-- are sealed
+pub record AreCounted (seats : List SeatValue) (seen : LockedValue) : Type 0 where
+  pub receipts : receipts_in seats ≡ seen.total
+  pub handed : handed_in seats ≡ seen.machine.before
+
+-- the fault has its cause in what the lock showed; seats as many as there are processors count what
+-- is there
 pub record HasCause (l : LayoutParts) (seats : List SeatValue) (volumes : List Volume)
     (why : CloseFault) : Type 0 where
   pub seen : LockedValue
   pub shared : IsShared l seen
+  pub all : length seats ≡ l.cpus → AreCounted seats seen
   pub fault : HasFault seen.machine l.cpus seats volumes why

@@ -6,7 +6,7 @@ ghost use Rattle.hp_shared.specs.Shared.{IsShared};
 use crate::comparing::{compare, has_each};
 use crate::job::Job;
 use crate::locked::Locked;
-use crate::seat::Seat;
+use crate::seat::{Seat, audit_all};
 use crate::shared::Shared;
 use crate::volumes::wrong_volume;
 use hp_history::Volume;
@@ -72,7 +72,10 @@ pub fn close<L: Job>(
         (λ refused. (refused.seats.items ≡ seats.items) × (refused.volumes.items ≡ volumes.items)) }
     ensures err { IfErr result (λ refused. HasCause L.layout seats.items volumes.items refused.fault) }
 {
-    let locked = shared.into_locked();
+    let mut locked = shared.into_locked();
+    let mut seats = seats;
+    // No effect at run time: the proof reads from this call what the seats count.
+    audit_all(&mut locked, &mut seats);
     match locked.check(alloc, &seats, &volumes) {
         Ok(records) => Ok(Closed {
             machine: locked.into_machine(),

@@ -1,5 +1,5 @@
 //! What lies under the lock.
-ghost use Rattle.std.specs.Prelude.{◌≡◌, ◌↔◌, ◌+◌, ◌≤◌, ◌<◌, Err, IfOk, OnErr, OnOk, IsTrue, length};
+ghost use Rattle.std.specs.Prelude.{◌≡◌, ◌↔◌, ◌+◌, ◌^◌, ◌≤◌, ◌<◌, Err, IfOk, OnErr, OnOk, IsTrue, length};
 ghost use Rattle.hp_units.specs.declared.replies.CallFault.TheVariants.{HistoryFull};
 ghost use Rattle.hp_machine.specs.Machine.{IsCalled, is_full, sealed};
 ghost use Rattle.hp_history.specs.Course.{receipt_for};
@@ -111,6 +111,7 @@ impl<L: Job> Locked<L> {
             ((self.new ≡ self.old) × (handed.new.amount ≡ handed.old.amount)) }
         ensures counted { IfOk result
             (λ volume. handed.new.amount ≡ handed.old.amount + length volume.records) }
+        ensures few { OnOk result (handed.new.amount < 2 ^ 64) }
         ensures volume { IfOk result (λ volume. volume ≡ volume_of self.old.machine) }
         ensures goes_on { OnOk result (self.new.machine ≡ sealed self.old.machine) }
         ensures total { self.new.total ≡ self.old.total }
@@ -121,10 +122,35 @@ impl<L: Job> Locked<L> {
         ensures kept { IsShared L.layout self.new }
     {
         self.book.audit(share);
+        self.sealed.audit(handed);
+        // No effect at run time: the proof reads the bound on the number of all records from this call.
+        let _ = self.machine.last_serial();
         let volume = self.machine.seal(alloc)?;
         self.sealed
             .add(handed, volume.records.as_slice().len() as u64);
         Ok(volume)
+    }
+
+    /// Tells how shares stand to the totals: those with a part for each processor have them. It has no
+    /// effect.
+    pub(crate) fn audit(&mut self, share: &mut Share<L>, handed: &mut Share<Sealed<L>>)
+        ensures locked { self.new ≡ self.old }
+        ensures share { (share.new.parts ≡ share.old.parts) × (share.new.amount ≡ share.old.amount) }
+        ensures handed { (handed.new.parts ≡ handed.old.parts)
+            × (handed.new.amount ≡ handed.old.amount) }
+        ensures total { share.old.parts ≡ L.layout.cpus → share.old.amount ≡ self.old.total }
+        ensures sealed { handed.old.parts ≡ L.layout.cpus
+            → handed.old.amount ≡ self.old.machine.before }
+    {
+        self.book.audit(share);
+        self.sealed.audit(handed);
+    }
+
+    /// Tells that there is a processor. It has no effect.
+    pub(crate) fn has_processors(&self)
+        ensures { 1 ≤ L.layout.cpus }
+    {
+        let _ = self.machine.layout().cpus();
     }
 
     /// The number of processors.

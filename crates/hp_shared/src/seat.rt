@@ -1,10 +1,12 @@
 //! A processor's access to the shared machine.
-ghost use Rattle.std.specs.Prelude.{◌≡◌, ◌<◌, [], Err, IfOk, OnErr, length};
+ghost use Rattle.std.specs.Prelude.{◌≡◌, ◌+◌, ◌<◌, [], Err, IfOk, OnErr, length, vec_capacity};
 ghost use Rattle.hp_units.specs.declared.replies.CallFault.TheVariants.{HistoryFull};
+ghost use Rattle.hp_shared.specs.Closing.{AreCounted, handed_in, receipts_in};
 ghost use Rattle.hp_shared.specs.Shared.{IsSeatCall, MayBeFull, first_seat};
 ghost use Rattle.hp_shared.specs.Volumes.{IsSealOf, sealed_by};
 
 use crate::job::{Job, Sealed};
+use crate::locked::Locked;
 use crate::shared::Shared;
 use hp_history::Volume;
 use hp_units::{CallFault, Cpu, Event, Receipt, Reply};
@@ -15,13 +17,14 @@ use std::sync::ledger::Share;
 
 /// The one access of a processor to the shared machine (own rule). It keeps a receipt of each of
 /// its calls, and holds shares of one part of the machine's totals: the number of its receipts, and
-/// how many records its seals handed out. Shares take no memory.
+/// how many records its seals handed out, which it counts. Shares take no memory.
 #[derive(Drop)]
 pub struct Seat<L: Job> {
     cpu: Cpu,
     receipts: Vec<Receipt>,
     share: Share<L>,
     sealed: Share<Sealed<L>>,
+    handed: u64,
 }
 
 impl<L: Job> Model for Seat<L> {
@@ -35,7 +38,7 @@ impl<L: Job> Model for Seat<L> {
 
     ghost invariant = { λ s.
         (s.cpu < L.layout.cpus) × (s.share.parts ≡ 1) × (s.share.amount ≡ length s.receipts.items)
-        × (s.sealed.parts ≡ 1) };
+        × (s.sealed.parts ≡ 1) × (s.sealed.amount ≡ s.handed) };
 }
 
 impl<L: Job> Seat<L> {
@@ -51,6 +54,7 @@ impl<L: Job> Seat<L> {
             receipts: Vec::new(alloc),
             share,
             sealed,
+            handed: 0,
         }
     }
 
@@ -120,7 +124,9 @@ impl<L: Job> Seat<L> {
         ensures seat { IfOk result (λ volume. self.new ≡ sealed_by self.old volume) }
         ensures err { OnErr result (self.new ≡ self.old) }
     {
-        shared.seal(rt, alloc, &mut self.share, &mut self.sealed)
+        let volume = shared.seal(rt, alloc, &mut self.share, &mut self.sealed)?;
+        self.handed += volume.records.as_slice().len() as u64;
+        Ok(volume)
     }
 
     /// The processor's number, below the layout's number of processors.
@@ -136,4 +142,95 @@ impl<L: Job> Seat<L> {
     {
         self.receipts.as_slice()
     }
+}
+
+/// Tells how all seats stand to the totals: where there is one for each processor, they count all
+/// records, and all that are sealed. It has no effect.
+pub(crate) fn audit_all<L: Job>(locked: &mut Locked<L>, seats: &mut Vec<Seat<L>>)
+    ensures locked { locked.new ≡ locked.old }
+    ensures seats { seats.new.items ≡ seats.old.items }
+    ensures all { length seats.old.items ≡ L.layout.cpus → AreCounted seats.old.items locked.old }
+{
+    locked.has_processors();
+    let Some(seat) = seats.pop() else {
+        return;
+    };
+    let mut seat = seat;
+    audit_first(locked, &mut seat, seats);
+    seats.push_reserved(seat);
+}
+
+/// Tells how a seat and the others stand to the totals. It has no effect.
+fn audit_first<L: Job>(locked: &mut Locked<L>, seat: &mut Seat<L>, others: &mut Vec<Seat<L>>)
+    ensures locked { locked.new ≡ locked.old }
+    ensures seat { seat.new ≡ seat.old }
+    ensures others { others.new.items ≡ others.old.items }
+    ensures room { vec_capacity others.new ≡ vec_capacity others.old }
+    ensures total { length others.old.items + 1 ≡ L.layout.cpus
+        → receipts_in others.old.items + length seat.old.receipts ≡ locked.old.total }
+    ensures sealed { length others.old.items + 1 ≡ L.layout.cpus
+        → handed_in others.old.items + seat.old.sealed ≡ locked.old.machine.before }
+{
+    let mut share = seat.share.empty();
+    let mut handed = seat.sealed.empty();
+    audit_beside(locked, seat, others, &mut share, &mut handed);
+}
+
+/// Tells how a seat, the others and two more shares stand to the totals. It has no effect.
+#[cycle(audits)]
+fn audit_beside<L: Job>(
+    locked: &mut Locked<L>,
+    seat: &mut Seat<L>,
+    others: &mut Vec<Seat<L>>,
+    share: &mut Share<L>,
+    handed: &mut Share<Sealed<L>>,
+)
+    requires share { share.old.parts ≡ 0 → share.old.amount ≡ 0 }
+    requires handed { handed.old.parts ≡ 0 → handed.old.amount ≡ 0 }
+    ensures locked { locked.new ≡ locked.old }
+    ensures seat { seat.new ≡ seat.old }
+    ensures others { others.new.items ≡ others.old.items }
+    ensures room { vec_capacity others.new ≡ vec_capacity others.old }
+    ensures share { (share.new.parts ≡ share.old.parts) × (share.new.amount ≡ share.old.amount) }
+    ensures handed { (handed.new.parts ≡ handed.old.parts) × (handed.new.amount ≡ handed.old.amount) }
+    ensures total { length others.old.items + 1 + share.old.parts ≡ L.layout.cpus
+        → receipts_in others.old.items + length seat.old.receipts + share.old.amount ≡ locked.old.total }
+    ensures sealed { length others.old.items + 1 + handed.old.parts ≡ L.layout.cpus
+        → handed_in others.old.items + seat.old.sealed + handed.old.amount ≡ locked.old.machine.before }
+{
+    let own = seat.receipts.len() as u64;
+    let count = seat.handed;
+    seat.share.give(share, 1, own);
+    seat.sealed.give(handed, 1, count);
+    audit_others(locked, others, share, handed);
+    share.give(&mut seat.share, 1, own);
+    handed.give(&mut seat.sealed, 1, count);
+}
+
+/// Tells how seats and two more shares stand to the totals. It has no effect.
+#[cycle(audits)]
+fn audit_others<L: Job>(
+    locked: &mut Locked<L>,
+    seats: &mut Vec<Seat<L>>,
+    share: &mut Share<L>,
+    handed: &mut Share<Sealed<L>>,
+)
+    requires share { share.old.parts ≡ 0 → share.old.amount ≡ 0 }
+    requires handed { handed.old.parts ≡ 0 → handed.old.amount ≡ 0 }
+    ensures locked { locked.new ≡ locked.old }
+    ensures seats { seats.new.items ≡ seats.old.items }
+    ensures room { vec_capacity seats.new ≡ vec_capacity seats.old }
+    ensures share { (share.new.parts ≡ share.old.parts) × (share.new.amount ≡ share.old.amount) }
+    ensures handed { (handed.new.parts ≡ handed.old.parts) × (handed.new.amount ≡ handed.old.amount) }
+    ensures total { length seats.old.items + share.old.parts ≡ L.layout.cpus
+        → receipts_in seats.old.items + share.old.amount ≡ locked.old.total }
+    ensures sealed { length seats.old.items + handed.old.parts ≡ L.layout.cpus
+        → handed_in seats.old.items + handed.old.amount ≡ locked.old.machine.before }
+{
+    let Some(seat) = seats.pop() else {
+        return locked.audit(share, handed);
+    };
+    let mut seat = seat;
+    audit_beside(locked, &mut seat, seats, share, handed);
+    seats.push_reserved(seat);
 }

@@ -1,5 +1,5 @@
 //! The lock round the machine.
-ghost use Rattle.std.specs.Prelude.{◌≡◌, ◌+◌, ◌<◌, Err, IfErr, IfOk, OnErr, OnOk, length};
+ghost use Rattle.std.specs.Prelude.{◌≡◌, ◌+◌, ◌^◌, ◌<◌, Err, IfErr, IfOk, OnErr, OnOk, length};
 ghost use Rattle.hp_units.specs.declared.replies.CallFault.TheVariants.{HistoryFull};
 ghost use Rattle.hp_history.specs.Course.{receipt_for};
 ghost use Rattle.hp_shared.specs.Shared.{IsFilled, IsFresh, IsTurn, first_seats};
@@ -113,6 +113,7 @@ impl<L: Job> Shared<L> {
         ensures ok { IfOk result (λ volume. IsSealOf L.layout volume share.new.amount) }
         ensures counted { IfOk result
             (λ volume. handed.new.amount ≡ handed.old.amount + length volume.records) }
+        ensures few { OnOk result (handed.new.amount < 2 ^ 64) }
         ensures err { OnErr result (handed.new.amount ≡ handed.old.amount) }
         ensures share { (share.new.amount ≡ share.old.amount) × (share.new.parts ≡ share.old.parts) }
         ensures parts { handed.new.parts ≡ handed.old.parts }

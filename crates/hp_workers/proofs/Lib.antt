@@ -1,3 +1,4 @@
+pub mod HandedOut
 pub mod LineRuns
 pub mod SealRuns
 pub mod WorkerLists

@@ -18,7 +18,7 @@ use Rattle.hp_scenario.specs.declared.lines.Line.{Line}
 use Rattle.hp_history.specs.declared.volumes.Volume.{Volume}
 use Rattle.hp_workers.specs.Seals.{AreInOrder, joined, seals_in, seals_in_all}
 use Rattle.hp_workers.proofs.SealRuns.{more_seals, none_sealed, worker_few, worker_seals}
-use Rattle.hp_workers.specs.Workers.{AreGathered, AreWorkers, HasWorker, IsWorker, IsWorkerAt}
+use Rattle.hp_workers.specs.Workers.{AreGathered, AreWorkers, HasWorker, IsStarted, IsWorker, IsWorkerAt}
 
 -- the first of faults and of one more
 first_more : (faults : List (Option RunFault)) (fault : Option RunFault)
@@ -43,9 +43,10 @@ pub workers_more : (l : LayoutParts) (all seats : List SeatValue) (seat : SeatVa
     → all ≡ seats ++ seat ∷ [] → slice_get scripts (length seats) ≡ Some lines → done ≡ news ++ new ∷ []
     → volumes ≡ earlier ++ handed → all_ends ≡ ends ++ own ∷ [] → now ≡ option_or was fault
     → AreWorkers l seats scripts news earlier ends was → IsWorker l seat lines new handed own fault
+    → (length seats ≡ 0 → IsStarted fault)
     → AreWorkers l all scripts done volumes all_ends now
 workers_more l all seats seat scripts lines done news new volumes earlier handed all_ends ends own was fault
-    now all_is here done_is volumes_are ends_is now_is before worker =
+    now all_is here done_is volumes_are ends_is now_is before worker begun =
     subst (λ (xs : List SeatValue). AreWorkers l xs scripts done volumes all_ends now) (sym all_is)
     (subst (λ (xs : List SeatValue). AreWorkers l (seats ++ seat ∷ []) scripts xs volumes all_ends now)
     (sym done_is)
@@ -71,10 +72,17 @@ workers_more l all seats seat scripts lines done news new volumes earlier handed
       first =
           now_is ∙ ap (λ (o : Option RunFault). option_or o fault) before.first
           ∙ sym (first_more before.faults fault);
+      started = λ first is. first_started first (get_push_cases before.faults fault first 0 is);
       each =
           λ place s its there script. by_place place s its script (get_push_cases seats seat s place there);
     })))
   where
+    first_started : (first : Option RunFault)
+        → (slice_get before.faults 0 ≡ Some first) ⊎ ((0 ≡ length before.faults) × (fault ≡ first))
+        → IsStarted first
+    first_started first (inl e) = before.started first e
+    first_started first (inr e) = subst IsStarted e.1 (begun (sym before.causes ∙ sym e.0))
+
     by_place : (place : ℕ) (s : SeatValue) (its : List Line) → slice_get scripts place ≡ Some its
         → (slice_get seats place ≡ Some s) ⊎ ((place ≡ length seats) × (seat ≡ s))
         → HasWorker l s its (news ++ new ∷ []) (before.handed ++ handed ∷ []) (ends ++ own ∷ [])
@@ -150,6 +158,7 @@ workers_none l olds scripts news volumes lists fault no_olds no_news none no_end
   all = none;
   sealed = none_sealed l volumes none;
   first = no_fault;
+  started = λ first here. absurd cc;
   each =
       λ place seat lines here script. (let bad : slice_get [] place ≡ Some seat =
       sym (ap (λ (xs : List SeatValue). slice_get xs place) no_olds) ∙ here in absurd cc);

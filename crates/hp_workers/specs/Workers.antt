@@ -1,5 +1,5 @@
 -- What workers make of their seats.
-use Rattle.std.specs.Prelude.{◌≡◌, ◌⊎◌, ℕ, ◌≤◌, List, [], Option, Some, None, length, slice_get}
+use Rattle.std.specs.Prelude.{◌≡◌, ◌⊎◌, ℕ, ◌≤◌, List, [], Option, Some, None, length, slice_get, ⊤}
 use Rattle.std.specs.List.Sorted.{IsPermutation}
 use Rattle.hp_units.specs.Choices.{first_some}
 use Rattle.hp_units.specs.LayoutParts.{LayoutParts}
@@ -18,6 +18,12 @@ abbrev pub HasEnded : (cpu : ℕ) → List Line → List LineEnd → Option RunF
 HasEnded cpu lines ends None = length ends ≡ length lines
 HasEnded cpu lines ends (Some (NotStarted named)) = (named ≡ cpu) × (ends ≡ [])
 HasEnded cpu lines ends (Some OutOfMemory) = ends ≡ []
+
+-- a worker was started: it is not NotStarted
+abbrev pub IsStarted : Option RunFault → Type 0
+IsStarted None = ⊤
+IsStarted (Some (NotStarted named)) = ⊥
+IsStarted (Some OutOfMemory) = ⊤
 
 -- a worker ran a beginning of its lines by a seat, which handed out these volumes: all lines, or
 -- with a fault none
@@ -53,7 +59,7 @@ pub record HasWorker (l : LayoutParts) (old : SeatValue) (lines : List Line) (ne
 
 -- all seats are back, each after the lines that its worker ran, and the volumes are those that
 -- these handed out, seat by seat; the fault is that of the first worker that has one: without one
--- all lines were run
+-- all lines were run. The first seat's worker is started in any case, in the caller's thread
 pub record AreWorkers (l : LayoutParts) (olds : List SeatValue) (scripts : List (List Line))
     (news : List SeatValue) (volumes : List Volume) (lists : List (List LineEnd))
     (fault : Option RunFault) : Type 0 where
@@ -66,6 +72,7 @@ pub record AreWorkers (l : LayoutParts) (olds : List SeatValue) (scripts : List 
   pub all : volumes ≡ joined handed
   pub sealed : AreSealed l volumes
   pub first : fault ≡ first_some faults
+  pub started : (own : Option RunFault) → slice_get faults 0 ≡ Some own → IsStarted own
   pub each : (place : ℕ) (seat : SeatValue) (lines : List Line) → slice_get olds place ≡ Some seat
       → slice_get scripts place ≡ Some lines → HasWorker l seat lines news handed lists faults place
 

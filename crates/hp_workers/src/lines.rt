@@ -22,7 +22,7 @@ use std::sync::Wait;
 pub enum LineEnd {
     /// The reply to its event.
     Reply(Reply),
-    /// The fault that its call left.
+    /// The fault that its call left; out of memory where that refused its seal.
     Fault(CallFault),
     /// The end of its plan's operation.
     Plan(OpEnd),

@@ -6,7 +6,7 @@ ghost use Rattle.std.specs.Option.{option_or};
 ghost use Rattle.std.specs.Thread.{IsSend, IsSync};
 ghost use Rattle.hp_scenario.specs.Scripts.{AreForRun, IsForRun};
 ghost use Rattle.hp_workers.specs.Seals.{AreInOrder, rank, seals_in_all};
-ghost use Rattle.hp_workers.specs.Workers.{AreWorkers, IsBare, IsRunEnd, IsWorker, IsWorkerAt};
+ghost use Rattle.hp_workers.specs.Workers.{AreWorkers, IsBare, IsRunEnd, IsStarted, IsWorker, IsWorkerAt};
 ghost use Rattle.hp_workers.specs.declared.fault.RunFault.TheVariants.{OutOfMemory};
 
 use crate::counts::count_all;
@@ -68,13 +68,13 @@ pub struct RunEnd<L: Job> {
 
 /// Runs each script by the seat at its place, each in a thread of its own, and waits for all (own rule). The
 /// first seat's thread is the caller's, so that a run of one processor's lines costs no memory of a second
-/// thread. Each call of a seat takes the machine's lock anew, with the gate before and after it.
+/// thread. Each call and each seal of a seat takes the machine's lock anew, with the gate before and after.
 ///
 /// In every case all seats come back, with the receipts of the lines that they ran, in order, and all
 /// volumes that the lines' seals handed out. A worker runs all its lines, or none: where no thread can be
-/// made for it, NotStarted with its processor, and where memory is refused before its first line,
-/// OutOfMemory. The fault is that of the first seat that has one; without a fault all lines were run. Out of
-/// memory in a line is that line's end and no fault of the run.
+/// made for it, NotStarted with its processor, which is never the first seat's, and where memory is refused
+/// before its first line, OutOfMemory. The fault is that of the first seat that has one; without a fault all
+/// lines were run. Out of memory in a line is that line's end and no fault of the run.
 pub fn run_workers<L: Job + Send + Sync, G: Gate + Sync, R: Threads + Wait + Sync>(
     rt: &R,
     alloc: Global,
@@ -201,6 +201,7 @@ fn run_beside<L: Job + Send + Sync, G: Gate + Sync, R: Threads + Wait + Sync>(
         ≤ vec_capacity room.volumes }
     ensures worker { IsWorkerAt L.layout seat scripts.now.items (length others.items) result.0.seat
         result.0.volumes.items result.0.ends result.0.fault }
+    ensures started { length others.items ≡ 0 → IsStarted result.0.fault }
     ensures workers { AreWorkers L.layout others.items scripts.now.items result.1.seats.items
         result.1.volumes.items result.1.ends.items result.1.fault }
     ensures seats { vec_capacity result.1.seats ≡ vec_capacity room.seats }

@@ -2,7 +2,7 @@
 ghost use Rattle.std.specs.Prelude.{◌≡◌, [], Some};
 ghost use Rattle.std.specs.List.{All};
 ghost use Rattle.hp_scenario.specs.Scripts.{IsForRun};
-ghost use Rattle.hp_workers.specs.Workers.{IsWorker};
+ghost use Rattle.hp_workers.specs.Workers.{IsStarted, IsWorker};
 
 use crate::fault::RunFault;
 use crate::gate::Gate;
@@ -58,7 +58,9 @@ pub(crate) fn run_script<L: Job, G: Gate, R: Wait>(
     script: &Script,
 ) -> Worked<L>
     requires { All IsForRun script.now }
-    ensures { IsWorker L.layout seat script.now result.seat result.volumes.items result.ends result.fault }
+    ensures worker { IsWorker L.layout seat script.now result.seat result.volumes.items result.ends
+        result.fault }
+    ensures started { IsStarted result.fault }
 {
     let lines = script.as_slice();
     let Ok(ends) = Vec::with_capacity(alloc, lines.len()) else {

@@ -9,7 +9,7 @@ returns-in-Some-clause-err g c =
     let is : end.fault ≡ Some c.in-Some.fault = search rules in
     rw (c.from.ensures)
     (λ scripts run count. unstarted g.L.Job.layout (first_seats g.L.Job.layout.cpus) scripts end.seats.items
-    end.volumes.items end.ends.items end.fault c.in-Some.fault refl is run)
+    end.volumes.items end.ends.items end.fault c.in-Some.fault refl is count run)
 
 pub returns-in-Err-clause-err : goal.returns-in-Err-clause-err
 returns-in-Err-clause-err g c =

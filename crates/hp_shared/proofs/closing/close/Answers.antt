@@ -1,19 +1,24 @@
-use Rattle.std.proofs.Common.{rules}
-use Rattle.hp_shared.proofs.Closings.{closed}
+use Rattle.std.proofs.Common.{List, rules, subst}
+use Rattle.hp_shared.specs.Closing.{IsClosed}
+use Rattle.hp_shared.specs.Shared.{SeatValue}
+use Rattle.hp_shared.proofs.Closings.{caused, closed}
 use Rattle.hp_shared.proofs.closing.close.Goals as goal
 
 pub returns-in-Ok-clause-ok : goal.returns-in-Ok-clause-ok
 returns-in-Ok-clause-ok g c =
-    closed g.L.Job.layout c.into_locked-locked.result c.into_machine.result c.in-Ok.records
-    c.args.seats.items c.args.volumes.items c.check.ensures.shown c.into_machine.ensures c.in-Ok.ensures.ok
+    let l = g.L.Job.layout in
+    let volumes = c.args.volumes.items in
+    let m = c.into_machine.result in
+    subst (λ (seats : List SeatValue). IsClosed l seats volumes m c.in-Ok.records) c.audit_all.ensures.seats
+    (closed l c.audit_all.new.locked m c.in-Ok.records c.audit_all.new.seats.items volumes
+    c.check.ensures.shown c.into_machine.ensures c.in-Ok.ensures.ok)
 
 pub returns-in-Err-clause-err : goal.returns-in-Err-clause-err
 returns-in-Err-clause-err g c =
-    record {
-      seen = c.into_locked-locked.result;
-      shared = c.check.ensures.shown;
-      fault = c.in-Err.ensures.err;
-    }
+    let l = g.L.Job.layout in
+    caused l c.into_locked-locked.result c.audit_all.new.locked c.args.seats.items
+    c.audit_all.new.seats.items c.args.volumes.items c.in-Err.fault c.audit_all.ensures.locked
+    c.audit_all.ensures.seats c.audit_all.ensures.all c.check.ensures.shown c.in-Err.ensures.err
 
 pub returns-in-Ok-clause-volumes : goal.returns-in-Ok-clause-volumes
 returns-in-Ok-clause-volumes g c = search rules

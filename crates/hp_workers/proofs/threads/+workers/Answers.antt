@@ -1,5 +1,5 @@
-use Rattle.std.specs.Prelude.{vec_len}
-use Rattle.std.proofs.Common.{◌≡◌, ◌<◌, ◌≤◌, ◌∷◌, ◌++◌, [], length, refl, ap, sym, ◌∙◌, arith}
+use Rattle.std.specs.Prelude.{◌==◌, vec_len}
+use Rattle.std.proofs.Common.{◌≡◌, ℕ, ◌<◌, ◌≤◌, ◌∷◌, ◌++◌, [], true, false, length, refl, ap, sym, ◌∙◌, arith}
 use Rattle.std.proofs.lemmas.List.{length-append, nil_from_length}
 use Rattle.std.proofs.lemmas.Bool.{eqb-true}
 use Rattle.hp_workers.proofs.SealRuns.{fewer_seal_less}
@@ -24,7 +24,16 @@ run_beside-returns-then-is_empty-clause-worker g t c =
     let inside : length others < length scripts =
     omega (arith, c.requires.scripts, c.args.others.ok.0, c.args.scripts.now.ok.0) in
     worker_at g.L.Job.layout _ scripts (length others) c.len.result c.index-script.result.now _ _ _ _ place
-    inside c.index-script.ensures c.run_script.ensures
+    inside c.index-script.ensures c.run_script.ensures.worker
+
+pub run_beside-returns-then-is_empty-clause-started : goal.run_beside-returns-then-is_empty-clause-started
+run_beside-returns-then-is_empty-clause-started g t c none = c.run_script.ensures.started
+
+pub run_beside-returns-clause-started : goal.run_beside-returns-clause-started
+run_beside-returns-clause-started g t c none =
+    let zero : vec_len c.args.others ≡ 0 = omega (arith, none, c.args.others.ok.0) in
+    let bad : false ≡ true =
+    sym c.if-is_empty.false ∙ (c.is_empty.ensures ∙ ap (λ (n : ℕ). n == 0) zero) in absurd cc
 
 pub run_rest-run_beside-worked-requires-clause-volumes :
     goal.run_rest-run_beside-worked-requires-clause-volumes
@@ -52,7 +61,7 @@ run_rest-gather-requires-clause-volumes g t c =
     (done.seats.items ++ worked.seat ∷ []) done.seats.items worked.seat volumes done.volumes.items
     worked.volumes.items (done.ends.items ++ worked.ends ∷ []) done.ends.items worked.ends done.fault
     worked.fault _ c.in-Some.ensures.items at.script refl refl refl refl c.run_beside-worked.ensures.workers
-    at.worker in
+    at.worker c.run_beside-worked.ensures.started in
     omega (
       arith,
       workers_few g.L.Job.layout seats scripts _ volumes _ _ all
@@ -75,7 +84,7 @@ run_rest-returns-clause-workers g t c =
     end.volumes.items done.volumes.items worked.volumes.items end.ends.items done.ends.items worked.ends
     done.fault worked.fault end.fault
     c.in-Some.ensures.items at.script c.gather.ensures.seats c.gather.ensures.volumes c.gather.ensures.ends
-    c.gather.ensures.fault c.run_beside-worked.ensures.workers at.worker
+    c.gather.ensures.fault c.run_beside-worked.ensures.workers at.worker c.run_beside-worked.ensures.started
 
 pub run_rest-returns-in_default-clause-workers : goal.run_rest-returns-in_default-clause-workers
 run_rest-returns-in_default-clause-workers g t c =

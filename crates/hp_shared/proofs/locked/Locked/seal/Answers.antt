@@ -1,5 +1,6 @@
-use Rattle.std.proofs.Common.{List, length, refl, ap, arith, rules}
+use Rattle.std.proofs.Common.{List, length, refl, ap, ◌∙◌, arith, rules}
 use Rattle.hp_units.specs.declared.replies.Record.{Record}
+use Rattle.hp_history.specs.declared.volumes.Volume.{Volume}
 use Rattle.hp_shared.proofs.Turns.{sealed_on}
 use Rattle.hp_shared.proofs.Sealing.{handed_on}
 use Rattle.hp_shared.proofs.locked.Locked.seal.Goals as goal
@@ -9,8 +10,9 @@ invariant_of-self-2 g c = (
   sealed_on g.L.Job.layout c.self.inside.machine c.seal.new.self c.self.inside.book.total
       c.audit.new.self.total c.self.invariant.0 c.in_ok-volume.ensures.goes_on c.audit.ensures.total,
   c.self.invariant.1,
-  handed_on c.self.inside.machine c.seal.new.self c.in_ok-volume.volume c.self.inside.sealed.total
-      c.as_slice.result.now (length c.as_slice.result.now) c.add.new.self.total c.self.invariant.2
+  handed_on c.self.inside.machine c.seal.new.self c.in_ok-volume.volume c.audit-2.new.self.total
+      c.as_slice.result.now (length c.as_slice.result.now) c.add.new.self.total
+      (c.audit-2.ensures.total ∙ c.self.invariant.2)
       c.in_ok-volume.ensures.volume
       c.in_ok-volume.ensures.goes_on c.as_slice.ensures refl c.add.ensures.total,
 )
@@ -73,7 +75,28 @@ returns-in_err-volume-clause-parts g c = search rules
 
 pub returns-clause-counted : goal.returns-clause-counted
 returns-clause-counted g c =
-    omega (arith, c.add.ensures.amount, ap (λ (rs : List Record). length rs) c.as_slice.ensures)
+    omega (
+      arith,
+      c.add.ensures.amount,
+      c.audit-2.ensures.amount,
+      ap (λ (rs : List Record). length rs) c.as_slice.ensures,
+    )
+
+pub returns-in_err-volume-clause-few : goal.returns-in_err-volume-clause-few
+returns-in_err-volume-clause-few g c = search rules
+
+pub returns-clause-few : goal.returns-clause-few
+returns-clause-few g c =
+    omega (
+      arith,
+      c.add.ensures.amount,
+      c.audit-2.ensures.amount,
+      c.audit-2.ensures.bound,
+      c.self.invariant.2,
+      c.last_serial.ensures,
+      ap (λ (rs : List Record). length rs) c.as_slice.ensures,
+      ap (λ (v : Volume). length v.records) c.in_ok-volume.ensures.volume,
+    )
 
 pub returns-clause-parts : goal.returns-clause-parts
 returns-clause-parts g c = search rules
