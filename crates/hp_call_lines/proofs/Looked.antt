@@ -3,41 +3,41 @@ use Rattle.std.proofs.Common.{◌≡◌, ℕ, ◌+◌, ◌-◌, ◌<◌, ◌≤�
 use Rattle.std.specs.Bool.{nat_lt}
 use Rattle.std.proofs.lemmas.Bool.{or_left}
 use Rattle.std.proofs.lemmas.List.{drop_all, drop_more}
-use Rattle.hp_call_lines.specs.Lexemes.{begins, mode_after}
-use Rattle.hp_call_lines.specs.Looks.{begins_comment, begun, comment_from, nested_after, deeper_from, texts_from}
+use Rattle.hp_call_lines.specs.Lexemes.{begins, is_space, mode_after}
+use Rattle.hp_call_lines.specs.Looks.{begins_comment, begins_with_colon, begun, comment_from, nested_after, deeper_from, keys_from}
 use Rattle.hp_call_lines.specs.declared.lexemes.Mode.{Mode}
 
--- what is left counts the text here and those after it
-counted_here : (depth : ℕ) (start : List ℕ) (mode : Mode) (nested : ℕ) (input : List ℕ) (i b : ℕ)
+-- what is left counts the key here and those after it
+counted_here : (depth : ℕ) (key : List ℕ) (mode : Mode) (nested : ℕ) (input : List ℕ) (i b : ℕ)
     → i < length input → b ≡ get_or input i 0
-    → texts_from depth start mode nested (drop i input) ≡ begun mode (nested == depth) b (drop i input) start
-    + texts_from depth start (mode_after mode b) (nested_after mode b nested) (drop (i + 1) input)
-unfolding texts_from
-counted_here depth start mode nested input i b lt at =
+    → keys_from depth key mode nested (drop i input) ≡ begun mode (nested == depth) b (drop i input) key
+    + keys_from depth key (mode_after mode b) (nested_after mode b nested) (drop (i + 1) input)
+unfolding keys_from
+counted_here depth key mode nested input i b lt at =
     let here : drop i input ≡ b ∷ drop (i + 1) input =
     drop_more input i 0 lt ∙ ap (λ (x : ℕ). x ∷ drop (i + 1) input) (sym at) in
-    ap (texts_from depth start mode nested) here
-    ∙ ap (λ (bs : List ℕ). begun mode (nested == depth) b bs start
-    + texts_from depth start (mode_after mode b) (nested_after mode b nested) (drop (i + 1) input)) (sym here)
+    ap (keys_from depth key mode nested) here
+    ∙ ap (λ (bs : List ℕ). begun mode (nested == depth) b bs key
+    + keys_from depth key (mode_after mode b) (nested_after mode b nested) (drop (i + 1) input)) (sym here)
 
-pub counted_more : (depth : ℕ) (start : List ℕ) (mode after : Mode) (nested next : ℕ) (input : List ℕ)
+pub counted_more : (depth : ℕ) (key : List ℕ) (mode after : Mode) (nested next : ℕ) (input : List ℕ)
     (i b count one more all : ℕ)
     → i < length input → b ≡ get_or input i 0
-    → count + texts_from depth start mode nested (drop i input) ≡ all
-    → one ≡ begun mode (nested == depth) b (drop i input) start → more ≡ count + one
+    → count + keys_from depth key mode nested (drop i input) ≡ all
+    → one ≡ begun mode (nested == depth) b (drop i input) key → more ≡ count + one
     → next ≡ nested_after mode b nested → after ≡ mode_after mode b
-    → more + texts_from depth start after next (drop (i + 1) input) ≡ all
-counted_more depth start mode after nested next input i b count one more all lt at so_far is add n m =
-    rw (n, m) (omega (arith, so_far, is, add, counted_here depth start mode nested input i b lt at))
+    → more + keys_from depth key after next (drop (i + 1) input) ≡ all
+counted_more depth key mode after nested next input i b count one more all lt at so_far is add n m =
+    rw (n, m) (omega (arith, so_far, is, add, counted_here depth key mode nested input i b lt at))
 
 -- no byte is left
-pub counted_all : (depth : ℕ) (start : List ℕ) (mode : Mode) (nested : ℕ) (input : List ℕ)
+pub counted_all : (depth : ℕ) (key : List ℕ) (mode : Mode) (nested : ℕ) (input : List ℕ)
     (i count all : ℕ)
-    → length input ≤ i → count + texts_from depth start mode nested (drop i input) ≡ all → count ≡ all
-unfolding texts_from
-counted_all depth start mode nested input i count all end so_far =
-    let none : texts_from depth start mode nested (drop i input) ≡ 0 =
-    ap (texts_from depth start mode nested) (drop_all i input end) in
+    → length input ≤ i → count + keys_from depth key mode nested (drop i input) ≡ all → count ≡ all
+unfolding keys_from
+counted_all depth key mode nested input i count all end so_far =
+    let none : keys_from depth key mode nested (drop i input) ≡ 0 =
+    ap (keys_from depth key mode nested) (drop_all i input end) in
     omega (arith, so_far, none)
 
 -- ---- how many are open
@@ -95,6 +95,29 @@ pub comment_none : (mode : Mode) (input : List ℕ) (i : ℕ) (all : Bool) → l
     → comment_from mode (drop i input) ≡ all → false ≡ all
 unfolding comment_from
 comment_none mode input i all end so_far = sym (ap (comment_from mode) (drop_all i input end)) ∙ so_far
+
+colon_here : (rest : List ℕ) (i b : ℕ) → i < length rest → b ≡ get_or rest i 0
+    → begins_with_colon (drop i rest) ≡ cond (is_space b) (begins_with_colon (drop (i + 1) rest)) (b == 58)
+unfolding begins_with_colon
+colon_here rest i b lt at = ap begins_with_colon (next_byte rest i b lt at)
+
+pub colon_or_not : (rest : List ℕ) (i b : ℕ) (space all : Bool) → i < length rest → b ≡ get_or rest i 0
+    → space ≡ is_space b → space ≡ false → begins_with_colon (drop i rest) ≡ all → (b == 58) ≡ all
+colon_or_not rest i b space all lt at is unset so_far =
+    sym (ap (λ (t : Bool). cond t (begins_with_colon (drop (i + 1) rest)) (b == 58)) (sym is ∙ unset))
+    ∙ sym (colon_here rest i b lt at) ∙ so_far
+
+pub colon_later : (rest : List ℕ) (i b : ℕ) (space all : Bool) → i < length rest → b ≡ get_or rest i 0
+    → space ≡ is_space b → space ≡ true → begins_with_colon (drop i rest) ≡ all
+    → begins_with_colon (drop (i + 1) rest) ≡ all
+colon_later rest i b space all lt at is set so_far =
+    sym (ap (λ (t : Bool). cond t (begins_with_colon (drop (i + 1) rest)) (b == 58)) (sym is ∙ set))
+    ∙ sym (colon_here rest i b lt at) ∙ so_far
+
+pub colon_none : (rest : List ℕ) (i : ℕ) (all : Bool) → length rest ≤ i
+    → begins_with_colon (drop i rest) ≡ all → false ≡ all
+unfolding begins_with_colon
+colon_none rest i all end so_far = sym (ap begins_with_colon (drop_all i rest end)) ∙ so_far
 
 deep_here : (limit : ℕ) (mode : Mode) (nested : ℕ) (input : List ℕ) (i b : ℕ) → i < length input
     → b ≡ get_or input i 0 → deeper_from limit mode nested (drop i input)

@@ -1,7 +1,7 @@
 -- What is seen of a text without reading its values (own rule).
-use Rattle.std.specs.Prelude.{ℕ, ◌+◌, ◌-◌, ◌==◌, ◌&&◌, ◌||◌, Bool, false, List, [], ◌∷◌, nat_lt, if◌then◌else◌}
+use Rattle.std.specs.Prelude.{ℕ, ◌+◌, ◌-◌, ◌==◌, ◌&&◌, ◌||◌, Bool, false, List, [], ◌∷◌, drop, length, nat_lt, if◌then◌else◌}
 use Rattle.std.specs.List.{starts_with}
-use Rattle.hp_call_lines.specs.Lexemes.{begins, mode_after}
+use Rattle.hp_call_lines.specs.Lexemes.{begins, is_space, mode_after}
 use Rattle.hp_call_lines.specs.declared.lexemes.Mode.{Mode}
 use Rattle.hp_call_lines.specs.declared.lexemes.Mode.TheVariants.{Between}
 
@@ -27,17 +27,27 @@ deeper_from limit mode nested [] = nat_lt limit nested
 deeper_from limit mode nested (b ∷ bs) =
     nat_lt limit nested || deeper_from limit (mode_after mode b) (nested_after mode b nested) bs
 
--- a text that begins at the first byte of the rest, with these bytes, is counted
-abbrev pub begun : Mode → (is_there : Bool) → (byte : ℕ) → (rest start : List ℕ) → ℕ
-begun mode is_there b rest start =
-    if is_there && ((b == 34) && (begins mode b && starts_with (λ x y. x == y) rest start)) then 1 else 0
+-- a colon is the first byte that is no white space
+unfoldable pub begins_with_colon : (rest : List ℕ) → Bool
+begins_with_colon [] = false
+begins_with_colon (b ∷ bs) = if is_space b then begins_with_colon bs else b == 58
+
+-- the rest begins with this text, which has its quotation marks, and with a colon after it: so do the
+-- keys of objects, and no other texts
+abbrev pub is_key : (rest key : List ℕ) → Bool
+is_key rest key = starts_with (λ x y. x == y) rest key && begins_with_colon (drop (length key) rest)
+
+-- a key that begins at the first byte of the rest is counted
+abbrev pub begun : Mode → (is_there : Bool) → (byte : ℕ) → (rest key : List ℕ) → ℕ
+begun mode is_there b rest key =
+    if is_there && ((b == 34) && (begins mode b && is_key rest key)) then 1 else 0
 
 -- how many begin so where so many objects and lists are open
-unfoldable pub texts_from : (depth : ℕ) → (start : List ℕ) → Mode → (nested : ℕ) → List ℕ → ℕ
-texts_from depth start mode nested [] = 0
-texts_from depth start mode nested (b ∷ bs) =
-    begun mode (nested == depth) b (b ∷ bs) start
-    + texts_from depth start (mode_after mode b) (nested_after mode b nested) bs
+unfoldable pub keys_from : (depth : ℕ) → (key : List ℕ) → Mode → (nested : ℕ) → List ℕ → ℕ
+keys_from depth key mode nested [] = 0
+keys_from depth key mode nested (b ∷ bs) =
+    begun mode (nested == depth) b (b ∷ bs) key
+    + keys_from depth key (mode_after mode b) (nested_after mode b nested) bs
 
 -- ---- of a whole text
 
@@ -47,5 +57,5 @@ has_comment input = comment_from Between input
 abbrev pub nests_deeper : (limit : ℕ) → (input : List ℕ) → Bool
 nests_deeper limit input = deeper_from limit Between 0 input
 
-abbrev pub texts_at : (depth : ℕ) → (start input : List ℕ) → ℕ
-texts_at depth start input = texts_from depth start Between 0 input
+abbrev pub keys_at : (depth : ℕ) → (key input : List ℕ) → ℕ
+keys_at depth key input = keys_from depth key Between 0 input

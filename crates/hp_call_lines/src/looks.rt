@@ -60,33 +60,55 @@ fn is_past(nested: u64, limit: u64) -> bool
     limit < nested
 }
 
-/// How many texts begin with these bytes, the quotation mark among them, where so many objects and
-/// lists are open. Escapes are not read.
-pub fn texts_at(input: &[u8], depth: u64, start: &[u8]) -> u64
-    ensures { result ≡ means.texts_at depth start.now input.now }
+/// How many keys of objects are this text, which has its quotation marks, where so many objects and
+/// lists are open: a key is a text with a colon after it. Escapes are not read.
+pub fn keys_at(input: &[u8], depth: u64, key: &[u8]) -> u64
+    ensures { result ≡ means.keys_at depth key.now input.now }
 {
     let mut mode = Mode::Between;
     let mut nested = 0u64;
     let mut count = 0u64;
     for place in 0..input.len() {
         let byte = input[place];
-        count += begun(mode, nested == depth, byte, &input[place..], start);
+        count += begun(mode, nested == depth, byte, &input[place..], key);
         nested = nested_after(mode, byte, nested);
         mode = mode_after(mode, byte);
     }
     count
 }
 
-/// Counts a text that begins at the first byte of the rest with these bytes, where it is at the depth.
-fn begun(mode: Mode, is_there: bool, byte: u8, rest: &[u8], start: &[u8]) -> u64
-    ensures is { result ≡ means.begun mode is_there byte rest.now start.now }
+/// Counts the key that begins at the first byte of the rest, where it is this one and at the depth.
+fn begun(mode: Mode, is_there: bool, byte: u8, rest: &[u8], key: &[u8]) -> u64
+    ensures is { result ≡ means.begun mode is_there byte rest.now key.now }
     ensures low { result ≤ 1 }
 {
-    if is_there && byte == b'"' && begins(mode, byte) && rest.starts_with(start) {
+    if is_there && byte == b'"' && begins(mode, byte) && is_key(rest, key) {
         1
     } else {
         0
     }
+}
+
+/// Whether the rest of a text begins with these bytes, and with a colon after them.
+fn is_key(rest: &[u8], key: &[u8]) -> bool
+    ensures { result ≡ means.is_key rest.now key.now }
+{
+    if !rest.starts_with(key) {
+        return false;
+    }
+    begins_with_colon(&rest[key.len()..])
+}
+
+/// Whether a colon is the first byte that is no white space.
+fn begins_with_colon(rest: &[u8]) -> bool
+    ensures { result ≡ means.begins_with_colon rest.now }
+{
+    for byte in rest {
+        if !is_space(*byte) {
+            return *byte == b':';
+        }
+    }
+    false
 }
 
 /// How many are open after a byte.

@@ -1,5 +1,5 @@
 -- The first finding is the fault that reading gives.
-use Rattle.std.proofs.Common.{◌≡◌, ℕ, zero, suc, ◌+◌, ◌≤◌, Bool, true, false, cond, List, [], ◌∷◌, ◌++◌, codes, count_by, length, slice_get, take, Option, Some, None, Result, Ok, Err, refl, sym, ap, subst, ◌∙◌, arith}
+use Rattle.std.proofs.Common.{◌≡◌, ℕ, zero, suc, ◌+◌, ◌≤◌, Bool, true, false, cond, List, [], ◌∷◌, ◌++◌, codes, count_by, drop, length, slice_get, take, Option, Some, None, Result, Ok, Err, refl, sym, ap, subst, ◌∙◌, arith}
 use Rattle.std.proofs.lemmas.List.Sums.{sum_by-append}
 use Rattle.serde_json.specs.Data.{Data}
 use Rattle.serde_json.specs.Find.{get}
@@ -16,14 +16,14 @@ use Rattle.hp_check.specs.Checking.{AreFaults, AreFindingsOf, faults_in}
 use Rattle.hp_check.specs.Each.{each_below}
 use Rattle.std.specs.Prelude.{nat_lt}
 use Rattle.std.specs.List.{flat_map}
-use Rattle.hp_call_lines.specs.Looks.{texts_at}
+use Rattle.hp_call_lines.specs.Looks.{keys_at}
 use Rattle.hp_check.specs.Findings.{is_fault, key_quoted, keys_of}
 use Rattle.hp_check.specs.Laws.{Agrees, Begins, FirstFindingsAgree, IsFindingOf}
 use Rattle.hp_check.specs.Ranges.{parts_in, range_faults, range_faults_of}
 use Rattle.hp_check.specs.Repeats.{depth_of, or_others, repeat_of, repeats_in}
 use Rattle.hp_check.specs.Shape.{shape_faults}
-use Rattle.hp_check.specs.Tally.{TallyValue, tally_of}
-use Rattle.hp_check.specs.Warnings.{line_warning, warned, warned_at, warnings_of}
+use Rattle.hp_check.specs.Tally.{TallyValue, after_lines, before_scripts, no_lines}
+use Rattle.hp_check.specs.Warnings.{both_warnings, line_warning, part_warnings, warned, warned_at, warnings_of}
 use Rattle.hp_check.specs.declared.finding.Finding.{Finding}
 use Rattle.hp_check.specs.declared.finding.Finding.TheVariants as finding
 use Rattle.hp_check.specs.declared.finding.Key.{Key}
@@ -41,11 +41,10 @@ warned_none : (number : ℕ) (o : Option Warning) → count_by is_fault (warned 
 warned_none number None = refl
 warned_none number (Some w) = refl
 
-warned_at_none : (l : LayoutParts) (setup : ℕ) (t : TallyValue) (place : ℕ) (o : Option Line)
-    → count_by is_fault (warned_at l setup t place o) ≡ 0
-warned_at_none l setup t place None = refl
-warned_at_none l setup t place (Some line) =
-    warned_none (place + 1) (line_warning l t (nat_lt place setup) line)
+warned_at_none : (l : LayoutParts) (t : TallyValue) (number : ℕ) (o : Option Line)
+    → count_by is_fault (warned_at l t number o) ≡ 0
+warned_at_none l t number None = refl
+warned_at_none l t number (Some line) = warned_none number (line_warning l t line)
 
 each_none_fault : (f : ℕ → List Finding) (n : ℕ) → ((k : ℕ) → count_by is_fault (f k) ≡ 0)
     → count_by is_fault (each_below f n) ≡ 0
@@ -55,13 +54,27 @@ each_none_fault f (suc n) h =
     sum_by-append (λ x. cond (is_fault x) 1 0) (each_below f n) (f n)
     ∙ omega (arith, each_none_fault f n h, h n)
 
+part_none : (l : LayoutParts) (t : TallyValue) (before : ℕ) (lines : List Line)
+    → count_by is_fault (part_warnings l t before lines) ≡ 0
+part_none l t before lines =
+    each_none_fault
+    (λ place.
+    warned_at l (after_lines l.history t (take place lines)) (before + place + 1) (slice_get lines place))
+    (length lines) (λ k.
+    warned_at_none l (after_lines l.history t (take k lines)) (before + k + 1) (slice_get lines k))
+
+both_none : (l : LayoutParts) (setup scripts : List Line)
+    → count_by is_fault (both_warnings l setup scripts) ≡ 0
+both_none l setup scripts =
+    let known = before_scripts scripts (after_lines l.history no_lines setup) in
+    sum_by-append (λ x. cond (is_fault x) 1 0) (part_warnings l no_lines 0 setup)
+    (part_warnings l known (length setup) scripts)
+    ∙ omega (arith, part_none l no_lines 0 setup, part_none l known (length setup) scripts)
+
 warnings_none : (l : LayoutParts) (setup : ℕ) (lines : List Line)
     → count_by is_fault (warnings_of l setup lines) ≡ 0
 unfolding warnings_of
-warnings_none l setup lines =
-    each_none_fault
-    (λ place. warned_at l setup (tally_of l.history (take place lines)) place (slice_get lines place))
-    (length lines) (λ k. warned_at_none l setup (tally_of l.history (take k lines)) k (slice_get lines k))
+warnings_none l setup lines = both_none l (take setup lines) (drop setup lines)
 
 repeat_none : (b : Bool) (p : Place) (k : Key)
     → count_by is_fault (cond b (finding.Repeat p k ∷ []) []) ≡ 0
@@ -75,7 +88,7 @@ keys_none input p (k ∷ ks) =
     sum_by-append (λ x. cond (is_fault x) 1 0) (repeat_of input p k) (flat_map (repeat_of input p) ks)
     ∙ omega (
       arith,
-      repeat_none (nat_lt 1 (texts_at (depth_of p) (key_quoted k) input)) p k,
+      repeat_none (nat_lt 1 (keys_at (depth_of p) (key_quoted k) input)) p k,
       keys_none input p ks,
     )
 

@@ -14,5 +14,4 @@ pub mod Shape
 pub mod Slips
 pub mod Tally
 pub mod Texts
-pub mod Unfit
 pub mod Warnings

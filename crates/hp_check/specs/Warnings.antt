@@ -1,5 +1,5 @@
 -- When a line hardly does what is wanted (own rule): the first that applies.
-use Rattle.std.specs.Prelude.{ℕ, ◌+◌, ◌/◌, ◌%◌, ◌==◌, not, Bool, List, [], ◌∷◌, length, find, take, Option, Some, None, nat_lt, nat_le, slice_get, if◌then◌else◌}
+use Rattle.std.specs.Prelude.{ℕ, ◌+◌, ◌/◌, ◌%◌, ◌==◌, not, Bool, List, [], ◌∷◌, ◌++◌, drop, length, find, take, Option, Some, None, nat_lt, nat_le, slice_get, if◌then◌else◌}
 use Rattle.std.specs.Bool.{then_some}
 use Rattle.std.specs.Option.{option_map, option_or}
 use Rattle.hp_units.specs.Arithmetic.{block_bytes, frame_count}
@@ -12,16 +12,16 @@ use Rattle.hp_requests.specs.declared.fault.ControlFault.TheVariants as control
 use Rattle.hp_requests.specs.declared.files.File.{File}
 use Rattle.hp_requests.specs.declared.files.File.TheVariants as file
 use Rattle.hp_scenario.specs.Asked as asks
+use Rattle.hp_scenario.specs.Unfit.{unfit}
 use Rattle.hp_scenario.specs.declared.lines.Line.{Line}
 use Rattle.hp_scenario.specs.declared.lines.Work.{Work}
 use Rattle.hp_scenario.specs.declared.lines.Work.TheVariants as work
 use Rattle.hp_check.specs.Each.{each_below}
-use Rattle.hp_check.specs.Tally.{TallyValue, is_full, may_begin, tally_of}
-use Rattle.hp_check.specs.Unfit.{unfit_warning, unless_last}
+use Rattle.hp_check.specs.Tally.{TallyValue, after_lines, before_scripts, is_full, may_begin, no_lines}
 use Rattle.hp_check.specs.declared.finding.Finding.{Finding}
 use Rattle.hp_check.specs.declared.finding.Finding.TheVariants as finding
 use Rattle.hp_check.specs.declared.finding.Warning.{Warning}
-use Rattle.hp_check.specs.declared.finding.Warning.TheVariants.{Past, NoBegin, Turns, Full, Echo, Cat}
+use Rattle.hp_check.specs.declared.finding.Warning.TheVariants.{Past, NoBegin, Turns, Full, Echo, Cat, NotForScript}
 use Rattle.hp_check.specs.declared.finding.What.{What}
 use Rattle.hp_check.specs.declared.finding.What.TheVariants.{Processor, Owner, Page, Word, Order, Frame, Block}
 
@@ -48,7 +48,7 @@ address_past l address =
 
 -- ---- operations, plans and histories
 
--- no line before begins the operation of this number
+-- no line that can come before begins the operation of this number
 abbrev pub no_begin : TallyValue → (op : ℕ) → Option Warning
 no_begin t op = then_some (not (may_begin t op)) (NoBegin op)
 
@@ -122,26 +122,40 @@ abbrev pub turns_warning : LayoutParts → Work → Option Warning
 turns_warning l (work.Plan plan turns) = too_many_turns l turns
 turns_warning l w = None
 
-abbrev pub work_warning : LayoutParts → TallyValue → (cpu : ℕ) → Work → Option Warning
-work_warning l t cpu w = option_or (asked_warning l t cpu (asks.asked_by w)) (turns_warning l w)
+-- a line that cannot stand in a script, with so many processors
+abbrev pub unfit_warning : (cpus : ℕ) → (in_scripts : Bool) → Line → Option Warning
+unfit_warning cpus in_scripts line =
+    if in_scripts then option_map (λ why. NotForScript why) (unfit cpus line) else None
 
--- the warning of a line, after what the lines before it make; the lines after the setup stand in scripts
-abbrev pub line_warning : LayoutParts → TallyValue → (is_setup : Bool) → Line → Option Warning
-line_warning l t is_setup line =
-    if is_setup then work_warning l t line.cpu line.work
-    else option_or (unfit_warning l.cpus line) (unless_last (work_warning l t line.cpu line.work))
+-- the warning of a line, after what the lines before it make
+abbrev pub line_warning : LayoutParts → TallyValue → Line → Option Warning
+line_warning l t line =
+    option_or
+    (option_or (unfit_warning l.cpus t.in_scripts line)
+    (asked_warning l t line.cpu (asks.asked_by line.work))) (turns_warning l line.work)
 
 abbrev pub warned : (number : ℕ) → Option Warning → List Finding
 warned number None = []
 warned number (Some w) = finding.Warning number w ∷ []
 
-abbrev pub warned_at : LayoutParts → (setup : ℕ) → TallyValue → (place : ℕ) → Option Line → List Finding
-warned_at l setup t place None = []
-warned_at l setup t place (Some line) = warned (place + 1) (line_warning l t (nat_lt place setup) line)
+abbrev pub warned_at : LayoutParts → TallyValue → (number : ℕ) → Option Line → List Finding
+warned_at l t number None = []
+warned_at l t number (Some line) = warned number (line_warning l t line)
 
--- the warnings of all lines, of which so many are the setup; they are counted from 1
-unfoldable pub warnings_of : LayoutParts → (setup : ℕ) → List Line → List Finding
-warnings_of l setup lines =
+-- the warnings of lines that come after so many others, of which this is known; they are counted from 1
+abbrev pub part_warnings : LayoutParts → TallyValue → (before : ℕ) → List Line → List Finding
+part_warnings l t before lines =
     each_below
-    (λ place. warned_at l setup (tally_of l.history (take place lines)) place (slice_get lines place))
+    (λ place.
+    warned_at l (after_lines l.history t (take place lines)) (before + place + 1) (slice_get lines place))
     (length lines)
+
+-- the warnings of the setup and of scripts
+abbrev pub both_warnings : LayoutParts → (setup scripts : List Line) → List Finding
+both_warnings l setup scripts =
+    part_warnings l no_lines 0 setup
+    ++ part_warnings l (before_scripts scripts (after_lines l.history no_lines setup)) (length setup) scripts
+
+-- the warnings of all lines, of which so many are the setup; the others stand in scripts
+unfoldable pub warnings_of : LayoutParts → (setup : ℕ) → List Line → List Finding
+warnings_of l setup lines = both_warnings l (take setup lines) (drop setup lines)

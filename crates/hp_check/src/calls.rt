@@ -47,21 +47,9 @@ fn push_entry(
     ensures { OnOk result
         (found.new.items ≡ found.old.items ++ means.entry_fault number (Some (view call.now))) }
 {
-    match call.as_str() {
-        Some(text) => push_unless_line(found, alloc, number, text),
-        None => Ok(()),
-    }
-}
-
-/// Adds a text if it is no line. An error is out of memory.
-fn push_unless_line(
-    found: &mut Vec<Finding>,
-    alloc: Global,
-    number: u64,
-    text: &str,
-) -> Result<(), AllocError>
-    ensures { OnOk result (found.new.items ≡ found.old.items ++ means.call_fault number text.now) }
-{
+    let Some(text) = call.as_str() else {
+        return Ok(());
+    };
     if is_line(alloc, text)? {
         return Ok(());
     }

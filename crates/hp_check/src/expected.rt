@@ -27,10 +27,10 @@ const OFFLINE: &str =
 pub(crate) fn write_expected(out: &mut String, text: &str) -> Result<(), AllocError>
     ensures { OnOk result (string_bytes out.new ≡ string_bytes out.old ++ means.expected text.now) }
 {
-    if begins_with_space(text) {
+    if is_space(text.as_bytes().first().copied()) {
         return out.push_str("it begins with a space");
     }
-    if ends_with_space(text) {
+    if is_space(text.as_bytes().last().copied()) {
         return out.push_str("it ends with a space");
     }
     write_slip(out, text)?;
@@ -45,20 +45,6 @@ fn is_space(byte: Option<u8>) -> bool
         Some(byte) => byte == b' ',
         None => false,
     }
-}
-
-/// Whether a text begins with a space.
-fn begins_with_space(text: &str) -> bool
-    ensures { result ≡ means.begins_with_space text.now }
-{
-    is_space(text.as_bytes().first().copied())
-}
-
-/// Whether a text ends with a space.
-fn ends_with_space(text: &str) -> bool
-    ensures { result ≡ means.ends_with_space text.now }
-{
-    is_space(text.as_bytes().last().copied())
 }
 
 /// What was expected of a text: the number of a processor, a verb, or what comes after its verb.

@@ -5,7 +5,7 @@
 //! a scenario is, hp_scenario says.
 //!
 //! Read specs/Checking first: what `check` promises. Then specs/Hints, Shape, Ranges and Calls for
-//! faults, specs/Repeats, Warnings and Unfit for warnings, and last specs/Texts, Expected and Slips.
+//! faults, specs/Repeats and Warnings for warnings, and last specs/Texts, Expected and Slips.
 #![tactic(auto)]
 
 mod calls;
@@ -23,7 +23,6 @@ mod shape;
 mod slips;
 mod tally;
 mod texts;
-mod unfit;
 mod warnings;
 
 pub use checking::{check, fault_count};

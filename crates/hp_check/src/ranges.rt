@@ -86,16 +86,9 @@ fn push_each(found: &mut Vec<Finding>, outs: &[Option<OutOfRange>]) -> Result<()
     ensures { OnOk result (found.new.items ≡ found.old.items ++ flat_map means.part_fault outs.now) }
 {
     for out in outs {
-        push_part(found, *out)?;
-    }
-    Ok(())
-}
-
-/// Adds one that is there. An error is out of memory.
-fn push_part(found: &mut Vec<Finding>, out: Option<OutOfRange>) -> Result<(), AllocError>
-    ensures { OnOk result (found.new.items ≡ found.old.items ++ means.part_fault out) }
-{
-    if let Some(out) = out {
+        let Some(out) = *out else {
+            continue;
+        };
         found.push(Finding::Layout(out))?;
     }
     Ok(())
@@ -115,20 +108,14 @@ fn outside(low: u64, high: u64, n: u64, out: OutOfRange) -> Option<OutOfRange>
     unless(is_within(low, high, n), out)
 }
 
-/// Whether the numbers that the frames come of are in their ranges.
-fn has_sizes(parts: &Parts<'_>) -> bool
-    ensures { result ≡ means.has_sizes (parts_seen parts.now) }
-{
-    is_within(0, 10, parts.order)
-        && is_pageblock_count(parts.pageblocks)
-        && is_within(1, 256, parts.blocks)
-}
-
 /// More frames than there may be, where what they come of is in its range.
 fn frames_out(parts: &Parts<'_>) -> Option<OutOfRange>
     ensures { result ≡ means.frames_out (parts_seen parts.now) }
 {
-    if !has_sizes(parts) {
+    let has_sizes = is_within(0, 10, parts.order)
+        && is_pageblock_count(parts.pageblocks)
+        && is_within(1, 256, parts.blocks);
+    if !has_sizes {
         return None;
     }
     let frames = parts.blocks * (parts.pageblocks << parts.order);

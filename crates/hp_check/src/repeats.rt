@@ -6,7 +6,7 @@ ghost use Rattle.hp_check.specs.Repeats as means;
 
 use crate::finding::{Finding, Key, Place};
 use crate::shape::keys_of;
-use hp_call_lines::texts_at;
+use hp_call_lines::keys_at;
 use std::alloc::AllocError;
 
 /// Adds the keys of a scenario that its text has more than once, of which the last counts: those of
@@ -44,7 +44,7 @@ fn push_if_repeated(
 ) -> Result<(), AllocError>
     ensures { OnOk result (found.new.items ≡ found.old.items ++ means.repeat_of input.now place key) }
 {
-    if texts_at(input, depth_of(place), key.quoted()) > 1 {
+    if keys_at(input, depth_of(place), key.quoted()) > 1 {
         found.push(Finding::Repeat { place, key })?;
     }
     Ok(())

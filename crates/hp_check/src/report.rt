@@ -1,5 +1,5 @@
 //! How findings are written.
-ghost use Rattle.std.specs.Prelude.{◌≡◌, ◌++◌, OnOk, count_by, string_bytes};
+ghost use Rattle.std.specs.Prelude.{◌≡◌, ◌++◌, OnOk, string_bytes};
 ghost use Rattle.std.specs.List.{flat_map};
 ghost use Rattle.hp_check.specs.Hints.{hint_text};
 ghost use Rattle.hp_check.specs.Reports.{IsReport};
@@ -45,21 +45,8 @@ fn write_counts(out: &mut String, findings: &[Finding]) -> Result<(), AllocError
     ensures { OnOk result (string_bytes out.new ≡ string_bytes out.old ++ says.counts_text findings.now) }
 {
     let faults = fault_count(findings);
-    let warnings = warning_count(findings);
+    let warnings = findings.len() - faults;
     writeln!(out, "faults: {faults}, warnings: {warnings}")
-}
-
-/// How many of the findings are warnings.
-fn warning_count(findings: &[Finding]) -> usize
-    ensures { result ≡ count_by says.is_warning findings.now }
-{
-    let mut count = 0;
-    for finding in findings {
-        if !finding.is_fault() {
-            count += 1;
-        }
-    }
-    count
 }
 
 /// Writes a finding.

@@ -3,7 +3,6 @@ ghost use Rattle.std.specs.Prelude.{◌≡◌, ◌∷◌, ◌++◌, [], OnOk, So
 ghost use Rattle.std.specs.List.{flat_map, list_all, list_any};
 ghost use Rattle.std.specs.Str.{bytes_eq};
 ghost use Rattle.serde_json.specs.Events.{members_len};
-ghost use Rattle.serde_json.specs.Find.{as_object};
 ghost use Rattle.serde_json.specs.View.{view, members_view};
 ghost use Rattle.hp_check.specs.Findings.{key_name, keys_of, number_keys};
 ghost use Rattle.hp_check.specs.Shape as means;
@@ -200,17 +199,9 @@ fn push_layout(
     ensures { OnOk result (found.new.items
         ≡ found.old.items ++ means.layout_faults (option_map (λ v. view v.now) layout.entry)) }
 {
-    match layout {
-        Some(layout) => push_parts(found, alloc, layout),
-        None => Ok(()),
-    }
-}
-
-/// Adds what is wrong with the keys of a layout and the kinds of their values. An error is out of memory.
-fn push_parts(found: &mut Vec<Finding>, alloc: Global, layout: &Value) -> Result<(), AllocError>
-    ensures { OnOk result (found.new.items
-        ≡ found.old.items ++ means.layout_faults_of (view layout.now) (as_object (view layout.now))) }
-{
+    let Some(layout) = layout else {
+        return Ok(());
+    };
     let Some(members) = layout.as_object() else {
         return push(found, Shape::NotObject(Place::Layout));
     };

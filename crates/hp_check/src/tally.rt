@@ -1,18 +1,21 @@
 //! What the lines before a line make of the serials and of the history.
 ghost use Rattle.std.specs.Prelude.{◌≡◌, OnOk};
+ghost use Rattle.std.specs.List.{list_any};
 ghost use Rattle.hp_scenario.specs.Asked.{asked_by};
 ghost use Rattle.hp_check.specs.Tally as means;
 
-use hp_scenario::{Asked, Work};
+use hp_scenario::{Asked, Line, Work};
 use hp_units::{Layout, Serial, mark_of};
 use std::alloc::{AllocError, Global};
 use std::marker::Model;
 
-/// Which records begin an operation, and how many there are since the last seal.
+/// Which records begin an operation, and how many there are since the last seal. In scripts nobody
+/// knows the order of the calls.
 #[derive(Drop)]
 pub(crate) struct Tally {
     begins: Vec<bool>,
-    has_plan: bool,
+    any_later: bool,
+    in_scripts: bool,
     used: u64,
 }
 
@@ -21,7 +24,12 @@ impl Model for Tally {
 
     ghost Value = { TallyValue };
 
-    ghost view = { λ t. record { begins = t.begins.items; has_plan = t.has_plan; used = t.used } };
+    ghost view = { λ t. record {
+      begins = t.begins.items;
+      any_later = t.any_later;
+      in_scripts = t.in_scripts;
+      used = t.used;
+    } };
 }
 
 impl Tally {
@@ -31,7 +39,8 @@ impl Tally {
     {
         Tally {
             begins: Vec::new(alloc),
-            has_plan: false,
+            any_later: false,
+            in_scripts: false,
             used: 0,
         }
     }
@@ -63,7 +72,7 @@ impl Tally {
         if self.is_full(history) {
             return Ok(());
         }
-        if !self.has_plan {
+        if !self.any_later {
             self.begins.push(begins)?;
         }
         self.used += 1;
@@ -75,9 +84,24 @@ impl Tally {
         ensures { self.new ≡ means.after_plan history self.old }
     {
         if !self.is_full(history) {
-            self.has_plan = true;
+            self.any_later = true;
             self.used += 1;
         }
+    }
+
+    /// Ends the setup, after which these lines stand in scripts.
+    pub(crate) fn end_setup(&mut self, lines: &[Line])
+        ensures { self.new ≡ means.before_scripts lines.now self.old }
+    {
+        self.any_later |= any_opens(lines);
+        self.in_scripts = true;
+    }
+
+    /// Whether the lines that are added stand in scripts.
+    pub(crate) fn in_scripts(&self) -> bool
+        ensures { result ≡ self.now.in_scripts }
+    {
+        self.in_scripts
     }
 
     /// Whether there are as many records since the last seal as a history takes.
@@ -92,13 +116,33 @@ impl Tally {
         ensures { result ≡ means.may_begin self.now op }
     {
         if op.0 == 0 {
-            return false;
+            return self.in_scripts;
         }
         let place = op.0 - 1;
         if place < self.begins.len() as u64 {
             self.begins[place as usize]
         } else {
-            self.has_plan
+            self.any_later
         }
+    }
+}
+
+/// Whether one of the lines begins an operation, or may do so.
+fn any_opens(lines: &[Line]) -> bool
+    ensures { result ≡ list_any (λ line. means.may_open (asked_by line.work)) lines.now }
+{
+    lines.iter().any(|line| may_open(&line.work))
+}
+
+/// Whether a line with this work begins an operation, or may do so.
+fn may_open(work: &Work) -> bool
+    ensures { result ≡ means.may_open (asked_by work.now) }
+{
+    match work.asked() {
+        Asked::Event(event) => mark_of(event).is_opening(),
+        Asked::Plan { plan: _, turns: _ } => true,
+        Asked::NotTaken(_fault) => false,
+        Asked::Cat { path: _ } => false,
+        Asked::Seal => false,
     }
 }

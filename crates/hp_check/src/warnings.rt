@@ -1,11 +1,11 @@
 //! Lines that hardly do what is wanted.
-ghost use Rattle.std.specs.Prelude.{◌≡◌, ◌++◌, OnOk, Some};
+ghost use Rattle.std.specs.Prelude.{◌≡◌, ◌+◌, ◌++◌, ◌^◌, ◌<◌, OnOk, Some, length};
 ghost use Rattle.hp_scenario.specs.Asked.{asked_by};
+ghost use Rattle.hp_check.specs.Tally.{after_lines};
 ghost use Rattle.hp_check.specs.Warnings as means;
 
 use crate::finding::{Finding, Warning, What};
 use crate::tally::Tally;
-use crate::unfit::{unfit_warning, unless_last};
 use hp_requests::{ControlFault, File, file_at};
 use hp_scenario::{Asked, Line, Work};
 use hp_units::{Cpu, Event, Layout, Owner, Page, Plan, Serial};
@@ -13,7 +13,6 @@ use std::alloc::{AllocError, Global};
 
 /// Adds the warnings of lines on a layout, of which so many are the setup; the others stand in the
 /// scripts of their processors. An error is out of memory.
-#[tactic(auto, unfolding(crate::specs::Warnings::warnings_of))]
 pub(crate) fn push_warnings(
     found: &mut Vec<Finding>,
     alloc: Global,
@@ -24,25 +23,74 @@ pub(crate) fn push_warnings(
     ensures { OnOk result
         (found.new.items ≡ found.old.items ++ means.warnings_of layout.now setup lines.now) }
 {
+    if lines.len() as u64 <= setup {
+        return push_both(found, alloc, layout, lines, &[]);
+    }
+    let (first, later) = lines.split_at(setup as usize);
+    push_both(found, alloc, layout, first, later)
+}
+
+/// Adds the warnings of the setup and of lines that stand in scripts. An error is out of memory.
+fn push_both(
+    found: &mut Vec<Finding>,
+    alloc: Global,
+    layout: &Layout,
+    setup: &[Line],
+    scripts: &[Line],
+) -> Result<(), AllocError>
+    requires { length setup.now + length scripts.now < 2 ^ 64 }
+    ensures { OnOk result (found.new.items
+        ≡ found.old.items ++ means.both_warnings layout.now setup.now scripts.now) }
+{
     let mut tally = Tally::new(alloc);
+    push_part(found, layout, &mut tally, 0, setup)?;
+    tally.end_setup(scripts);
+    push_part(found, layout, &mut tally, setup.len() as u64, scripts)
+}
+
+/// Adds the warnings of lines that come after so many others. An error is out of memory.
+fn push_part(
+    found: &mut Vec<Finding>,
+    layout: &Layout,
+    tally: &mut Tally,
+    before: u64,
+    lines: &[Line],
+) -> Result<(), AllocError>
+    requires { before + length lines.now < 2 ^ 64 }
+    ensures found { OnOk result (found.new.items
+        ≡ found.old.items ++ means.part_warnings layout.now tally.old before lines.now) }
+    ensures tally { OnOk result (tally.new ≡ after_lines layout.now.history tally.old lines.now) }
+{
     for index in 0..lines.len() {
         let line = &lines[index];
-        let warning = line_warning(layout, &tally, (index as u64) < setup, line);
-        push_warning(found, index as u64 + 1, warning)?;
+        let warning = line_warning(layout, tally, line);
+        push_warning(found, before + index as u64 + 1, warning)?;
         tally.add(layout, &line.work)?;
     }
     Ok(())
 }
 
-/// The warning of a line of the setup or of a script, if there is one.
-fn line_warning(layout: &Layout, tally: &Tally, is_setup: bool, line: &Line) -> Option<Warning>
-    ensures { result ≡ means.line_warning layout.now tally.now is_setup line.now }
+/// The warning of a line, if there is one.
+fn line_warning(layout: &Layout, tally: &Tally, line: &Line) -> Option<Warning>
+    ensures { result ≡ means.line_warning layout.now tally.now line.now }
 {
-    let warning = work_warning(layout, tally, line.cpu, &line.work);
-    if is_setup {
-        return warning;
+    let work = asked_warning(layout, tally, line.cpu, &line.work);
+    unfit_warning(layout.cpus(), tally.in_scripts(), line)
+        .or(work)
+        .or(turns_warning(layout, &line.work))
+}
+
+/// The warning that a line in a script cannot stand there, with so many processors.
+fn unfit_warning(cpus: u32, in_scripts: bool, line: &Line) -> Option<Warning>
+    ensures { result ≡ means.unfit_warning cpus in_scripts line.now }
+{
+    if !in_scripts {
+        return None;
     }
-    unfit_warning(layout.cpus(), line).or(unless_last(warning))
+    match line.unfit(cpus) {
+        Some(why) => Some(Warning::NotForScript(why)),
+        None => None,
+    }
 }
 
 /// Adds a warning of a line, if there is one. An error is out of memory.
@@ -57,13 +105,6 @@ fn push_warning(
         found.push(Finding::Warning { number, warning })?;
     }
     Ok(())
-}
-
-/// The warning of a line's work, if there is one.
-fn work_warning(layout: &Layout, tally: &Tally, cpu: Cpu, work: &Work) -> Option<Warning>
-    ensures { result ≡ means.work_warning layout.now tally.now cpu work.now }
-{
-    asked_warning(layout, tally, cpu, work).or(turns_warning(layout, work))
 }
 
 /// The warning of what a line asks for, if there is one.
@@ -87,16 +128,9 @@ fn asked_warning(layout: &Layout, tally: &Tally, cpu: Cpu, work: &Work) -> Optio
 fn cat_warning(layout: &Layout, path: &str) -> Option<Warning>
     ensures { result ≡ means.cat_warning layout.now path.now }
 {
-    match file_at(path) {
-        Some(file) => file_warning(layout, file),
-        None => Some(Warning::Cat(ControlFault::NoFile)),
-    }
-}
-
-/// The fault of reading a file, if it has one in every state.
-fn file_warning(layout: &Layout, file: File) -> Option<Warning>
-    ensures { result ≡ means.file_warning layout.now (Some file) }
-{
+    let Some(file) = file_at(path) else {
+        return Some(Warning::Cat(ControlFault::NoFile));
+    };
     match file {
         File::Probe => Some(Warning::Cat(ControlFault::WriteOnly)),
         File::OfBlock { block, file: _ } => {
@@ -110,45 +144,32 @@ fn file_warning(layout: &Layout, file: File) -> Option<Warning>
     }
 }
 
-/// The warning of the turns that a line names for its plan, if there is one.
+/// The turns that a line names for its plan, if the history has no room for them.
 fn turns_warning(layout: &Layout, work: &Work) -> Option<Warning>
     ensures { result ≡ means.turns_warning layout.now work.now }
 {
-    match work {
-        Work::Plan { plan: _, turns } => too_many_turns(layout, *turns),
-        _ => None,
+    let Work::Plan { plan: _, turns } = work else {
+        return None;
+    };
+    let history = layout.history();
+    if u64::from(*turns) + u64::from(layout.cpus()) + 2 <= history {
+        return None;
     }
+    Some(Warning::Turns {
+        turns: *turns,
+        history,
+    })
 }
 
 /// The warning that any call of a processor has here, if there is one.
 fn caller_warning(layout: &Layout, tally: &Tally, cpu: Cpu) -> Option<Warning>
     ensures { result ≡ means.caller_warning layout.now tally.now cpu }
 {
-    full(layout, tally).or(past(What::Processor, cpu.0, layout.cpus()))
-}
-
-/// The history, if the lines before fill it.
-fn full(layout: &Layout, tally: &Tally) -> Option<Warning>
-    ensures { result ≡ means.full layout.now tally.now }
-{
     let history = layout.history();
     if tally.is_full(history) {
-        Some(Warning::Full { history })
-    } else {
-        None
+        return Some(Warning::Full { history });
     }
-}
-
-/// The turns of a plan, if the history has no room for them.
-fn too_many_turns(layout: &Layout, turns: u32) -> Option<Warning>
-    ensures { result ≡ means.too_many_turns layout.now turns }
-{
-    let history = layout.history();
-    if u64::from(turns) + u64::from(layout.cpus()) + 2 <= history {
-        None
-    } else {
-        Some(Warning::Turns { turns, history })
-    }
+    past(What::Processor, cpu.0, layout.cpus())
 }
 
 /// A number, if it is past so many.

@@ -1,23 +1,18 @@
-use Rattle.std.proofs.Common.{◌+◌, ◌++◌, Option, ap, ◌∙◌}
-use Rattle.hp_check.specs.Warnings.{warned}
-use Rattle.hp_check.specs.declared.finding.Warning.{Warning}
-use Rattle.hp_check.proofs.Warned.{none_warned, one_tallied, one_warned}
+use Rattle.std.proofs.Common.{◌≡◌, ◌++◌, List, subst}
+use Rattle.std.specs.Result.{OnOk}
+use Rattle.hp_check.specs.declared.finding.Finding.{Finding}
+use Rattle.hp_check.proofs.Warned.{all_setup, cut_there}
 use Rattle.hp_check.proofs.warnings.push_warnings.Goals as goal
 
-pub loop-index-init : goal.loop-index-init
-loop-index-init c = (
-  none_warned c.args.layout.now c.args.setup c.args.lines.now c.args.found.now.items,
-  c.new-tally.ensures,
-)
+pub returns-then-lines-setup : goal.returns-then-lines-setup
+returns-then-lines-setup c =
+    subst (λ (fs : List Finding). OnOk c.push_both.result (c.push_both.new.found.items
+    ≡ c.args.found.now.items ++ fs))
+    (all_setup c.args.layout.now c.args.setup c.args.lines.now c.if-lines-setup.true) c.push_both.ensures
 
-pub loop-index-preserved : goal.loop-index-preserved
-loop-index-preserved c =
-    let i = c.loop-index.invariant in
-    let line = c.index-lines-index.result in (
-      one_warned c.args.layout.now c.args.setup c.args.lines.now c.loop-index.index line c.loop-index.tally
-          c.args.found.now.items c.loop-index.found.items _ c.loop-index-test.true c.index-lines-index.is i.1
-          i.0 (c.in_ok-push_warning.ensures ∙ ap (λ (w : Option Warning).
-          c.loop-index.found.items ++ warned (c.loop-index.index + 1) w) c.line_warning-warning.ensures),
-      one_tallied c.args.layout.now.history c.args.lines.now c.loop-index.index line c.loop-index.tally _
-          c.loop-index-test.true c.index-lines-index.is i.1 c.in_ok-add.ensures,
-    )
+pub returns : goal.returns
+returns c =
+    subst (λ (fs : List Finding). OnOk c.push_both-2.result (c.push_both-2.new.found.items
+    ≡ c.args.found.now.items ++ fs))
+    (cut_there c.args.layout.now c.args.setup c.args.lines.now _ _ c.split_at.ensures.front
+    c.split_at.ensures.back) c.push_both-2.ensures

@@ -2,7 +2,7 @@ use Rattle.std.proofs.Common.{ℕ, List, ◌==◌, get_or, refl, ap, ◌∙◌, 
 use Rattle.std.proofs.lemmas.List.{take_rest}
 use Rattle.hp_call_lines.specs.Looks.{begun}
 use Rattle.hp_call_lines.proofs.Looked.{counted_all, counted_more, nested_more}
-use Rattle.hp_call_lines.proofs.looks.texts_at.Goals as goal
+use Rattle.hp_call_lines.proofs.looks.keys_at.Goals as goal
 
 pub loop-place-preserved : goal.loop-place-preserved
 loop-place-preserved c =
@@ -14,8 +14,8 @@ loop-place-preserved c =
     let one =
     c.begun-count.ensures.is
     ∙ ap (λ (bs : List ℕ). begun mode (nested == c.args.depth) (get_or input place 0) bs
-    c.args.start.now) (take_rest input place) in (
-      counted_more c.args.depth c.args.start.now mode c.mode_after-mode.result nested
+    c.args.key.now) (take_rest input place) in (
+      counted_more c.args.depth c.args.key.now mode c.mode_after-mode.result nested
           c.nested_after-nested.result input
           place _ c.loop-place.count c.begun-count.result _ _ c.loop-place-test.true refl i.0 one refl
           c.nested_after-nested.ensures c.mode_after-mode.ensures,
@@ -26,5 +26,5 @@ loop-place-preserved c =
 
 pub returns : goal.returns
 returns c =
-    counted_all c.args.depth c.args.start.now c.loop-place.mode c.loop-place.nested c.args.input.now
+    counted_all c.args.depth c.args.key.now c.loop-place.mode c.loop-place.nested c.args.input.now
     c.loop-place.place c.loop-place.count _ c.loop-place-test.false c.loop-place.invariant.0

@@ -1,7 +1,0 @@
-use Rattle.std.proofs.Common.{◌≡◌, ◌≤◌, count_by, take}
-use Rattle.hp_check.specs.Texts.{is_warning}
-use Rattle.hp_check.proofs.report.warning_count.Given as goal
-
-abbrev pub invariant-loop-finding : goal.invariant-loop-finding
-invariant-loop-finding l =
-    (l.count ≡ count_by is_warning (take l.finding-index l.findings)) × (l.count ≤ l.finding-index)
