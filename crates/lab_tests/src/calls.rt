@@ -15,37 +15,31 @@ const LINES: &str =
      cancel 5;1 undo 4;1 echo 0x80 probe;1 remove 3;1 echo online_kernel auto_online_blocks;";
 
 /// Writes a call of processor 1 and a semicolon.
-fn write_one(out: &mut String, names: &IndexSet<Text>, event: &Event) -> Result<(), AllocError> {
-    write_call(out, names, Cpu(1), event)?;
+fn write_one(out: &mut String, names: &IndexSet<Text>, event: Event) -> Result<(), AllocError> {
+    write_call(out, names, Cpu(1), &event)?;
     out.push_str(";")
 }
 
 /// Writes the calls that access frames and pages.
 fn write_accesses(out: &mut String, names: &IndexSet<Text>) -> Result<(), AllocError> {
     let (owner, page, index) = (Owner(0), Page(3), 1);
-    write_one(out, names, &Event::KernelAlloc { order: Order(2) })?;
-    write_one(out, names, &Event::KernelFree { frame: Frame(8) })?;
+    let web = Owner(1);
+    write_one(out, names, Event::KernelAlloc { order: Order(2) })?;
+    write_one(out, names, Event::KernelFree { frame: Frame(8) })?;
+    write_one(out, names, Event::Map { owner: web, page })?;
+    write_one(out, names, Event::Unmap { owner, page })?;
     write_one(
         out,
         names,
-        &Event::Map {
-            owner: Owner(1),
-            page,
-        },
-    )?;
-    write_one(out, names, &Event::Unmap { owner, page })?;
-    write_one(
-        out,
-        names,
-        &Event::Write {
+        Event::Write {
             owner,
             page,
             index,
             value: 7,
         },
     )?;
-    write_one(out, names, &Event::Read { owner, page, index })?;
-    write_one(out, names, &Event::Drain { cpu: Cpu(0) })
+    write_one(out, names, Event::Read { owner, page, index })?;
+    write_one(out, names, Event::Drain { cpu: Cpu(0) })
 }
 
 /// A Begin of three blocks.
@@ -68,52 +62,50 @@ fn write_operations(
     alloc: Global,
     names: &IndexSet<Text>,
 ) -> Result<(), AllocError> {
-    let op = Serial(5);
-    write_one(
-        out,
-        names,
-        &Event::Online {
-            block: Block(3),
-            zone: Zone::Movable,
-        },
-    )?;
-    write_one(out, names, &begin(alloc)?)?;
-    write_one(out, names, &Event::DrainFor { op, cpu: Cpu(0) })?;
-    write_one(out, names, &Event::Migrate { op })?;
-    write_one(out, names, &Event::Commit { op })?;
-    write_one(out, names, &Event::Cancel { op })?;
-    write_one(out, names, &Event::UndoAfter { serial: Serial(4) })
+    let (op, block, zone) = (Serial(5), Block(3), Zone::Movable);
+    write_one(out, names, Event::Online { block, zone })?;
+    write_one(out, names, begin(alloc)?)?;
+    write_one(out, names, Event::DrainFor { op, cpu: Cpu(0) })?;
+    write_one(out, names, Event::Migrate { op })?;
+    write_one(out, names, Event::Commit { op })?;
+    write_one(out, names, Event::Cancel { op })?;
+    write_one(out, names, Event::UndoAfter { serial: Serial(4) })
 }
 
 /// Writes the calls that add and take away blocks.
 fn write_blocks(out: &mut String, names: &IndexSet<Text>) -> Result<(), AllocError> {
-    write_one(out, names, &Event::Probe { address: 128 })?;
-    write_one(out, names, &Event::Remove { block: Block(3) })?;
-    write_one(
-        out,
-        names,
-        &Event::SetAuto {
-            auto: Auto::OnlineKernel,
-        },
-    )
+    write_one(out, names, Event::Probe { address: 128 })?;
+    write_one(out, names, Event::Remove { block: Block(3) })?;
+    let auto = Auto::OnlineKernel;
+    write_one(out, names, Event::SetAuto { auto })
+}
+
+/// Adds the name of an owner.
+fn add_name(names: &mut IndexSet<Text>, alloc: Global, name: &str) -> Result<(), AllocError> {
+    let _ = names.insert_full(Text::new(String::from_str(alloc, name)?))?;
+    Ok(())
 }
 
 /// The names of two owners.
 fn two_names(alloc: Global) -> Result<IndexSet<Text>, AllocError> {
     let mut names = IndexSet::new(alloc);
-    for name in ["db", "web"] {
-        let _ = names.insert_full(Text::new(String::from_str(alloc, name)?))?;
-    }
+    add_name(&mut names, alloc, "db")?;
+    add_name(&mut names, alloc, "web")?;
     Ok(names)
+}
+
+/// Writes all those calls.
+fn write_lines(out: &mut String, alloc: Global, names: &IndexSet<Text>) -> Result<(), AllocError> {
+    write_accesses(out, names)?;
+    write_operations(out, alloc, names)?;
+    write_blocks(out, names)
 }
 
 /// All those calls.
 fn lines(alloc: Global) -> Result<String, AllocError> {
     let names = two_names(alloc)?;
     let mut out = String::new(alloc);
-    write_accesses(&mut out, &names)?;
-    write_operations(&mut out, alloc, &names)?;
-    write_blocks(&mut out, &names)?;
+    write_lines(&mut out, alloc, &names)?;
     Ok(out)
 }
 

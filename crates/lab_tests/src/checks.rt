@@ -1,6 +1,6 @@
 //! Scenarios that are checked, and the report on each.
-use hp_call_lines::{call_lines, has_comment, is_blank, nests_deeper, texts_at};
-use hp_check::{Key, check, fault_count, write_report};
+use hp_call_lines::{call_lines, has_comment, is_blank, keys_at, nests_deeper};
+use hp_check::{Finding, Key, check, fault_count, write_report};
 use std::alloc::{AllocError, Global};
 use std::test::Fail;
 
@@ -142,17 +142,17 @@ const SLIPPED: Checked = (
      calls 12 (line 6): `0 \\u001b[31m\\nwalk`: its second word is no verb\nfaults: 12, warnings: 0\n",
 );
 
-/// Lines of a script after the first, and the report on them.
+/// Lines of scripts after the first, and the report on them: the begin may have any later serial.
 const SCRIPTED: Checked = (
     "{\"layout\":{\"order\":1,\"pageblocks\":1,\"blocks\":2,\"cpus\":2,\"batch\":1,\"high\":1,\
      \"owners\":2,\"pages\":2,\"words\":1,\"history\":40,\"boot\":[\"normal\",\"movable\"]},\n\
      \"calls\":[\"0 map db 0\",\"0 begin off 1\",\"0 commit 0\",\"1 cat memory0/state\",\"1 seal\",\n\
-     \"2 drain 0\",\"0 echo x memory1/state\",\"0 commit 9\"]}",
+     \"2 drain 0\",\"0 echo x memory1/state\",\"0 commit 1\",\"1 commit 3\"]}",
     "calls 4 (line 2): warning: not for a script: cat makes no call\n\
      calls 5 (line 2): warning: not for a script: seal makes no call\n\
      calls 6 (line 3): warning: not for a script: its processor is not in the layout\n\
      calls 7 (line 3): warning: not for a script: echo: fault BadText\n\
-     calls 8 (line 3): warning: no line before begins operation 9\nfaults: 0, warnings: 5\n",
+     calls 8 (line 3): warning: no line before begins operation 1\nfaults: 0, warnings: 5\n",
 );
 
 /// Keys of the whole and of the layout that stand twice: only the first are told.
@@ -171,11 +171,6 @@ const REPEATED_BELOW: Checked = (
     "layout: warning: `order` stands more than once, and the last counts\nfaults: 0, warnings: 1\n",
 );
 
-/// The report on a text.
-fn report(alloc: Global, text: &str) -> Result<String, AllocError> {
-    report_after(alloc, u64::MAX, text)
-}
-
 /// The report on a text, of whose lines so many are the setup.
 fn report_after(alloc: Global, setup: u64, text: &str) -> Result<String, AllocError> {
     let mut out = String::new(alloc);
@@ -184,19 +179,30 @@ fn report_after(alloc: Global, setup: u64, text: &str) -> Result<String, AllocEr
     Ok(out)
 }
 
+/// Whether this is the report on a text.
+fn has_report(alloc: Global, text: &str, expected: &str) -> Result<bool, AllocError> {
+    let report = report_after(alloc, u64::MAX, text)?;
+    Ok(report.as_str() == expected)
+}
+
 /// The place of the first text on which there is another report.
 fn first_other(alloc: Global, rows: &[Checked]) -> Result<Option<usize>, AllocError> {
     for (place, (text, expected)) in rows.iter().enumerate() {
-        if report(alloc, text)?.as_str() != *expected {
+        if !has_report(alloc, text, expected)? {
             return Ok(Some(place));
         }
     }
     Ok(None)
 }
 
+/// Those texts. Each function that names the table pays for it in its proof, so one alone does.
+fn checked() -> &'static [Checked] {
+    CHECKED
+}
+
 #[test]
 fn each_text_has_its_report(rt: HostRuntime) -> Result<(), Fail> {
-    assert!(rt; first_other(rt.alloc(), CHECKED)?.is_none());
+    assert!(rt; first_other(rt.alloc(), checked())?.is_none());
     assert!(rt; first_other(rt.alloc(), HINTED)?.is_none());
     assert!(rt; first_other(rt.alloc(), &[SLIPPED, REPEATED, REPEATED_BELOW])?.is_none());
     Ok(())
@@ -215,21 +221,18 @@ fn scripts_have_their_report(rt: HostRuntime) -> Result<(), Fail> {
     Ok(())
 }
 
-/// So many lists in one another.
-fn nested(alloc: Global, count: usize) -> Result<String, AllocError> {
-    "[".repeat(alloc, count)
+/// Whether this is the report on so many lists in one another.
+fn is_said(alloc: Global, count: usize, expected: &str) -> Result<bool, AllocError> {
+    let text = "[".repeat(alloc, count)?;
+    has_report(alloc, &text, expected)
 }
 
 /// Whether the depth of lists in one another is said where the reader does not take it.
 fn is_depth_said(alloc: Global) -> Result<bool, AllocError> {
-    let deep = report(alloc, nested(alloc, 128)?.as_str())?;
-    let flat = report(alloc, nested(alloc, 127)?.as_str())?;
-    Ok(
-        deep.as_str()
-            == "line 1, column 128: not JSON: more than 127 objects and lists in one another\n\
-                faults: 1, warnings: 0\n"
-            && flat.as_str() == "line 1, column 127: not JSON\nfaults: 1, warnings: 0\n",
-    )
+    let deep = "line 1, column 128: not JSON: more than 127 objects and lists in one another\n\
+                faults: 1, warnings: 0\n";
+    let flat = "line 1, column 127: not JSON\nfaults: 1, warnings: 0\n";
+    Ok(is_said(alloc, 128, deep)? && is_said(alloc, 127, flat)?)
 }
 
 #[test]
@@ -244,7 +247,7 @@ fn is_seen() -> bool {
         && has_comment(b"{} # x")
         && nests_deeper(b"[[], {\"[\": [1]}]", 2)
         && !nests_deeper(b"[[], {\"[\": [1]}]", 3)
-        && texts_at(b"{\"a\": \"a\", \"b\": [\"a\"]}", 1, b"\"a\"") == 2
+        && keys_at(b"{\"a\": \"a\", \"b\": [\"a\"], \"a\" :1}", 1, b"\"a\"") == 2
 }
 
 #[test]
@@ -253,17 +256,28 @@ fn texts_are_seen(rt: HostRuntime) -> Result<(), Fail> {
     Ok(())
 }
 
-/// Whether faults are counted and told from warnings, in the last but one of the texts and in the last.
+/// Whether no finding is a fault.
+fn are_warnings(findings: &[Finding]) -> bool {
+    for finding in findings {
+        if finding.is_fault() {
+            return false;
+        }
+    }
+    true
+}
+
+/// Whether one of the texts has so many faults, and whether it has warnings alone is so.
+fn counts(alloc: Global, place: usize, faults: usize, is_whole: bool) -> Result<bool, AllocError> {
+    let Some((text, _report)) = checked().get(place) else {
+        return Ok(false);
+    };
+    let found = check(alloc, text.as_bytes(), u64::MAX)?;
+    Ok(fault_count(&found) == faults && are_warnings(&found) == is_whole)
+}
+
+/// Whether faults are counted and told from warnings, in a text of faults and in one of warnings.
 fn are_counted(alloc: Global) -> Result<bool, AllocError> {
-    let (faulty, _report) = CHECKED[5];
-    let (whole, _report) = CHECKED[7];
-    let faults = check(alloc, faulty.as_bytes(), u64::MAX)?;
-    let warnings = check(alloc, whole.as_bytes(), u64::MAX)?;
-    Ok(
-        fault_count(&faults) == 6
-            && fault_count(&warnings) == 0
-            && warnings.iter().all(|finding| !finding.is_fault()),
-    )
+    Ok(counts(alloc, 5, 6, false)? && counts(alloc, 7, 0, true)?)
 }
 
 #[test]

@@ -30,16 +30,24 @@ const COUNTED: &[(&str, u64, &str)] = &[
     ("0 drain 0;1 seal", 1, ""),
 ];
 
-/// Whether this is said of how many interleavings a scenario has after so many lines, at most 10.
-fn says(alloc: Global, lines: &str, setup: u64, text: &str) -> Result<bool, AllocError> {
+/// The scenario of these lines; none where it is refused.
+fn read(alloc: Global, lines: &str) -> Result<Option<Scenario>, AllocError> {
     let bytes = scenario(alloc, 40, lines)?;
-    match Scenario::read(alloc, bytes.as_bytes()) {
-        Ok(read) => {
-            let cpus = read.layout.cpus();
-            let line = interleavings_line(alloc, cpus, setup, read.lines.as_slice(), 10)?;
-            Ok(line.as_str() == text)
-        }
-        Err(_fault) => Ok(false),
+    Ok(Scenario::read(alloc, bytes.as_bytes()).ok())
+}
+
+/// Whether this is said of how many interleavings a scenario has after so many lines, at most 10.
+fn says_of(alloc: Global, read: &Scenario, setup: u64, text: &str) -> Result<bool, AllocError> {
+    let cpus = read.layout.cpus();
+    let line = interleavings_line(alloc, cpus, setup, read.lines.as_slice(), 10)?;
+    Ok(line.as_str() == text)
+}
+
+/// Whether this is said of the scenario of these lines.
+fn says(alloc: Global, lines: &str, setup: u64, text: &str) -> Result<bool, AllocError> {
+    match read(alloc, lines)? {
+        Some(read) => says_of(alloc, &read, setup, text),
+        None => Ok(false),
     }
 }
 
@@ -61,13 +69,12 @@ fn begins_after_one(alloc: Global, scenario: &Scenario) -> bool {
 
 /// Whether this is so of a scenario of three lines, of which the first alone is the setup.
 fn has_one_line_of_setup(alloc: Global) -> Result<bool, AllocError> {
-    let bytes = scenario(alloc, 40, "0 drain 0;1 drain 0;0 drain 1")?;
-    match Scenario::read(alloc, bytes.as_bytes()) {
-        Ok(read) => {
+    match read(alloc, "0 drain 0;1 drain 0;0 drain 1")? {
+        Some(read) => {
             let is_front = front_of(read.lines.as_slice(), 1).len() == 1;
             Ok(is_front && begins_after_one(alloc, &read))
         }
-        Err(_fault) => Ok(false),
+        None => Ok(false),
     }
 }
 

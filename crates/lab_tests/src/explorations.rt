@@ -69,7 +69,9 @@ const AGAIN_TEXT: &str =
      \"0 cancel 1\",\n\"0 begin off 1\",\n\"0 commit 3\",\n\"1 commit 0\"\n";
 
 /// The lines of a scenario, how many of them are run first, and the text of its exploration in a form.
-const EXPLORED: &[(&str, u64, EndsForm, &str)] = &[
+type Explored = (&'static str, u64, EndsForm, &'static str);
+
+const EXPLORED: &[Explored] = &[
     (RACE, 3, EndsForm::Words, RACE_TEXT),
     (RACE, 3, EndsForm::Objects, RACE_OBJECTS),
     (SETUP, 8, EndsForm::Words, SETUP_TEXT),
@@ -90,28 +92,20 @@ pub fn scenario(alloc: Global, history: u64, lines: &str) -> Result<String, Allo
     )
 }
 
-/// Whether the exploration of a scenario after so many lines has this text in a form.
-fn explores(
-    alloc: Global,
-    lines: &str,
-    setup: u64,
-    form: EndsForm,
-    text: &str,
-) -> Result<bool, AllocError> {
+/// Whether the exploration of a scenario after so many lines has its text.
+fn explores(alloc: Global, row: &Explored) -> Result<bool, AllocError> {
+    let (lines, setup, form, text) = row;
     let scenario = scenario(alloc, 40, lines)?;
-    match explore_text(alloc, scenario.as_bytes(), setup, 100, form, &mut Silent) {
-        Ok(finding) => Ok(finding.text.as_str() == text),
+    match explore_text(alloc, scenario.as_bytes(), *setup, 100, *form, &mut Silent) {
+        Ok(finding) => Ok(finding.text.as_str() == *text),
         Err(_fault) => Ok(false),
     }
 }
 
 #[test]
 fn explorations_have_their_text(rt: HostRuntime) -> Result<(), Fail> {
-    for (lines, setup, form, text) in EXPLORED {
-        assert!(rt;
-            explores(rt.alloc(), lines, *setup, *form, text)?,
-            "{lines}"
-        );
+    for row in EXPLORED {
+        assert!(rt; explores(rt.alloc(), row)?, "{}", row.0);
     }
     Ok(())
 }
@@ -128,35 +122,29 @@ const NO_OBJECTS_OF_A_PLAN: &str = "{\"first\": 0, \"interleavings\": null}\n";
 
 /// The lines of a scenario, how many of them are run first, the limit, and the text in a form of the
 /// interleavings that come first.
-const LIMITED: &[(&str, u64, u64, EndsForm, &str)] = &[
+type Limited = (&'static str, u64, u64, EndsForm, &'static str);
+
+const LIMITED: &[Limited] = &[
     (RACE, 3, 2, EndsForm::Words, FIRST_TEXT),
     (RACE, 3, 0, EndsForm::Objects, NO_OBJECTS),
     (PLAN, 0, 0, EndsForm::Objects, NO_OBJECTS_OF_A_PLAN),
 ];
 
-/// Whether the exploration of a scenario stops at a limit, with this text.
-fn stops(
-    alloc: Global,
-    lines: &str,
-    setup: u64,
-    limit: u64,
-    form: EndsForm,
-    text: &str,
-) -> Result<bool, AllocError> {
+/// Whether the exploration of a scenario stops at a limit, with its text.
+fn stops(alloc: Global, row: &Limited) -> Result<bool, AllocError> {
+    let (lines, setup, limit, form, text) = row;
     let scenario = scenario(alloc, 40, lines)?;
-    match explore_text(alloc, scenario.as_bytes(), setup, limit, form, &mut Silent) {
-        Ok(finding) => Ok(!finding.is_found && finding.text.as_str() == text),
+    let input = scenario.as_bytes();
+    match explore_text(alloc, input, *setup, *limit, *form, &mut Silent) {
+        Ok(finding) => Ok(!finding.is_found && finding.text.as_str() == *text),
         Err(_fault) => Ok(false),
     }
 }
 
 #[test]
 fn the_first_are_told_past_the_limit(rt: HostRuntime) -> Result<(), Fail> {
-    for (lines, setup, limit, form, text) in LIMITED {
-        assert!(rt;
-            stops(rt.alloc(), lines, *setup, *limit, *form, text)?,
-            "{lines}"
-        );
+    for row in LIMITED {
+        assert!(rt; stops(rt.alloc(), row)?, "{}", row.0);
     }
     Ok(())
 }

@@ -15,45 +15,59 @@ const RACE: &str = "0 map db 0;0 write db 0 0 7;0 kalloc 0;0 begin off 1;0 migra
 
 const SETUP: u64 = 3;
 
+/// The text of a part of a scenario; empty where it has none.
+fn part_of(alloc: Global, input: &[u8], number: PartNumber, limit: u64) -> String {
+    match part_text(alloc, input, SETUP, limit, number, &mut Silent) {
+        Ok(finding) => finding.text,
+        Err(_fault) => String::new(alloc),
+    }
+}
+
 /// The text of one of so many parts of the race; empty where it has none.
 fn part(alloc: Global, number: u64, of: u64, limit: u64) -> Result<String, AllocError> {
-    let scenario = scenario(alloc, 40, RACE)?;
     let Some(number) = PartNumber::new(number, of) else {
         return Ok(String::new(alloc));
     };
-    match part_text(
-        alloc,
-        scenario.as_bytes(),
-        SETUP,
-        limit,
-        number,
-        &mut Silent,
-    ) {
-        Ok(finding) => Ok(finding.text),
-        Err(_fault) => Ok(String::new(alloc)),
-    }
+    let scenario = scenario(alloc, 40, RACE)?;
+    Ok(part_of(alloc, scenario.as_bytes(), number, limit))
+}
+
+/// Writes the text of one of so many parts.
+fn push_part(out: &mut String, alloc: Global, number: u64, of: u64) -> Result<(), AllocError> {
+    let part = part(alloc, number, of, 100)?;
+    out.push_str(&part)
 }
 
 /// The text of all of so many parts, the last first.
 fn parts(alloc: Global, of: u64) -> Result<String, AllocError> {
     let mut text = String::new(alloc);
     for number in 0..of {
-        let part = part(alloc, of - number, of, 100)?;
-        text.push_str(&part)?;
+        push_part(&mut text, alloc, of - number, of)?;
     }
     Ok(text)
+}
+
+/// Whether the text of parts has this sum in a form.
+fn has_sum(alloc: Global, text: &str, form: EndsForm, whole: &str) -> bool {
+    match sum_text(alloc, text.as_bytes(), form) {
+        Ok(sum) => sum.is_found && sum.text.as_str() == whole,
+        Err(_fault) => false,
+    }
 }
 
 /// Whether the text of parts adds up to the exploration of the race in a form.
 fn adds_up(alloc: Global, text: &str, form: EndsForm) -> Result<bool, AllocError> {
     let scenario = scenario(alloc, 40, RACE)?;
-    let Ok(whole) = explore_text(alloc, scenario.as_bytes(), SETUP, 100, form, &mut Silent) else {
-        return Ok(false);
-    };
-    match sum_text(alloc, text.as_bytes(), form) {
-        Ok(sum) => Ok(sum.is_found && sum.text.as_str() == whole.text.as_str()),
+    match explore_text(alloc, scenario.as_bytes(), SETUP, 100, form, &mut Silent) {
+        Ok(whole) => Ok(has_sum(alloc, text, form, whole.text.as_str())),
         Err(_fault) => Ok(false),
     }
+}
+
+/// Whether so many parts do.
+fn parts_of_it_add_up(alloc: Global, of: u64, form: EndsForm) -> Result<bool, AllocError> {
+    let text = parts(alloc, of)?;
+    adds_up(alloc, &text, form)
 }
 
 /// How many parts there are, and the form of their sum.
@@ -67,8 +81,7 @@ const SUMS: &[(u64, EndsForm)] = &[
 #[test]
 fn parts_add_up(rt: HostRuntime) -> Result<(), Fail> {
     for (of, form) in SUMS {
-        let text = parts(rt.alloc(), *of)?;
-        assert!(rt; adds_up(rt.alloc(), &text, *form)?, "{of}");
+        assert!(rt; parts_of_it_add_up(rt.alloc(), *of, *form)?, "{of}");
     }
     Ok(())
 }
@@ -81,19 +94,15 @@ fn fault_of(alloc: Global, text: &str) -> Option<PartFault> {
     }
 }
 
-/// What is put in place of a text in the text of three parts, the third first, and why that has no sum.
-const REFUSED: &[(&str, &str, Option<PartFault>)] = &[
+/// A text, what takes its place in three parts, the third first, and why that has no sum.
+type Refused = (&'static str, &'static str, Option<PartFault>);
+
+const NO_PART: Option<PartFault> = Some(PartFault::NotPart { line: 1 });
+
+const REFUSED: &[Refused] = &[
     ("\"end\": 1,", "\"end\": 1,", None),
-    (
-        "\"part\": 3,",
-        "\"part\": 4,",
-        Some(PartFault::NotPart { line: 1 }),
-    ),
-    (
-        "{\"part\": 3",
-        "x{\"part\": 3",
-        Some(PartFault::NotPart { line: 1 }),
-    ),
+    ("\"part\": 3,", "\"part\": 4,", NO_PART),
+    ("{\"part\": 3", "x{\"part\": 3", NO_PART),
     (
         ", \"first\": [",
         ",\"first\": [",
@@ -102,26 +111,44 @@ const REFUSED: &[(&str, &str, Option<PartFault>)] = &[
     ("]}\n", ", 0]}\n", Some(PartFault::NotOfPart { line: 2 })),
 ];
 
+/// Whether a text has no sum when it is so changed.
+fn is_refused(alloc: Global, text: &str, row: &Refused) -> Result<bool, AllocError> {
+    let (old, new, fault) = row;
+    let changed = text.replace(alloc, old, new)?;
+    Ok(fault_of(alloc, &changed) == *fault)
+}
+
 #[test]
 fn texts_without_a_sum_are_refused(rt: HostRuntime) -> Result<(), Fail> {
-    let alloc = rt.alloc();
-    let text = parts(alloc, 3)?;
-    for (old, new, fault) in REFUSED {
-        let changed = text.replace(alloc, old, new)?;
-        assert!(rt; fault_of(alloc, &changed) == *fault, "{old}");
+    let text = parts(rt.alloc(), 3)?;
+    for row in REFUSED {
+        assert!(rt; is_refused(rt.alloc(), &text, row)?, "{}", row.0);
     }
     Ok(())
 }
 
+/// The first of so many parts to a limit, how often it is in a text, and why that has no sum.
+type First = (u64, u64, usize, PartFault);
+
+const FIRST: &[First] = &[
+    (1, 1, 1, PartFault::Stopped { line: 3 }),
+    (2, 100, 1, PartFault::Missing { part: 2 }),
+    (2, 100, 2, PartFault::Twice { part: 1 }),
+    (2, 100, 0, PartFault::NotPart { line: 1 }),
+];
+
+/// Whether that text has no sum.
+fn is_first_refused(alloc: Global, first: &First) -> Result<bool, AllocError> {
+    let (of, limit, times, fault) = first;
+    let one = part(alloc, 1, *of, *limit)?;
+    let text = one.repeat(alloc, *times)?;
+    Ok(fault_of(alloc, &text) == Some(*fault))
+}
+
 #[test]
 fn stopped_and_missing_parts_are_refused(rt: HostRuntime) -> Result<(), Fail> {
-    let alloc = rt.alloc();
-    let stopped = part(alloc, 1, 1, 1)?;
-    assert!(rt; fault_of(alloc, &stopped) == Some(PartFault::Stopped { line: 3 }));
-    let one = part(alloc, 1, 2, 100)?;
-    assert!(rt; fault_of(alloc, &one) == Some(PartFault::Missing { part: 2 }));
-    let again = format!(in alloc; "{one}{one}")?;
-    assert!(rt; fault_of(alloc, &again) == Some(PartFault::Twice { part: 1 }));
-    assert!(rt; fault_of(alloc, "") == Some(PartFault::NotPart { line: 1 }));
+    for row in FIRST {
+        assert!(rt; is_first_refused(rt.alloc(), row)?, "{} {}", row.0, row.2);
+    }
     Ok(())
 }

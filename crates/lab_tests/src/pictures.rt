@@ -7,11 +7,42 @@ use indexmap::IndexSet;
 use std::alloc::{AllocError, Global};
 use std::test::Fail;
 
-/// What is asked in the row of the memory at boot.
-const BOOT: &str = "   0 boot";
+type Words = &'static str;
+
+/// The head, the cells, the free blocks (place, order, whether isolated) and the kinds of a block.
+type Block = (Words, Words, &'static [(u32, u32, bool)], Words);
+
+/// What is asked in a row, its answer, the two frames of a page that moved, and the memory blocks.
+type Row = (Words, Words, Option<(u32, u32)>, &'static [Block]);
 
 /// A text of characters that XML spells otherwise, or has not.
 const WORDS: &str = "<&>\"\t";
+
+/// Memory blocks with each kind of cell, free blocks, and pageblocks of each mobility.
+const BOOT: &[Block] = &[
+    (
+        "0:N",
+        "a...|KK..",
+        &[(1, 0, false), (2, 1, false), (7, 1, false)],
+        "MMMM|UUUU",
+    ),
+    (
+        "1:M>off",
+        ":0::|-- -",
+        &[(0, 0, true), (2, 1, true)],
+        "MMMM|    ",
+    ),
+];
+
+/// A memory block that is offline.
+const OFFLINE: &[Block] = &[("0:N", "----|----", &[], "    |    ")];
+
+/// A row with each kind of cell, one of words, and one whose page moved, to a frame after a bar.
+const ROWS: &[Row] = &[
+    ("   0 boot", "1: done", None, BOOT),
+    (WORDS, "", None, &[]),
+    ("   1 0 migrate 1", "2: moved 0 5", Some((0, 5)), OFFLINE),
+];
 
 /// A row with each kind of cell, one of words and one whose page moved, as a picture, which another
 /// program wrote, by hand, from the rules of LAB.md.
@@ -88,84 +119,94 @@ fn text(alloc: Global, from: &str) -> Result<Text, AllocError> {
     Ok(Text::new(String::from_str(alloc, from)?))
 }
 
-/// A free block.
-fn free(at: u32, order: u32, is_isolated: bool) -> FreeBlock {
-    FreeBlock {
-        at,
-        order,
-        is_isolated,
+/// A free block of each triple.
+fn free_blocks(alloc: Global, from: &[(u32, u32, bool)]) -> Result<Vec<FreeBlock>, AllocError> {
+    let mut free = Vec::new(alloc);
+    for (at, order, is_isolated) in from {
+        free.push(FreeBlock {
+            at: *at,
+            order: *order,
+            is_isolated: *is_isolated,
+        })?;
     }
+    Ok(free)
 }
 
 /// A memory block without orders in its cells.
-fn block(
-    alloc: Global,
-    head: &str,
-    cells: &str,
-    free: Vec<FreeBlock>,
-    kinds: &str,
-) -> Result<BlockPicture, AllocError> {
+fn block(alloc: Global, from: &Block) -> Result<BlockPicture, AllocError> {
+    let (head, cells, free, kinds) = from;
     let head = text(alloc, head)?;
     let cells = text(alloc, cells)?;
     let kinds = text(alloc, kinds)?;
-    Ok(BlockPicture::new(head, cells, text(alloc, "")?, free, kinds))
+    let free = free_blocks(alloc, free)?;
+    let ordered = Text::new(String::new(alloc));
+    Ok(BlockPicture::new(head, cells, ordered, free, kinds))
 }
 
-/// Memory blocks with each kind of cell, free blocks, and pageblocks of each mobility.
-fn blocks(alloc: Global) -> Result<Vec<BlockPicture>, AllocError> {
-    let here = vec![in alloc; free(1, 0, false), free(2, 1, false), free(7, 1, false)]?;
-    let there = vec![in alloc; free(0, 0, true), free(2, 1, true)]?;
-    let first = block(alloc, "0:N", "a...|KK..", here, "MMMM|UUUU")?;
-    let second = block(alloc, "1:M>off", ":0::|-- -", there, "MMMM|    ")?;
-    Ok(vec![in alloc; first, second]?)
+/// Those memory blocks.
+fn blocks(alloc: Global, from: &[Block]) -> Result<Vec<BlockPicture>, AllocError> {
+    let mut blocks = Vec::new(alloc);
+    for each in from {
+        blocks.push(block(alloc, each)?)?;
+    }
+    Ok(blocks)
 }
 
-/// A row of a page that moved, to a frame after a bar, and of a memory block that is offline.
-fn moved(alloc: Global) -> Result<RowPicture, AllocError> {
-    let offline = block(alloc, "0:N", "----|----", Vec::new(alloc), "    |    ")?;
-    let asked = text(alloc, "   1 0 migrate 1")?;
-    let answer = text(alloc, "2: moved 0 5")?;
-    let page = Move {
-        from: Frame(0),
-        to: Frame(5),
-    };
-    let blocks = vec![in alloc; offline]?;
-    Ok(RowPicture::new(asked, answer, Some(page), blocks))
+/// A page that moved between these frames.
+fn page(frames: Option<(u32, u32)>) -> Option<Move> {
+    let (from, to) = frames?;
+    Some(Move {
+        from: Frame(from),
+        to: Frame(to),
+    })
 }
 
-/// A row with each kind of cell, one of words, and one whose page moved.
+/// A row.
+fn row(alloc: Global, from: &Row) -> Result<RowPicture, AllocError> {
+    let (asked, answer, frames, from) = from;
+    let asked = text(alloc, asked)?;
+    let answer = text(alloc, answer)?;
+    let blocks = blocks(alloc, from)?;
+    Ok(RowPicture::new(asked, answer, page(*frames), blocks))
+}
+
+/// All those rows.
 fn rows(alloc: Global) -> Result<Vec<RowPicture>, AllocError> {
-    let answer = text(alloc, "1: done")?;
-    let boot = RowPicture::new(text(alloc, BOOT)?, answer, None, blocks(alloc)?);
-    let words = RowPicture::new(text(alloc, WORDS)?, text(alloc, "")?, None, Vec::new(alloc));
-    Ok(vec![in alloc; boot, words, moved(alloc)?]?)
+    let mut rows = Vec::new(alloc);
+    for each in ROWS {
+        rows.push(row(alloc, each)?)?;
+    }
+    Ok(rows)
 }
 
 /// The names of owners.
 fn names(alloc: Global) -> Result<IndexSet<Text>, AllocError> {
+    let name = text(alloc, "db")?;
     let mut names = IndexSet::new(alloc);
-    names.insert(text(alloc, "db")?)?;
+    names.insert(name)?;
     Ok(names)
+}
+
+/// The picture of those rows, where the owners have names.
+fn picture_with(alloc: Global, names: &IndexSet<Text>) -> Result<String, AllocError> {
+    picture_of(alloc, names, 8, &rows(alloc)?)
 }
 
 /// The picture of those rows, where the first owner has a name.
 fn picture(alloc: Global) -> Result<String, AllocError> {
     let names = names(alloc)?;
-    let rows = rows(alloc)?;
-    picture_of(alloc, &names, 8, &rows)
+    picture_with(alloc, &names)
 }
 
 /// Whether the picture of those rows is this one.
-fn is_drawn(alloc: Global) -> bool {
-    match picture(alloc) {
-        Ok(drawn) => drawn.as_str() == PICTURE,
-        Err(AllocError) => false,
-    }
+fn is_drawn(alloc: Global) -> Result<bool, AllocError> {
+    let drawn = picture(alloc)?;
+    Ok(drawn.as_str() == PICTURE)
 }
 
 #[test]
 fn rows_are_drawn(rt: HostRuntime) -> Result<(), Fail> {
-    assert!(rt; is_drawn(rt.alloc()));
+    assert!(rt; is_drawn(rt.alloc())?);
     Ok(())
 }
 

@@ -9,99 +9,90 @@ use hp_scenario::Unfit;
 use std::alloc::{AllocError, Global};
 use std::test::Fail;
 
-/// The lines of a scenario, how many of them are run first, the limit, and the fault.
-type Refused = (&'static str, u64, u64, LabFault);
+/// The lines of a scenario, how many of them are run first, its line at fault, and why.
+type Misfit = (&'static str, u64, u64, Unfit);
 
-const REFUSED: &[Refused] = &[
-    ("0 drain 0;0 walk", 0, 9, LabFault::BadLine { line: 2 }),
+const MISFITS: &[Misfit] = &[
     (
         "0 cat buddyinfo;0 drain 0;1 cat buddyinfo;0 seal",
         1,
-        9,
-        LabFault::NotForScript {
-            line: 3,
-            why: Unfit::Cat,
-        },
+        3,
+        Unfit::Cat,
     ),
-    (
-        "0 seal;0 seal",
-        1,
-        9,
-        LabFault::NotForScript {
-            line: 2,
-            why: Unfit::Seal,
-        },
-    ),
-    (
-        "2 drain 0",
-        0,
-        9,
-        LabFault::NotForScript {
-            line: 1,
-            why: Unfit::Processor,
-        },
-    ),
+    ("0 seal;0 seal", 1, 2, Unfit::Seal),
+    ("2 drain 0", 0, 1, Unfit::Processor),
     (
         "0 echo offline memory/state",
         0,
-        9,
-        LabFault::NotForScript {
-            line: 1,
-            why: Unfit::Echo(ControlFault::NoFile),
-        },
+        1,
+        Unfit::Echo(ControlFault::NoFile),
     ),
 ];
 
 /// Whether a scenario is not explored, for this fault.
-fn is_refused(alloc: Global, scenario: &str, setup: u64, limit: u64, fault: LabFault) -> bool {
-    match explore_text(
-        alloc,
-        scenario.as_bytes(),
-        setup,
-        limit,
-        EndsForm::Words,
-        &mut Silent,
-    ) {
+fn is_refused(alloc: Global, scenario: &str, setup: u64, fault: LabFault) -> bool {
+    let form = EndsForm::Words;
+    match explore_text(alloc, scenario.as_bytes(), setup, 9, form, &mut Silent) {
         Ok(_finding) => false,
         Err(found) => found == fault,
     }
 }
 
+/// Whether lines, with room for so many records, are not explored, for this fault.
+fn has_fault(
+    alloc: Global,
+    history: u64,
+    lines: &str,
+    fault: LabFault,
+) -> Result<bool, AllocError> {
+    let text = scenario(alloc, history, lines)?;
+    Ok(is_refused(alloc, &text, 0, fault))
+}
+
+/// Whether a scenario is not explored, for its line at fault.
+fn has_misfit(alloc: Global, misfit: &Misfit) -> Result<bool, AllocError> {
+    let (lines, setup, line, why) = misfit;
+    let fault = LabFault::NotForScript {
+        line: *line,
+        why: *why,
+    };
+    let text = scenario(alloc, 40, lines)?;
+    Ok(is_refused(alloc, &text, *setup, fault))
+}
+
 /// The place of the first row whose scenario has another fault, or is explored.
-fn first_other(alloc: Global, rows: &[Refused]) -> Result<Option<usize>, AllocError> {
-    for (place, (lines, setup, limit, fault)) in rows.iter().enumerate() {
-        let text = scenario(alloc, 40, lines)?;
-        if !is_refused(alloc, text.as_str(), *setup, *limit, *fault) {
+fn first_other(alloc: Global, rows: &[Misfit]) -> Result<Option<usize>, AllocError> {
+    for (place, row) in rows.iter().enumerate() {
+        if !has_misfit(alloc, row)? {
             return Ok(Some(place));
         }
     }
     Ok(None)
 }
 
+/// The room for records, the lines of a scenario, and the fault.
+const REFUSED: &[(u64, &str, LabFault)] = &[
+    (40, "0 drain 0;0 walk", LabFault::BadLine { line: 2 }),
+    (
+        1,
+        "0 drain 0;1 drain 0",
+        LabFault::HistoryFull { needed: Some(2) },
+    ),
+    (1, "1 plan 2 off 1", LabFault::HistoryFull { needed: None }),
+];
+
 #[test]
 fn each_fault_has_its_cause(rt: HostRuntime) -> Result<(), Fail> {
-    assert!(rt; first_other(rt.alloc(), REFUSED)?.is_none());
-    assert!(rt; is_refused(rt.alloc(), "[", 0, 9, LabFault::NotJson));
-    assert!(rt; is_refused(rt.alloc(), "{}", 0, 9, LabFault::BadShape));
-    let text = scenario(rt.alloc(), 1, "0 drain 0;1 drain 0")?;
-    assert!(rt;
-        is_refused(
-            rt.alloc(),
-            text.as_str(),
-            0,
-            9,
-            LabFault::HistoryFull { needed: Some(2) }
-        )
-    );
-    let text = scenario(rt.alloc(), 1, "1 plan 2 off 1")?;
-    assert!(rt;
-        is_refused(
-            rt.alloc(),
-            text.as_str(),
-            0,
-            9,
-            LabFault::HistoryFull { needed: None }
-        )
-    );
+    for (history, lines, fault) in REFUSED {
+        assert!(rt; has_fault(rt.alloc(), *history, lines, *fault)?, "{lines}");
+    }
+    assert!(rt; is_refused(rt.alloc(), "[", 0, LabFault::NotJson));
+    assert!(rt; is_refused(rt.alloc(), "{}", 0, LabFault::BadShape));
+    Ok(())
+}
+
+#[test]
+fn each_misfit_has_its_cause(rt: HostRuntime) -> Result<(), Fail> {
+    assert!(rt; first_other(rt.alloc(), MISFITS)?.is_none());
     Ok(())
 }

@@ -52,72 +52,70 @@ fn wanted_of(alloc: Global, texts: &[&str]) -> Result<Vec<Wanted>, AllocError> {
     Ok(wanted)
 }
 
-/// Whether the search for an end with lines has this text in a form.
-fn finds(
+/// Whether a search in a scenario has this text in a form.
+fn finds_in(
     alloc: Global,
-    texts: &[&str],
+    input: &[u8],
+    wanted: &[Wanted],
     form: ScheduleForm,
     text: &str,
     is_found: bool,
-) -> Result<bool, AllocError> {
-    let scenario = scenario(alloc, 40, RACE)?;
-    let wanted = wanted_of(alloc, texts)?;
-    match find_text(
-        alloc,
-        scenario.as_bytes(),
-        3,
-        100,
-        &wanted,
-        form,
-        &mut Silent,
-    ) {
-        Ok(finding) => Ok(finding.is_found == is_found && finding.text.as_str() == text),
-        Err(_fault) => Ok(false),
+) -> bool {
+    match find_text(alloc, input, 3, 100, wanted, form, &mut Silent) {
+        Ok(finding) => finding.is_found == is_found && finding.text.as_str() == text,
+        Err(_fault) => false,
     }
+}
+
+/// Whether the search for an end with lines has its text.
+fn finds(alloc: Global, searched: &Searched) -> Result<bool, AllocError> {
+    let (texts, form, text, is_found) = searched;
+    let wanted = wanted_of(alloc, texts)?;
+    let scenario = scenario(alloc, 40, RACE)?;
+    Ok(finds_in(alloc, scenario.as_bytes(), &wanted, *form, text, *is_found))
+}
+
+/// The lines of an end, the form and the text of the search for it, and whether it is found.
+type Searched = (&'static [&'static str], ScheduleForm, &'static str, bool);
+
+/// The lines of two ends that the race has, and of one that it has not.
+const NOT_FREE: &[&str] = &["refused NotFree"];
+
+const TOO_LATE: &[&str] = &["0: refused NoFrame", "block 1 going movable", "1: done"];
+
+const NOT_THERE: &[&str] = &["block 1 offline", "1: done"];
+
+const IN_WORDS: &[Searched] = &[
+    (NOT_FREE, ScheduleForm::Words, REFUSED, true),
+    (TOO_LATE, ScheduleForm::Words, MOVED_TOO_LATE, true),
+    (NOT_THERE, ScheduleForm::Words, ABSENT, false),
+];
+
+const IN_OTHER_FORMS: &[Searched] = &[
+    (NOT_FREE, ScheduleForm::Object, REFUSED_OBJECT, true),
+    (NOT_THERE, ScheduleForm::Object, ABSENT_OBJECT, false),
+    (NOT_FREE, ScheduleForm::Scenario, REFUSED_SCENARIO, true),
+    (NOT_THERE, ScheduleForm::Scenario, ABSENT, false),
+];
+
+/// The place of the first search that has another text.
+fn first_other(alloc: Global, rows: &[Searched]) -> Result<Option<usize>, AllocError> {
+    for (place, row) in rows.iter().enumerate() {
+        if !finds(alloc, row)? {
+            return Ok(Some(place));
+        }
+    }
+    Ok(None)
 }
 
 #[test]
 fn the_fewest_changes_are_found(rt: HostRuntime) -> Result<(), Fail> {
-    let words = ScheduleForm::Words;
-    assert!(rt; finds(rt.alloc(), &["refused NotFree"], words, REFUSED, true)?);
-    let texts = ["0: refused NoFrame", "block 1 going movable", "1: done"];
-    assert!(rt; finds(rt.alloc(), &texts, words, MOVED_TOO_LATE, true)?);
-    assert!(rt;
-        finds(
-            rt.alloc(),
-            &["block 1 offline", "1: done"],
-            words,
-            ABSENT,
-            false
-        )?
-    );
+    assert!(rt; first_other(rt.alloc(), IN_WORDS)?.is_none());
     Ok(())
 }
 
 #[test]
 fn what_is_found_has_other_forms(rt: HostRuntime) -> Result<(), Fail> {
-    let object = ScheduleForm::Object;
-    assert!(rt;
-        finds(
-            rt.alloc(),
-            &["refused NotFree"],
-            object,
-            REFUSED_OBJECT,
-            true
-        )?
-    );
-    let texts = ["block 1 offline", "1: done"];
-    assert!(rt; finds(rt.alloc(), &texts, object, ABSENT_OBJECT, false)?);
-    let scenario = ScheduleForm::Scenario;
-    assert!(rt;
-        finds(
-            rt.alloc(),
-            &["refused NotFree"],
-            scenario,
-            REFUSED_SCENARIO,
-            true
-        )?
-    );
-    assert!(rt; finds(rt.alloc(), &texts, scenario, ABSENT, false)?);
+    assert!(rt; first_other(rt.alloc(), IN_OTHER_FORMS)?.is_none());
     Ok(())
 }

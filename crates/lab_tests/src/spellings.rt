@@ -27,15 +27,18 @@ const SCRIPTS: &str =
      \"calls\": [\"1 commit 0\", \"2 plan 1 off 0\", \"1 drain 0\", \"1 cancel 0\", \"1 begin off 0\", \
      \"2 commit 0\", \"0 migrate 1\", \"1 commit 0\"]}";
 
+/// Whether a scenario is written as this text.
+fn is_spelled_so(alloc: Global, scenario: &Scenario, text: &str) -> Result<bool, AllocError> {
+    let mut out = String::new(alloc);
+    let lines = scenario.lines.as_slice();
+    write_scenario(&mut out, &scenario.layout, &scenario.names, lines, &[])?;
+    Ok(out.as_str() == text)
+}
+
 /// Whether a scenario is written as this text that it is read from.
 fn is_spelled(alloc: Global, text: &str) -> Result<bool, AllocError> {
-    let mut out = String::new(alloc);
     match Scenario::read(alloc, text.as_bytes()) {
-        Ok(scenario) => {
-            let lines = scenario.lines.as_slice();
-            write_scenario(&mut out, &scenario.layout, &scenario.names, lines, &[])?;
-            Ok(out.as_str() == text)
-        }
+        Ok(scenario) => is_spelled_so(alloc, &scenario, text),
         Err(_fault) => Ok(false),
     }
 }
@@ -72,13 +75,23 @@ fn drain(cpu: Cpu, serial: Serial) -> Record {
     }
 }
 
+/// Calls as lines, where owners have names.
+fn lines_of(alloc: Global, names: &IndexSet<Text>, calls: &[Record]) -> Result<String, AllocError> {
+    let mut out = String::new(alloc);
+    write_parts(&mut out, names, &[], calls)?;
+    Ok(out)
+}
+
+/// Two calls as lines.
+fn two_lines(alloc: Global) -> Result<String, AllocError> {
+    let calls = [drain(Cpu(0), Serial(1)), drain(Cpu(7), Serial(2))];
+    lines_of(alloc, &IndexSet::new(alloc), &calls)
+}
+
 #[test]
 fn calls_are_written_as_lines(rt: HostRuntime) -> Result<(), Fail> {
-    let calls = [drain(Cpu(0), Serial(1)), drain(Cpu(7), Serial(2))];
-    let names = IndexSet::new(rt.alloc());
-    let mut out = String::new(rt.alloc());
-    write_parts(&mut out, &names, &[], &calls)?;
-    assert!(rt; out.as_str() == "\"0 drain 0\" + \"7 drain 7\" then ");
+    let lines = two_lines(rt.alloc())?;
+    assert!(rt; lines.as_str() == "\"0 drain 0\" + \"7 drain 7\" then ");
     Ok(())
 }
 
@@ -91,27 +104,24 @@ fn tells(found: &[Unbegun], cpu: Cpu, line: u64) -> bool {
     }
 }
 
-/// Whether this line of a scenario's scripts alone works on no operation; none for line 0.
-fn has_unbegun(
-    alloc: Global,
-    text: &str,
-    setup: u64,
-    cpu: Cpu,
-    line: u64,
-) -> Result<bool, AllocError> {
-    match Scenario::read(alloc, text.as_bytes()) {
-        Ok(scenario) => {
-            let cpus = scenario.layout.cpus();
-            let found = unbegun_lines(alloc, cpus, setup, scenario.lines.as_slice())?;
-            Ok(tells(&found, cpu, line))
-        }
+/// Whether this line of processor 1 alone works on no operation; none for line 0.
+fn tells_line(alloc: Global, read: &Scenario, setup: u64, line: u64) -> Result<bool, AllocError> {
+    let cpus = read.layout.cpus();
+    let found = unbegun_lines(alloc, cpus, setup, read.lines.as_slice())?;
+    Ok(tells(&found, Cpu(1), line))
+}
+
+/// Whether this is so of those scripts, after so many lines.
+fn has_unbegun(alloc: Global, setup: u64, line: u64) -> Result<bool, AllocError> {
+    match Scenario::read(alloc, SCRIPTS.as_bytes()) {
+        Ok(scenario) => tells_line(alloc, &scenario, setup, line),
         Err(_fault) => Ok(false),
     }
 }
 
 #[test]
 fn the_first_lines_without_an_operation_are_told(rt: HostRuntime) -> Result<(), Fail> {
-    assert!(rt; has_unbegun(rt.alloc(), SCRIPTS, 2, Cpu(1), 4)?);
-    assert!(rt; has_unbegun(rt.alloc(), SCRIPTS, 4, Cpu(1), 0)?);
+    assert!(rt; has_unbegun(rt.alloc(), 2, 4)?);
+    assert!(rt; has_unbegun(rt.alloc(), 4, 0)?);
     Ok(())
 }
