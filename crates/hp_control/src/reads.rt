@@ -75,16 +75,8 @@ fn block_size_text(alloc: Global, layout: &Layout) -> Result<String, AllocError>
     ensures { IfOk result
         (λ text. string_bytes text ≡ means.line (digits 16 false (block_bytes layout.now))) }
 {
-    let bytes = block_bytes(layout);
+    let bytes = layout.block_bytes();
     format!(in alloc; "{bytes:x}\n")
-}
-
-/// The bytes of a memory block.
-fn block_bytes(layout: &Layout) -> u64
-    ensures { result ≡ block_bytes layout.now }
-{
-    let frames = u64::from(layout.pageblocks()) << layout.order();
-    frames * u64::from(layout.words()) * 8
 }
 
 /// What a block that is added becomes.

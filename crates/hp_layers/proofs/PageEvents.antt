@@ -257,11 +257,12 @@ write-done {before} m ps owner page index value was now p word none layout_is se
       lt-leb l.words index word.index_low,
       word.mapped,
     ) refl in
+    let written =
+    view-write_word l s.pages owner page word.frame index value (pages_once m p) word.owner_low word.page_low
+    word.mapped in
     let seen : ps.pages ≡ page_frames_of l (write_word s.pages owner page index value) =
     set_is ∙ (ap (λ (k : LayoutParts). write_frame k m.pages.pages owner page index value) p.one.pages
-    ∙ ap (λ (q : PageFrames). write_frame l q owner page index value) (pages_seen m p)
-    ∙ sym (view-write_word l s.pages owner page word.frame index value (pages_once m p) word.owner_low word.page_low
-    word.mapped)) in
+    ∙ ap (λ (q : PageFrames). write_frame l q owner page index value) (pages_seen m p) ∙ sym written) in
     let first =
     notes-pages v l 1 was now ps.pages m.pages.pages
     (subst (λ (k : LayoutParts). NotesPages k 1 was now ps.pages m.pages.pages) p.one.pages notes) in

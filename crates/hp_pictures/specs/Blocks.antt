@@ -5,7 +5,7 @@ use Rattle.hp_pictures.specs.Counts.{counts_text, free_counts_text}
 use Rattle.hp_pictures.specs.declared.block_picture.FreeBlock.{FreeBlock}
 
 -- what stands before its cells; its cells, and the same with each free block by its order; its free
--- blocks; and a letter for each pageblock
+-- blocks; and a letter for each of its frames, by the mobility of its pageblock
 pub record BlockValue : Type 0 where
   pub head : List ℕ
   pub cells : List ℕ

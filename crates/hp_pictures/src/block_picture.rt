@@ -21,7 +21,7 @@ pub struct FreeBlock {
 /// A memory block as it is drawn (own rule): what stands before its cells, such as `2:M>off`; its
 /// cells, a character for each of its frames with a bar between pageblocks, such as `a1|::`; the same
 /// with each free block by its order, such as `a1|{}`, where that was asked for; its free blocks; and
-/// a letter for each pageblock, by its mobility.
+/// a letter for each of its frames, by the mobility of its pageblock, such as `MM|UU`.
 #[derive(Drop)]
 pub struct BlockPicture {
     head: Text,
