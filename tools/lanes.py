@@ -7,7 +7,7 @@ reads all again. Where the kit says nothing of processors and memory, the line i
 """
 from wrong_bodies import rt
 
-# Memory for the check of a crate, in bytes: of those that were looked at hp_scenario took the most, 3.1 GB.
+# Memory for the check of a crate, in bytes: the tests of lab_tests took the most, 3.4 GB, and then refusals, 3.2 GB.
 CHECK = 3_500_000_000
 
 
