@@ -146,16 +146,10 @@ impl<L: Job> Locked<L> {
         self.sealed.audit(handed);
     }
 
-    /// Tells that there is a processor. It has no effect.
-    pub(crate) fn has_processors(&self)
-        ensures { 1 ≤ L.layout.cpus }
-    {
-        let _ = self.machine.layout().cpus();
-    }
-
     /// The number of processors.
     pub(crate) fn cpus(&self) -> u32
-        ensures { result ≡ L.layout.cpus }
+        ensures is { result ≡ L.layout.cpus }
+        ensures some { 1 ≤ L.layout.cpus }
     {
         self.machine.layout().cpus()
     }

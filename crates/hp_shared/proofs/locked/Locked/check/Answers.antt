@@ -12,7 +12,7 @@ returns-in-Ok-None-clause-ok g c =
     let seats = c.args.seats.now.items in
     let volumes = c.args.volumes.now.items in
     checked_here g.L.Job.layout c.args.self.now m c.cpus.result c.last_serial.result seats volumes
-    c.machine-machine.ensures.machine c.cpus.ensures (record {
+    c.machine-machine.ensures.machine c.cpus.ensures.is (record {
       each = search rules;
       reach = search rules;
       settled = subst (IsCompared (all_records volumes m) seats) c.in-Ok-None.field-0-is c.in-Ok-None.ensures;
@@ -25,7 +25,7 @@ returns-in-Ok-Some-clause-err g c =
     let seats = c.args.seats.now.items in
     let volumes = c.args.volumes.now.items in
     fault_here g.L.Job.layout c.args.self.now m c.cpus.result seats volumes (Mismatch c.in-Ok-Some.serial)
-    c.machine-machine.ensures.machine c.cpus.ensures (
+    c.machine-machine.ensures.machine c.cpus.ensures.is (
       search rules,
       search rules,
       subst (IsCompared (all_records volumes m) seats) c.in-Ok-Some.field-0-is c.in-Ok-Some.ensures,
@@ -35,19 +35,19 @@ pub returns-in-Err-clause-err : goal.returns-in-Err-clause-err
 returns-in-Err-clause-err g c =
     fault_here g.L.Job.layout c.args.self.now c.machine-machine.result.now c.cpus.result
     c.args.seats.now.items c.args.volumes.now.items OutOfMemory
-    c.machine-machine.ensures.machine c.cpus.ensures (search rules, search rules)
+    c.machine-machine.ensures.machine c.cpus.ensures.is (search rules, search rules)
 
 pub returns-in-Some-clause-err : goal.returns-in-Some-clause-err
 returns-in-Some-clause-err g c =
     fault_here g.L.Job.layout c.args.self.now c.machine-machine.result.now c.cpus.result
     c.args.seats.now.items c.args.volumes.now.items (WrongVolume c.in-Some.at)
-    c.machine-machine.ensures.machine c.cpus.ensures (search rules, search rules)
+    c.machine-machine.ensures.machine c.cpus.ensures.is (search rules, search rules)
 
 pub returns-then-not-has_each-clause-err : goal.returns-then-not-has_each-clause-err
 returns-then-not-has_each-clause-err g c =
     fault_here g.L.Job.layout c.args.self.now c.machine-machine.result.now c.cpus.result
     c.args.seats.now.items c.args.volumes.now.items SeatMissing
-    c.machine-machine.ensures.machine c.cpus.ensures (search rules)
+    c.machine-machine.ensures.machine c.cpus.ensures.is (search rules)
 
 pub returns-then-not-has_each-clause-ok : goal.returns-then-not-has_each-clause-ok
 returns-then-not-has_each-clause-ok g c = search rules
