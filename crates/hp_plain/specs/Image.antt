@@ -25,6 +25,12 @@ IsPartOf l (Kind pageblock kind) = pageblock < pageblock_count l
 IsPartOf l (Row block row) = block < l.blocks
 IsPartOf l (Auto auto) = Unit {0}
 
+-- the part joins an ordered list
+abbrev pub IsListed : Part → Type 0
+IsListed (Free class order frame) = Unit {0}
+IsListed (Cached cpu pool frame) = Unit {0}
+IsListed part = ⊥
+
 -- the state with one part set, a list's frame at the back (own rule)
 abbrev pub with_part : Memory → Part → Memory
 with_part s (Free class order frame) = with_areas s (with_back s.free.areas class order frame)

@@ -4,7 +4,7 @@ ghost use Rattle.hp_units.specs.Boot.{boot_memory, empty_memory};
 ghost use Rattle.hp_units.specs.LayoutParts.{IsLayout};
 ghost use Rattle.hp_units.specs.Memory.{cached_list, free_list, kernel_order};
 ghost use Rattle.hp_units.specs.Pages.{frame_at, words_at};
-ghost use Rattle.hp_plain.specs.Image.{IsPartOf, with_part};
+ghost use Rattle.hp_plain.specs.Image.{IsListed, IsPartOf, with_part};
 
 mod adds;
 mod boots;
@@ -119,19 +119,21 @@ impl Image {
             && self.blocks.same(&other.blocks)
     }
 
-    /// Sets one part, a list's frame at the back. After an error the Image is as before.
+    /// Sets one part, a list's frame at the back. An error is out of memory, of which only a list
+    /// takes any; then the Image is as before.
     pub fn add(&mut self, part: Part) -> Result<(), AllocError>
         requires { IsPartOf self.old.layout part }
         ensures ok { OnOk result (self.new ≡ record self.old { memory = with_part self.old.memory part }) }
         ensures err { OnErr result (self.new ≡ self.old) }
+        ensures only { OnErr result (IsListed part) }
     {
         match part {
             Part::Free {
                 class,
                 order,
                 frame,
-            } => self.add_free(class, order, frame),
-            Part::Cached { cpu, pool, frame } => self.add_cached(cpu, pool, frame),
+            } => return self.add_free(class, order, frame),
+            Part::Cached { cpu, pool, frame } => return self.add_cached(cpu, pool, frame),
             Part::Mapped {
                 owner,
                 page,
@@ -143,6 +145,7 @@ impl Image {
             Part::Row { block, row } => self.add_row(block, row),
             Part::Auto { auto } => self.add_auto(auto),
         }
+        Ok(())
     }
 
     /// The layout.

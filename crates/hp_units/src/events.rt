@@ -1,5 +1,7 @@
 //! The events of the machine.
-ghost use Rattle.std.specs.Prelude.{◌≡◌, ◌↔◌, IfOk, IsTrue};
+ghost use Rattle.std.specs.Prelude.{◌≡◌, ◌↔◌, IfOk, IsTrue, OnErr};
+ghost use Rattle.hp_units.specs.Marks.{mark_of};
+ghost use Rattle.hp_units.specs.declared.marks.Mark.TheVariants.{Opens};
 
 use crate::plans::Plan;
 use crate::rows::{Auto, Zone};
@@ -95,10 +97,11 @@ pub enum Event {
 }
 
 impl Event {
-    /// An equal event.
+    /// An equal event. An error is out of memory, of which only a Begin's plan takes any.
     #[inline(always)]
     pub fn copy(&self, alloc: Global) -> Result<Event, AllocError>
-        ensures { IfOk result (λ event. event ≡ self.now) }
+        ensures ok { IfOk result (λ event. event ≡ self.now) }
+        ensures err { OnErr result (mark_of self.now ≡ Opens) }
     {
         Ok(match self {
             Event::Begin { plan } => Event::Begin {

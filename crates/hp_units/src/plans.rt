@@ -1,5 +1,5 @@
 //! Plans, and the words of a page. A contract sees each as a list.
-ghost use Rattle.std.specs.Prelude.{◌≡◌, ◌↔◌, ◌<◌, IfOk, IsTrue, length, slice_set};
+ghost use Rattle.std.specs.Prelude.{◌≡◌, ◌↔◌, ◌<◌, None, IfOk, IsOk, IsTrue, length, slice_set};
 
 use crate::rows::Wish;
 use hp_numbers::Block;
@@ -143,7 +143,8 @@ impl Words {
 
     /// Equal words, if there are any. An error is out of memory.
     pub fn copy_if_any(alloc: Global, words: &Option<Words>) -> Result<Option<Words>, AllocError>
-        ensures { IfOk result (λ copy. copy ≡ words.now) }
+        ensures ok { IfOk result (λ copy. copy ≡ words.now) }
+        ensures none { words.now ≡ None → IsOk result }
     {
         match words {
             Some(words) => Ok(Some(words.copy(alloc)?)),

@@ -41,62 +41,42 @@ impl Image {
     }
 
     /// An owner's page.
-    pub(super) fn add_mapped(
-        &mut self,
-        owner: Owner,
-        page: Page,
-        frame: Frame,
-        words: Words,
-    ) -> Result<(), AllocError>
+    pub(super) fn add_mapped(&mut self, owner: Owner, page: Page, frame: Frame, words: Words)
         requires { IsPartOf self.old.layout (Mapped owner page frame words) }
-        ensures ok { OnOk result (self.new
-            ≡ record self.old { memory = with_part self.old.memory (Mapped owner page frame words) }) }
-        ensures err { OnErr result (self.new ≡ self.old) }
+        ensures { self.new
+            ≡ record self.old { memory = with_part self.old.memory (Mapped owner page frame words) } }
     {
         self.pages.map(owner, page, frame, words);
-        Ok(())
     }
 
     /// A block of the kernel.
-    pub(super) fn add_kernel(&mut self, frame: Frame, order: Order) -> Result<(), AllocError>
+    pub(super) fn add_kernel(&mut self, frame: Frame, order: Order)
         requires { IsPartOf self.old.layout (Kernel frame order) }
-        ensures ok { OnOk result
-            (self.new ≡ record self.old { memory = with_part self.old.memory (Kernel frame order) }) }
-        ensures err { OnErr result (self.new ≡ self.old) }
+        ensures { self.new ≡ record self.old { memory = with_part self.old.memory (Kernel frame order) } }
     {
         self.kernel[frame.0 as usize] = Some(order);
-        Ok(())
     }
 
     /// The kind of a pageblock.
-    pub(super) fn add_kind(&mut self, pageblock: Pageblock, kind: Kind) -> Result<(), AllocError>
+    pub(super) fn add_kind(&mut self, pageblock: Pageblock, kind: Kind)
         requires { IsPartOf self.old.layout (KindOf pageblock kind) }
-        ensures ok { OnOk result
-            (self.new ≡ record self.old { memory = with_part self.old.memory (KindOf pageblock kind) }) }
-        ensures err { OnErr result (self.new ≡ self.old) }
+        ensures { self.new ≡ record self.old { memory = with_part self.old.memory (KindOf pageblock kind) } }
     {
         self.free.set_kind(pageblock, kind);
-        Ok(())
     }
 
     /// The row of a memory block.
-    pub(super) fn add_row(&mut self, block: Block, row: Row) -> Result<(), AllocError>
+    pub(super) fn add_row(&mut self, block: Block, row: Row)
         requires { IsPartOf self.old.layout (RowOf block row) }
-        ensures ok { OnOk result
-            (self.new ≡ record self.old { memory = with_part self.old.memory (RowOf block row) }) }
-        ensures err { OnErr result (self.new ≡ self.old) }
+        ensures { self.new ≡ record self.old { memory = with_part self.old.memory (RowOf block row) } }
     {
         self.blocks.set_row(block, row);
-        Ok(())
     }
 
     /// What a block that is added becomes.
-    pub(super) fn add_auto(&mut self, auto: Auto) -> Result<(), AllocError>
-        ensures ok { OnOk result
-            (self.new ≡ record self.old { memory = with_part self.old.memory (AutoOf auto) }) }
-        ensures err { OnErr result (self.new ≡ self.old) }
+    pub(super) fn add_auto(&mut self, auto: Auto)
+        ensures { self.new ≡ record self.old { memory = with_part self.old.memory (AutoOf auto) } }
     {
         self.blocks.set_auto(auto);
-        Ok(())
     }
 }

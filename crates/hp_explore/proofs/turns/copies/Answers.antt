@@ -23,7 +23,7 @@ loop-record-preserved c =
       copied = copied_more c.args.records.now c.loop-record.copies.items c.push_reserved.new.self.items
           c.loop-record.record-index r (with_event r c.in_ok-event.event) c.loop-record-test.true
           c.record-item.is
-          c.loop-record.invariant.copied (same_event r c.in_ok-event.event c.in_ok-event.ensures)
+          c.loop-record.invariant.copied (same_event r c.in_ok-event.event c.in_ok-event.ensures.ok)
           c.push_reserved.ensures.items;
       room = c.push_reserved.ensures.capacity ∙ c.loop-record.invariant.room;
     }

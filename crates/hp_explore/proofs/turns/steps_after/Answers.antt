@@ -16,7 +16,7 @@ returns-clause-ok c =
     gone_leads c.args.start.now c.args.scripts.now c.args.here.now c.in_ok-steps.steps c.args.serial
     c.args.cpu c.args.event.now c.in_ok-copy.field-0 (Refused Gone) c.requires.at c.requires.asked
     c.requires.serial (c.is_gone.ensures c.if-not-is_gone.false)
-    c.in_ok-copy.ensures refl c.in_ok-steps.ensures
+    c.in_ok-copy.ensures.ok refl c.in_ok-steps.ensures
 
 pub returns-then-not-is_gone-clause-err : goal.returns-then-not-is_gone-clause-err
 returns-then-not-is_gone-clause-err c =

@@ -4,4 +4,5 @@ use Rattle.hp_plain.proofs.pages.same_contents.Goals as goal
 
 pub returns : goal.returns
 returns c =
-    lists_told (pointwise_decides (options_decided numbers_decided)) c.args.contents.now c.args.others.now c.eq.result c.eq.ensures
+    lists_told (pointwise_decides (options_decided numbers_decided)) c.args.contents.now
+    c.args.others.now c.eq.result c.eq.ensures

@@ -5,4 +5,5 @@ use Rattle.hp_plain.proofs.pages.same_table.Goals as goal
 
 pub returns : goal.returns
 returns c =
-    lists_told (pointwise_decides (options_decided Decides-eqb)) c.args.table.now c.args.others.now c.eq.result c.eq.ensures
+    lists_told (pointwise_decides (options_decided Decides-eqb)) c.args.table.now
+    c.args.others.now c.eq.result c.eq.ensures

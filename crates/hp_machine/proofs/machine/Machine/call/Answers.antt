@@ -6,7 +6,7 @@ use Rattle.hp_machine.proofs.machine.Machine.call.Goals as goal
 pub returns-in-Ok-answer-clause-ok : goal.returns-in-Ok-answer-clause-ok
 returns-in-Ok-answer-clause-ok c =
     called_copy c.args.self.now c.answer.new.self c.args.cpu _ c.args.event.now c.in-Ok.asked _
-    c.in-Ok.ensures c.in-Ok-answer.ensures.ok
+    c.in-Ok.ensures.ok c.in-Ok-answer.ensures.ok
 
 pub returns-then-is_full-clause-full : goal.returns-then-is_full-clause-full
 returns-then-is_full-clause-full c = search rules

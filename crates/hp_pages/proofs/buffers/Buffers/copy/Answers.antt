@@ -24,4 +24,4 @@ loop-words-preserved c =
     copied-more c.args.self.now c.deref-words-items.result.now c.loop-words.frames.items c.push.new.self.items
     c.loop-words.words-index c.words-item.result c.in_ok-copy_if_any.field-0
     (c.deref-words-items.ensures.value ∙ c.self.view_is) c.loop-words-test.true c.words-item.is
-    c.in_ok-copy_if_any.ensures c.loop-words.invariant c.in_ok-push.ensures.items
+    c.in_ok-copy_if_any.ensures.ok c.loop-words.invariant c.in_ok-push.ensures.items

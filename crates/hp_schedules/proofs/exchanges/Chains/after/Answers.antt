@@ -61,4 +61,4 @@ returns-clause-ok c =
     ∙ ap (λ (entries : List Exchange). entries ++ e ∷ []) c.reserve.ensures.items)
     (omega
     (arith, c.len-number.ensures, ap (λ (entries : List Exchange). length entries) c.reserve.ensures.items))
-    (exchange_same e c.args.latest.now c.in_ok-event.ensures refl))
+    (exchange_same e c.args.latest.now c.in_ok-event.ensures.ok refl))

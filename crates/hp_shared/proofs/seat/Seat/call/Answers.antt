@@ -27,7 +27,7 @@ returns-in-Ok-turn-clause-ok g c =
     (seat_called g.L.Job.layout c.self.inside.cpu c.self.inside.receipts.items c.reserve.new.self.items
     c.push_reserved.new.self.items c.args.event.now c.in-Ok-copy.asked c.in-Ok-turn.answer
     c.self.inside.share.amount c.turn.new.share.amount c.self.inside.sealed.amount c.turn.new.handed.amount
-    c.in-Ok-copy.ensures c.self.invariant.0
+    c.in-Ok-copy.ensures.ok c.self.invariant.0
     c.reserve.ensures.items c.push_reserved.ensures.items c.self.invariant.2 c.in-Ok-turn.ensures.counted
     c.in-Ok-turn.ensures.handed.0 c.in-Ok-turn.ensures.ok)
 
