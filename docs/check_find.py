@@ -39,6 +39,10 @@ MOST_ORDERS = 120
 NO_LINES = ("", "refused", "refused Nonsense", "refused NotFree x", "refused NotFree 01", "word",
             "opened 3", "block x", "block 1", "block 1 online", "block 1 offline normal", "cpu 0",
             "0:done", "x: done", "0: 1: done", "done ", "moved 1", "interleavings: 1")
+PAST = ("{cpus}: done", "{cpus}: refused NotFree", "block {blocks} offline", "refused Twice {blocks}",
+        "refused Busy {blocks}", "refused NotOnline {blocks}", "refused NotOffline {blocks}",
+        "refused NotAbsent {blocks}", "frame {frames}", "0: frame {frames}", "moved {frames} 0",
+        "moved 0 {frames}", "refused Unmovable {frames}", "refused NotFree {frames}")
 
 
 class Searches(Programs):
@@ -223,7 +227,8 @@ def drawn_texts(draw, ends):
               if re.fullmatch("(. )?refused [A-Za-z]+ [0-9]+", line)]
     some = [[draw.choice(lines)], draw.sample(lines, min(3, len(lines)))]
     return some + [[text] for text in ("refused NotFree", "0: restored", "block 1 going movable",
-                                       "1: refused NoFrame", "block 2 absent", "refused Twice 1")]
+                                       f"{len(answers) - 1}: refused NoFrame", "block 2 absent",
+                                       "refused Twice 1")]
 
 
 def warnings_of(scenario, setup):
@@ -475,12 +480,28 @@ def check_no_lines(checks, programs):
             checks.holds(f"{option} {text!r}", is_so, f"says {status}, {said!r}")
 
 
+def check_past(checks, programs):
+    """What is past the layout is no line of an end; its last processor, block and frame may be."""
+    frames = LAYOUT["blocks"] * LAYOUT["pageblocks"] << LAYOUT["order"]
+    first = {"cpus": LAYOUT["cpus"], "blocks": LAYOUT["blocks"], "frames": frames}
+    last = {name: count - 1 for name, count in first.items()}
+    scenario = {"layout": LAYOUT, "calls": ["0 map db 0"]}
+    for text in PAST:
+        for option in ("--find", "--never"):
+            status, said = programs.find(scenario, 0, option, ["done", text.format(**first)])
+            expected = (1, "hotplug_lab: wanted line 2 names what is past the layout\n")
+            checks.holds(f"{option} {text!r}", (status, said) == expected, f"says {status}, {said!r}")
+            status, said = programs.find(scenario, 0, option, [text.format(**last)])
+            checks.holds(f"{option} {text!r}", status in (0, 3), f"says {status}, {said!r}")
+
+
 def main(words):
     crates, seed, count = (words + [ROOT / "crates", SEED, COUNT][len(words):])
     checks, draw = Checks(), random.Random(int(seed))
     try:
         programs = Searches(Path(crates).resolve())
         check_no_lines(checks, programs)
+        check_past(checks, programs)
         drawn = 0
         while drawn < int(count):
             drawn += check_drawn(checks, programs, draw, drawn)

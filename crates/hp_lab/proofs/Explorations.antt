@@ -44,8 +44,8 @@ is_explored form p scripts limit x text found same whole few room first many ord
   ends = x.ends.items;
   more = told.0;
   are =
-      subst (λ (ss : List (List Step)). AreExplored (setting p.start.machine ss) limit x.ends.items told.0) same
-      (explored_told (setting p.start.machine scripts) limit x told.0 whole few room first many
+      subst (λ (ss : List (List Step)). AreExplored (setting p.start.machine ss) limit x.ends.items told.0)
+      same (explored_told (setting p.start.machine scripts) limit x told.0 whole few room first many
       (subst (λ (ss : List (List Step)). IsMore ss x.is_whole told.0) (sym same) told.1));
   ordered = ordered;
   within = within;

@@ -2,6 +2,7 @@
 ghost use Rattle.std.specs.Prelude.{◌≡◌, ◌^◌, ◌<◌, IfErr, IfOk, length, option_map, string_bytes};
 ghost use Rattle.hp_find.specs.Faults.{IsFindCause};
 ghost use Rattle.hp_prepared.specs.Prepared.{before_of, names_of, setting_of};
+ghost use Rattle.hp_wanted.specs.Limits.{AreWithin};
 ghost use Rattle.hp_lab.specs.Findings.{IsFindFaultOf, IsFindTold, IsFindingOf, IsFoundOn, IsFoundTold};
 ghost use Rattle.hp_lab.specs.Texts.{absent_told, found_text, schedule_text};
 
@@ -11,7 +12,7 @@ use hp_find::{FindFault, Found, changes_of, find};
 use hp_lab_faults::LabFault;
 use hp_prepared::{Finding, Prepared, prepare};
 use hp_units::{Cpu, Record};
-use hp_wanted::Wanted;
+use hp_wanted::{Wanted, first_past};
 use std::alloc::{AllocError, Global};
 
 /// The text of a search in the scenario that the bytes are, for an interleaving whose end has each
@@ -24,7 +25,8 @@ use std::alloc::{AllocError, Global};
 /// searched.
 ///
 /// Errors: those of reading the scenario; NotForScript with the first line after the setup that
-/// cannot stand in a script; TooMany, where there are more interleavings than `limit`, and none with
+/// cannot stand in a script; PastLayout with the first wanted line that names what is past the
+/// layout; TooMany, where there are more interleavings than `limit`, and none with
 /// fewer than three changes ends so, and none of the first `limit`; HistoryFull where the search comes
 /// to a call for which the history has no room: as `find` of hp_find says; OutOfMemory, which may come
 /// in place of any answer.
@@ -42,6 +44,9 @@ pub fn find_text<W: Watch>(
     ensures err { IfErr result (IsFindFaultOf input.now setup limit wanted.now) }
 {
     let prepared = prepare(alloc, input, setup)?;
+    if let Some(number) = first_past(wanted, prepared.start.machine.layout()) {
+        return Err(LabFault::PastLayout { number });
+    }
     match found(alloc, &prepared, wanted, form, limit, watch) {
         Ok(finding) => Ok(finding),
         Err(fault) => Err(told_fault(alloc, &prepared, limit, fault)),
@@ -57,7 +62,8 @@ fn found<W: Watch>(
     limit: u64,
     watch: &mut W,
 ) -> Result<Finding, FindFault>
-    requires { length prepared.now.start.scripts.items < 2 ^ 32 }
+    requires few { length prepared.now.start.scripts.items < 2 ^ 32 }
+    requires within { AreWithin (setting_of prepared.now).layout wanted.now }
     ensures ok { IfOk result (λ f. IsFoundOn form (names_of prepared.now) (before_of prepared.now)
         (setting_of prepared.now) wanted.now limit (string_bytes f.text) f.is_found) }
     ensures err { IfErr result (IsFindCause (setting_of prepared.now) wanted.now limit) }

@@ -22,6 +22,9 @@ pub enum LabFault {
     BadLine { line: u64 },
     /// A line after the setup cannot stand in a script; lines are counted from 1.
     NotForScript { line: u64, why: Unfit },
+    /// A line that is wanted of an end names a processor, a memory block or a frame past the layout's
+    /// last; the wanted lines are counted from 1.
+    PastLayout { number: u64 },
     /// There are more interleavings than the limit, and none that was looked at ends as is wanted:
     /// none with few changes of processor, and none of the first ones, as many as the limit.
     TooMany { limit: u64 },
@@ -46,6 +49,9 @@ impl fmt::Display for LabFault {
             LabFault::NotForScript { line, why } => {
                 write!(f, "line {line} not for a script: ")?;
                 write!(f, "{why}")
+            }
+            LabFault::PastLayout { number } => {
+                write!(f, "wanted line {number} names what is past the layout")
             }
             LabFault::TooMany { limit } => write!(
                 f,

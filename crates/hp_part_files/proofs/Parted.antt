@@ -81,6 +81,7 @@ part_fault n input setup limit lab.BadShape h = h
 part_fault n input setup limit (lab.Layout f) h = h
 part_fault n input setup limit (lab.BadLine line) h = h
 part_fault n input setup limit (lab.NotForScript line why) h = h
+part_fault n input setup limit (lab.PastLayout k) h = absurd h
 part_fault n input setup limit (lab.TooMany most) h = absurd (h.1.2.1.holds)
 part_fault n input setup limit (lab.HistoryFull needed) h =
     stopped_weaker (IsFull (IsPartCause n limit) needed) (IsFull IsCause needed) input setup
@@ -96,6 +97,7 @@ full_part n input setup limit lab.BadShape h = tt
 full_part n input setup limit (lab.Layout f) h = tt
 full_part n input setup limit (lab.BadLine line) h = tt
 full_part n input setup limit (lab.NotForScript line why) h = tt
+full_part n input setup limit (lab.PastLayout k) h = tt
 full_part n input setup limit (lab.TooMany most) h = tt
 full_part n input setup limit (lab.HistoryFull needed) h =
     stopped_weaker (IsFull (IsPartCause n limit) needed) (FillsPartOf n limit) input setup (λ g x. x.0) h

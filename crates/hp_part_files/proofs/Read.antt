@@ -11,7 +11,7 @@ use Rattle.hp_schedules.specs.Parts.{EndsInPart}
 use Rattle.hp_text.specs.State.{newline}
 use Rattle.hp_schedules.specs.Outcomes.{OutcomeValue}
 use Rattle.hp_part_lines.specs.Cuts.{IsLineAt, line_number}
-use Rattle.hp_part_lines.specs.Ends.{IsEndOf}
+use Rattle.hp_part_files.specs.Ends.{IsEndOf}
 use Rattle.hp_part_lines.specs.Gathering.{GatheringValue, PartEndsValue}
 use Rattle.hp_part_lines.specs.Heads.{HeadValue, IsHead, IsNumber, SearchValue, head_from, head_line, part_in}
 use Rattle.hp_part_lines.specs.Ordering.{AreAll, lists_of}
@@ -218,6 +218,7 @@ not_played names g s v text count schedule fault line h =
     by_fault (lab.Layout f) h = absurd h
     by_fault (lab.BadLine n) h = absurd h
     by_fault (lab.NotForScript place why) h = absurd h
+    by_fault (lab.PastLayout n) h = absurd h
     by_fault (lab.TooMany n) h = absurd h
     by_fault (lab.HistoryFull needed) h = ((count, schedule, line, h.0), h.1)
     by_fault lab.OutOfMemory h = tt

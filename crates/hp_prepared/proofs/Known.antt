@@ -10,7 +10,7 @@ use Rattle.hp_schedules.specs.declared.tally.Ending.{Ending}
 use Rattle.hp_schedules.specs.Schedules.{Setting}
 use Rattle.hp_lab_faults.specs.Faults.{start_fault_from}
 use Rattle.hp_lab_faults.specs.declared.fault.LabFault.{LabFault}
-use Rattle.hp_lab_faults.specs.declared.fault.LabFault.TheVariants.{NotJson, BadShape, Layout, BadLine, NotForScript, TooMany, HistoryFull, OutOfMemory}
+use Rattle.hp_lab_faults.specs.declared.fault.LabFault.TheVariants.{NotJson, BadShape, Layout, BadLine, NotForScript, PastLayout, TooMany, HistoryFull, OutOfMemory}
 use Rattle.hp_prepared.specs.Ends.{IsNumbered}
 use Rattle.hp_prepared.specs.Faults.{IsFaultWith, IsFull, IsFullTold, IsToldAs, IsUntold}
 use Rattle.hp_prepared.specs.Holding.{HoldsIn, InScenario, IsStoppedAfter}
@@ -40,6 +40,7 @@ untold C g explore.HistoryFull told is cause = by_told told is
     by_told (Layout f) is = absurd is
     by_told (BadLine n) is = absurd is
     by_told (NotForScript place why) is = absurd is
+    by_told (PastLayout n) is = absurd is
     by_told (TooMany n) is = absurd is
     by_told (HistoryFull needed) is = (cause, is)
     by_told OutOfMemory is = tt
@@ -88,6 +89,7 @@ untold_in Many C input setup limit p BadShape ready h = absurd h
 untold_in Many C input setup limit p (Layout f) ready h = absurd h
 untold_in Many C input setup limit p (BadLine n) ready h = absurd h
 untold_in Many C input setup limit p (NotForScript place why) ready h = absurd h
+untold_in Many C input setup limit p (PastLayout n) ready h = absurd h
 untold_in Many C input setup limit p (TooMany most) ready h = absurd h
 untold_in Many C input setup limit p (HistoryFull needed) ready h =
     stopped_in (IsFull C needed) input setup p ready h
@@ -102,6 +104,7 @@ unprepared_known Many C input setup limit BadShape h = h
 unprepared_known Many C input setup limit (Layout f) h = h
 unprepared_known Many C input setup limit (BadLine n) h = h
 unprepared_known Many C input setup limit (NotForScript place why) h = h
+unprepared_known Many C input setup limit (PastLayout n) h = absurd h
 unprepared_known Many C input setup limit (TooMany most) h = absurd (h.1.2.1.holds)
 unprepared_known Many C input setup limit (HistoryFull needed) h = absurd (h.2.1.holds.0)
 unprepared_known Many C input setup limit OutOfMemory h = tt

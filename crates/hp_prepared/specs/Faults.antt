@@ -11,7 +11,7 @@ use Rattle.hp_scenario.specs.Scenario.{scenario_in}
 use Rattle.hp_scripts.specs.Starts.{IsUnfitAfter}
 use Rattle.hp_lab_faults.specs.Faults.{fault_from}
 use Rattle.hp_lab_faults.specs.declared.fault.LabFault.{LabFault}
-use Rattle.hp_lab_faults.specs.declared.fault.LabFault.TheVariants.{NotJson, BadShape, Layout, BadLine, NotForScript, TooMany, HistoryFull, OutOfMemory}
+use Rattle.hp_lab_faults.specs.declared.fault.LabFault.TheVariants.{NotJson, BadShape, Layout, BadLine, NotForScript, PastLayout, TooMany, HistoryFull, OutOfMemory}
 use Rattle.hp_prepared.specs.Holding.{InScenario, IsStoppedAfter}
 
 -- ---- on a machine
@@ -48,7 +48,8 @@ IsUntold C g fault = ⊥
 abbrev pub IsUnread : (input : List ℕ) → LabFault → Type 0
 IsUnread input fault = (why : ScenarioFault) × (scenario_in input ≡ Err why) × (fault ≡ fault_from why)
 
--- when each fault comes, where `Many` says when there are too many interleavings
+-- when each fault comes but PastLayout, which no exploration has, where `Many` says when there are too
+-- many interleavings
 abbrev pub IsFaultWith : (Many : Setting → Type 0) → (C : Setting → ExploreFault → Type 0) → (input : List ℕ)
     → (setup limit : ℕ) → LabFault → Type 0
 IsFaultWith Many C input setup limit NotJson = IsUnread input NotJson
@@ -57,6 +58,7 @@ IsFaultWith Many C input setup limit (Layout fault) = IsUnread input (Layout fau
 IsFaultWith Many C input setup limit (BadLine line) = IsUnread input (BadLine line)
 IsFaultWith Many C input setup limit (NotForScript line why) =
     InScenario input (IsUnfitAfter setup line why)
+IsFaultWith Many C input setup limit (PastLayout number) = ⊥
 IsFaultWith Many C input setup limit (TooMany most) =
     (most ≡ limit) × InScenario input (IsStoppedAfter Many setup)
 IsFaultWith Many C input setup limit (HistoryFull needed) =

@@ -1,3 +1,4 @@
 pub mod Ends
+pub mod Limits
 pub mod Wanted
 pub mod WantedLines

@@ -3,6 +3,7 @@ use super::explorations::scenario;
 use hp_ends::ScheduleForm;
 use hp_explore::Silent;
 use hp_lab::find_text;
+use hp_lab_faults::LabFault;
 use hp_wanted::{Wanted, wanted_line};
 use std::alloc::{AllocError, Global};
 use std::test::Fail;
@@ -52,27 +53,16 @@ fn wanted_of(alloc: Global, texts: &[&str]) -> Result<Vec<Wanted>, AllocError> {
     Ok(wanted)
 }
 
-/// Whether a search in a scenario has this text in a form.
-fn finds_in(
-    alloc: Global,
-    input: &[u8],
-    wanted: &[Wanted],
-    form: ScheduleForm,
-    text: &str,
-    is_found: bool,
-) -> bool {
-    match find_text(alloc, input, 3, 100, wanted, form, &mut Silent) {
-        Ok(finding) => finding.is_found == is_found && finding.text.as_str() == text,
-        Err(_fault) => false,
-    }
-}
-
 /// Whether the search for an end with lines has its text.
 fn finds(alloc: Global, searched: &Searched) -> Result<bool, AllocError> {
     let (texts, form, text, is_found) = searched;
     let wanted = wanted_of(alloc, texts)?;
     let scenario = scenario(alloc, 40, RACE)?;
-    Ok(finds_in(alloc, scenario.as_bytes(), &wanted, *form, text, *is_found))
+    let input = scenario.as_bytes();
+    match find_text(alloc, input, 3, 100, &wanted, *form, &mut Silent) {
+        Ok(finding) => Ok(finding.is_found == *is_found && finding.text.as_str() == *text),
+        Err(_fault) => Ok(false),
+    }
 }
 
 /// The lines of an end, the form and the text of the search for it, and whether it is found.
@@ -111,6 +101,20 @@ fn first_other(alloc: Global, rows: &[Searched]) -> Result<Option<usize>, AllocE
 #[test]
 fn the_fewest_changes_are_found(rt: HostRuntime) -> Result<(), Fail> {
     assert!(rt; first_other(rt.alloc(), IN_WORDS)?.is_none());
+    Ok(())
+}
+
+/// Lines of which the third names what is past the layout, which has four frames.
+const PAST: &[&str] = &["1: done", "block 1 offline", "frame 4"];
+
+#[test]
+fn what_is_past_the_layout_is_not_searched(rt: HostRuntime) -> Result<(), Fail> {
+    let wanted = wanted_of(rt.alloc(), PAST)?;
+    let scenario = scenario(rt.alloc(), 40, RACE)?;
+    let input = scenario.as_bytes();
+    let form = ScheduleForm::Words;
+    let found = find_text(rt.alloc(), input, 3, 100, &wanted, form, &mut Silent);
+    assert!(rt; matches!(found, Err(LabFault::PastLayout { number: 3 })));
     Ok(())
 }
 

@@ -15,6 +15,7 @@ returns-clause-ok g c =
     subst (λ (ss : List (List Step)). IsFoundOn c.args.form (names_of p) (before_of p)
     (setting p.start.machine ss) c.args.wanted.now c.args.limit (string_bytes f.text) f.is_found)
     c.as_slice-scripts.ensures.value (record {
+      within = c.requires.within;
       what = c.in_ok-found.found;
       is = c.in_ok-found.ensures.ok;
       few = c.in_ok-found.ensures.few;
