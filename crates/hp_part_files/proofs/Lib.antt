@@ -1,3 +1,4 @@
+pub mod Ended
 pub mod Parted
 pub mod Read
 pub mod Written

@@ -11,6 +11,7 @@
 //! does; and specs/Faults.
 #![tactic(auto)]
 
+mod ends;
 mod line_fault;
 mod parts;
 mod summing;

@@ -2,7 +2,7 @@
 ghost use Rattle.std.specs.Prelude.{◌≡◌, ◌↔◌, ℕ, ◌^◌, ◌<◌, IfErr, IfOk, IsTrue, List, OnOk, length};
 ghost use Rattle.hp_schedules.specs.Schedules.{Setting};
 ghost use Rattle.hp_prepared.specs.Prepared.{names_of, setting_of};
-ghost use Rattle.hp_part_lines.specs.Ends.{IsEndOf};
+ghost use Rattle.hp_part_files.specs.Ends.{IsEndOf};
 ghost use Rattle.hp_part_lines.specs.Heads.{IsNumber, part_in};
 ghost use Rattle.hp_part_lines.specs.Reading.{IsLine};
 ghost use Rattle.hp_part_lines.specs.declared.reading.PartLine.TheVariants as line;
@@ -11,11 +11,12 @@ ghost use Rattle.hp_part_files.specs.Gathered.{IsGathered, IsGathering};
 ghost use Rattle.hp_part_files.specs.Taking.{HasRead, IsPushed, IsTaken};
 ghost use Rattle.hp_part_files.specs.Texts.{end_line};
 
+use crate::ends::end_of;
 use crate::line_fault::LineFault;
 use crate::writing::write_end;
 use hp_lab_faults::PartFault;
 use hp_part_lines::{
-    Gathering, Head, PartEnds, PartLine, Search, end_of, is_head, line_at, line_in, line_number,
+    Gathering, Head, PartEnds, PartLine, Search, is_head, line_at, line_in, line_number,
 };
 use hp_prepared::Prepared;
 use hp_schedules::{Ending, Outcome};

@@ -1,4 +1,3 @@
-pub mod Ended
 pub mod Ordered
 pub mod Values
 pub mod Written

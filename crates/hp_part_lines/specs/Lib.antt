@@ -1,5 +1,4 @@
 pub mod Cuts
-pub mod Ends
 pub mod Gathering
 pub mod Heads
 pub mod Ordering

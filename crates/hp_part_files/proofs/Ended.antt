@@ -11,7 +11,7 @@ use Rattle.hp_schedules.specs.Schedules.{Setting, next_call, outcome_after, play
 use Rattle.hp_explore.proofs.Framing.{longer_schedule}
 use Rattle.hp_schedules.proofs.Plays.{caller, stops}
 use Rattle.hp_schedules.specs.Parts.{IsOfPart, PartValue}
-use Rattle.hp_part_lines.specs.Ends.{IsEndOf}
+use Rattle.hp_part_files.specs.Ends.{IsEndOf}
 
 -- a schedule by the calls before one, that one, and those after it
 whole : (schedule : List ℕ) (index cpu : ℕ) → index < length schedule → cpu ≡ get_or schedule index cpu

@@ -3,7 +3,7 @@ use Rattle.std.proofs.Common.{subst}
 use Rattle.std.proofs.lemmas.Result.{err_from_is_err_and}
 use Rattle.hp_explore.specs.Faults.{FillsAlong}
 use Rattle.hp_explore.specs.Paths.{PathValue}
-use Rattle.hp_part_lines.proofs.ends.end_of.Goals as goal
+use Rattle.hp_part_files.proofs.ends.end_of.Goals as goal
 
 pub returns-in_err-follow-clause-along : goal.returns-in_err-follow-clause-along
 returns-in_err-follow-clause-along c =

@@ -2,8 +2,8 @@ use Rattle.std.proofs.Common.{ℕ, List, subst}
 use Rattle.hp_units.specs.declared.replies.Record.{Record}
 use Rattle.hp_schedules.specs.Schedules.{schedule_of}
 use Rattle.hp_schedules.specs.Parts.{IsOfPart}
-use Rattle.hp_part_lines.proofs.Ended.{ended}
-use Rattle.hp_part_lines.proofs.ends.end_at.Goals as goal
+use Rattle.hp_part_files.proofs.Ended.{ended}
+use Rattle.hp_part_files.proofs.ends.end_at.Goals as goal
 
 pub returns : goal.returns
 returns c =

@@ -4,7 +4,7 @@ ghost use Rattle.hp_explore.specs.Faults.{FillsAlong, IsCause};
 ghost use Rattle.hp_schedules.specs.Schedules.{schedule_of};
 ghost use Rattle.hp_explore.specs.Settings.{setting};
 ghost use Rattle.hp_explore.specs.declared.exploring.ExploreFault.TheVariants.{HistoryFull};
-ghost use Rattle.hp_part_lines.specs.Ends.{IsEndOf, IsFollowed};
+ghost use Rattle.hp_part_files.specs.Ends.{IsEndOf, IsFollowed};
 
 use hp_explore::{ExploreFault, Path, is_over};
 use hp_machine::Machine;
@@ -16,7 +16,7 @@ use std::alloc::{AllocError, Global};
 /// calls are made on a machine from where it is; none where it is no complete schedule of the part. An
 /// error is `HistoryFull` where the layout's history has no room for one of this schedule's calls, or
 /// `OutOfMemory`.
-pub fn end_of(
+pub(crate) fn end_of(
     alloc: Global,
     machine: &Machine,
     scripts: &[Script],

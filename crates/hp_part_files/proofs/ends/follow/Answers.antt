@@ -2,8 +2,8 @@ use Rattle.std.proofs.Common.{ℕ, Bool, true, false, subst}
 use Rattle.std.proofs.lemmas.Result.{err_from_is_err_and}
 use Rattle.hp_explore.specs.Faults.{FillsHere, IsCauseHere}
 use Rattle.hp_explore.specs.Paths.{IsForth}
-use Rattle.hp_part_lines.proofs.Ended.{filled, followed, unfollowed}
-use Rattle.hp_part_lines.proofs.ends.follow.Goals as goal
+use Rattle.hp_part_files.proofs.Ended.{filled, followed, unfollowed}
+use Rattle.hp_part_files.proofs.ends.follow.Goals as goal
 
 pub returns-then-not-branch-clause-ok : goal.returns-then-not-branch-clause-ok
 returns-then-not-branch-clause-ok c =

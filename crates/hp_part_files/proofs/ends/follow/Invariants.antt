@@ -1,6 +1,6 @@
 use Rattle.std.proofs.Common.{◌≡◌, take}
 use Rattle.hp_schedules.specs.Schedules.{schedule_of}
-use Rattle.hp_part_lines.proofs.ends.follow.Given as goal
+use Rattle.hp_part_files.proofs.ends.follow.Given as goal
 
 abbrev pub invariant-loop-cpu : goal.invariant-loop-cpu
 invariant-loop-cpu l =
