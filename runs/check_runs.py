@@ -1,8 +1,9 @@
 #!/usr/bin/env python3
-"""Runs `hotplug` on the scenarios of this folder's *.txt, and compares all that it prints. `check` at
-the top runs it after the gate; alone it takes a program:
+"""Runs `hotplug` on the scenarios of this folder's *.txt, and compares all that it prints. It audits
+a crowd, too, so many times: 64 processors with 200 lines each, of every event, and a plan in every
+fourth script. `check` at the top runs it after the gate; alone it takes a program:
 
-    python3 runs/check_runs.py [PROGRAM]        without PROGRAM: crates/hotplug/out/hotplug
+    python3 runs/check_runs.py [PROGRAM [TIMES]]   without them: crates/hotplug/out/hotplug and 20
 
 A scenario has these lines, and ends with an empty one:
 
@@ -17,6 +18,7 @@ A scenario has these lines, and ends with an empty one:
 The last line is 'runs: N passed, M failed'; the exit status is 0 where nothing failed, else 1.
 """
 import json
+import re
 import subprocess
 import sys
 from dataclasses import dataclass, field
@@ -28,6 +30,19 @@ SECONDS = 60
 LAYOUT = {"order": 2, "pageblocks": 1, "blocks": 4, "cpus": 2, "batch": 2, "high": 2, "owners": 2,
           "pages": 8, "words": 2, "history": 1000,
           "boot": ["normal", "normal", "movable", "offline"]}
+TIMES = 20
+CROWD = {"order": 3, "pageblocks": 2, "blocks": 8, "cpus": 64, "batch": 2, "high": 2, "owners": 4,
+         "pages": 8, "words": 2, "history": 1000000,
+         "boot": ["normal", "normal", "normal", "movable", "movable", "movable", "offline",
+                  "absent"]}
+CROWD_LINES = 200
+# A script goes through them in turn, from a place of its own on.
+CROWD_CALLS = ("kalloc 0", "map db 0", "write db 0 1 5", "read db 0 1", "map web 1", "kalloc 2",
+               "kfree 0", "drain 0", "map log 2", "unmap db 0", "online 6 movable", "begin off 3",
+               "drainfor 12 1", "migrate 12", "commit 12", "cancel 12", "kfree 4", "read web 1 0",
+               "undo 40", "unmap web 1", "echo 0x700 probe",
+               "echo online_movable auto_online_blocks", "remove 7", "echo online memory6/state",
+               "echo onlin memory6/state", "map queue 9", "unmap log 2")
 BLOCKS = ("block 0 online normal\nblock 1 online normal\nblock 2 online movable\n"
           "block 3 offline")
 
@@ -77,9 +92,34 @@ def runs_in(file):
             yield run
 
 
+def crowd():
+    """The calls of the crowd."""
+    for cpu in range(CROWD["cpus"]):
+        for at in range(CROWD_LINES):
+            has_plan = cpu % 4 == 0 and at == CROWD_LINES // 2
+            call = "plan 3 off 4" if has_plan else CROWD_CALLS[(at + cpu) % len(CROWD_CALLS)]
+            yield f"{cpu} {call}"
+
+
+def check_crowd(program, times):
+    """How many audits of the crowd went well, and what the others ended with. Each line makes a
+    record, but for an `echo`, which may make none; a plan makes several."""
+    calls, passed, failures = list(crowd()), 0, []
+    text = json.dumps({"layout": CROWD, "calls": calls}).encode()
+    least = sum(" echo " not in call for call in calls)
+    for _ in range(times):
+        ran = subprocess.run([program, "audit"], input=text, capture_output=True, timeout=SECONDS)
+        told = re.fullmatch(r"(\d+) records\naudit ok\n", ran.stdout.decode())
+        if told and int(told[1]) >= least and (ran.returncode, ran.stderr) == (0, b""):
+            passed += 1
+        else:
+            failures.append(f"crowd: ends with {ran.returncode, ran.stdout[:80], ran.stderr[:80]}")
+    return passed, failures
+
+
 def main(words):
     program = Path(words[0] if words else PROGRAM).resolve()
-    passed, failures = 0, []
+    passed, failures = check_crowd(program, int(words[1]) if len(words) > 1 else TIMES)
     for file in sorted(HERE.glob("*.txt")):
         for run in runs_in(file):
             try:
