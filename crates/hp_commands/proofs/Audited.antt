@@ -59,7 +59,8 @@ pub reached : (volumes : List Volume) (m : MachineValue) (vs : List Volume) (l :
     → theirs ≡ record { layout = m.layout; memory = m.base } → base.memory ≡ theirs.memory
     → LeadsToBase volumes m
 reached volumes m vs l base theirs same there chain is theirs_is alike = (
-  subst (λ (k : LayoutParts). IsChain k volumes) there (subst (λ (xs : List Volume). IsChain l xs) same chain),
+  subst (λ (k : LayoutParts). IsChain k volumes) there
+      (subst (λ (xs : List Volume). IsChain l xs) same chain),
   sym (ap (λ (p : Pictured). p.memory) theirs_is)
       ∙ (sym alike ∙ (ap (λ (p : Pictured). p.memory) is
       ∙ (ap (λ (k : LayoutParts). state_after k vs) there

@@ -66,7 +66,8 @@ full_next g s h cpu rest news played = by_next (next_call g cpu later) refl
 
     full : is_full_after g later ≡ true
     full =
-        full_on g h.news later (omega (arith, length_push h.news (record_of_call g h.news h.cpu h.event))) h.full
+        full_on g h.news later (omega (arith, length_push h.news (record_of_call g h.news h.cpu h.event)))
+        h.full
 
     by_next : (next : Option Event) → next_call g cpu later ≡ next
         → (k : HasNoRoom g (s ++ h.cpu ∷ [])) × (k.cpu ≡ cpu)

@@ -1,4 +1,5 @@
-//! Many doubly linked lists of frames in one table: each call takes the same short time and no memory.
+//! Many doubly linked lists of frames in one table: each change takes the same short time and no
+//! memory.
 #![tactic(auto)]
 
 mod links;

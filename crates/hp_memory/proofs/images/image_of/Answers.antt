@@ -25,8 +25,8 @@ put_areas-requires-clause-kinds c =
 
 pub put_cpus-requires-clause-layout : goal.put_cpus-requires-clause-layout
 put_cpus-requires-clause-layout c =
-    ap (λ i. i.layout) (areas-is c.args.layers.now.layout c.args.layers.now.frames.buddy.areas c.in_ok-image.image
-    c.put_areas.new.image
+    ap (λ i. i.layout) (areas-is c.args.layers.now.layout c.args.layers.now.frames.buddy.areas
+    c.in_ok-image.image c.put_areas.new.image
     (none-is c.args.layers.now.layout c.in_ok-image.image c.in_ok-image.ensures.layout
     c.in_ok-image.ensures.memory)
     c.in_ok-put_areas.ensures) ∙ sym c.requires.placed.one.cpus

@@ -41,6 +41,6 @@ invariant_of-self c =
     layer-buffer l c.self.inside.table c.self.inside.buffers c.put.new.self c.self.inside.zeros c.args.frame
     (Some c.set.new.self) c.self.invariant
     (subst (λ (k : LayoutParts). c.args.frame < frame_count k) same c.requires.frame)
-    (ap length c.set.ensures ∙ (length-set c.args.words c.args.index c.args.value ∙ (ap length c.requires.words
-    ∙ (length-replicate {A = ℕ} c.args.self.now.layout.words 0 ∙ ap (λ (k : LayoutParts). k.words) same))))
+    (ap length c.set.ensures ∙ (length-set c.args.words c.args.index c.args.value
+    ∙ (ap length c.requires.words ∙ (length-replicate {A = ℕ} c.args.self.now.layout.words 0 ∙ ap (λ (k : LayoutParts). k.words) same))))
     c.put.ensures
