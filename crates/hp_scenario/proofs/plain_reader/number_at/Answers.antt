@@ -18,7 +18,9 @@ returns c =
     let none : end - 0 ≡ end = omega arith in
     let short : slice_range t 0 end ≡ take end t = ap (λ (n : ℕ). take n t) none in
     as_number c.args.place t c.range.result.now c.range_from.result.now
-    (number_cut t end digits (omega (arith, c.if-end-eq0.false)) (λ zero. c.if-bytes-eq48.false (first ∙ zero)) (omega (arith, last, c.if-bytes-end-ne44.false))
+    (number_cut t end digits (omega (arith, c.if-end-eq0.false))
+    (λ zero. c.if-bytes-eq48.false (first ∙ zero))
+    (omega (arith, last, c.if-bytes-end-ne44.false))
     ∙ ap (λ (s : List ℕ). token (Token.number s) ∷ lex between (drop end t))
     (sym (c.range.ensures.value ∙ short))
     ∙ ap (λ (u : List ℕ). token (Token.number c.range.result.now) ∷ lex between u)

@@ -5,4 +5,5 @@ use Rattle.hp_wanted.proofs.Below.{Below}
 use Rattle.hp_wanted.proofs.limits.first_past.Given as goal
 
 abbrev pub invariant-loop-index : goal.invariant-loop-index
-invariant-loop-index l = record { none : Below (λ (line : Wanted). IsPast l.layout line → ⊥) l.wanted l.index }
+invariant-loop-index l =
+    record { none : Below (λ (line : Wanted). IsPast l.layout line → ⊥) l.wanted l.index }

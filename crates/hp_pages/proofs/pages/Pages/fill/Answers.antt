@@ -42,5 +42,7 @@ invariant_of-self c =
     (Some c.set.new.self) c.self.invariant
     (subst (λ (k : LayoutParts). c.args.frame < frame_count k) same c.requires.frame)
     (ap length c.set.ensures ∙ (length-set c.args.words c.args.index c.args.value
-    ∙ (ap length c.requires.words ∙ (length-replicate {A = ℕ} c.args.self.now.layout.words 0 ∙ ap (λ (k : LayoutParts). k.words) same))))
+    ∙ (ap length c.requires.words
+    ∙ (length-replicate {A = ℕ} c.args.self.now.layout.words 0
+    ∙ ap (λ (k : LayoutParts). k.words) same))))
     c.put.ensures

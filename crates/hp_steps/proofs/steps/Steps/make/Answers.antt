@@ -14,4 +14,5 @@ returns-clause-ok c =
     c.self.inside.records.items c.reserve.new.self.items c.push_reserved.new.self.items
     c.is_placed.ensures.placed c.step.ensures.layout c.in_ok-reply.ensures.state c.in_ok-reply.ensures.reply
     c.in_ok-reply.ensures.noted
-    c.len-mark.ensures c.in_ok-recorded.ensures.ok c.in_ok-reserve.ensures.items c.push_reserved.ensures.items)
+    c.len-mark.ensures c.in_ok-recorded.ensures.ok
+    c.in_ok-reserve.ensures.items c.push_reserved.ensures.items)
