@@ -18,7 +18,7 @@ use hp_lab_faults::ProgramFault;
 use hp_lab_shell::{Laboratory, Served, Word, run_program};
 use hp_places::Watch;
 use hp_streams::{Sink, Source};
-use serving::serve;
+use serving::serve_word;
 use std::alloc::Global;
 use std::process::ExitCode;
 use std::thread::Threads;
@@ -37,7 +37,7 @@ impl Laboratory for Searches {
         writer: &mut W,
         watch: P,
     ) -> Result<Served, ProgramFault> {
-        serve(threads, alloc, word, reader, writer, watch)
+        serve_word(threads, alloc, word, reader, writer, watch)
     }
 }
 

@@ -17,7 +17,7 @@ use std::thread::Threads;
 
 /// Does a word on what the reader gives, writes its text, and answers what it came to. The watch is
 /// told how far a search has come, and is dropped before anything is written.
-pub fn serve<R: Source, W: Sink, P: Watch + Drop>(
+pub fn serve_word<R: Source, W: Sink, P: Watch + Drop>(
     rt: &(impl Threads + Sync),
     alloc: Global,
     word: Word<'_>,

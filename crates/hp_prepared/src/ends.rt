@@ -91,13 +91,13 @@ impl Prepared {
     {
         write_counts(out, ends, more)?;
         for index in 0..ends.len() {
-            self.write_end(out, alloc, index + 1, &ends[index])?;
+            self.write_numbered(out, alloc, index + 1, &ends[index])?;
         }
         Ok(())
     }
 
     /// Writes an end as words.
-    fn write_end(
+    fn write_numbered(
         &self,
         out: &mut String,
         alloc: Global,

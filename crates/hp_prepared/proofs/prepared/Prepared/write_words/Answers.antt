@@ -22,7 +22,7 @@ loop-index-preserved c =
     slice_get_read ends (length ends) c.loop-index.index c.index-ends-index.result refl
     c.loop-index-test.true c.index-ends-index.is in
     texts_more (end_at_text names g ends) c.loop-index.index _ _ _ _ c.loop-index.invariant
-    c.in_ok-write_end.ensures.ok (ap (numbered_text names g (c.loop-index.index + 1)) (sym here))
+    c.in_ok-write_numbered.ensures.ok (ap (numbered_text names g (c.loop-index.index + 1)) (sym here))
 
 pub returns-clause-ok : goal.returns-clause-ok
 returns-clause-ok c =
@@ -34,16 +34,16 @@ returns-clause-ok c =
     c.loop-index.invariant ∙ (ap (λ (k : ℕ). old ++ counts_text ends c.args.more ++ texts_below text k) all
     ∙ append_assoc old (counts_text ends c.args.more) (texts_below text (length ends)))
 
-pub returns-in_err-write_end-clause-along : goal.returns-in_err-write_end-clause-along
-returns-in_err-write_end-clause-along c =
+pub returns-in_err-write_numbered-clause-along : goal.returns-in_err-write_numbered-clause-along
+returns-in_err-write_numbered-clause-along c =
     let ends = c.args.ends.now in
     let p =
-    err_from_is_err_and c.from_residual-in_err-write_end.result
-    c.from_residual-in_err-write_end.ensures.1 in
+    err_from_is_err_and c.from_residual-in_err-write_numbered.result
+    c.from_residual-in_err-write_numbered.ensures.1 in
     rw (p.1, p.2) (λ full. (
       c.loop-index.index,
       c.index-ends-index.result,
       slice_get_read ends (length ends) c.loop-index.index c.index-ends-index.result refl
           c.loop-index-test.true c.index-ends-index.is,
-      c.in_err-write_end.ensures.along full,
+      c.in_err-write_numbered.ensures.along full,
     ))

@@ -6,7 +6,7 @@ use Rattle.hp_explore.specs.Faults.{FillsAlong}
 use Rattle.hp_schedules.specs.Schedules.{plays}
 use Rattle.hp_ends.specs.Words.{end_text}
 use Rattle.hp_prepared.specs.Prepared.{names_of, setting_of}
-use Rattle.hp_prepared.proofs.prepared.Prepared.write_end.Goals as goal
+use Rattle.hp_prepared.proofs.prepared.Prepared.write_numbered.Goals as goal
 
 pub returns-clause-ok : goal.returns-clause-ok
 returns-clause-ok c =

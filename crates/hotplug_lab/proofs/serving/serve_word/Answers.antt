@@ -6,7 +6,7 @@ use Rattle.hp_streams.proofs.Whole.{given}
 use Rattle.hp_lab_shell.specs.Needs.{unbegun_of}
 use Rattle.hotplug_lab.specs.Words.{Answers}
 use Rattle.hotplug_lab.proofs.Served.{all_served, read_fault, unanswered}
-use Rattle.hotplug_lab.proofs.serving.serve.Goals as goal
+use Rattle.hotplug_lab.proofs.serving.serve_word.Goals as goal
 
 pub returns-clause-ok : goal.returns-clause-ok
 returns-clause-ok g c =
