@@ -16,6 +16,8 @@ CLAUSE = re.compile(r"\b(requires|ensures|ghost)\b")
 CYCLE = re.compile(r"#\[cycle\((\w+)\)\]")
 # What makes a function no plain one: a word before it.
 NOT_PLAIN = re.compile(r"\b(?:const|unsafe|extern)\b[^\n]*\Z")
+# What stands before `fn`: lines of attributes, and what is on its own line.
+BEFORE = re.compile(r"(?:^[ \t]*#\[[^\n]*\]\n)*[^\n]*\Z", re.M)
 # The body of a function that is taken by its contract.
 NO_BODY = "{ unreachable!() }"
 # A call, by the last word of its path.
@@ -146,6 +148,20 @@ class Sources:
         is_special = it.cycle or name in ("drop", "main") or NOT_PLAIN.search(text[: it.start])
         return is_own and home not in self.traits and not is_special
 
+    def may_have_twin(self, path):
+        file, it = self.functions.get(path, ("", None))
+        return bool(it) and self.is_plain(file, self.files[file], it)
+
+    def with_twins(self, twins):
+        """Returns these sources where functions that may have one have twins, after them: pairs of their paths."""
+        files = {**self.files}
+        for path, twin in sorted(twins, key=lambda it: -self.functions[it[0]][1].end):
+            file, it = self.functions[path]
+            text = self.files[file]
+            made = BEFORE.search(text[: it.start])[0] + renamed(text[it.start : it.end], twin)
+            files[file] = f"{files[file][: it.end]}\n\n{made}{files[file][it.end :]}"
+        return Sources(files)
+
     def by_contract(self, edits, kept):
         """Returns the texts of all files with the edits made, and the functions other than the kept ones that have no
         body there any more, being plain."""
@@ -165,6 +181,11 @@ class Sources:
             text = texts.get(file, self.files[file])
             texts[file] = text[: it.start] + new[path] + text[it.end :]
         return texts
+
+
+def renamed(text, path):
+    """Returns the text of a function, from its `fn`, with the name of this path."""
+    return re.sub(r"\Afn\s+\w+", f"fn {path.rpartition('::')[2]}", text)
 
 
 def closing(text, at, pair):

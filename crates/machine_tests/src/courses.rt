@@ -1,5 +1,5 @@
 //! A course of a few records, and worked records that lead back to the state at boot.
-use crate::layouts::four_blocks;
+use crate::layouts::{LAST_OFFLINE, four_blocks};
 use hp_history::{Course, Records, Volume};
 use hp_plain::Image;
 use hp_replays::audit_chain;
@@ -49,7 +49,7 @@ fn leads_back(alloc: Global, layout: &Layout) -> Result<bool, Fail> {
 
 #[test]
 fn a_history_leads_back_to_boot(rt: HostRuntime) -> Result<(), Fail> {
-    let layout = four_blocks(rt.alloc(), 9)?;
+    let layout = four_blocks(rt.alloc(), LAST_OFFLINE, 9)?;
     assert!(rt; leads_back(rt.alloc(), &layout)?);
     Ok(())
 }
@@ -98,7 +98,7 @@ fn goes_on(alloc: Global, course: &mut Course) -> Result<bool, AllocError> {
 
 /// A course of the four blocks.
 fn booted(alloc: Global) -> Result<Course, Fail> {
-    let layout = four_blocks(alloc, 9)?;
+    let layout = four_blocks(alloc, LAST_OFFLINE, 9)?;
     Ok(Course::boot(alloc, &layout)?)
 }
 

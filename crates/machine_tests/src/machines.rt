@@ -1,5 +1,5 @@
 //! A block that goes offline by the driver of a plan, and an operation that is sealed under way.
-use crate::layouts::four_blocks;
+use crate::layouts::{LAST_OFFLINE, four_blocks};
 use crate::sealed::{commit, hands_out_plugged_frames, replayed, seal};
 use hp_machine::Machine;
 use hp_units::{
@@ -11,7 +11,7 @@ use std::test::Fail;
 
 /// A machine of the four blocks, with a limit of records.
 fn booted(alloc: Global, history: u64) -> Result<Machine, Fail> {
-    let layout = four_blocks(alloc, history)?;
+    let layout = four_blocks(alloc, LAST_OFFLINE, history)?;
     Ok(Machine::boot(alloc, &layout)?)
 }
 

@@ -1,5 +1,5 @@
 //! A step of a memory in layers that is taken back, and the numbers of the states.
-use crate::layouts::four_blocks;
+use crate::layouts::{LAST_OFFLINE, four_blocks};
 use hp_codes::Codes;
 use hp_memory::Memory;
 use hp_tape::Tape;
@@ -9,7 +9,7 @@ use std::test::Fail;
 
 /// A memory of the four blocks.
 fn booted(alloc: Global) -> Result<Memory, Fail> {
-    let layout = four_blocks(alloc, 9)?;
+    let layout = four_blocks(alloc, LAST_OFFLINE, 9)?;
     Ok(Memory::boot(alloc, &layout)?)
 }
 

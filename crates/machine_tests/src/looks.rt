@@ -24,7 +24,7 @@ pub(crate) fn finds_at_boot<L: Look>(alloc: Global, layout: &Layout, look: &L) -
 
 /// Whether a machine of four memory blocks is as a test says, from boot on.
 pub(crate) fn finds_in_four_blocks<L: Look>(alloc: Global, boot: &[Boot], look: &L) -> bool {
-    match four_blocks(alloc, boot) {
+    match four_blocks(alloc, boot, 1000) {
         Ok(layout) => finds_at_boot(alloc, &layout, look),
         Err(_fault) => false,
     }

@@ -1,6 +1,6 @@
 //! The memory of a machine at boot, drawn.
 use crate::layouts::LAST_ABSENT;
-use crate::machines::{Look, finds_in_four_blocks};
+use crate::looks::{Look, finds_in_four_blocks};
 use hp_machine::Machine;
 use hp_map::{Place, picture_of, places_of};
 use hp_pictures::{BlockPicture, frames_in};

@@ -33,7 +33,7 @@ fn shows_single_parts(image: &Image) -> bool {
 
 #[test]
 fn single_parts_are_added(rt: HostRuntime) -> Result<(), Fail> {
-    let layout = four_blocks(rt.alloc(), LAST_OFFLINE)?;
+    let layout = four_blocks(rt.alloc(), LAST_OFFLINE, 1000)?;
     let mut image = Image::empty(rt.alloc(), &layout)?;
     add_single_parts(&mut image)?;
     assert!(rt; shows_single_parts(&image));
@@ -59,7 +59,7 @@ fn adds_a_kind_and_a_row(image: &mut Image) -> Result<bool, AllocError>
 
 #[test]
 fn kinds_and_rows_are_added(rt: HostRuntime) -> Result<(), Fail> {
-    let layout = four_blocks(rt.alloc(), LAST_OFFLINE)?;
+    let layout = four_blocks(rt.alloc(), LAST_OFFLINE, 1000)?;
     let mut image = Image::empty(rt.alloc(), &layout)?;
     assert!(rt; adds_a_kind_and_a_row(&mut image)?);
     Ok(())

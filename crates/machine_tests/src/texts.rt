@@ -1,6 +1,6 @@
 //! Each writer once, and a state with a page.
 use crate::layouts::LAST_OFFLINE;
-use crate::machines::{Look, finds_in_four_blocks};
+use crate::looks::{Look, finds_in_four_blocks};
 use hp_machine::Machine;
 use hp_plain::Image;
 use hp_requests::ControlFault;
