@@ -4,9 +4,10 @@ use Rattle.std.proofs.lemmas.List.{take_more}
 use Rattle.hp_units.specs.LayoutParts.{LayoutParts}
 use Rattle.hp_units.specs.History.{value_of, net_of, run}
 use Rattle.hp_machine.specs.Machine.{MachineValue, booted}
+use Rattle.hp_plain.specs.Image.{Pictured}
 use Rattle.hp_scenario.specs.declared.lines.Line.{Line}
 use Rattle.hp_scenario.specs.Asked as asks
-use Rattle.hp_commands.specs.Serial.{GrowsBy, IsWhole, WritesAsked, WritesLine, WritesLines, asked_text, lines_text, line_text, machine_after, machine_after_asked, machine_after_lines}
+use Rattle.hp_commands.specs.Serial.{GrowsBy, IsWhole, LeavesImage, WritesAsked, WritesLine, WritesLines, asked_text, lines_text, line_text, machine_after, machine_after_asked, machine_after_lines}
 use Rattle.hp_commands.proofs.EventsDue.{IsUpToDate, event_due, event_is}
 use Rattle.hp_commands.proofs.FilesDue.{cat_due}
 use Rattle.hp_commands.proofs.PlansDue.{plan_due, plan_is}
@@ -54,6 +55,22 @@ lines_more xs i line old now new m mid next lt so_far is_at one = record {
       subst (λ (l : List Line). WritesLines m l (so_far.text ++ one.text) next)
       (sym (take_more xs i line lt ∙ ap (λ (x : Line). take i xs ++ x ∷ []) (sym is_at)))
       (one_more (take i xs) line m mid next so_far.text one.text so_far.is one.is);
+}
+
+-- the image of a machine that lines led to
+pub image_left : (old new : List ℕ) (start m mid : MachineValue) (lines taken : List Line) (image : Pictured)
+    → m ≡ start → taken ≡ lines → GrowsBy old new (λ (text : List ℕ). WritesLines m taken text mid)
+    → image ≡ record { layout = mid.layout; memory = mid.state }
+    → GrowsBy old new (λ (text : List ℕ). LeavesImage start lines text image)
+image_left old new start m mid lines taken image begun same ran is = record {
+  text = ran.text;
+  grown = ran.grown;
+  is = (
+    mid,
+    subst (λ (k : MachineValue). WritesLines k lines ran.text mid) begun
+        (subst (λ (xs : List Line). WritesLines m xs ran.text mid) same ran.is),
+    is,
+  );
 }
 
 -- ---- the state is that of the history

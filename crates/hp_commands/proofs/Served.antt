@@ -23,7 +23,6 @@ use Rattle.hp_commands.specs.Runs.{SealsSome, scripts_in}
 use Rattle.hp_commands.specs.declared.fault.ProgramFault.{ProgramFault}
 use Rattle.hp_commands.specs.declared.fault.ProgramFault.TheVariants.{ReadFailed, TooLong, NotJson, BadShape, Layout, BadLine, NotForRun, OutOfMemory, NotStarted, SeatMissing, Mismatch, WrongReply, WrongSerial, AuditDiffers, WriteFailed, BrokenChain}
 use Rattle.hp_commands.specs.declared.commands.Command.{Command}
-use Rattle.hp_commands.specs.declared.commands.Command.TheVariants.{Serial}
 use Rattle.hp_commands.proofs.Unfit.{never_not_for_run}
 
 -- a fault of reading is one of the program
@@ -33,15 +32,15 @@ read_fault command known read written reading.ReadFailed h = h
 read_fault command known read written reading.TooLong h = h
 read_fault command known read written reading.OutOfMemory h = tt
 
--- a fault of the scenario is one of the command
-pub scenario_fault : (input : List ℕ) (fault : ScenarioFault) → Fails fault (scenario_in input)
-    → IsFaultOf Serial (Some input) ⊥ ⊥ (fault_from fault)
-scenario_fault input scenario.NotJson h = h
-scenario_fault input scenario.BadShape h = h
-scenario_fault input (scenario.Layout f) h = h
-scenario_fault input (scenario.BadLine n) h = h
-scenario_fault input (scenario.NotForRun n) h = absurd (never_not_for_run input n h)
-scenario_fault input scenario.OutOfMemory h = tt
+-- a fault of the scenario is one of any command
+pub scenario_fault : (command : Command) (input : List ℕ) (fault : ScenarioFault)
+    → Fails fault (scenario_in input) → IsFaultOf command (Some input) ⊥ ⊥ (fault_from fault)
+scenario_fault command input scenario.NotJson h = h
+scenario_fault command input scenario.BadShape h = h
+scenario_fault command input (scenario.Layout f) h = h
+scenario_fault command input (scenario.BadLine n) h = h
+scenario_fault command input (scenario.NotForRun n) h = absurd (never_not_for_run input n h)
+scenario_fault command input scenario.OutOfMemory h = tt
 
 -- a fault of the input that was read is one of what the reader had
 pub fault_of_read : (command : Command) (a b : Option (List ℕ)) (input : List ℕ) (read written : Type 0)

@@ -1,5 +1,6 @@
 -- What the functions that write a line did, said as their contracts say it.
-use Rattle.std.proofs.Common.{◌≡◌, ℕ, List, [], ◌++◌, Some, None, Result, Ok, refl, sym, ap, subst, ◌∙◌, inl, inr}
+use Rattle.std.proofs.Common.{◌≡◌, ℕ, List, [], ◌++◌, Some, None, Result, Ok, Err, refl, sym, ap, subst, ◌∙◌, inl, inr}
+use Rattle.std.specs.Prelude.{OnOk, if◌then◌else◌, is_ok}
 use Rattle.hp_units.specs.declared.plans.Item.{Item}
 use Rattle.hp_units.specs.declared.replies.CallFault.{CallFault}
 use Rattle.hp_units.specs.declared.replies.OpEnd.{OpEnd}
@@ -43,6 +44,12 @@ plan_written m new cpu turns plan copied end old out same ran grown =
     }
 
 -- ---- a file read
+
+-- what a push wrote, where there was room
+pub pushed : {T E : Type 0} (r : Result T E) (old new piece text : List ℕ)
+    → new ≡ (if is_ok r then old ++ piece else old) → piece ≡ text → OnOk r (new ≡ old ++ text)
+pushed (Ok u) old new piece text e same = e ∙ ap (λ (t : List ℕ). old ++ t) same
+pushed (Err fault) old new piece text e same = tt
 
 -- the machine's memory, of which a text is read
 abbrev pub IsMemoryOf : MemoryValue → MachineValue → Type 0

@@ -1,10 +1,13 @@
 -- The kernel's blocks: the lowest frame where one starts, and what changing their table notes.
-use Rattle.std.proofs.Common.{◌≡◌, ℕ, ◌+◌, ◌<◌, ◌≤◌, Bool, List, [], ◌∷◌, ◌++◌, length, Option, None, set, get_or, sym, subst, ap, ◌∙◌, arith}
+use Rattle.std.proofs.Common.{◌≡◌, ℕ, ◌+◌, ◌*◌, ◌/◌, ◌%◌, ◌<◌, ◌≤◌, ◌==◌, Bool, List, [], ◌∷◌, ◌++◌, length, Option, None, replicate, set, get_or, sym, subst, ap, ◌∙◌, arith}
 use Rattle.std.specs.Prelude.{find, is_some}
 use Rattle.std.specs.List.{range_with_len}
-use Rattle.std.proofs.lemmas.List.{set-set, set-get_or}
+use Rattle.std.specs.Int.{bit_at}
+use Rattle.std.proofs.lemmas.List.{length-replicate, set-set, set-get_or}
+use Rattle.std.proofs.lemmas.Nat.Bits.{bit_at-zero}
 use Rattle.hp_units.specs.LayoutParts.{LayoutParts}
 use Rattle.hp_units.specs.Arithmetic.{IsFrame}
+use Rattle.hp_units.proofs.Lists.{at_replicate}
 use Rattle.hp_tape.specs.declared.deltas.Delta.{Delta}
 use Rattle.hp_tape.specs.declared.deltas.Delta.TheVariants.{Kernel as KernelDelta}
 use Rattle.hp_tape.specs.Tapes.{TapeValue}
@@ -12,6 +15,20 @@ use Rattle.hp_lemmas.proofs.Tables.{get_set}
 use Rattle.hp_pages.specs.FrameSets.{FindsLowest, has}
 use Rattle.hp_pages.proofs.FrameSets.{finds_same, found_is}
 use Rattle.hp_kernel.specs.Kernel.{AreStartsOf, NotesKernel}
+
+-- where no block starts the set is of zeros
+pub no_starts : (frames words : ℕ) → frames ≤ 64 * words
+    → AreStartsOf (replicate frames None) (replicate words 0)
+no_starts frames words within = record {
+  room =
+      omega
+      (arith, length-replicate {A = Option ℕ} frames None, length-replicate {A = ℕ} words 0, within);
+  each =
+      λ frame below.
+      ap (λ (word : ℕ). bit_at word (frame % 64) == 1) (at_replicate words (frame / 64) 0)
+      ∙ ap (λ (bit : ℕ). bit == 1) (bit_at-zero (frame % 64))
+      ∙ sym (ap (λ (order : Option ℕ). is_some order) (at_replicate frames frame None));
+}
 
 -- the lowest frame of the set is the lowest where a block starts
 pub lowest_start : (orders : List (Option ℕ)) (starts : List ℕ) (first count : ℕ) (found : Option ℕ)

@@ -1,3 +1,4 @@
+mod Full
 pub mod MachineCalls
 pub mod Machines
 mod PlanRuns

@@ -1,3 +1,4 @@
 mod Loaded
 mod Pictured
 pub mod Steps
+mod Values

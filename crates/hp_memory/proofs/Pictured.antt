@@ -3,7 +3,7 @@ use Rattle.std.proofs.Common.{◌≡◌, ℕ, ◌+◌, ◌*◌, ◌≤◌, List,
 use Rattle.hp_units.specs.declared.rows.Kind.{Kind}
 use Rattle.hp_units.specs.declared.rows.Pool.{Pool}
 use Rattle.hp_units.specs.declared.rows.Row.{Row}
-use Rattle.hp_units.specs.LayoutParts.{LayoutParts, IsLayout}
+use Rattle.hp_units.specs.LayoutParts.{LayoutParts}
 use Rattle.hp_units.specs.Arithmetic.{IsFrame, frame_count, pageblock_count}
 use Rattle.hp_units.specs.Boot.{empty_memory}
 use Rattle.hp_units.specs.FreeAreas.{is_on}

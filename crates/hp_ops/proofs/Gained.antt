@@ -1,6 +1,7 @@
 -- Calls after calls.
-use Rattle.std.proofs.Common.{◌≡◌, Bool, true, List, ◌++◌, Option, ap, sym, subst, ◌∙◌, append_assoc}
+use Rattle.std.proofs.Common.{◌≡◌, Bool, true, List, [], ◌++◌, Option, ap, sym, subst, ◌∙◌, append_assoc}
 use Rattle.std.specs.Prelude.{◌||◌}
+use Rattle.std.proofs.lemmas.List.{append-nil}
 use Rattle.std.proofs.lemmas.List.Folds.{list_any-append}
 use Rattle.hp_ops.specs.Names.{Receipt, CallFault}
 use Rattle.hp_ops.specs.Ports.{PortValue, Gains, has_opened, is_opened, with_receipts}
@@ -12,6 +13,13 @@ shown_joined old mid new xs ys f h first second =
     second ∙ (ap (λ (v : PortValue). with_receipts v ys h) first ∙ ap
     (λ (rs : List Receipt). record { receipts = rs; fault = h; cpus = old.cpus })
     (append_assoc old.receipts xs ys))
+
+-- and after them a call that gave none
+pub shown_left : (old here new : PortValue) (xs : List Receipt) (f h : Option CallFault)
+    → here ≡ with_receipts old xs f → new ≡ with_receipts here [] h → new ≡ with_receipts old xs h
+shown_left old here new xs f h first second =
+    shown_joined old here new xs [] f h first second
+    ∙ ap (λ (rs : List Receipt). with_receipts old rs h) (append-nil xs)
 
 -- the fault is the last call's
 pub fault_is : {S : Type 0} (shows : S → PortValue) (makes : S → List Receipt → S → Type 0)

@@ -7,7 +7,7 @@ use Rattle.std.proofs.lemmas.Bool.{le-ltb, ltb-true}
 use Rattle.std.proofs.Math.Nat.{add-mul}
 use Rattle.std.specs.Prelude.{◌||◌}
 use Rattle.hp_units.specs.Driver.{AllNext, Ends, IsDriverRun, cause_after, cause_of, end_after, is_migrate, next_after, next_event, next_drain, migrate_or_cancel, opened_by, operation_of, tried}
-use Rattle.hp_ops.specs.Names.{Item, Event, Begin, DrainFor, Migrate, Commit, Cancel, Reply, Done, Moved, Opened, Refused, Refusal, NoFrame, NoOp, NothingToMove, NotFree, Receipt, OpEnd, EndsDone, EndsRefused, EndsCancelled, EndsUndone, Driver, Stage, Begins, DrainsFor, Migrates, Commits, Cancels, Ended}
+use Rattle.hp_ops.specs.Names.{Item, Event, Begin, DrainFor, Migrate, Commit, Cancel, Reply, Done, Moved, Opened, Refused, Refusal, NoFrame, NoOp, NothingToMove, NotFree, Receipt, OpEnd, EndsDone, EndsRefused, EndsCancelled, EndsUndone, EndsLeft, CallFault, Driver, Stage, Begins, DrainsFor, Migrates, Commits, Cancels, Ended}
 use Rattle.hp_ops.specs.Ports.{IsBeginReply, IsDriverReply, IsGiven, IsLiveReply, PortValue, has_opened, is_opened, with_receipts}
 use Rattle.hp_ops.specs.Stages.{IsAfter, MovesOn, end_in, event_in, operation_in, work_in}
 use Rattle.hp_ops.proofs.Receipts.{all_push, next_push, count_push, end_push}
@@ -389,3 +389,14 @@ over cpus turns plan d new event reply end rs r at asked replied moves none is =
       ends =
           subst (λ (o : Option Event). Ends (rs ++ r ∷ []) o None end) (sym last) (sym after.end ∙ is);
     }
+
+-- the next call left a fault
+pub broken_off : (cpus turns : ℕ) (plan : List Item) (d : Driver) (event : Event) (op : Option ℕ)
+    (fault : CallFault) (rs : List Receipt) → IsUnderWay cpus turns plan d event rs → op ≡ operation_in event
+    → IsDriverRun cpus turns plan rs (Some fault) (EndsLeft op fault)
+broken_off cpus turns plan d event op fault rs at named = record {
+  events = at.events;
+  ends =
+      subst (λ (o : Option Event). Ends rs o (Some fault) (EndsLeft op fault)) (sym at.next_is)
+      (ap (λ (o : Option ℕ). EndsLeft o fault) (named ∙ sym at.operation));
+}

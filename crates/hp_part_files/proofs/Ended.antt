@@ -1,5 +1,5 @@
 -- How a schedule is followed, and how it ends.
-use Rattle.std.proofs.Common.{◌≡◌, ℕ, ◌+◌, ◌<◌, true, false, List, [], ◌∷◌, ◌++◌, length, get_or, take, drop, Some, None, ap, sym, subst, ◌∙◌, append_assoc}
+use Rattle.std.proofs.Common.{◌≡◌, ℕ, ◌+◌, ◌<◌, Bool, true, false, List, [], ◌∷◌, ◌++◌, length, get_or, take, drop, Option, Some, None, ap, sym, subst, ◌∙◌, append_assoc}
 use Rattle.std.proofs.lemmas.List.{take-append-drop, take_more, drop_more}
 use Rattle.std.proofs.lemmas.Option.{same_Some}
 use Rattle.hp_units.specs.declared.replies.Record.{Record}
@@ -11,7 +11,7 @@ use Rattle.hp_schedules.specs.Schedules.{Setting, next_call, outcome_after, play
 use Rattle.hp_explore.proofs.Framing.{longer_schedule}
 use Rattle.hp_schedules.proofs.Plays.{caller, stops}
 use Rattle.hp_schedules.specs.Parts.{IsOfPart, PartValue}
-use Rattle.hp_part_files.specs.Ends.{IsEndOf}
+use Rattle.hp_part_files.specs.Ends.{IsEndOf, IsFollowed}
 
 -- a schedule by the calls before one, that one, and those after it
 whole : (schedule : List ℕ) (index cpu : ℕ) → index < length schedule → cpu ≡ get_or schedule index cpu
@@ -94,3 +94,26 @@ ended part p processors x played over of all is = (
   },
   of,
 )
+
+-- no test is met and not met
+pub not_both : false ≡ true → ⊥
+not_both bad = cc
+
+no_some : {A : Type 0} (x : A) → None ≡ Some x → ⊥
+no_some x bad = cc
+
+-- a schedule that was not followed to its end
+pub unplayed : (g : Setting) (part : PartValue) (schedule : List ℕ) (p q : PathValue) (led : Bool)
+    → IsFollowed p.setting schedule led q → led ≡ false → p.setting ≡ g → IsEndOf g part schedule None
+unplayed g part schedule p q led way not_led same = λ x ends.
+    no_some _ (sym (subst (λ (h : Setting). plays h schedule ≡ None) same
+    (subst (λ (b : Bool). IsFollowed p.setting schedule b q) not_led way)) ∙ ends.0.played)
+
+-- one that was ends as the path does that it led to
+pub led_to : (g : Setting) (part : PartValue) (schedule : List ℕ) (p q : PathValue) (led : Bool)
+    (x : Option OutcomeValue) → IsFollowed p.setting schedule led q → led ≡ true → p.setting ≡ g
+    → IsEndOf q.setting part (schedule_of q.news) x → IsEndOf g part schedule x
+led_to g part schedule p q led x way is_led same ends =
+    let at = subst (λ (b : Bool). IsFollowed p.setting schedule b q) is_led way in
+    subst (λ (l : List ℕ). IsEndOf g part l x) at.1
+    (subst (λ (h : Setting). IsEndOf h part (schedule_of q.news) x) (at.0 ∙ same) ends)

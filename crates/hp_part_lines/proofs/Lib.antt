@@ -1,3 +1,5 @@
+mod Gathered
+mod Lines
 pub mod Ordered
 pub mod Values
 pub mod Written

@@ -1,14 +1,15 @@
 -- What a line is, by the value that its text is.
-use Rattle.std.proofs.Common.{◌≡◌, ℕ, List, Option, Some, None, Ok, Err, refl, sym, subst, ap, ◌∙◌}
+use Rattle.std.proofs.Common.{◌≡◌, ℕ, List, Option, Some, None, Ok, Err, codes, refl, sym, subst, ap, ◌∙◌}
 use Rattle.std.specs.Prelude.{option_and_then}
 use Rattle.serde_json.specs.View.{view}
 use Rattle.serde_json.specs.declared.value.Value.{Value}
 use Rattle.serde_json.specs.Data.{Data}
+use Rattle.hp_scenario.specs.Form.{number_at}
 use Rattle.hp_scenario.specs.Gives.{or_fault}
 use Rattle.hp_scenario.specs.Scenario.{json_of}
 use Rattle.hp_scenario.specs.declared.fault.ScenarioFault.{ScenarioFault}
-use Rattle.hp_part_lines.specs.Heads.{HeadValue, head_from}
-use Rattle.hp_part_lines.specs.Reading.{IsLine, IsLineIn, IsLineOf}
+use Rattle.hp_part_lines.specs.Heads.{HeadValue, head_from, head_with}
+use Rattle.hp_part_lines.specs.Reading.{IsLine, IsLineIn, IsLineOf, narrow, text_at}
 use Rattle.hp_part_lines.specs.declared.reading.PartLine.{PartLine}
 use Rattle.hp_part_lines.specs.declared.reading.PartLine.TheVariants.{Other}
 
@@ -34,3 +35,14 @@ some_of fault (Some y) x is = cc
 pub head_known : (text : List ℕ) (v : Value) (h : HeadValue) → Some (view v) ≡ json_of text
     → Some h ≡ head_from (view v) → option_and_then head_from (json_of text) ≡ Some h
 head_known text v h json head = ap (option_and_then head_from) (sym json) ∙ sym head
+
+-- the head that a value with all its keys is
+pub head_read : (d : Data) (number of wide calls setup ends : ℕ) (scenario : List ℕ)
+    → Some number ≡ number_at (codes "part") d → Some of ≡ number_at (codes "of") d
+    → Some wide ≡ number_at (codes "calls") d → Some calls ≡ narrow wide
+    → Some setup ≡ number_at (codes "setup") d → Some ends ≡ number_at (codes "ends") d
+    → Some scenario ≡ text_at (codes "scenario") d
+    → head_with number of calls setup ends scenario ≡ head_from d
+unfolding head_from
+head_read d number of wide calls setup ends scenario at_number at_of at_wide at_calls at_setup at_ends text =
+    rw (← at_number, ← at_of, ← at_wide, ← at_calls, ← at_setup, ← at_ends, ← text) refl

@@ -9,4 +9,5 @@ pub mod FramesInLayout
 pub mod ListWalks
 pub mod Ranges
 pub mod Scans
+mod Values
 pub mod Walks

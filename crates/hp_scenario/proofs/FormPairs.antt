@@ -1,5 +1,5 @@
 -- The numbers of a layout, two by two.
-use Rattle.std.proofs.Common.{◌≡◌, ℕ, List, codes, Option, Some, None, refl}
+use Rattle.std.proofs.Common.{◌≡◌, ℕ, List, codes, Option, Some, None, refl, sym}
 use Rattle.hp_units.specs.LayoutParts.{LayoutParts}
 use Rattle.hp_units.specs.declared.rows.Boot.{Boot}
 use Rattle.serde_json.specs.Data.{Data}
@@ -85,3 +85,10 @@ parts_paired boot l =
     (number_at (codes "blocks") l) (number_at (codes "cpus") l) (number_at (codes "batch") l)
     (number_at (codes "high") l) (number_at (codes "owners") l) (number_at (codes "pages") l)
     (number_at (codes "words") l) (number_at (codes "history") l)
+
+-- the same, where the pairs are known
+pub of_pairs : (boot : List Boot) (l : Data) (a b c d e : Option (ℕ × ℕ))
+    → a ≡ pair_at (codes "order") (codes "pageblocks") l → b ≡ pair_at (codes "blocks") (codes "cpus") l
+    → c ≡ pair_at (codes "batch") (codes "high") l → d ≡ pair_at (codes "owners") (codes "pages") l
+    → e ≡ pair_at (codes "words") (codes "history") l → parts_of_pairs boot a b c d e ≡ parts_with boot l
+of_pairs boot l a b c d e one two three four five = rw (one, two, three, four, five) (sym (parts_paired boot l))

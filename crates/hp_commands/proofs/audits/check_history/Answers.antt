@@ -1,4 +1,4 @@
-use Rattle.std.proofs.Common.{◌≡◌, false, true, rules}
+use Rattle.std.proofs.Common.{◌≡◌, false, true}
 use Rattle.std.proofs.lemmas.Result.{err_from_is_err_and}
 use Rattle.hp_commands.proofs.Audited.{first_case, history_refused, led, led_elsewhere, second_case}
 use Rattle.hp_commands.proofs.audits.check_history.Goals as goal
@@ -12,7 +12,7 @@ returns-in_err-replayed-clause-err c =
 
 pub returns-clause-ok : goal.returns-clause-ok
 returns-clause-ok c =
-    let twin : c.same.result ≡ true = search rules in
+    let twin : c.same.result ≡ true = c.if-not-same.false in
     led c.args.machine.now c.sealed.result c.history.result.now c.base.result.now c.in_ok-replayed.replayed
     c.in_ok-image.image c.base.ensures c.sealed.ensures c.history.ensures.records
     c.in_ok-replayed.ensures.legal c.in_ok-replayed.ensures.value c.in_ok-image.ensures
@@ -20,7 +20,7 @@ returns-clause-ok c =
 
 pub returns-then-not-same-clause-err : goal.returns-then-not-same-clause-err
 returns-then-not-same-clause-err c volumes =
-    let other : c.same.result ≡ false = search rules in
+    let other : c.same.result ≡ false = c.if-not-same.true in
     led_elsewhere volumes c.args.machine.now c.history.result.now c.base.result.now
     c.in_ok-replayed.replayed c.in_ok-image.image c.base.ensures c.history.ensures.records
     c.in_ok-replayed.ensures.value c.in_ok-image.ensures

@@ -1,4 +1,4 @@
-use Rattle.std.proofs.Common.{string_bytes, subst}
+use Rattle.std.proofs.Common.{◌≡◌, false, true, string_bytes, subst}
 use Rattle.hp_scenario.specs.Calls.{Goes}
 use Rattle.hp_scenario.specs.declared.calls.Next.{Next}
 use Rattle.hp_scenario.proofs.CallsPassed.{passes_shorter}
@@ -32,3 +32,6 @@ returns-in-End c sure =
       ),
       i.2,
     )
+
+pub returns-in-Unsure : goal.returns-in-Unsure
+returns-in-Unsure c sure = let bad : false ≡ true = sure in absurd cc

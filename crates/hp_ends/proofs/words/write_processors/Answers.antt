@@ -2,7 +2,7 @@ use Rattle.std.proofs.Common.{Bor, ap, slice_get}
 use Rattle.hp_schedules.specs.declared.outcomes.Answers.{Answers}
 use Rattle.hp_ends.specs.Words.{answers_text}
 use Rattle.hp_text.proofs.Texts.{texts_none, texts_more}
-use Rattle.hp_ends.proofs.Written.{item_read}
+use Rattle.hp_units.proofs.Lists.{item_read}
 use Rattle.hp_ends.proofs.words.write_processors.Goals as goal
 
 pub loop-number-init : goal.loop-number-init

@@ -99,3 +99,9 @@ returns-in-None-clause-ok c = (
   refl,
   c.in_ok-reserve.ensures.items,
 )
+
+pub returns-in-None-clause-err : goal.returns-in-None-clause-err
+returns-in-None-clause-err c = tt
+
+pub returns-in-None-clause-cause : goal.returns-in-None-clause-cause
+returns-in-None-clause-cause c = tt

@@ -1,8 +1,8 @@
-use Rattle.std.proofs.Common.{[], ◌∷◌, ◌++◌, List, Option, None, sym, ◌∙◌}
+use Rattle.std.proofs.Common.{[], ◌∷◌, ◌++◌, List, Option, None, Some, sym, ◌∙◌}
 use Rattle.hp_units.specs.Driver.{IsDriverRun}
-use Rattle.hp_ops.specs.Names.{CallFault, Receipt}
-use Rattle.hp_ops.proofs.Gained.{at_fault, shown_joined}
-use Rattle.hp_ops.proofs.Runs.{ends, fewer_left, goes_on, known_by, over}
+use Rattle.hp_ops.specs.Names.{CallFault, EndsLeft, Receipt}
+use Rattle.hp_ops.proofs.Gained.{at_fault, shown_joined, shown_left}
+use Rattle.hp_ops.proofs.Runs.{broken_off, ends, fewer_left, goes_on, known_by, over}
 use Rattle.hp_ops.proofs.driver.run_plan.Goals as goal
 
 pub loop-reply-smaller : goal.loop-reply-smaller
@@ -59,4 +59,22 @@ returns-in-None g c =
           c.answer.new.self c.loop-reply.event c.in-Ok.reply c.end.result so_far.gained made.receipt
           so_far.is made.given.asked made.replied c.answer.ensures (sym c.work.ensures ∙ c.in-None.is)
           c.end.ensures;
+    })
+
+pub returns-in-Err : goal.returns-in-Err
+returns-in-Err g c =
+    let so_far = c.loop-reply.invariant in
+    at_fault _ _ _ _ _ (Some c.in-Err.fault) (λ (f : Option CallFault) (gained : List Receipt). IsDriverRun
+    (g.P.Port.shows c.args.port.now).cpus c.args.turns c.args.plan gained f
+    (EndsLeft c.operation_in.result c.in-Err.fault)) (record {
+      gained = so_far.gained;
+      value =
+          shown_left (g.P.Port.shows c.args.port.now) (g.P.Port.shows c.loop-reply.port)
+          (g.P.Port.shows c.call.new.self) so_far.gained None (Some c.in-Err.fault) so_far.value
+          c.in-Err.ensures.err;
+      made = (c.loop-reply.port, so_far.made, c.in-Err.ensures.leaves);
+      is =
+          broken_off (g.P.Port.shows c.args.port.now).cpus c.args.turns c.args.plan c.loop-reply.driver
+          c.loop-reply.event c.operation_in.result c.in-Err.fault so_far.gained so_far.is
+          c.operation_in.ensures;
     })

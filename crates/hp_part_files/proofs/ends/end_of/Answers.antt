@@ -1,8 +1,10 @@
 -- The path begins where the scripts do, so the fault is that of following it.
-use Rattle.std.proofs.Common.{subst}
+use Rattle.std.proofs.Common.{ap, subst}
 use Rattle.std.proofs.lemmas.Result.{err_from_is_err_and}
 use Rattle.hp_explore.specs.Faults.{FillsAlong}
 use Rattle.hp_explore.specs.Paths.{PathValue}
+use Rattle.hp_explore.specs.Settings.{setting}
+use Rattle.hp_part_files.proofs.Ended.{led_to, unplayed}
 use Rattle.hp_part_files.proofs.ends.end_of.Goals as goal
 
 pub returns-in_err-follow-clause-along : goal.returns-in_err-follow-clause-along
@@ -13,3 +15,16 @@ returns-in_err-follow-clause-along c =
     (λ full.
     subst (λ (path : PathValue). FillsAlong path.setting c.args.schedule.now) c.in_ok-path.ensures
     (c.in_err-follow.ensures.along full))
+
+pub returns-then-not-branch-clause-ok : goal.returns-then-not-branch-clause-ok
+returns-then-not-branch-clause-ok c =
+    unplayed (setting c.args.machine.now c.args.scripts.now) c.args.part c.args.schedule.now
+    c.in_ok-path.path c.follow.new.path c.in_ok-follow.field-0 c.in_ok-follow.ensures.ok
+    c.if-not-branch.true (ap (λ (p : PathValue). p.setting) c.in_ok-path.ensures)
+
+pub returns-clause-ok : goal.returns-clause-ok
+returns-clause-ok c =
+    led_to (setting c.args.machine.now c.args.scripts.now) c.args.part c.args.schedule.now
+    c.in_ok-path.path c.follow.new.path c.in_ok-follow.field-0 c.in_ok-outcome.outcome
+    c.in_ok-follow.ensures.ok c.if-not-branch.false (ap (λ (p : PathValue). p.setting) c.in_ok-path.ensures)
+    c.in_ok-outcome.ensures

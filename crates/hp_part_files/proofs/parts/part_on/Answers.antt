@@ -70,3 +70,6 @@ returns-in_err-explored-clause-err g c =
     (subst (λ (ss : List (List Step)). IsCausePartWithin (setting p.start.machine ss) c.part.result
     c.args.limit fault)
     c.as_slice-scripts.ensures.value c.in_err-explored.ensures.full)))
+
+pub returns-in_default-clause-err : goal.returns-in_default-clause-err
+returns-in_default-clause-err g c = tt

@@ -1,6 +1,7 @@
 -- The history has no room only for a call of the schedule that is played.
 use Rattle.std.proofs.Common.{◌≡◌, ℕ, List, refl, subst}
 use Rattle.hp_schedules.specs.declared.scripts.Line.{Line as Step}
+use Rattle.hp_schedules.specs.Parts.{PartValue}
 use Rattle.hp_schedules.specs.Schedules.{Setting}
 use Rattle.hp_explore.specs.Faults.{FillsAlong}
 use Rattle.hp_explore.specs.Settings.{setting}
@@ -8,6 +9,7 @@ use Rattle.hp_explore.specs.declared.exploring.ExploreFault.{ExploreFault}
 use Rattle.hp_explore.specs.declared.exploring.ExploreFault.TheVariants as explore
 use Rattle.hp_prepared.specs.Prepared.{setting_of}
 use Rattle.hp_prepared.proofs.Known.{untold}
+use Rattle.hp_part_files.specs.Ends.{IsEndOf}
 use Rattle.hp_part_files.specs.Faults.{IsCauseAlong}
 use Rattle.hp_part_files.proofs.taking.outcome_of.Goals as goal
 
@@ -15,6 +17,15 @@ cause_along : (g : Setting) (schedule : List ℕ) (fault : ExploreFault)
     → (fault ≡ explore.HistoryFull → FillsAlong g schedule) → IsCauseAlong schedule g fault
 cause_along g schedule explore.HistoryFull along = along refl
 cause_along g schedule explore.OutOfMemory along = tt
+
+pub returns-in-Ok-clause-ok : goal.returns-in-Ok-clause-ok
+returns-in-Ok-clause-ok c =
+    let p = c.args.prepared.now in
+    let schedule = c.args.schedule.now in
+    subst (λ (q : PartValue). IsEndOf (setting_of p) q schedule c.in-Ok.outcome) c.part-part.ensures
+    (subst (λ (ss : List (List Step)). IsEndOf (setting p.start.machine ss) c.part-part.result schedule
+    c.in-Ok.outcome)
+    c.as_slice.ensures.value c.in-Ok.ensures.ok)
 
 pub returns-in-Err-clause-err : goal.returns-in-Err-clause-err
 returns-in-Err-clause-err c =

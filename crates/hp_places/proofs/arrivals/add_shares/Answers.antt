@@ -5,3 +5,9 @@ use Rattle.hp_places.proofs.arrivals.add_shares.Goals as goal
 pub add-requires-clause-room : goal.add-requires-clause-room
 add-requires-clause-room o c =
     omega (arith, c.room.ensures, c.fit_in.ensures.0 c.if-not-fit_in.false)
+
+pub add-requires-clause-ends : goal.add-requires-clause-ends
+add-requires-clause-ends o c = c.requires
+
+pub returns-clause-ok : goal.returns-clause-ok
+returns-clause-ok o c = c.add.ensures.added

@@ -1,4 +1,6 @@
 -- Where each line is one call and the lengths fit, the coefficient is the number.
+use Rattle.std.proofs.Common.{List, ℕ, subst, sym, ◌∙◌}
+use Rattle.hp_schedules.specs.Multinomials.{IsMultinomial}
 use Rattle.hp_schedules.proofs.Interleavings.{with_plan}
 use Rattle.hp_schedules.proofs.multinomials.interleavings_of.Goals as goal
 
@@ -6,3 +8,11 @@ pub returns-then-not-hold_no_plan : goal.returns-then-not-hold_no_plan
 returns-then-not-hold_no_plan c =
     λ one. absurd (with_plan c.args.scripts.now c.hold_no_plan.result c.hold_no_plan.ensures
     c.if-not-hold_no_plan.true one)
+
+pub returns : goal.returns
+returns c = (
+  sym c.hold_no_plan.ensures ∙ c.if-not-hold_no_plan.false,
+  λ m is. c.in-None.ensures.none m
+      (subst (λ (ns : List ℕ). IsMultinomial ns m)
+      (sym (c.as_slice-2.ensures.value ∙ c.in_ok-lengths.ensures)) is),
+)

@@ -1,5 +1,6 @@
 -- All of them are taken from the room, or one is more than what is left.
 use Rattle.std.proofs.Common.{get_or, refl}
+use Rattle.std.proofs.lemmas.Bool.{false≢true}
 use Rattle.std.proofs.lemmas.Option.{slice_get-get_or}
 use Rattle.hp_schedules.proofs.Shares.{all_left, left_more, none_left, nothing}
 use Rattle.hp_schedules.proofs.tally.fit_in.Goals as goal
@@ -18,7 +19,7 @@ loop-share-preserved c =
 pub returns-in-None : goal.returns-in-None
 returns-in-None c =
     let at = c.loop-share.share-index in (
-      λ told. absurd cc,
+      λ told. absurd (false≢true told),
       λ fits. absurd (none_left c.args.shares.now c.args.room c.loop-share.left at
           (get_or c.args.shares.now at nothing)
           (slice_get-get_or c.args.shares.now at nothing c.loop-share-test.true)

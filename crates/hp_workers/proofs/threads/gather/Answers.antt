@@ -8,3 +8,6 @@ returns-clause-volumes g c =
     let handed = c.args.worked.volumes.items in
     appended c.append.result c.append.new.self.items (done ++ handed) done
     (c.append.ensures.succeeds c.requires.volumes) c.append.ensures.items
+
+pub returns-clause-seats : goal.returns-clause-seats
+returns-clause-seats g c = c.push_reserved.ensures.items

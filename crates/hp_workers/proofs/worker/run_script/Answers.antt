@@ -1,6 +1,7 @@
-use Rattle.std.proofs.Common.{◌≡◌, length, Some, List, slice_get, refl, sym, ap, ◌∙◌, arith}
+use Rattle.std.proofs.Common.{◌≡◌, length, Some, List, slice_get, refl, sym, ap, subst, ◌∙◌, arith}
 use Rattle.std.proofs.lemmas.Option.{slice_get_read}
 use Rattle.hp_scenario.specs.declared.lines.Line.{Line}
+use Rattle.hp_workers.specs.Workers.{IsStarted}
 use Rattle.hp_workers.proofs.LineRuns.{worked_next}
 use Rattle.hp_workers.proofs.worker.run_script.Goals as goal
 
@@ -24,3 +25,6 @@ loop-at-preserved g c =
           c.push_reserved.new.self.items c.run_line-end.result here c.push_reserved.ensures.items i.2
           c.run_line-end.ensures,
     )
+
+pub returns-in_default-clause-started : goal.returns-in_default-clause-started
+returns-in_default-clause-started g c = subst IsStarted (sym c.stopped.ensures.fault) tt

@@ -65,3 +65,22 @@ returns-then-not-is_free-clause-layout c =
 pub returns-clause-layout : goal.returns-clause-layout
 returns-clause-layout c =
     subst (λ (v : BuddyValue). IsLayout v.layout) c.self.view_is c.order-last.ensures.layout
+
+pub returns-clause-joined : goal.returns-clause-joined
+returns-clause-joined c =
+    let last = c.args.self.now.layout.order in
+    let order = c.loop-order.order in
+    let same : c.self.inside.layout.order ≡ last = ap (λ (v : BuddyValue). v.layout.order) c.self.view_is in
+    let none : last - order ≡ 0 = omega (arith, c.order-last.ensures.is, c.loop-order-test.false) in
+    let is : c.order-last.result ≡ order =
+    omega (
+      arith,
+      c.order-last.ensures.is,
+      c.loop-order-test.false,
+      c.loop-order.auto.order-end,
+      c.requires.first,
+      c.first.view_is,
+    ) in
+    is
+    ∙ sym (c.loop-order.invariant
+    ∙ ap (join_order c.args.self.now.areas c.args.class c.args.frame order) none)

@@ -1,6 +1,9 @@
-use Rattle.std.proofs.Common.{ℕ, ◌*◌, ap, ◌∙◌, [], replicate}
+use Rattle.std.proofs.Common.{ℕ, List, ◌*◌, ap, ◌∙◌, [], replicate}
 use Rattle.std.proofs.lemmas.Result.{err_from_is_err_and}
+use Rattle.hp_units.specs.LayoutParts.{LayoutParts}
+use Rattle.hp_units.specs.Boot.{empty_cached}
 use Rattle.hp_links.specs.LinkedLists.{LinkedLists}
+use Rattle.hp_cpus.specs.Cpus.{CpusValue}
 use Rattle.hp_cpus.proofs.Together.{empty-together}
 use Rattle.hp_cpus.proofs.cpus.Cpus.new.Goals as goal
 
@@ -29,3 +32,16 @@ pub returns-in_err-links-clause-together : goal.returns-in_err-links-clause-toge
 returns-in_err-links-clause-together c =
     let p = err_from_is_err_and c.from_residual-in_err-links.result c.from_residual-in_err-links.ensures.1 in
     rw p.1 tt
+
+abbrev cpus_with : LayoutParts → List (List ℕ) → CpusValue
+cpus_with l lists = record { layout = l; cached = lists }
+
+abbrev empty_cpus : LayoutParts → CpusValue
+empty_cpus l = record { layout = l; cached = empty_cached l }
+
+pub returns-clause-value : goal.returns-clause-value
+returns-clause-value c =
+    let l = c.in_ok-layout.layout in
+    ap (λ (links : LinkedLists). cpus_with l links.lists) c.in_ok-links.ensures
+    ∙ (ap (λ (n : ℕ). cpus_with l (replicate (3 * n) [])) c.cpus.ensures.is
+    ∙ ap empty_cpus c.in_ok-layout.ensures)

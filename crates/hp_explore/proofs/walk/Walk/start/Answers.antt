@@ -1,5 +1,5 @@
 -- No call was made.
-use Rattle.std.proofs.Common.{List, length, reverse, ap, sym, subst, arith}
+use Rattle.std.proofs.Common.{List, length, reverse, ap, refl, sym, subst, arith}
 use Rattle.hp_explore.specs.Frames.{AreBelow}
 use Rattle.hp_schedules.specs.Notes.{TallyValue}
 use Rattle.hp_explore.specs.Paths.{PathValue}
@@ -30,3 +30,12 @@ returns-clause-coming c =
       few = c.requires;
       short = omega (arith, ap (λ (q : PathValue). length q.news) c.in_ok-path.ensures);
     }
+
+pub returns-clause-setting : goal.returns-clause-setting
+returns-clause-setting c = ap (λ (q : PathValue). q.setting) c.in_ok-path.ensures
+
+pub returns-clause-part : goal.returns-clause-part
+returns-clause-part c = refl
+
+pub returns-clause-limit : goal.returns-clause-limit
+returns-clause-limit c = ap (λ (t : TallyValue). t.limit) c.new-tally.ensures

@@ -81,3 +81,9 @@ returns-clause-ok o c =
       subst (λ (fs : List Frame). left c.go_back.new.self (frames_of c.go_back.new.self)
           < left_of w.processors w.path.setting.layout.history fs) (sym popped) c.in_ok-go_back.ensures.less,
     )
+
+pub is_end-is_end-requires-clause-all : goal.is_end-is_end-requires-clause-all
+is_end-is_end-requires-clause-all o c = c.if-frame-self.false
+
+pub go_back-requires-clause-all : goal.go_back-requires-clause-all
+go_back-requires-clause-all o c = c.if-frame-self.false

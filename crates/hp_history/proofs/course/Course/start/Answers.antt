@@ -8,4 +8,4 @@ pub returns-in_err-journal : goal.returns-in_err-journal
 returns-in_err-journal c = search rules
 
 pub returns : goal.returns
-returns c = search rules
+returns c = c.in_ok-journal.ensures

@@ -12,4 +12,4 @@ pub returns-in_err-course : goal.returns-in_err-course
 returns-in_err-course c = search rules
 
 pub returns : goal.returns
-returns c = search rules
+returns c = c.in_ok-course.ensures.start

@@ -1,5 +1,5 @@
 -- A copy keeps what every machine keeps.
-use Rattle.std.proofs.Common.{sym, subst, rules}
+use Rattle.std.proofs.Common.{◌∙◌, sym, subst, rules}
 use Rattle.hp_machine.specs.Kept.{IsMachine}
 use Rattle.hp_machine.proofs.machine.Machine.copy.Goals as goal
 
@@ -10,4 +10,4 @@ pub returns-in_err-course : goal.returns-in_err-course
 returns-in_err-course c = search rules
 
 pub returns : goal.returns
-returns c = search rules
+returns c = c.in_ok-course.ensures ∙ c.self.view_is

@@ -1,9 +1,24 @@
-use Rattle.std.proofs.Common.{List, length, sym, ap, subst, ◌∙◌}
+use Rattle.std.proofs.Common.{◌≡◌, ℕ, ◌+◌, List, length, Some, Err, sym, ap, subst, ◌∙◌}
 use Rattle.std.proofs.lemmas.List.FromFn.{length-map-range_with_len}
-use Rattle.hp_scenario.specs.Scripts.{AreForRun, first_unfit, script_of}
+use Rattle.hp_scenario.specs.Scenario.{ScenarioValue}
+use Rattle.hp_scenario.specs.Scripts.{AreForRun, first_unfit, script_of, scripts_of, scripts_unless}
+use Rattle.hp_scenario.specs.Seen.{scenario_seen}
+use Rattle.hp_scenario.specs.declared.fault.ScenarioFault.TheVariants.{NotForRun}
 use Rattle.hp_scenario.specs.declared.lines.Line.{Line}
 use Rattle.hp_scenario.proofs.ScriptLists.{all_fit, all_for_run}
 use Rattle.hp_scenario.proofs.scenario.Scenario.scripts.Goals as goal
+
+refused : (s : ScenarioValue) (cpus : ℕ) (lines : List Line) (at : ℕ) → cpus ≡ s.layout.cpus
+    → lines ≡ s.lines → Some at ≡ first_unfit cpus lines → scripts_of s ≡ Err (NotForRun (at + 1))
+unfolding scripts_of
+refused s cpus lines at count same found =
+    ap (scripts_unless s) (ap (λ (n : ℕ). first_unfit n s.lines) (sym count)
+    ∙ (ap (first_unfit cpus) (sym same) ∙ sym found))
+
+pub returns-in-Some-clause-scripts : goal.returns-in-Some-clause-scripts
+returns-in-Some-clause-scripts c =
+    refused (scenario_seen c.args.self) c.cpus-cpus.result c.deref.result.now c.in-Some.index
+    c.cpus-cpus.ensures.is (c.deref.ensures.value ∙ c.into_vec-lines.ensures) c.in-Some.ensures
 
 pub dealt-requires : goal.dealt-requires
 dealt-requires c =

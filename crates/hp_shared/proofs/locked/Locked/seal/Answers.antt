@@ -1,8 +1,13 @@
-use Rattle.std.proofs.Common.{List, length, refl, ap, ◌∙◌, arith, rules}
+use Rattle.std.proofs.Common.{ℕ, List, length, refl, ap, subst, sym, ◌∙◌, arith}
+use Rattle.std.proofs.lemmas.Result.{IfOk-from_err}
 use Rattle.hp_units.specs.declared.replies.Record.{Record}
+use Rattle.hp_history.specs.Volumes.{volume_of}
 use Rattle.hp_history.specs.declared.volumes.Volume.{Volume}
+use Rattle.hp_machine.specs.Machine.{MachineValue, sealed}
+use Rattle.hp_shared.specs.Shared.{IsShared, LockedValue}
 use Rattle.hp_shared.proofs.Turns.{sealed_on}
 use Rattle.hp_shared.proofs.Sealing.{handed_on}
+use Rattle.hp_shared.proofs.Values.{locked_of, on_err}
 use Rattle.hp_shared.proofs.locked.Locked.seal.Goals as goal
 
 pub invariant_of-self-2 : goal.invariant_of-self-2
@@ -23,55 +28,69 @@ returns-clause-kept g c =
     c.audit.new.self.total c.self.invariant.0 c.in_ok-volume.ensures.goes_on c.audit.ensures.total
 
 pub returns-in_err-volume-clause-err : goal.returns-in_err-volume-clause-err
-returns-in_err-volume-clause-err g c = search rules
+returns-in_err-volume-clause-err g c =
+    on_err c.from_residual.result _ (
+      ap (λ (m : MachineValue). locked_of m c.audit.new.self.total) c.in_err-volume.ensures.err
+          ∙ ap (λ (n : ℕ). locked_of c.self.inside.machine n) c.audit.ensures.total
+          ∙ c.self.view_is,
+      c.audit-2.ensures.amount,
+    )
 
 pub returns-in_err-volume-clause-volume : goal.returns-in_err-volume-clause-volume
-returns-in_err-volume-clause-volume g c = search rules
+returns-in_err-volume-clause-volume g c = IfOk-from_err c.from_residual.result _ c.from_residual.ensures.0
 
 pub returns-in_err-volume-clause-goes_on : goal.returns-in_err-volume-clause-goes_on
-returns-in_err-volume-clause-goes_on g c = search rules
+returns-in_err-volume-clause-goes_on g c = IfOk-from_err c.from_residual.result _ c.from_residual.ensures.0
 
 pub returns-in_err-volume-clause-total : goal.returns-in_err-volume-clause-total
-returns-in_err-volume-clause-total g c = search rules
+returns-in_err-volume-clause-total g c =
+    c.audit.ensures.total ∙ ap (λ (v : LockedValue). v.total) c.self.view_is
 
 pub returns-in_err-volume-clause-share : goal.returns-in_err-volume-clause-share
-returns-in_err-volume-clause-share g c = search rules
+returns-in_err-volume-clause-share g c = (c.audit.ensures.amount, c.audit.ensures.parts)
 
 pub returns-in_err-volume-clause-within : goal.returns-in_err-volume-clause-within
-returns-in_err-volume-clause-within g c = search rules
+returns-in_err-volume-clause-within g c =
+    omega (arith, c.audit.ensures.amount, c.audit.ensures.total, c.audit.ensures.bound)
 
 pub returns-in_err-volume-clause-shown : goal.returns-in_err-volume-clause-shown
-returns-in_err-volume-clause-shown g c = search rules
+returns-in_err-volume-clause-shown g c = subst (IsShared g.L.Job.layout) c.self.view_is c.self.invariant.0
 
 pub returns-in_err-volume-clause-kept : goal.returns-in_err-volume-clause-kept
-returns-in_err-volume-clause-kept g c = search rules
+returns-in_err-volume-clause-kept g c =
+    subst (IsShared g.L.Job.layout)
+    (sym (ap (λ (m : MachineValue). locked_of m c.audit.new.self.total) c.in_err-volume.ensures.err
+    ∙ ap (λ (n : ℕ). locked_of c.self.inside.machine n) c.audit.ensures.total)) c.self.invariant.0
 
 pub returns-clause-err : goal.returns-clause-err
-returns-clause-err g c = search rules
+returns-clause-err g c = tt
 
 pub returns-clause-volume : goal.returns-clause-volume
-returns-clause-volume g c = search rules
+returns-clause-volume g c =
+    c.in_ok-volume.ensures.volume ∙ ap (λ (v : LockedValue). volume_of v.machine) c.self.view_is
 
 pub returns-clause-goes_on : goal.returns-clause-goes_on
-returns-clause-goes_on g c = search rules
+returns-clause-goes_on g c =
+    c.in_ok-volume.ensures.goes_on ∙ ap (λ (v : LockedValue). sealed v.machine) c.self.view_is
 
 pub returns-clause-total : goal.returns-clause-total
-returns-clause-total g c = search rules
+returns-clause-total g c = c.audit.ensures.total ∙ ap (λ (v : LockedValue). v.total) c.self.view_is
 
 pub returns-clause-share : goal.returns-clause-share
-returns-clause-share g c = search rules
+returns-clause-share g c = (c.audit.ensures.amount, c.audit.ensures.parts)
 
 pub returns-clause-within : goal.returns-clause-within
-returns-clause-within g c = search rules
+returns-clause-within g c =
+    omega (arith, c.audit.ensures.amount, c.audit.ensures.total, c.audit.ensures.bound)
 
 pub returns-clause-shown : goal.returns-clause-shown
-returns-clause-shown g c = search rules
+returns-clause-shown g c = subst (IsShared g.L.Job.layout) c.self.view_is c.self.invariant.0
 
 pub returns-in_err-volume-clause-counted : goal.returns-in_err-volume-clause-counted
-returns-in_err-volume-clause-counted g c = search rules
+returns-in_err-volume-clause-counted g c = IfOk-from_err c.from_residual.result _ c.from_residual.ensures.0
 
 pub returns-in_err-volume-clause-parts : goal.returns-in_err-volume-clause-parts
-returns-in_err-volume-clause-parts g c = search rules
+returns-in_err-volume-clause-parts g c = c.audit-2.ensures.parts
 
 pub returns-clause-counted : goal.returns-clause-counted
 returns-clause-counted g c =
@@ -83,7 +102,7 @@ returns-clause-counted g c =
     )
 
 pub returns-in_err-volume-clause-few : goal.returns-in_err-volume-clause-few
-returns-in_err-volume-clause-few g c = search rules
+returns-in_err-volume-clause-few g c = IfOk-from_err c.from_residual.result _ c.from_residual.ensures.0
 
 pub returns-clause-few : goal.returns-clause-few
 returns-clause-few g c =
@@ -99,4 +118,4 @@ returns-clause-few g c =
     )
 
 pub returns-clause-parts : goal.returns-clause-parts
-returns-clause-parts g c = search rules
+returns-clause-parts g c = c.add.ensures.parts ∙ c.audit-2.ensures.parts

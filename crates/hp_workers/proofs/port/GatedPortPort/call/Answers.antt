@@ -1,4 +1,4 @@
-use Rattle.std.proofs.Common.{Err, ap, rules}
+use Rattle.std.proofs.Common.{Err, ap, refl}
 use Rattle.hp_units.specs.declared.replies.CallFault.{CallFault}
 use Rattle.hp_shared.proofs.SeatCalls.{seated_is_given, turned_once}
 use Rattle.hp_workers.proofs.port.GatedPortPort.call.Goals as goal
@@ -13,7 +13,7 @@ returns-in-Ok-clause-ok g c =
           seated_is_given g.L.Job.layout c.args.self.now.seat.now c.call-answer.new.self c.args.event.now
           called.receipt c.args.self.now.fault called.seated;
       made = (
-        search rules,
+        refl,
         turned_once g.L.Job.layout c.args.self.now.seat.now c.call-answer.new.self c.args.event.now
             called.receipt called.seated,
       );
@@ -21,7 +21,7 @@ returns-in-Ok-clause-ok g c =
 
 pub returns-in-Err-clause-leaves : goal.returns-in-Err-clause-leaves
 returns-in-Err-clause-leaves g c = (
-  search rules,
-  search rules,
+  refl,
+  c.in-Err.ensures.err,
   λ is. c.in-Err.ensures.only (ap (λ (f : CallFault). Err f) is),
 )
