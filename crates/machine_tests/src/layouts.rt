@@ -6,12 +6,7 @@ use hp_units::{Boot, Layout, LayoutFault, Parts};
 use std::alloc::Global;
 
 /// Four memory blocks of which the third is movable, and the last offline at boot.
-pub const LAST_OFFLINE: &[Boot] = &[
-    Boot::Normal,
-    Boot::Normal,
-    Boot::Movable,
-    Boot::Offline,
-];
+pub const LAST_OFFLINE: &[Boot] = &[Boot::Normal, Boot::Normal, Boot::Movable, Boot::Offline];
 
 /// The same, and the last absent at boot.
 pub const LAST_ABSENT: &[Boot] = &[Boot::Normal, Boot::Normal, Boot::Movable, Boot::Absent];
