@@ -24,6 +24,7 @@ use Rattle.hp_workers.specs.declared.fault.RunFault.TheVariants as running
 use Rattle.hp_workers.specs.declared.lines.LineEnd.{LineEnd}
 use Rattle.hp_workers.specs.Seals.{seals_in_all}
 use Rattle.hp_workers.specs.Workers.{AreGathered, IsRunEnd}
+use Rattle.hp_workers.proofs.Fulls.{reach_where_full}
 use Rattle.hp_commands.specs.Faults.{IsFaultOf, IsUnfinished, IsWorkFault, close_fault_from, fault_from, run_fault_from}
 use Rattle.hp_commands.specs.Runs.{IsRunOf, IsWorkedOff}
 use Rattle.hp_commands.specs.declared.fault.ProgramFault.{ProgramFault}
@@ -192,7 +193,17 @@ worked_off l scripts seats volumes back ends m count all same closed boots =
 
 pub run_is : (input : List ℕ) (s : ScenarioValue) (scripts : List (List Line)) (ends : List (List LineEnd))
     (volumes : List Volume) (m : MachineValue) (count : ℕ)
-    → scenario_in input ≡ Ok s → scripts_of s ≡ Ok scripts → IsWorkedOff s.layout scripts ends volumes m count
-    → IsRunOf input ends volumes m count
-run_is input s scripts ends volumes m count read parted worked =
-    record { scenario = s; read = read; scripts = scripts; parted = parted; worked = worked }
+    → scenario_in input ≡ Ok s → scripts_of s ≡ Ok scripts → length scripts ≡ s.layout.cpus
+    → IsWorkedOff s.layout scripts ends volumes m count → IsRunOf input ends volumes m count
+run_is input s scripts ends volumes m count read parted each worked =
+    record {
+      scenario = s;
+      read = read;
+      scripts = scripts;
+      parted = parted;
+      worked = worked;
+      full =
+          reach_where_full s.layout (first_seats s.layout.cpus) scripts worked.seats worked.handed ends None
+          count worked.workers
+          (omega (arith, each, length-map-range_with_len first_seat 0 s.layout.cpus)) worked.closed.reached;
+    }

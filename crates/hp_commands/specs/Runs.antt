@@ -21,7 +21,7 @@ use Rattle.hp_text.specs.State.{newline, texts_below}
 use Rattle.hp_workers.specs.declared.lines.LineEnd.{LineEnd}
 use Rattle.hp_workers.specs.declared.lines.LineEnd.TheVariants.{Reply as Replied, Fault as Faulted, Plan as Planned, Control as Untaken, Sealed}
 use Rattle.hp_workers.specs.Seals.{AreInOrder, seals_in_all}
-use Rattle.hp_workers.specs.Workers.{AreWorkers}
+use Rattle.hp_workers.specs.Workers.{AreWorkers, ReachWhereFull}
 use Rattle.hp_commands.specs.Audits.{IsAudited}
 
 -- ---- the text
@@ -71,7 +71,8 @@ pub record IsWorkedOff (l : LayoutParts) (scripts : List (List Line)) (ends : Li
   pub closed : IsClosed l seats volumes m count
   pub boots : m.before ≡ 0 → m.base ≡ boot_memory m.layout
 
--- the bytes are a scenario whose scripts were worked off
+-- the bytes are a scenario whose scripts were worked off; where a line ended since the history was
+-- full, all records, which are so many, reach the layout's limit
 pub record IsRunOf (input : List ℕ) (ends : List (List LineEnd)) (volumes : List Volume) (m : MachineValue)
     (count : ℕ) : Type 0 where
   pub scenario : ScenarioValue
@@ -79,6 +80,7 @@ pub record IsRunOf (input : List ℕ) (ends : List (List LineEnd)) (volumes : Li
   pub scripts : List (List Line)
   pub parted : scripts_of scenario ≡ Ok scripts
   pub worked : IsWorkedOff scenario.layout scripts ends volumes m count
+  pub full : ReachWhereFull scenario.layout ends count
 
 -- what became of the lines by processor, and the number of records
 pub record IsRunTextOf (input text : List ℕ) : Type 0 where

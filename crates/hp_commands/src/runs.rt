@@ -79,6 +79,7 @@ pub fn work_off<R: Threads + Wait + Sync>(
         alloc,
         Blank::new(cpus),
         Blank::new(cpus),
+        Blank::new(cpus),
         machine,
         scripts,
     )
@@ -101,6 +102,7 @@ fn run_scripts<L: Job + Send + Sync, R: Threads + Wait + Sync>(
     alloc: Global,
     records: Blank,
     sealed: Blank,
+    fulls: Blank,
     machine: Machine,
     scripts: Vec<Script>,
 ) -> Result<Worked, ProgramFault>
@@ -109,13 +111,14 @@ fn run_scripts<L: Job + Send + Sync, R: Threads + Wait + Sync>(
     requires parts { records.parts ≡ L.parts }
     requires one_each { records.parts ≡ L.layout.cpus }
     requires sealed { (sealed.name ≡ L.sealed) × (sealed.parts ≡ L.layout.cpus) }
+    requires fulls { (fulls.name ≡ L.fulls) × (fulls.parts ≡ L.layout.cpus) }
     requires scripts { length scripts.items ≡ L.layout.cpus }
     requires run { AreForRun scripts.items }
     ensures ok { IfOk result (λ worked. IsWorkedOff L.layout scripts.items worked.ends.items
         worked.closed.volumes.items worked.closed.machine worked.closed.records) }
     ensures err { IfErr result (IsWorkFault L.layout scripts.items) }
 {
-    let Ok((shared, seats)) = Shared::<L>::new(alloc, records, sealed, machine) else {
+    let Ok((shared, seats)) = Shared::<L>::new(alloc, records, sealed, fulls, machine) else {
         return Err(ProgramFault::OutOfMemory);
     };
     let end = run_workers(rt, alloc, &shared, seats, scripts, &OpenGate);

@@ -4,7 +4,7 @@ use Rattle.hp_units.specs.LayoutParts.{LayoutParts}
 use Rattle.hp_history.specs.declared.volumes.Volume.{Volume}
 use Rattle.hp_machine.specs.Machine.{MachineValue, last_serial}
 use Rattle.hp_shared.specs.declared.closing.CloseFault.{CloseFault}
-use Rattle.hp_shared.specs.Closing.{AreCounted, HasCause, HasFault, IsChecked, IsClosed}
+use Rattle.hp_shared.specs.Closing.{AreCounted, AreReached, HasCause, HasFault, IsChecked, IsClosed}
 use Rattle.hp_shared.specs.Shared.{IsShared, LockedValue, SeatValue}
 use Rattle.hp_shared.proofs.Sealing.{counted_all}
 
@@ -28,28 +28,33 @@ fault_here l v m cpus seats volumes why own all fault =
 -- a machine that was checked is the shared one, with so many records
 pub closed : (l : LayoutParts) (v : LockedValue) (m : MachineValue) (count : ℕ) (seats : List SeatValue)
     (volumes : List Volume)
-    → IsShared l v → m ≡ v.machine → IsChecked v.machine l.cpus seats volumes count
-    → IsClosed l seats volumes m count
-closed l v m count seats volumes kept own checked = record {
+    → IsShared l v → m ≡ v.machine → (length seats ≡ l.cpus → AreCounted l seats v)
+    → IsChecked v.machine l.cpus seats volumes count → IsClosed l seats volumes m count
+closed l v m count seats volumes kept own counted checked = record {
   shared =
       subst (λ (x : MachineValue). IsShared l (record { machine = x; total = count })) (sym own) (record {
         layout = kept.layout;
         sealed = kept.sealed;
         history = kept.history;
-        total =
-            checked.records ∙ sym (counted_all volumes v.machine (last_serial v.machine) checked.reach refl);
+        total = all;
       });
   checked = subst (λ (x : MachineValue). IsChecked x l.cpus seats volumes count) (sym own) checked;
+  reached =
+      subst (AreReached l seats) (kept.total ∙ sym all) (counted checked.each.count).reached;
 }
+  where
+    all : count ≡ last_serial v.machine
+    all =
+        checked.records ∙ sym (counted_all volumes v.machine (last_serial v.machine) checked.reach refl)
 
 -- a machine that was not closed: the seats count what the lock showed
 pub caused : (l : LayoutParts) (old new : LockedValue) (seats same : List SeatValue) (volumes : List Volume)
     (why : CloseFault)
-    → new ≡ old → same ≡ seats → (length seats ≡ l.cpus → AreCounted seats old) → IsShared l new
+    → new ≡ old → same ≡ seats → (length seats ≡ l.cpus → AreCounted l seats old) → IsShared l new
     → HasFault new.machine l.cpus same volumes why → HasCause l seats volumes why
 caused l old new seats same volumes why still back counted kept fault = record {
   seen = new;
   shared = kept;
-  all = λ each. subst (AreCounted seats) (sym still) (counted each);
+  all = λ each. subst (AreCounted l seats) (sym still) (counted each);
   fault = subst (λ (xs : List SeatValue). HasFault new.machine l.cpus xs volumes why) back fault;
 }

@@ -12,9 +12,10 @@ use Rattle.hp_units.specs.declared.replies.Reply.{Reply}
 use Rattle.hp_history.specs.Course.{receipt_for}
 use Rattle.hp_ops.specs.Ports.{IsBeginReply, IsDriverReply, IsGiven}
 use Rattle.hp_machine.proofs.Replies.{begin_known, driver_known}
-use Rattle.hp_shared.specs.Shared.{IsFilled, IsSeatCall, IsSeated, IsTurn, SeatValue}
+use Rattle.hp_shared.specs.Shared.{IsFilled, IsSeatCall, IsSeated, IsTurn, SeatValue, fulls_of, left_by}
 use Rattle.hp_shared.specs.SeatPorts.{AreTurns, port_value}
 use Rattle.hp_shared.proofs.Turns.{last_reply}
+use Rattle.hp_shared.proofs.Values.{seat_of}
 
 -- what a call gives to the seat's port
 pub seated_is_given : (l : LayoutParts) (old new : SeatValue) (event : Event) (r : Receipt)
@@ -49,14 +50,13 @@ turned_once l old new event r seated =
 
 -- a turn's receipt, which has a copy of the event, is appended
 pub seat_called : (l : LayoutParts) (cpu : ℕ) (was held now : List Receipt) (event copy : Event)
-    (answer : ℕ × Reply) (share more sealed kept : ℕ)
+    (answer : ℕ × Reply) (share more sealed kept fulls told : ℕ)
     → copy ≡ event → cpu < l.cpus → held ≡ was → now ≡ held ++ receipt_for copy answer ∷ []
-    → share ≡ length was → more ≡ share + 1 → kept ≡ sealed
+    → share ≡ length was → more ≡ share + 1 → kept ≡ sealed → told ≡ fulls + 0
     → IsTurn l cpu event (receipt_for event answer) more
-    → IsSeatCall l (record { cpu = cpu; receipts = was; sealed = sealed }) event answer.1
-    (record { cpu = cpu; receipts = now; sealed = kept })
-seat_called l cpu was held now event copy answer share more sealed kept copied inside same pushed counted
-    risen still turn =
+    → IsSeatCall l (seat_of cpu was sealed fulls) event answer.1 (seat_of cpu now kept told)
+seat_called l cpu was held now event copy answer share more sealed kept fulls told copied inside same pushed
+    counted risen still untold turn =
     let receipts : now ≡ was ++ receipt_for copy answer ∷ [] =
     pushed ∙ ap (λ (rs : List Receipt). rs ++ receipt_for copy answer ∷ []) same in
     let amount : more ≡ length now =
@@ -75,11 +75,29 @@ seat_called l cpu was held now event copy answer share more sealed kept copied i
         cpu = refl;
         receipts = receipts;
         sealed = still;
+        fulls = omega (arith, untold);
         turn =
             subst (λ (e : Event). IsTurn l cpu event (receipt_for e answer) (length now)) (sym copied)
             (subst (IsTurn l cpu event (receipt_for event answer)) amount turn);
       };
     }
+
+-- a full history is the same fault, whatever the call would have answered
+abbrev pub faulted : (A : Type 0) → CallFault → Result A CallFault
+faulted A fault = Err fault
+
+-- how often a fault says that the history is full
+abbrev pub full_at : CallFault → ℕ
+full_at fault = fulls_of (faulted (ℕ × Reply) fault)
+
+-- a seat whose call left a fault, by its parts
+pub left_so : (cpu : ℕ) (was now : List Receipt) (sealed kept fulls told : ℕ) (fault : CallFault)
+    → now ≡ was → kept ≡ sealed → told ≡ fulls + full_at fault
+    → seat_of cpu now kept told ≡ left_by (seat_of cpu was sealed fulls) fault
+left_so cpu was now sealed kept fulls told HistoryFull same still counted =
+    let more : told ≡ fulls + 1 = counted in cc
+left_so cpu was now sealed kept fulls told OutOfMemory same still counted =
+    let none : told ≡ fulls = omega (arith, counted) in cc
 
 -- what fills a history, of receipts that are fewer than 2^63
 pub fills : (l : LayoutParts) (sealed share held len room : ℕ) → IsFilled l sealed share → share ≡ held
@@ -87,10 +105,6 @@ pub fills : (l : LayoutParts) (sealed share held len room : ℕ) → IsFilled l 
 fills l sealed share held len room (inl most) counted is within small = omega (arith, most, counted)
 fills l sealed share held len room (inr last) counted is within small =
     absurd (omega (arith, last, counted, is, within, small))
-
--- a full history is the same fault, whatever the call would have answered
-abbrev pub faulted : (A : Type 0) → CallFault → Result A CallFault
-faulted A fault = Err fault
 
 pub full_still : {A B : Type 0} (fault : CallFault) → faulted A fault ≡ faulted A HistoryFull
     → faulted B fault ≡ faulted B HistoryFull

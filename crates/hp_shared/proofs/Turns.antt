@@ -1,5 +1,5 @@
 -- A recorded call keeps what every lock shows, and so does a seal.
-use Rattle.std.specs.Prelude.{IfOk, IsTrue, is_ok, nat_le, ◌||◌, ◌≤◌, ◌↔◌}
+use Rattle.std.specs.Prelude.{IfOk, IsTrue, is_ok, nat_le, ◌||◌, ◌<◌, ◌≤◌, ◌↔◌}
 use Rattle.std.proofs.Common.{◌≡◌, Bool, true, false, Result, Ok, Err, ℕ, ◌+◌, List, [], ◌∷◌, ◌++◌, length, Some, slice_get, take, refl, ap, sym, subst, ◌∙◌, arith, inl, inr}
 use Rattle.std.proofs.lemmas.Bool.{leb-true}
 use Rattle.std.proofs.lemmas.List.{length-append}
@@ -9,7 +9,7 @@ use Rattle.hp_units.specs.Memory.{Memory}
 use Rattle.hp_units.specs.History.{IsLegal, net_of, reply_of, run, value_of}
 use Rattle.hp_units.specs.declared.events.Event.{Event}
 use Rattle.hp_units.specs.declared.replies.CallFault.{CallFault}
-use Rattle.hp_units.specs.declared.replies.CallFault.TheVariants.{HistoryFull}
+use Rattle.hp_units.specs.declared.replies.CallFault.TheVariants.{HistoryFull, OutOfMemory}
 use Rattle.hp_units.specs.declared.replies.Receipt.{Receipt}
 use Rattle.hp_units.specs.declared.replies.Record.{Record}
 use Rattle.hp_units.specs.declared.replies.Reply.{Reply}
@@ -20,7 +20,7 @@ use Rattle.hp_history.specs.Volumes.{FollowsVolumes, records_in, state_after, vo
 use Rattle.hp_history.proofs.Chains.{chain_more, count_more, state_more}
 use Rattle.hp_history.specs.declared.volumes.Volume.{Volume}
 use Rattle.hp_machine.specs.Machine.{IsCalled, IsHistory, MachineValue, is_full, last_serial, record_of, sealed}
-use Rattle.hp_shared.specs.Shared.{IsFilled, IsFresh, IsLastOf, IsShared}
+use Rattle.hp_shared.specs.Shared.{IsFilled, IsFresh, IsLastOf, IsReached, IsShared, fulls_of}
 
 -- the machine that a call made has a legal history again, and the state of that history
 called_history : (old new : MachineValue) (cpu : ℕ) (event : Event) (r : Receipt)
@@ -114,6 +114,29 @@ filled l m total amount parts all handed answer shared few full counts whole is 
         )
         )
     by_cause (inr last) = inr (omega (arith, last, shared.total, counts whole))
+
+-- a call that found the history full found as many records, and later there are no fewer
+pub reached_on : {A : Type 0} (l : LayoutParts) (m : MachineValue) (was total fulls told : ℕ)
+    (answer : Result A CallFault)
+    → IsShared l (record { machine = m; total = was }) → was ≤ total
+    → ((answer ≡ Err HistoryFull) ↔ IsTrue (is_full m)) → (0 < fulls → IsReached l was)
+    → told ≡ fulls + fulls_of answer → 0 < told → IsReached l total
+reached_on {A} l m was total fulls told answer shared more full before counted some = by_answer answer full counted
+  where
+    later : IsReached l was → IsReached l total
+    later (inl most) = inl (omega (arith, most, more))
+    later (inr last) = inr (omega (arith, last, more))
+
+    here : IsFilled m.layout m.before (last_serial m) → IsReached l total
+    here (inl most) =
+        inl (omega (arith, most, more, shared.total, ap (λ (k : LayoutParts). k.history) shared.layout))
+    here (inr last) = inr (omega (arith, last, more, shared.total))
+
+    by_answer : (a : Result A CallFault) → ((a ≡ Err HistoryFull) ↔ IsTrue (is_full m))
+        → told ≡ fulls + fulls_of a → IsReached l total
+    by_answer (Ok x) full counted = later (before (omega (arith, counted, some)))
+    by_answer (Err HistoryFull) full counted = here (full_count m (full.0 refl))
+    by_answer (Err OutOfMemory) full counted = later (before (omega (arith, counted, some)))
 
 -- a machine with no records that sealed nothing may lie under the lock
 pub begun : (l : LayoutParts) (m : MachineValue) (total : ℕ) → IsFresh l m

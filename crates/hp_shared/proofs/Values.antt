@@ -6,8 +6,9 @@ use Rattle.hp_machine.specs.Machine.{MachineValue}
 use Rattle.hp_shared.specs.Shared.{LockedValue, SeatValue}
 
 -- a seat
-abbrev pub seat_of : (cpu : ℕ) → List Receipt → (sealed : ℕ) → SeatValue
-seat_of cpu receipts sealed = record { cpu = cpu; receipts = receipts; sealed = sealed }
+abbrev pub seat_of : (cpu : ℕ) → List Receipt → (sealed fulls : ℕ) → SeatValue
+seat_of cpu receipts sealed fulls =
+    record { cpu = cpu; receipts = receipts; sealed = sealed; fulls = fulls }
 
 -- a machine and its total
 abbrev pub locked_of : MachineValue → ℕ → LockedValue

@@ -1,9 +1,11 @@
 -- What a contract sees of a shared machine and of its seats, and what a call of a seat does.
-use Rattle.std.specs.Prelude.{ℕ, ◌≡◌, ◌+◌, ◌<◌, ◌≤◌, ◌⊎◌, List, [], ◌∷◌, ◌++◌, length, map}
+use Rattle.std.specs.Prelude.{ℕ, ◌≡◌, ◌+◌, ◌<◌, ◌≤◌, ◌⊎◌, List, [], ◌∷◌, ◌++◌, length, map, Result, Ok, Err}
 use Rattle.std.specs.List.{range_with_len}
 use Rattle.hp_units.specs.LayoutParts.{LayoutParts}
 use Rattle.hp_units.specs.Memory.{Memory}
 use Rattle.hp_units.specs.declared.events.Event.{Event}
+use Rattle.hp_units.specs.declared.replies.CallFault.{CallFault}
+use Rattle.hp_units.specs.declared.replies.CallFault.TheVariants.{HistoryFull, OutOfMemory}
 use Rattle.hp_units.specs.declared.replies.Receipt.{Receipt}
 use Rattle.hp_units.specs.declared.replies.Record.{Record}
 use Rattle.hp_units.specs.declared.replies.Reply.{Reply}
@@ -38,16 +40,17 @@ pub record IsShared (l : LayoutParts) (v : LockedValue) : Type 0 where
   pub history : IsHistory v.machine
   pub total : v.total ≡ last_serial v.machine
 
--- a seat: its processor, the receipts of its calls, oldest first, and how many records its seals
--- handed out
+-- a seat: its processor, the receipts of its calls, oldest first, how many records its seals handed
+-- out, and how many of its calls found the history full
 pub record SeatValue : Type 0 where
   pub cpu : ℕ
   pub receipts : List Receipt
   pub sealed : ℕ
+  pub fulls : ℕ
 
 -- the seat of each processor, with no call made yet
 abbrev pub first_seat : ℕ → SeatValue
-first_seat cpu = record { cpu = cpu; receipts = []; sealed = 0 }
+first_seat cpu = record { cpu = cpu; receipts = []; sealed = 0; fulls = 0 }
 
 abbrev pub first_seats : (cpus : ℕ) → List SeatValue
 first_seats cpus = map first_seat (range_with_len 0 cpus)
@@ -55,6 +58,26 @@ first_seats cpus = map first_seat (range_with_len 0 cpus)
 -- of all records so many are sealed, and the others fill a history; or there is no further serial
 abbrev pub IsFilled : LayoutParts → (sealed all : ℕ) → Type 0
 IsFilled l sealed all = (l.history + sealed ≤ all) ⊎ (18446744073709551615 ≤ all)
+
+-- all records are as many as a history may hold, or there is no further serial
+abbrev pub IsReached : LayoutParts → (all : ℕ) → Type 0
+IsReached l all = (l.history ≤ all) ⊎ (18446744073709551615 ≤ all)
+
+-- a seat found the history full only where all records reach the limit
+abbrev pub HasReached : LayoutParts → (all : ℕ) → SeatValue → Type 0
+HasReached l all seat = 0 < seat.fulls → IsReached l all
+
+-- how many times an answer says that the history is full
+abbrev pub fulls_of : {A : Type 0} → Result A CallFault → ℕ
+fulls_of (Ok answer) = 0
+fulls_of (Err HistoryFull) = 1
+fulls_of (Err OutOfMemory) = 0
+
+-- a seat after a call that left a fault
+abbrev pub left_by : SeatValue → CallFault → SeatValue
+left_by seat HistoryFull =
+    record { cpu = seat.cpu; receipts = seat.receipts; sealed = seat.sealed; fulls = seat.fulls + 1 }
+left_by seat OutOfMemory = seat
 
 -- as far as a seat can know, the history may be full: if there is one processor, the seat's receipts
 -- without the records that its seals handed out are as many as the history may hold
@@ -85,6 +108,7 @@ pub record IsSeated (l : LayoutParts) (old : SeatValue) (event : Event) (r : Rec
   pub cpu : new.cpu ≡ old.cpu
   pub receipts : new.receipts ≡ old.receipts ++ r ∷ []
   pub sealed : new.sealed ≡ old.sealed
+  pub fulls : new.fulls ≡ old.fulls
   pub turn : IsTurn l old.cpu event r (length new.receipts)
 
 -- the call of an event by a seat was answered by a reply: a receipt that has it is appended

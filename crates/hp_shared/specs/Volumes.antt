@@ -48,4 +48,9 @@ pub record IsSealOf (l : LayoutParts) (v : Volume) (receipts : ℕ) : Type 0 whe
 -- a seat after its seal handed out a volume
 abbrev pub sealed_by : SeatValue → Volume → SeatValue
 sealed_by seat v =
-    record { cpu = seat.cpu; receipts = seat.receipts; sealed = seat.sealed + length v.records }
+    record {
+      cpu = seat.cpu;
+      receipts = seat.receipts;
+      sealed = seat.sealed + length v.records;
+      fulls = seat.fulls;
+    }

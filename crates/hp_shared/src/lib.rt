@@ -6,10 +6,11 @@
 //! calls and reads: a turn under the lock is one `Machine::answer`, a seal one `Machine::seal`. It
 //! starts no thread, and waits for the lock alone, which nobody holds between two calls.
 //!
-//! What ties a seat to the machine are two of std's ledgers: the total of the one is the number of
-//! all records, sealed ones included, and each seat's share of it the number of its receipts; the
-//! total of the other is the number of sealed records, and each seat's share how many of them its
-//! seals handed out. Read `locked` first, then `seat` and `closing`; `volumes`, `marks` and
+//! What ties a seat to the machine are three of std's ledgers: the total of the first is the number
+//! of all records, sealed ones included, and each seat's share of it the number of its receipts; the
+//! total of the second is the number of sealed records, and each seat's share how many of them its
+//! seals handed out. The third counts the calls that found the history full, in all and by seat:
+//! where there was one, all records are as many as the limit, or there is no further serial. Read `locked` first, then `seat` and `closing`; `volumes`, `marks` and
 //! `comparing` are how `close` compares.
 #![tactic(auto)]
 
@@ -24,7 +25,7 @@ mod shared;
 mod volumes;
 
 pub use closing::{CloseFault, CloseRefused, Closed, close};
-pub use job::{Job, Sealed};
+pub use job::{Fulls, Job, Sealed};
 pub use locked::Locked;
 pub use seat::Seat;
 pub use seat_port::SeatPort;

@@ -4,9 +4,9 @@ ghost use Rattle.hp_units.specs.declared.replies.CallFault.TheVariants.{HistoryF
 ghost use Rattle.hp_machine.specs.Machine.{IsCalled, is_full, sealed};
 ghost use Rattle.hp_history.specs.Course.{receipt_for};
 ghost use Rattle.hp_history.specs.Volumes.{volume_of};
-ghost use Rattle.hp_shared.specs.Shared.{IsFilled, IsFresh, IsShared};
+ghost use Rattle.hp_shared.specs.Shared.{IsFilled, IsFresh, IsReached, IsShared, fulls_of};
 
-use crate::job::{Job, Sealed};
+use crate::job::{Fulls, Job, Sealed};
 use hp_history::Volume;
 use hp_machine::Machine;
 use hp_units::{CallFault, Cpu, Event, Reply, Serial};
@@ -14,18 +14,20 @@ use std::alloc::{AllocError, Global};
 use std::marker::Model;
 use std::sync::ledger::{Book, Share};
 
-/// A machine of the job's layout, and the totals of its records and of its sealed records, which the
-/// ledgers of the seats' shares carry: one part for each processor (own rule).
+/// A machine of the job's layout, and the totals of its records, of its sealed records and of the
+/// calls that found its history full, which the ledgers of the seats' shares carry: one part for each
+/// processor (own rule).
 #[derive(Drop)]
 pub struct Locked<L: Job> {
     machine: Machine,
     book: Book<L>,
     sealed: Book<Sealed<L>>,
+    fulls: Book<Fulls<L>>,
 }
 
 impl<L: Job> Model for Locked<L> {
-    ghost use Rattle.std.specs.Prelude.{◌≡◌};
-    ghost use Rattle.hp_shared.specs.Shared.{IsShared, LockedValue};
+    ghost use Rattle.std.specs.Prelude.{◌≡◌, ◌<◌};
+    ghost use Rattle.hp_shared.specs.Shared.{IsReached, IsShared, LockedValue};
 
     ghost Value = { LockedValue };
 
@@ -33,14 +35,21 @@ impl<L: Job> Model for Locked<L> {
 
     ghost invariant = { λ l.
         IsShared L.layout (record { machine = l.machine; total = l.book.total })
-        × (L.parts ≡ L.layout.cpus) × (l.sealed.total ≡ l.machine.before) };
+        × (L.parts ≡ L.layout.cpus) × (l.sealed.total ≡ l.machine.before)
+        × (0 < l.fulls.total → IsReached L.layout l.book.total) };
 }
 
 impl<L: Job> Locked<L> {
-    /// A machine at its start, whose records and sealed records the ledgers count from now on.
-    pub(crate) fn new(machine: Machine, book: Book<L>, sealed: Book<Sealed<L>>) -> Locked<L>
+    /// A machine at its start, whose records, sealed records and calls that find its history full the
+    /// ledgers count from now on.
+    pub(crate) fn new(
+        machine: Machine,
+        book: Book<L>,
+        sealed: Book<Sealed<L>>,
+        fulls: Book<Fulls<L>>,
+    ) -> Locked<L>
         requires machine { IsFresh L.layout machine }
-        requires book { (book.total ≡ 0) × (sealed.total ≡ 0) }
+        requires book { (book.total ≡ 0) × (sealed.total ≡ 0) × (fulls.total ≡ 0) }
         requires one_each { L.parts ≡ L.layout.cpus }
         ensures { result ≡ record { machine = machine; total = 0 } }
     {
@@ -50,12 +59,14 @@ impl<L: Job> Locked<L> {
             machine,
             book,
             sealed,
+            fulls,
         }
     }
 
     /// The one step of a seat: a call of the machine, answered by the serial of its record and the
     /// reply (own rule). Where it was recorded, the total and the seat's share each rise by one; no
-    /// share is above the total. It waits for nobody, since whoever calls it holds the lock.
+    /// share is above the total. Where it found the history full, `told` rises by one. It waits for
+    /// nobody, since whoever calls it holds the lock.
     ///
     /// Errors are those of `Machine::answer`, `HistoryFull` exactly where the history holds its
     /// limit or the last serial is 2^64 - 1; they leave all as it was. To a share of a part for each
@@ -66,10 +77,11 @@ impl<L: Job> Locked<L> {
         alloc: Global,
         share: &mut Share<L>,
         handed: &mut Share<Sealed<L>>,
+        told: &mut Share<Fulls<L>>,
         cpu: Cpu,
         event: &Event,
     ) -> Result<(Serial, Reply), CallFault>
-        requires { 0 < share.old.parts }
+        requires { (0 < share.old.parts) × (0 < told.old.parts) }
         ensures full { (result ≡ Err HistoryFull) ↔ IsTrue (is_full self.old.machine) }
         ensures only { share.old.parts ≡ L.layout.cpus → result ≡ Err HistoryFull
             → IsFilled L.layout handed.old.amount share.old.amount }
@@ -82,6 +94,8 @@ impl<L: Job> Locked<L> {
         ensures parts { share.new.parts ≡ share.old.parts }
         ensures handed { (handed.new.amount ≡ handed.old.amount)
             × (handed.new.parts ≡ handed.old.parts) }
+        ensures told { (told.new.amount ≡ told.old.amount + fulls_of result)
+            × (told.new.parts ≡ told.old.parts) }
         ensures within { share.new.amount ≤ self.new.total }
         ensures shown { IsShared L.layout self.old }
         ensures kept { IsShared L.layout self.new }
@@ -89,6 +103,7 @@ impl<L: Job> Locked<L> {
         self.book.audit(share);
         self.sealed.audit(handed);
         let answer = self.machine.answer(alloc, cpu, event);
+        count_full(&mut self.fulls, told, &answer);
         if answer.is_ok() {
             self.book.add(share, 1);
         }
@@ -146,6 +161,16 @@ impl<L: Job> Locked<L> {
         self.sealed.audit(handed);
     }
 
+    /// Tells that all records reach the limit where a share counts a call that found the history full.
+    /// It has no effect.
+    pub(crate) fn audit_full(&mut self, told: &mut Share<Fulls<L>>)
+        ensures locked { self.new ≡ self.old }
+        ensures told { (told.new.parts ≡ told.old.parts) × (told.new.amount ≡ told.old.amount) }
+        ensures reached { 0 < told.old.amount → IsReached L.layout self.old.total }
+    {
+        self.fulls.audit(told);
+    }
+
     /// The number of processors.
     pub(crate) fn cpus(&self) -> u32
         ensures is { result ≡ L.layout.cpus }
@@ -170,7 +195,26 @@ impl<L: Job> Locked<L> {
             machine,
             book: _,
             sealed: _,
+            fulls: _,
         } = self;
         machine
+    }
+}
+
+/// Counts an answer that says that the history is full.
+fn count_full<L: Job>(
+    fulls: &mut Book<Fulls<L>>,
+    told: &mut Share<Fulls<L>>,
+    answer: &Result<(Serial, Reply), CallFault>,
+)
+    requires { 0 < told.old.parts }
+    ensures total { fulls.new.total ≡ fulls.old.total + fulls_of answer.now }
+    ensures amount { told.new.amount ≡ told.old.amount + fulls_of answer.now }
+    ensures parts { told.new.parts ≡ told.old.parts }
+{
+    match answer {
+        Ok(_) => {}
+        Err(CallFault::HistoryFull) => fulls.add(told, 1),
+        Err(CallFault::OutOfMemory) => {}
     }
 }

@@ -1,11 +1,11 @@
 //! A processor's access to the shared machine.
-ghost use Rattle.std.specs.Prelude.{◌≡◌, ◌+◌, ◌<◌, [], Err, IfOk, OnErr, length, vec_capacity};
+ghost use Rattle.std.specs.Prelude.{◌≡◌, ◌+◌, ◌<◌, [], Err, IfErr, IfOk, OnErr, length, vec_capacity};
 ghost use Rattle.hp_units.specs.declared.replies.CallFault.TheVariants.{HistoryFull};
-ghost use Rattle.hp_shared.specs.Closing.{AreCounted, handed_in, receipts_in};
-ghost use Rattle.hp_shared.specs.Shared.{IsSeatCall, MayBeFull, first_seat};
+ghost use Rattle.hp_shared.specs.Closing.{AreCounted, AreReached, handed_in, receipts_in};
+ghost use Rattle.hp_shared.specs.Shared.{HasReached, IsSeatCall, MayBeFull, first_seat, left_by};
 ghost use Rattle.hp_shared.specs.Volumes.{IsSealOf, sealed_by};
 
-use crate::job::{Job, Sealed};
+use crate::job::{Fulls, Job, Sealed};
 use crate::locked::Locked;
 use crate::shared::Shared;
 use hp_history::Volume;
@@ -16,8 +16,9 @@ use std::sync::Wait;
 use std::sync::ledger::Share;
 
 /// The one access of a processor to the shared machine (own rule). It keeps a receipt of each of
-/// its calls, and holds shares of one part of the machine's totals: the number of its receipts, and
-/// how many records its seals handed out, which it counts. Shares take no memory.
+/// its calls, and holds shares of one part of the machine's totals: the number of its receipts, how
+/// many records its seals handed out, which it counts, and how many of its calls found the history
+/// full. Shares take no memory.
 #[derive(Drop)]
 pub struct Seat<L: Job> {
     cpu: Cpu,
@@ -25,6 +26,7 @@ pub struct Seat<L: Job> {
     share: Share<L>,
     sealed: Share<Sealed<L>>,
     handed: u64,
+    fulls: Share<Fulls<L>>,
 }
 
 impl<L: Job> Model for Seat<L> {
@@ -34,19 +36,31 @@ impl<L: Job> Model for Seat<L> {
     ghost Value = { SeatValue };
 
     ghost view = { λ s.
-        record { cpu = s.cpu; receipts = s.receipts.items; sealed = s.sealed.amount } };
+        record {
+          cpu = s.cpu;
+          receipts = s.receipts.items;
+          sealed = s.sealed.amount;
+          fulls = s.fulls.amount;
+        } };
 
     ghost invariant = { λ s.
         (s.cpu < L.layout.cpus) × (s.share.parts ≡ 1) × (s.share.amount ≡ length s.receipts.items)
-        × (s.sealed.parts ≡ 1) × (s.sealed.amount ≡ s.handed) };
+        × (s.sealed.parts ≡ 1) × (s.sealed.amount ≡ s.handed) × (s.fulls.parts ≡ 1) };
 }
 
 impl<L: Job> Seat<L> {
     /// A seat with shares that count nothing yet.
-    pub(crate) fn new(alloc: Global, cpu: Cpu, share: Share<L>, sealed: Share<Sealed<L>>) -> Seat<L>
+    pub(crate) fn new(
+        alloc: Global,
+        cpu: Cpu,
+        share: Share<L>,
+        sealed: Share<Sealed<L>>,
+        fulls: Share<Fulls<L>>,
+    ) -> Seat<L>
         requires cpu { cpu < L.layout.cpus }
         requires share { (share.parts ≡ 1) × (share.amount ≡ 0) }
         requires sealed { (sealed.parts ≡ 1) × (sealed.amount ≡ 0) }
+        requires fulls { (fulls.parts ≡ 1) × (fulls.amount ≡ 0) }
         ensures { result ≡ first_seat cpu }
     {
         Seat {
@@ -55,6 +69,7 @@ impl<L: Job> Seat<L> {
             share,
             sealed,
             handed: 0,
+            fulls,
         }
     }
 
@@ -64,7 +79,8 @@ impl<L: Job> Seat<L> {
     ///
     /// Errors: `HistoryFull` as `Locked::turn` answers it, on a machine of one processor only where
     /// the seat has as many receipts since its last seal as the history may hold records;
-    /// `OutOfMemory` before the lock or under it. Either leaves seat and machine as they were.
+    /// `OutOfMemory` before the lock or under it. Either leaves seat and machine as they were, but that
+    /// the seat counts how often the history was full.
     pub fn call(
         &mut self,
         rt: &impl Wait,
@@ -73,7 +89,7 @@ impl<L: Job> Seat<L> {
         event: &Event,
     ) -> Result<Reply, CallFault>
         ensures ok { IfOk result (λ reply. IsSeatCall L.layout self.old event.now reply self.new) }
-        ensures err { OnErr result (self.new ≡ self.old) }
+        ensures err { IfErr result (λ fault. self.new ≡ left_by self.old fault) }
         ensures only { result ≡ Err HistoryFull → MayBeFull L.layout self.old }
     {
         let Ok(()) = self.receipts.reserve(1) else {
@@ -87,6 +103,7 @@ impl<L: Job> Seat<L> {
             alloc,
             &mut self.share,
             &mut self.sealed,
+            &mut self.fulls,
             self.cpu,
             event,
         ) {
@@ -145,11 +162,13 @@ impl<L: Job> Seat<L> {
 }
 
 /// Tells how all seats stand to the totals: where there are as many as processors, at most 64, they
-/// count all records, and all that are sealed. It has no effect.
+/// count all records, and all that are sealed, and the records reach the limit where a seat found the
+/// history full. It has no effect.
 pub(crate) fn audit_all<L: Job>(locked: &mut Locked<L>, seats: &mut Vec<Seat<L>>)
     ensures locked { locked.new ≡ locked.old }
     ensures seats { seats.new.items ≡ seats.old.items }
-    ensures all { length seats.old.items ≡ L.layout.cpus → AreCounted seats.old.items locked.old }
+    ensures all { length seats.old.items ≡ L.layout.cpus
+        → AreCounted L.layout seats.old.items locked.old }
 {
     if seats.len() != locked.cpus() as usize {
         return;
@@ -172,6 +191,8 @@ fn audit_first<L: Job>(locked: &mut Locked<L>, seat: &mut Seat<L>, others: &mut 
         → receipts_in others.old.items + length seat.old.receipts ≡ locked.old.total }
     ensures sealed { length others.old.items + 1 ≡ L.layout.cpus
         → handed_in others.old.items + seat.old.sealed ≡ locked.old.machine.before }
+    ensures own { HasReached L.layout locked.old.total seat.old }
+    ensures reached { AreReached L.layout others.old.items locked.old.total }
 {
     let mut share = seat.share.empty();
     let mut handed = seat.sealed.empty();
@@ -199,7 +220,10 @@ fn audit_beside<L: Job>(
         → receipts_in others.old.items + length seat.old.receipts + share.old.amount ≡ locked.old.total }
     ensures sealed { length others.old.items + 1 + handed.old.parts ≡ L.layout.cpus
         → handed_in others.old.items + seat.old.sealed + handed.old.amount ≡ locked.old.machine.before }
+    ensures own { HasReached L.layout locked.old.total seat.old }
+    ensures reached { AreReached L.layout others.old.items locked.old.total }
 {
+    locked.audit_full(&mut seat.fulls);
     let own = seat.receipts.len() as u64;
     let count = seat.handed;
     seat.share.give(share, 1, own);
@@ -228,6 +252,7 @@ fn audit_others<L: Job>(
         → receipts_in seats.old.items + share.old.amount ≡ locked.old.total }
     ensures sealed { length seats.old.items + handed.old.parts ≡ L.layout.cpus
         → handed_in seats.old.items + handed.old.amount ≡ locked.old.machine.before }
+    ensures reached { AreReached L.layout seats.old.items locked.old.total }
 {
     let Some(seat) = seats.pop() else {
         return locked.audit(share, handed);

@@ -44,7 +44,7 @@ impl<'a, L: Job, R: Wait> Port for SeatPort<'a, L, R> {
     ghost use Rattle.std.proofs.Common.{◌∙◌};
     ghost use Rattle.hp_units.specs.declared.replies.CallFault.TheVariants.{HistoryFull};
     ghost use Rattle.hp_shared.specs.SeatPorts.{AreTurns, port_value, turns_joined};
-    ghost use Rattle.hp_shared.specs.Shared.{MayBeFull};
+    ghost use Rattle.hp_shared.specs.Shared.{MayBeFull, left_by};
 
     ghost shows = { λ p. port_value L.layout p.seat.now p.fault };
 
@@ -52,7 +52,7 @@ impl<'a, L: Job, R: Wait> Port for SeatPort<'a, L, R> {
         (q.seat.ghost_name ≡ p.seat.ghost_name) × AreTurns L.layout p.seat.now gained q.seat.now };
 
     ghost leaves = { λ p fault q.
-        (q.seat.ghost_name ≡ p.seat.ghost_name) × (q.seat.now ≡ p.seat.now)
+        (q.seat.ghost_name ≡ p.seat.ghost_name) × (q.seat.now ≡ left_by p.seat.now fault)
         × (fault ≡ HistoryFull → MayBeFull L.layout p.seat.now) };
 
     fn cpus(&self) -> u32 {

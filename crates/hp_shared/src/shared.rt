@@ -2,10 +2,10 @@
 ghost use Rattle.std.specs.Prelude.{◌≡◌, ◌+◌, ◌^◌, ◌<◌, Err, IfErr, IfOk, OnErr, OnOk, length};
 ghost use Rattle.hp_units.specs.declared.replies.CallFault.TheVariants.{HistoryFull};
 ghost use Rattle.hp_history.specs.Course.{receipt_for};
-ghost use Rattle.hp_shared.specs.Shared.{IsFilled, IsFresh, IsTurn, first_seats};
+ghost use Rattle.hp_shared.specs.Shared.{IsFilled, IsFresh, IsTurn, first_seats, fulls_of};
 ghost use Rattle.hp_shared.specs.Volumes.{IsSealOf};
 
-use crate::job::{Job, Sealed};
+use crate::job::{Fulls, Job, Sealed};
 use crate::locked::Locked;
 use crate::seat::Seat;
 use hp_history::Volume;
@@ -35,36 +35,40 @@ impl<L: Job> Model for Shared<L> {
 
 impl<L: Job> Shared<L> {
     /// Shares a machine that has no records and sealed nothing, with one seat for each processor,
-    /// in order. The ledgers of its records and of its sealed records have one part for each. An
-    /// error is out of memory; then all comes back.
+    /// in order. The ledgers of its records, of its sealed records and of the calls that find its
+    /// history full have one part for each. An error is out of memory; then all comes back.
     pub fn new(
         alloc: Global,
         records: Blank,
         sealed: Blank,
+        fulls: Blank,
         machine: Machine,
-    ) -> Result<(Shared<L>, Vec<Seat<L>>), (Blank, Blank, Machine)>
+    ) -> Result<(Shared<L>, Vec<Seat<L>>), (Blank, Blank, Blank, Machine)>
         requires machine { IsFresh L.layout machine }
         requires name { records.name ≡ L.name }
         requires parts { records.parts ≡ L.parts }
         requires one_each { records.parts ≡ L.layout.cpus }
         requires sealed { (sealed.name ≡ L.sealed) × (sealed.parts ≡ L.layout.cpus) }
+        requires fulls { (fulls.name ≡ L.fulls) × (fulls.parts ≡ L.layout.cpus) }
         ensures seats { IfOk result (λ made. made.1.items ≡ first_seats L.layout.cpus) }
         ensures back { IfErr result
-            (λ back. (back.0 ≡ records) × (back.1 ≡ sealed) × (back.2 ≡ machine)) }
+            (λ back. (back.0 ≡ records) × (back.1 ≡ sealed) × (back.2 ≡ fulls) × (back.3 ≡ machine)) }
     {
         let cpus = machine.layout().cpus();
         let Ok(mut seats) = Vec::with_capacity(alloc, cpus as usize) else {
-            return Err((records, sealed, machine));
+            return Err((records, sealed, fulls, machine));
         };
         let (book, mut rest) = records.open::<L>();
         let (handed, mut left) = sealed.open::<Sealed<L>>();
+        let (full, mut untold) = fulls.open::<Fulls<L>>();
         for cpu in 0..cpus {
             let share = rest.split_off(1, 0);
             let own = left.split_off(1, 0);
-            seats.push_reserved(Seat::new(alloc, Cpu(cpu), share, own));
+            let told = untold.split_off(1, 0);
+            seats.push_reserved(Seat::new(alloc, Cpu(cpu), share, own, told));
         }
         let shared = Shared {
-            locked: Mutex::new(Locked::new(machine, book, handed)),
+            locked: Mutex::new(Locked::new(machine, book, handed, full)),
             cpus,
         };
         Ok((shared, seats))
@@ -84,10 +88,11 @@ impl<L: Job> Shared<L> {
         alloc: Global,
         share: &mut Share<L>,
         handed: &mut Share<Sealed<L>>,
+        told: &mut Share<Fulls<L>>,
         cpu: Cpu,
         event: &Event,
     ) -> Result<(Serial, Reply), CallFault>
-        requires { 0 < share.old.parts }
+        requires { (0 < share.old.parts) × (0 < told.old.parts) }
         ensures ok { IfOk result
             (λ answer. IsTurn L.layout cpu event.now (receipt_for event.now answer) share.new.amount) }
         ensures counted { OnOk result (share.new.amount ≡ share.old.amount + 1) }
@@ -97,8 +102,12 @@ impl<L: Job> Shared<L> {
         ensures parts { share.new.parts ≡ share.old.parts }
         ensures handed { (handed.new.amount ≡ handed.old.amount)
             × (handed.new.parts ≡ handed.old.parts) }
+        ensures told { (told.new.amount ≡ told.old.amount + fulls_of result)
+            × (told.new.parts ≡ told.old.parts) }
     {
-        self.locked.lock(rt).turn(alloc, share, handed, cpu, event)
+        self.locked
+            .lock(rt)
+            .turn(alloc, share, handed, told, cpu, event)
     }
 
     /// One seal under the lock, for which it may wait.

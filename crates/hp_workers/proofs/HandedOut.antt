@@ -1,9 +1,11 @@
 -- The seats count what their seals handed out.
-use Rattle.std.proofs.Common.{◌≡◌, ℕ, suc, ◌+◌, ◌≤◌, List, [], ◌∷◌, length, take, Option, Some, slice_get, refl, ap, sym, ◌∙◌, arith, inl, inr}
+use Rattle.std.proofs.Common.{◌≡◌, ℕ, suc, ◌+◌, ◌≤◌, List, [], ◌∷◌, length, take, Option, Some, None, slice_get, refl, ap, sym, ◌∙◌, arith, inl, inr}
 use Rattle.std.proofs.lemmas.List.Sums.{sum_by-append, sum_by-cons}
 use Rattle.std.proofs.lemmas.Option.{slice_get_within}
 use Rattle.hp_laws.proofs.Lists.{get_some}
 use Rattle.hp_units.specs.LayoutParts.{LayoutParts}
+use Rattle.hp_units.specs.declared.replies.CallFault.{CallFault}
+use Rattle.hp_units.specs.declared.replies.CallFault.TheVariants.{HistoryFull, OutOfMemory}
 use Rattle.hp_units.specs.declared.replies.Receipt.{Receipt}
 use Rattle.hp_history.specs.Volumes.{records_in}
 use Rattle.hp_history.specs.declared.volumes.Volume.{Volume}
@@ -16,7 +18,7 @@ use Rattle.hp_shared.proofs.Comparisons.{same_item}
 use Rattle.hp_workers.specs.declared.fault.RunFault.{RunFault}
 use Rattle.hp_workers.specs.declared.lines.LineEnd.{LineEnd}
 use Rattle.hp_workers.specs.declared.lines.LineEnd.TheVariants.{Reply as Replied, Fault as Faulted, Plan as Planned, Control as Untaken, Sealed}
-use Rattle.hp_workers.specs.Lines.{AreLines, IsLine, IsSealRun}
+use Rattle.hp_workers.specs.Lines.{AreLines, IsLine, IsSealRun, left_with}
 use Rattle.hp_workers.specs.Seals.{joined}
 use Rattle.hp_workers.specs.Workers.{AreWorkers}
 
@@ -24,6 +26,11 @@ turns_count : (l : LayoutParts) (gained : List Receipt) (old new : SeatValue) �
     → new.sealed ≡ old.sealed
 turns_count l [] old new turns = ap (λ (s : SeatValue). s.sealed) turns
 turns_count l (r ∷ rs) old new turns = turns_count l rs turns.0 new turns.2 ∙ turns.1.sealed
+
+left_counts : (seat : SeatValue) (fault : Option CallFault) → (left_with seat fault).sealed ≡ seat.sealed
+left_counts seat None = refl
+left_counts seat (Some HistoryFull) = refl
+left_counts seat (Some OutOfMemory) = refl
 
 seal_counts : (l : LayoutParts) (old new : SeatValue) (handed : List Volume) (end : LineEnd)
     → IsSealRun l old handed end new → new.sealed ≡ old.sealed + records_in handed
@@ -47,7 +54,9 @@ line_counts : (l : LayoutParts) (old new : SeatValue) (asked : Meaning) (handed 
 line_counts l old new asked handed end (inl ran) =
     omega (
       arith,
-      turns_count l ran.1.gained old new ran.1.turns,
+      ap (λ (s : SeatValue). s.sealed) ran.1.left,
+      left_counts ran.1.called ran.1.fault,
+      turns_count l ran.1.gained old ran.1.called ran.1.turns,
       ap (λ (vs : List Volume). records_in vs) ran.0,
     )
 line_counts l old new asked handed end (inr ran) = seal_counts l old new handed end ran.1

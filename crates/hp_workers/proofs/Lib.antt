@@ -1,3 +1,4 @@
+pub mod Fulls
 pub mod HandedOut
 pub mod LineRuns
 pub mod SealRuns

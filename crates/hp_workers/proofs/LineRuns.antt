@@ -5,18 +5,18 @@ use Rattle.std.proofs.lemmas.List.{append_assoc, append-nil, length-append}
 use Rattle.std.proofs.lemmas.Option.{slice_get_within}
 use Rattle.hp_units.specs.LayoutParts.{LayoutParts}
 use Rattle.hp_units.specs.declared.replies.CallFault.{CallFault}
-use Rattle.hp_units.specs.declared.replies.CallFault.TheVariants.{HistoryFull}
+use Rattle.hp_units.specs.declared.replies.CallFault.TheVariants.{HistoryFull, OutOfMemory}
 use Rattle.hp_units.specs.declared.replies.Receipt.{Receipt}
 use Rattle.hp_ops.specs.Ports.{AreMade}
 use Rattle.hp_laws.proofs.Lists.{take_next}
 use Rattle.hp_scenario.specs.Asked.{Meaning, asked_by}
 use Rattle.hp_scenario.specs.declared.lines.Line.{Line}
 use Rattle.hp_history.specs.declared.volumes.Volume.{Volume}
-use Rattle.hp_shared.specs.Shared.{MayBeFull, SeatValue}
+use Rattle.hp_shared.specs.Shared.{MayBeFull, SeatValue, left_by}
 use Rattle.hp_shared.specs.SeatPorts.{AreTurns}
 use Rattle.hp_workers.specs.declared.lines.LineEnd.{LineEnd}
 use Rattle.hp_workers.specs.declared.lines.LineEnd.TheVariants.{Reply as Replied, Fault as Faulted, Plan as Planned, Control as Untaken, Sealed}
-use Rattle.hp_workers.specs.Lines.{AreLines, IsAskedRun, IsCallsRun, IsLine, IsLineRun, IsSealRun, IsWorked}
+use Rattle.hp_workers.specs.Lines.{AreLines, IsAskedRun, IsCallsRun, IsLine, IsLineRun, IsSealRun, IsWorked, left_with}
 
 -- the last call's fault has its cause
 abbrev pub FaultCaused : LayoutParts → SeatValue → CallFault → Type 0
@@ -30,18 +30,15 @@ pub seat_made : {S N : Type 0} (l : LayoutParts) (makes : S → List Receipt →
     → ((p q : S) (gained : List Receipt) → makes p gained q
     → (name q ≡ name p) × AreTurns l (seat p) gained (seat q))
     → ((p q : S) (fault : CallFault) → leaves p fault q
-    → (name q ≡ name p) × (seat q ≡ seat p) × FaultCaused l (seat p) fault)
-    → (name new ≡ name old) × AreTurns l (seat old) gained (seat new)
-    × IfSome fault (FaultCaused l (seat new))
+    → (name q ≡ name p) × (seat q ≡ left_by (seat p) fault) × FaultCaused l (seat p) fault)
+    → (name new ≡ name old) × (called : SeatValue) × AreTurns l (seat old) gained called
+    × (seat new ≡ left_with called fault) × IfSome fault (FaultCaused l called)
 seat_made l makes leaves old new gained None made name seat as_turns as_left =
-    let turns = as_turns old new gained made in (turns.0, turns.1, tt)
+    let turns = as_turns old new gained made in (turns.0, seat new, turns.1, refl, tt)
 seat_made l makes leaves old new gained (Some fault) made name seat as_turns as_left =
     let turns = as_turns old made.0 gained made.1 in
-    let left = as_left made.0 new fault made.2 in (
-      left.0 ∙ turns.0,
-      subst (λ (s : SeatValue). AreTurns l (seat old) gained s) (sym left.1) turns.1,
-      subst (λ (s : SeatValue). FaultCaused l s fault) (sym left.1) left.2,
-    )
+    let left = as_left made.0 new fault made.2 in
+    (left.0 ∙ turns.0, seat made.0, turns.1, left.1, left.2)
 
 -- a full history that the last call left has its cause
 caused_by : (l : LayoutParts) (seat : SeatValue) (fault : Option CallFault)
@@ -51,18 +48,21 @@ caused_by l seat fault caused named =
     subst (λ (o : Option CallFault). IfSome o (FaultCaused l seat)) named caused in here refl
 
 -- a line was run by the seat that a port had
-pub line_run : (l : LayoutParts) (old first last new : SeatValue) (asked : Meaning) (gained : List Receipt)
+pub line_run : (l : LayoutParts) (old first called last new : SeatValue) (asked : Meaning) (gained : List Receipt)
     (fault : Option CallFault) (end : LineEnd)
-    → first ≡ old → new ≡ last → AreTurns l first gained last → IsAskedRun l.cpus asked gained fault end
-    → IfSome fault (FaultCaused l last) → IsCallsRun l old asked end new
-line_run l old first last new asked gained fault end first_is new_is turns ran caused =
+    → first ≡ old → new ≡ last → AreTurns l first gained called → last ≡ left_with called fault
+    → IsAskedRun l.cpus asked gained fault end → IfSome fault (FaultCaused l called)
+    → IsCallsRun l old asked end new
+line_run l old first called last new asked gained fault end first_is new_is turns left ran caused =
     subst (λ (s : SeatValue). IsCallsRun l s asked end new) first_is
     (subst (λ (s : SeatValue). IsCallsRun l first asked end s) (sym new_is) (record {
       gained = gained;
       fault = fault;
+      called = called;
       turns = turns;
+      left = left;
       line = ran;
-      caused = caused_by l last fault caused;
+      caused = caused_by l called fault caused;
     }))
 
 -- one more line
@@ -123,6 +123,11 @@ turns_cpu : (l : LayoutParts) (gained : List Receipt) (old new : SeatValue) → 
 turns_cpu l [] old new turns = ap (λ (s : SeatValue). s.cpu) turns
 turns_cpu l (r ∷ rs) old new turns = turns_cpu l rs turns.0 new turns.2 ∙ turns.1.cpu
 
+left_cpu : (seat : SeatValue) (fault : Option CallFault) → (left_with seat fault).cpu ≡ seat.cpu
+left_cpu seat None = refl
+left_cpu seat (Some HistoryFull) = refl
+left_cpu seat (Some OutOfMemory) = refl
+
 seal_cpu : (l : LayoutParts) (old new : SeatValue) (handed : List Volume) (end : LineEnd)
     → IsSealRun l old handed end new → new.cpu ≡ old.cpu
 seal_cpu l old new handed (Replied reply) ran = absurd ran
@@ -133,7 +138,10 @@ seal_cpu l old new handed (Sealed count) ran = ap (λ (s : SeatValue). s.cpu) ra
 
 line_cpu : (l : LayoutParts) (old new : SeatValue) (asked : Meaning) (handed : List Volume) (end : LineEnd)
     → IsLine l old asked handed end new → new.cpu ≡ old.cpu
-line_cpu l old new asked handed end (inl ran) = turns_cpu l ran.1.gained old new ran.1.turns
+line_cpu l old new asked handed end (inl ran) =
+    let run = ran.1 in
+    ap (λ (s : SeatValue). s.cpu) run.left
+    ∙ (left_cpu run.called run.fault ∙ turns_cpu l run.gained old run.called run.turns)
 line_cpu l old new asked handed end (inr ran) = seal_cpu l old new handed end ran.1
 
 lines_cpu : (l : LayoutParts) (lines : List Line) (old new : SeatValue) (handed : List Volume)

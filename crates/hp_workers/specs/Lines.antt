@@ -14,7 +14,7 @@ use Rattle.hp_history.specs.declared.volumes.Volume.{Volume}
 use Rattle.hp_requests.specs.declared.fault.ControlFault.{ControlFault}
 use Rattle.hp_scenario.specs.Asked as asks
 use Rattle.hp_scenario.specs.declared.lines.Line.{Line}
-use Rattle.hp_shared.specs.Shared.{MayBeFull, SeatValue}
+use Rattle.hp_shared.specs.Shared.{MayBeFull, SeatValue, left_by}
 use Rattle.hp_shared.specs.SeatPorts.{AreTurns}
 use Rattle.hp_shared.specs.Volumes.{IsSealOf, sealed_by}
 use Rattle.hp_workers.specs.declared.lines.LineEnd.{LineEnd}
@@ -75,15 +75,22 @@ pub record IsPortRun {S : Type 0} (shows : S → PortValue) (makes : S → List 
   pub made : AreMade makes leaves old gained fault new
   pub ran : Ran gained fault end
 
+-- a seat after calls, of which at most the last left a fault
+abbrev pub left_with : SeatValue → Option CallFault → SeatValue
+left_with seat None = seat
+left_with seat (Some fault) = left_by seat fault
+
 -- what a line asks for was done by calls of a seat, which keeps the receipts that it gained; the last call
--- left HistoryFull only where the seat may find the history full then
+-- left HistoryFull only where the seat may find the history full then, and the seat counts that it did
 pub record IsCallsRun (l : LayoutParts) (old : SeatValue) (asked : asks.Meaning) (end : LineEnd)
     (new : SeatValue) : Type 0 where
   pub gained : List Receipt
   pub fault : Option CallFault
-  pub turns : AreTurns l old gained new
+  pub called : SeatValue
+  pub turns : AreTurns l old gained called
+  pub left : new ≡ left_with called fault
   pub line : IsAskedRun l.cpus asked gained fault end
-  pub caused : fault ≡ Some call.HistoryFull → MayBeFull l new
+  pub caused : fault ≡ Some call.HistoryFull → MayBeFull l called
 
 -- a seat made no call: it handed out one volume, whose number of records is the end; or none, since
 -- it was out of memory
@@ -108,6 +115,14 @@ pub record IsLineRun (l : LayoutParts) (old : SeatValue) (before : List Volume) 
   pub handed : List Volume
   pub line : IsLine l old asked handed end new
   pub kept : after ≡ before ++ handed
+
+-- a line ended since the history was full
+abbrev pub EndsFull : LineEnd → Type 0
+EndsFull (Replied reply) = ⊥
+EndsFull (Faulted named) = named ≡ call.HistoryFull
+EndsFull (Planned end) = (op : Option ℕ) × (end ≡ Left op call.HistoryFull)
+EndsFull (Untaken why) = ⊥
+EndsFull (Sealed count) = ⊥
 
 -- lines, one after another, were run by a seat, handed out these volumes and ended so
 abbrev pub AreLines : LayoutParts → SeatValue → List Line → List Volume → List LineEnd → SeatValue → Type 0

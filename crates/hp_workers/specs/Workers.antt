@@ -4,12 +4,12 @@ use Rattle.std.specs.List.Sorted.{IsPermutation}
 use Rattle.hp_units.specs.Choices.{first_some}
 use Rattle.hp_units.specs.LayoutParts.{LayoutParts}
 use Rattle.hp_history.specs.declared.volumes.Volume.{Volume}
-use Rattle.hp_shared.specs.Shared.{SeatValue}
+use Rattle.hp_shared.specs.Shared.{IsReached, SeatValue}
 use Rattle.hp_scenario.specs.declared.lines.Line.{Line}
 use Rattle.hp_workers.specs.declared.lines.LineEnd.{LineEnd}
 use Rattle.hp_workers.specs.declared.fault.RunFault.{RunFault}
 use Rattle.hp_workers.specs.declared.fault.RunFault.TheVariants.{NotStarted, OutOfMemory}
-use Rattle.hp_workers.specs.Lines.{IsWorked}
+use Rattle.hp_workers.specs.Lines.{EndsFull, IsWorked}
 use Rattle.hp_workers.specs.Seals.{AreInOrder, AreSealed, joined, seals_in_all}
 
 -- how a worker ended: without a fault it ran all its lines; with one it ran none, and NotStarted
@@ -93,6 +93,12 @@ pub record AreGathered (l : LayoutParts) (olds : List SeatValue) (scripts : List
   pub same : IsPermutation handed volumes
   pub order : AreInOrder volumes
   pub few : length volumes ≤ seals_in_all scripts
+
+-- where some line ended since the history was full, all records reach the limit
+abbrev pub ReachWhereFull : LayoutParts → List (List LineEnd) → (all : ℕ) → Type 0
+ReachWhereFull l lists all =
+    (cpu : ℕ) (own : List LineEnd) (at : ℕ) (end : LineEnd) → slice_get lists cpu ≡ Some own
+    → slice_get own at ≡ Some end → EndsFull end → IsReached l all
 
 -- the end of a run
 abbrev pub IsRunEnd : LayoutParts → List SeatValue → List (List Line) → List SeatValue → List Volume

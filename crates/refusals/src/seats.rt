@@ -29,11 +29,13 @@ pub fn run<R: Wait>(rt: &R, case: &mut Case<'_>, scenario: &Scenario) -> Outcome
     let machine = Machine::boot(case.alloc, &scenario.layout)?;
     let records = Blank::new(scenario.layout.cpus() as u64);
     let sealed = Blank::new(scenario.layout.cpus() as u64);
+    let fulls = Blank::new(scenario.layout.cpus() as u64);
     share::<Brand, R>(
         rt,
         case,
         records,
         sealed,
+        fulls,
         machine,
         &mut twin,
         scenario.lines.as_slice(),
@@ -46,6 +48,7 @@ fn share<L: Job, R: Wait>(
     case: &mut Case<'_>,
     records: Blank,
     sealed: Blank,
+    fulls: Blank,
     machine: Machine,
     twin: &mut Machine,
     lines: &[Line],
@@ -55,14 +58,17 @@ fn share<L: Job, R: Wait>(
     requires parts { records.parts ≡ L.parts }
     requires one_each { records.parts ≡ L.layout.cpus }
     requires sealed { (sealed.name ≡ L.sealed) × (sealed.parts ≡ L.layout.cpus) }
+    requires fulls { (fulls.name ≡ L.fulls) × (fulls.parts ≡ L.layout.cpus) }
 {
-    let (records, sealed, machine) = match Shared::<L>::new(case.alloc, records, sealed, machine) {
+    let (records, sealed, fulls, machine) = match Shared::<L>::new(
+        case.alloc, records, sealed, fulls, machine,
+    ) {
         Ok((shared, seats)) => return run_all(rt, case, shared, seats, twin, lines),
         Err(back) => back,
     };
     case.note();
     expect_same_machines(case.alloc, &machine, twin)?;
-    match Shared::<L>::new(case.alloc, records, sealed, machine) {
+    match Shared::<L>::new(case.alloc, records, sealed, fulls, machine) {
         Ok((shared, seats)) => run_all(rt, case, shared, seats, twin, lines),
         Err(_) => Err(Trouble::OutOfMemory),
     }

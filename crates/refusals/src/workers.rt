@@ -36,7 +36,8 @@ pub fn run<R: Threads + Wait + Sync>(rt: &R, alloc: Global) -> Outcome {
     let scripts = scenario.scripts(alloc)?;
     let records = Blank::new(cpus);
     let sealed = Blank::new(cpus);
-    run_scripts::<Brand, R>(rt, alloc, records, sealed, machine, scripts)
+    let fulls = Blank::new(cpus);
+    run_scripts::<Brand, R>(rt, alloc, records, sealed, fulls, machine, scripts)
 }
 
 /// Has workers run a script for each processor, and closes.
@@ -45,6 +46,7 @@ fn run_scripts<L: Job + Send + Sync, R: Threads + Wait + Sync>(
     alloc: Global,
     records: Blank,
     sealed: Blank,
+    fulls: Blank,
     machine: Machine,
     scripts: Vec<Script>,
 ) -> Outcome
@@ -53,9 +55,10 @@ fn run_scripts<L: Job + Send + Sync, R: Threads + Wait + Sync>(
     requires parts { records.parts ≡ L.parts }
     requires one_each { records.parts ≡ L.layout.cpus }
     requires sealed { (sealed.name ≡ L.sealed) × (sealed.parts ≡ L.layout.cpus) }
+    requires fulls { (fulls.name ≡ L.fulls) × (fulls.parts ≡ L.layout.cpus) }
     requires run { AreForRun scripts.items }
 {
-    match Shared::<L>::new(alloc, records, sealed, machine) {
+    match Shared::<L>::new(alloc, records, sealed, fulls, machine) {
         Ok((shared, seats)) => run_seats(rt, alloc, shared, seats, scripts),
         Err(_) => Err(Trouble::OutOfMemory),
     }

@@ -131,6 +131,7 @@ fn plays_on<L: Job + Send + Sync, R: Threads + Wait + Sync>(
     alloc: Global,
     records: Blank,
     sealed: Blank,
+    fulls: Blank,
     machine: Machine,
 ) -> Option<(OpEnd, u64)>
     requires machine { IsFresh L.layout machine }
@@ -138,8 +139,9 @@ fn plays_on<L: Job + Send + Sync, R: Threads + Wait + Sync>(
     requires parts { records.parts ≡ L.parts }
     requires one_each { records.parts ≡ L.layout.cpus }
     requires sealed { (sealed.name ≡ L.sealed) × (sealed.parts ≡ L.layout.cpus) }
+    requires fulls { (fulls.name ≡ L.fulls) × (fulls.parts ≡ L.layout.cpus) }
 {
-    let (shared, seats) = Shared::<L>::new(alloc, records, sealed, machine).ok()?;
+    let (shared, seats) = Shared::<L>::new(alloc, records, sealed, fulls, machine).ok()?;
     mapped_and_moved(rt, alloc, shared, seats)
 }
 
@@ -149,7 +151,8 @@ fn plays<R: Threads + Wait + Sync>(rt: &R, alloc: Global) -> Result<Option<(OpEn
     let machine = Machine::boot(alloc, &layout)?;
     let records = Blank::new(layout.cpus() as u64);
     let sealed = Blank::new(layout.cpus() as u64);
-    Ok(plays_on::<Brand, _>(rt, alloc, records, sealed, machine))
+    let fulls = Blank::new(layout.cpus() as u64);
+    Ok(plays_on::<Brand, _>(rt, alloc, records, sealed, fulls, machine))
 }
 
 #[test]

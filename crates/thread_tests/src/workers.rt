@@ -77,6 +77,7 @@ fn run_scripts<L: Job + Send + Sync, G: Gate + Sync, R: Threads + Wait + Sync>(
     alloc: Global,
     records: Blank,
     sealed: Blank,
+    fulls: Blank,
     machine: Machine,
     scripts: Vec<Script>,
     gate: &G,
@@ -86,9 +87,10 @@ fn run_scripts<L: Job + Send + Sync, G: Gate + Sync, R: Threads + Wait + Sync>(
     requires parts { records.parts ≡ L.parts }
     requires one_each { records.parts ≡ L.layout.cpus }
     requires sealed { (sealed.name ≡ L.sealed) × (sealed.parts ≡ L.layout.cpus) }
+    requires fulls { (fulls.name ≡ L.fulls) × (fulls.parts ≡ L.layout.cpus) }
     requires run { AreForRun scripts.items }
 {
-    let (shared, seats) = Shared::<L>::new(alloc, records, sealed, machine).ok()?;
+    let (shared, seats) = Shared::<L>::new(alloc, records, sealed, fulls, machine).ok()?;
     if seats.len() != scripts.len() {
         drop(shared);
         drop(seats);
@@ -118,7 +120,8 @@ fn run_lines<G: Gate + Sync, R: Threads + Wait + Sync>(
     let scripts = scenario.scripts(alloc)?;
     let records = Blank::new(cpus);
     let sealed = Blank::new(cpus);
-    match run_scripts::<Brand, _, _>(rt, alloc, records, sealed, machine, scripts, gate) {
+    let fulls = Blank::new(cpus);
+    match run_scripts::<Brand, _, _>(rt, alloc, records, sealed, fulls, machine, scripts, gate) {
         Some(outcome) => Ok(outcome),
         None => Err(Fail::from("no outcome")),
     }

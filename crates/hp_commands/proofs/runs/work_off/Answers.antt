@@ -6,7 +6,7 @@ use Rattle.hp_units.specs.LayoutParts.{LayoutParts}
 use Rattle.hp_commands.specs.Faults.{IsFaultOf, IsWorkFault}
 use Rattle.hp_commands.specs.declared.commands.Command.TheVariants.{Run}
 use Rattle.hp_commands.specs.Runs.{IsWorkedOff}
-use Rattle.hp_commands.proofs.Ran.{unfit, work_fails_at}
+use Rattle.hp_commands.proofs.Ran.{run_is, unfit, work_fails_at}
 use Rattle.hp_commands.proofs.Served.{scenario_fault}
 use Rattle.hp_commands.proofs.runs.work_off.Goals as goal
 
@@ -38,12 +38,8 @@ returns-clause-ok g c =
     let s = scenario_seen c.in_ok-scenario.scenario in
     let booted : m.layout ≡ s.layout = ap (λ (x : MachineValue). x.layout) c.in_ok-machine.ensures in
     let scripts = c.in_ok-scripts.scripts.items in
-    IfOk-weaker c.run_scripts.result _ _ (λ worked h. record {
-      scenario = s;
-      read = c.in_ok-scenario.ensures;
-      scripts = scripts;
-      parted = c.in_ok-scripts.ensures.scripts;
-      worked =
-          subst (λ (l : LayoutParts). IsWorkedOff l scripts worked.ends.items worked.closed.volumes.items
-          worked.closed.machine worked.closed.records) booted h;
-    }) c.run_scripts.ensures.ok
+    IfOk-weaker c.run_scripts.result _ _ (λ worked h. run_is c.args.input.now s scripts worked.ends.items
+    worked.closed.volumes.items worked.closed.machine worked.closed.records c.in_ok-scenario.ensures
+    c.in_ok-scripts.ensures.scripts c.in_ok-scripts.ensures.count (subst (λ (l : LayoutParts).
+    IsWorkedOff l scripts worked.ends.items worked.closed.volumes.items worked.closed.machine
+    worked.closed.records) booted h)) c.run_scripts.ensures.ok

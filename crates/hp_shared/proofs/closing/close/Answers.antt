@@ -1,5 +1,5 @@
-use Rattle.std.proofs.Common.{List, refl, subst}
-use Rattle.hp_shared.specs.Closing.{IsClosed}
+use Rattle.std.proofs.Common.{◌≡◌, List, length, refl, subst, sym}
+use Rattle.hp_shared.specs.Closing.{AreCounted, IsClosed}
 use Rattle.hp_shared.specs.Shared.{SeatValue}
 use Rattle.hp_shared.proofs.Closings.{caused, closed}
 use Rattle.hp_shared.proofs.closing.close.Goals as goal
@@ -9,9 +9,13 @@ returns-in-Ok-clause-ok g c =
     let l = g.L.Job.layout in
     let volumes = c.args.volumes.items in
     let m = c.into_machine.result in
+    let counted =
+    subst (λ (seats : List SeatValue). length seats ≡ l.cpus → AreCounted l seats c.audit_all.new.locked)
+    (sym c.audit_all.ensures.seats) (λ each. subst (AreCounted l c.args.seats.items)
+    (sym c.audit_all.ensures.locked) (c.audit_all.ensures.all each)) in
     subst (λ (seats : List SeatValue). IsClosed l seats volumes m c.in-Ok.records) c.audit_all.ensures.seats
     (closed l c.audit_all.new.locked m c.in-Ok.records c.audit_all.new.seats.items volumes
-    c.check.ensures.shown c.into_machine.ensures c.in-Ok.ensures.ok)
+    c.check.ensures.shown c.into_machine.ensures counted c.in-Ok.ensures.ok)
 
 pub returns-in-Err-clause-err : goal.returns-in-Err-clause-err
 returns-in-Err-clause-err g c =

@@ -1,4 +1,4 @@
-use Rattle.std.proofs.Common.{◌∙◌, sym}
+use Rattle.std.proofs.Common.{◌∙◌, sym, arith}
 use Rattle.hp_shared.proofs.Turns.{begun}
 use Rattle.hp_shared.proofs.locked.Locked.new.Goals as goal
 
@@ -8,4 +8,5 @@ invariant_of-result g c = (
       c.history.ensures.kept c.requires.book.0,
   c.requires.one_each,
   c.requires.book.1 ∙ sym c.requires.machine.before,
+  λ some. absurd (omega (arith, some, c.requires.book.2)),
 )

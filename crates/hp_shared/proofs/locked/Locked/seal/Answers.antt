@@ -4,7 +4,7 @@ use Rattle.hp_units.specs.declared.replies.Record.{Record}
 use Rattle.hp_history.specs.Volumes.{volume_of}
 use Rattle.hp_history.specs.declared.volumes.Volume.{Volume}
 use Rattle.hp_machine.specs.Machine.{MachineValue, sealed}
-use Rattle.hp_shared.specs.Shared.{IsShared, LockedValue}
+use Rattle.hp_shared.specs.Shared.{IsReached, IsShared, LockedValue}
 use Rattle.hp_shared.proofs.Turns.{sealed_on}
 use Rattle.hp_shared.proofs.Sealing.{handed_on}
 use Rattle.hp_shared.proofs.Values.{locked_of, on_err}
@@ -20,6 +20,7 @@ invariant_of-self-2 g c = (
       (c.audit-2.ensures.total ∙ c.self.invariant.2)
       c.in_ok-volume.ensures.volume
       c.in_ok-volume.ensures.goes_on c.as_slice.ensures refl c.add.ensures.total,
+  λ some. subst (IsReached g.L.Job.layout) (sym c.audit.ensures.total) (c.self.invariant.3 some),
 )
 
 pub returns-clause-kept : goal.returns-clause-kept

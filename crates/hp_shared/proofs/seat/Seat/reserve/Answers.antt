@@ -10,9 +10,11 @@ invariant_of-self g c = (
   c.self.invariant.2 ∙ ap (λ (rs : List Receipt). length rs) (sym c.reserve.ensures.items),
   c.self.invariant.3,
   c.self.invariant.4,
+  c.self.invariant.5,
 )
 
 pub returns : goal.returns
 returns g c =
-    ap (λ (rs : List Receipt). seat_of c.self.inside.cpu rs c.self.inside.sealed.amount) c.reserve.ensures.items
+    ap (λ (rs : List Receipt). seat_of c.self.inside.cpu rs c.self.inside.sealed.amount
+    c.self.inside.fulls.amount) c.reserve.ensures.items
     ∙ c.self.view_is

@@ -14,7 +14,8 @@ returns-clause-ok g c =
 
 pub returns-clause-seat : goal.returns-clause-seat
 returns-clause-seat g c =
-    ap (λ (n : ℕ). seat_of c.self.inside.cpu c.self.inside.receipts.items n) c.in_ok-volume.ensures.counted
+    ap (λ (n : ℕ). seat_of c.self.inside.cpu c.self.inside.receipts.items n
+    c.self.inside.fulls.amount) c.in_ok-volume.ensures.counted
     ∙ ap (λ (seat : SeatValue). sealed_by seat c.in_ok-volume.volume) c.self.view_is
 
 pub returns-clause-err : goal.returns-clause-err
@@ -26,7 +27,8 @@ returns-in_err-volume-clause-ok g c = IfOk-from_err c.from_residual.result _ c.f
 pub returns-in_err-volume-clause-err : goal.returns-in_err-volume-clause-err
 returns-in_err-volume-clause-err g c =
     on_err c.from_residual.result _
-    (ap (λ (n : ℕ). seat_of c.self.inside.cpu c.self.inside.receipts.items n) c.in_err-volume.ensures.err
+    (ap (λ (n : ℕ). seat_of c.self.inside.cpu c.self.inside.receipts.items n
+    c.self.inside.fulls.amount) c.in_err-volume.ensures.err
     ∙ c.self.view_is)
 
 pub invariant_of-self : goal.invariant_of-self
@@ -36,6 +38,7 @@ invariant_of-self g c = (
   c.seal.ensures.share.0 ∙ c.self.invariant.2,
   c.seal.ensures.parts ∙ c.self.invariant.3,
   c.in_err-volume.ensures.err ∙ c.self.invariant.4,
+  c.self.invariant.5,
 )
 
 pub invariant_of-self-2 : goal.invariant_of-self-2
@@ -47,4 +50,5 @@ invariant_of-self-2 g c = (
   c.in_ok-volume.ensures.counted
       ∙ ap (λ (n : ℕ). n + length c.in_ok-volume.volume.records) c.self.invariant.4
       ∙ ap (λ (rs : List Record). c.self.inside.handed + length rs) (sym c.as_slice.ensures),
+  c.self.invariant.5,
 )

@@ -17,6 +17,8 @@ loop-cpu-preserved g c =
       omega (arith, i.4, c.push_reserved.ensures.capacity),
       omega (arith, i.5, c.split_off-own.ensures.parts_left),
       omega (arith, i.6, c.split_off-own.ensures.amount_left),
+      omega (arith, i.7, c.split_off-told.ensures.parts_left),
+      omega (arith, i.8, c.split_off-told.ensures.amount_left),
     )
 
 pub returns-clause-seats : goal.returns-clause-seats
