@@ -91,7 +91,7 @@ sealed_course m es ds before left kept ok last empty clear =
 -- ---- going back
 
 -- the net after going back
-cut_net : (m : CourseValue) (cpu : ℕ) (keep : ℕ) (r : Receipt) → IsCut m cpu r.event keep r.reply
+pub cut_net : (m : CourseValue) (cpu : ℕ) (keep : ℕ) (r : Receipt) → IsCut m cpu r.event keep r.reply
     → net_of (m.history ++ record_of cpu r ∷ []) ≡ take keep (net_of m.history)
 cut_net m cpu keep r cut = net-push m.history (record_of cpu r) ∙ cut.cut (record_of cpu r) refl refl
 

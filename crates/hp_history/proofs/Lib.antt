@@ -7,4 +7,5 @@ pub mod Names
 mod NotedSteps
 pub mod Places
 pub mod Starts
+pub mod Undone
 pub mod Walks

@@ -1,6 +1,6 @@
 -- The journal's entries: the steps that they stand for, where their deltas begin on the tape, and
 -- what they show.
-use Rattle.std.specs.Prelude.{ℕ, zero, suc, ◌≡◌, ◌+◌, ◌/◌, ◌%◌, ◌^◌, ◌<◌, ◌≤◌, List, Some, length, map, slice_get, take}
+use Rattle.std.specs.Prelude.{ℕ, zero, suc, ◌≡◌, ◌+◌, ◌/◌, ◌%◌, ◌^◌, ◌<◌, ◌≤◌, List, [], ◌∷◌, ◌++◌, Some, length, map, slice_get, take}
 use Rattle.std.specs.Option.{option_map_or}
 use Rattle.hp_units.specs.History.{net_of, run}
 use Rattle.hp_units.specs.declared.marks.Mark.{Mark}
@@ -55,3 +55,20 @@ pub record IsEntry (c : CourseValue) (at : ℕ) (deltas : List Delta) : Type 0 w
 -- come before
 abbrev pub IsWayBack : CourseValue → (at : ℕ) → List Delta → Type 0
 IsWayBack c at deltas = LeadsBack c.layout deltas c.state (run c.layout c.base (take at (net_of c.history)))
+
+-- ---- what going back undoes
+
+-- the deltas of several steps, one step's after another's
+abbrev pub joined : List (List Delta) → List Delta
+joined [] = []
+joined (deltas ∷ steps) = deltas ++ joined steps
+
+-- the latest steps are undone: the first `keep` are left, each of the others has its entry, and the deltas
+-- of these lead from the old state back to the new one, latest first, each fitting when its turn comes
+pub record IsUndone (old new : CourseValue) : Type 0 where
+  pub keep : ℕ
+  pub entries : List (List Delta)
+  pub dropped : keep + length entries ≡ length (net_of old.history)
+  pub net : net_of new.history ≡ take keep (net_of old.history)
+  pub each : (j : ℕ) (deltas : List Delta) → slice_get entries j ≡ Some deltas → IsEntry old (keep + j) deltas
+  pub leads : LeadsBack old.layout (joined entries) old.state new.state

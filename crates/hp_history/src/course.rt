@@ -1,11 +1,11 @@
 //! The course of a history: a journal with its base state and its records.
-ghost use Rattle.std.specs.Prelude.{◌≡◌, ◌<◌, ◌≤◌, false, length, MatchOption, IfOk, OnErr, OnOk};
+ghost use Rattle.std.specs.Prelude.{◌≡◌, ◌<◌, ◌≤◌, false, true, length, MatchOption, IfOk, OnErr, OnOk};
 ghost use Rattle.hp_units.specs.Boot.{boot_memory};
-ghost use Rattle.hp_units.specs.History.{net_of};
+ghost use Rattle.hp_units.specs.History.{goes_back, net_of};
 ghost use Rattle.hp_units.specs.LayoutParts.{IsLayout};
 ghost use Rattle.hp_units.specs.Placement.{IsWellPlaced};
 ghost use Rattle.hp_history.specs.Course.{IsAnswered, IsHistory, is_spent, last_serial, receipt_for, started};
-ghost use Rattle.hp_history.specs.Entries.{IsEntry, IsWayBack};
+ghost use Rattle.hp_history.specs.Entries.{IsEntry, IsUndone, IsWayBack};
 ghost use Rattle.hp_history.specs.Kept.{pictured};
 ghost use Rattle.hp_history.specs.Volumes.{volume_of};
 
@@ -111,6 +111,7 @@ impl Course {
         ensures err { OnErr result (self.new ≡ self.old) }
         ensures ok { IfOk result
             (λ answer. IsAnswered self.old cpu event.now (receipt_for event.now answer) self.new) }
+        ensures back { IfOk result (λ answer. goes_back answer.1 ≡ true → IsUndone self.old self.new) }
     {
         let recorded = event.copy(alloc)?;
         self.history.reserve(1)?;

@@ -5,6 +5,8 @@ ghost use Rattle.hp_units.specs.LayoutParts.{IsLayout};
 ghost use Rattle.hp_units.specs.Placement.{IsWellPlaced};
 ghost use Rattle.hp_units.specs.declared.events.Event.TheVariants.{Cancel, UndoAfter};
 ghost use Rattle.hp_units.specs.declared.replies.Reply.TheVariants.{Restored};
+ghost use Rattle.hp_units.specs.History.{goes_back};
+ghost use Rattle.hp_history.specs.Entries.{IsUndone};
 ghost use Rattle.hp_history.specs.Course.{IsAnswered, IsHistory, NeedsNoMemory, is_spent, last_serial, receipt_for, started};
 ghost use Rattle.hp_history.specs.Kept.{IsCut, IsStep, is_gone, may_cancel};
 
@@ -132,6 +134,7 @@ impl Journal {
         ensures err { OnErr result (self.new ≡ self.old) }
         ensures ok { IfOk result
             (λ answer. IsAnswered self.old cpu event.now (receipt_for event.now answer) self.new) }
+        ensures back { IfOk result (λ answer. goes_back answer.1 ≡ true → IsUndone self.old self.new) }
     {
         match event {
             Event::UndoAfter { serial } => {
@@ -273,7 +276,8 @@ impl Journal {
     fn go_back(&mut self, cpu: Cpu, event: &Event, keep: usize, reply: &Reply) -> (Serial, Reply)
         requires free { is_spent self.old ≡ false }
         requires cut { IsCut self.old cpu event.now keep reply.now }
-        ensures { IsAnswered self.old cpu event.now (receipt_for event.now result) self.new }
+        ensures answered { IsAnswered self.old cpu event.now (receipt_for event.now result) self.new }
+        ensures back { IsUndone self.old self.new }
     {
         let serial = self.next_serial();
         let count = self.deltas.len();

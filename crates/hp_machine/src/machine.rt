@@ -1,13 +1,13 @@
 //! A machine with its history.
-ghost use Rattle.std.specs.Prelude.{◌≡◌, ◌↔◌, ◌≤◌, Err, IfOk, MatchOption, OnErr, OnOk, IsTrue, length, slice_get};
+ghost use Rattle.std.specs.Prelude.{◌≡◌, ◌↔◌, ◌<◌, ◌≤◌, Err, IfOk, MatchOption, OnErr, OnOk, IsTrue, length, slice_get, true};
 ghost use Rattle.hp_units.specs.Boot.{boot_memory};
-ghost use Rattle.hp_units.specs.History.{net_of};
+ghost use Rattle.hp_units.specs.History.{goes_back, net_of};
 ghost use Rattle.hp_units.specs.Memory.{free_list, kernel_order};
 ghost use Rattle.hp_units.specs.Pages.{frame_at};
 ghost use Rattle.hp_tape.specs.Deltas.{page_frames_of};
 ghost use Rattle.hp_pages.specs.Pages.{AreSettled};
 ghost use Rattle.hp_history.specs.Course.{receipt_for};
-ghost use Rattle.hp_history.specs.Entries.{IsEntry};
+ghost use Rattle.hp_history.specs.Entries.{IsEntry, IsUndone, IsWayBack};
 ghost use Rattle.hp_history.specs.Volumes.{volume_of};
 ghost use Rattle.hp_machine.specs.Machine.{IsCalled, IsHistory, IsSound, booted, is_full, last_serial, sealed};
 ghost use Rattle.hp_machine.specs.MachinePorts.{IsPlanRun};
@@ -68,10 +68,15 @@ impl Machine {
     /// One call: the event of a processor is answered and recorded (own rule). It answers
     /// `HistoryFull` where the history holds its limit of records or the last serial is 2^64 - 1,
     /// and otherwise `OutOfMemory` where it is out of memory; then all is as before.
+    ///
+    /// An UndoAfter that is not refused, and a Cancel that restores, undo the deltas of the steps
+    /// that they drop, latest first, and nothing else.
     pub fn call(&mut self, alloc: Global, cpu: Cpu, event: &Event) -> Result<Receipt, CallFault>
         ensures full { (result ≡ Err CallFault.HistoryFull) ↔ IsTrue (is_full self.old) }
         ensures err { OnErr result (self.new ≡ self.old) }
         ensures ok { IfOk result (λ receipt. IsCalled self.old cpu event.now receipt self.new) }
+        ensures back { IfOk result
+            (λ receipt. goes_back receipt.reply ≡ true → IsUndone self.old self.new) }
     {
         if self.is_full() {
             return Err(CallFault::HistoryFull);
@@ -102,6 +107,7 @@ impl Machine {
         ensures err { OnErr result (self.new ≡ self.old) }
         ensures ok { IfOk result
             (λ answer. IsCalled self.old cpu event.now (receipt_for event.now answer) self.new) }
+        ensures back { IfOk result (λ answer. goes_back answer.1 ≡ true → IsUndone self.old self.new) }
     {
         if self.is_full() {
             return Err(CallFault::HistoryFull);
@@ -289,6 +295,15 @@ impl Machine {
             (λ deltas. IsEntry self.now at deltas.now) }
     {
         self.course.entry(at)
+    }
+
+    /// Returns the deltas of the steps from one on, counted from 0; none past the end of the journal.
+    /// An undo that keeps only the steps before it undoes just these, latest first.
+    pub fn way_back(&self, at: u64) -> Option<&[Delta]>
+        ensures { MatchOption result (length (net_of self.now.history) < at)
+            (λ deltas. IsWayBack self.now at deltas.now) }
+    {
+        self.course.way_back(at)
     }
 
     /// The free areas.

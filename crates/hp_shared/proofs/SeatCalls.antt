@@ -53,10 +53,11 @@ pub seat_called : (l : LayoutParts) (cpu : ℕ) (was held now : List Receipt) (e
     (answer : ℕ × Reply) (share more sealed kept fulls told : ℕ)
     → copy ≡ event → cpu < l.cpus → held ≡ was → now ≡ held ++ receipt_for copy answer ∷ []
     → share ≡ length was → more ≡ share + 1 → kept ≡ sealed → told ≡ fulls + 0
+    → (0 < fulls → l.history < answer.0)
     → IsTurn l cpu event (receipt_for event answer) more
     → IsSeatCall l (seat_of cpu was sealed fulls) event answer.1 (seat_of cpu now kept told)
 seat_called l cpu was held now event copy answer share more sealed kept fulls told copied inside same pushed
-    counted risen still untold turn =
+    counted risen still untold late turn =
     let receipts : now ≡ was ++ receipt_for copy answer ∷ [] =
     pushed ∙ ap (λ (rs : List Receipt). rs ++ receipt_for copy answer ∷ []) same in
     let amount : more ≡ length now =
@@ -79,6 +80,7 @@ seat_called l cpu was held now event copy answer share more sealed kept fulls to
         turn =
             subst (λ (e : Event). IsTurn l cpu event (receipt_for e answer) (length now)) (sym copied)
             (subst (IsTurn l cpu event (receipt_for event answer)) amount turn);
+        late = late;
       };
     }
 

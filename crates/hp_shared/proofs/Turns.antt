@@ -1,8 +1,9 @@
 -- A recorded call keeps what every lock shows, and so does a seal.
 use Rattle.std.specs.Prelude.{IfOk, IsTrue, is_ok, nat_le, ◌||◌, ◌<◌, ◌≤◌, ◌↔◌}
 use Rattle.std.proofs.Common.{◌≡◌, Bool, true, false, Result, Ok, Err, ℕ, ◌+◌, List, [], ◌∷◌, ◌++◌, length, Some, slice_get, take, refl, ap, sym, subst, ◌∙◌, arith, inl, inr}
-use Rattle.std.proofs.lemmas.Bool.{leb-true}
+use Rattle.std.proofs.lemmas.Bool.{le-leb, leb-true}
 use Rattle.std.proofs.lemmas.List.{length-append}
+use Rattle.std.proofs.Math.Bool.{or-true}
 use Rattle.hp_units.specs.LayoutParts.{LayoutParts}
 use Rattle.hp_units.specs.Boot.{boot_memory}
 use Rattle.hp_units.specs.Memory.{Memory}
@@ -92,6 +93,12 @@ full_count m full = by_room (nat_le m.layout.history (length m.history)) (is_spe
         inr (omega (arith, last))
     by_room false false is so both = absurd cc
 
+-- and one with no further serial is full
+spent_is_full : (m : MachineValue) → 18446744073709551615 ≤ last_serial m → is_full m ≡ true
+spent_is_full m last =
+    rw (le-leb 18446744073709551615 (m.before + length m.history) last)
+    (or-true (nat_le m.layout.history (length m.history)))
+
 -- and so it is for a share that counts all of them, and one that counts no more than are sealed
 pub filled : {A : Type 0} (l : LayoutParts) (m : MachineValue) (total amount parts all handed : ℕ)
     (answer : Result A CallFault)
@@ -137,6 +144,26 @@ reached_on {A} l m was total fulls told answer shared more full before counted s
     by_answer (Ok x) full counted = later (before (omega (arith, counted, some)))
     by_answer (Err HistoryFull) full counted = here (full_count m (full.0 refl))
     by_answer (Err OutOfMemory) full counted = later (before (omega (arith, counted, some)))
+
+-- a call that is recorded after one that found the history full has a serial above the limit
+pub late_on : (l : LayoutParts) (old new : MachineValue) (was fulls told cpu : ℕ) (event : Event)
+    (result : Result (ℕ × Reply) CallFault)
+    → IsShared l (record { machine = old; total = was })
+    → IfOk result (λ answer. IsCalled old cpu event (receipt_for event answer) new)
+    → ((result ≡ Err HistoryFull) ↔ IsTrue (is_full old))
+    → (0 < fulls → IsReached l was) → told ≤ fulls
+    → IfOk result (λ answer. 0 < told → l.history < answer.0)
+late_on l old new was fulls told cpu event (Err fault) shared called full reached few = tt
+late_on l old new was fulls told cpu event (Ok answer) shared called full reached few =
+    λ some. by_cause (reached (omega (arith, some, few)))
+  where
+    not_full : Ok answer ≡ Err HistoryFull → ⊥
+    not_full is = absurd cc
+
+    by_cause : IsReached l was → l.history < answer.0
+    by_cause (inl most) = omega (arith, most, shared.total, called.serial)
+    by_cause (inr last) =
+        absurd (not_full (full.1 (spent_is_full old (omega (arith, last, shared.total)))))
 
 -- a machine with no records that sealed nothing may lie under the lock
 pub begun : (l : LayoutParts) (m : MachineValue) (total : ℕ) → IsFresh l m

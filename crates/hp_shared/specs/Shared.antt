@@ -101,7 +101,8 @@ pub record IsTurn (l : LayoutParts) (cpu : ℕ) (event : Event) (r : Receipt) (r
   pub last : IsLastOf seen.machine cpu r
   pub within : receipts ≤ r.serial
 
--- the call of an event by a seat, whose processor is in the layout, was answered so: its receipt is appended
+-- the call of an event by a seat, whose processor is in the layout, was answered so: its receipt is
+-- appended; its serial is above the history's limit where the seat found the history full before
 pub record IsSeated (l : LayoutParts) (old : SeatValue) (event : Event) (r : Receipt)
     (new : SeatValue) : Type 0 where
   pub inside : old.cpu < l.cpus
@@ -110,6 +111,7 @@ pub record IsSeated (l : LayoutParts) (old : SeatValue) (event : Event) (r : Rec
   pub sealed : new.sealed ≡ old.sealed
   pub fulls : new.fulls ≡ old.fulls
   pub turn : IsTurn l old.cpu event r (length new.receipts)
+  pub late : 0 < old.fulls → l.history < r.serial
 
 -- the call of an event by a seat was answered by a reply: a receipt that has it is appended
 pub record IsSeatCall (l : LayoutParts) (old : SeatValue) (event : Event) (reply : Reply)

@@ -1,6 +1,6 @@
 //! The end of a shared machine.
-ghost use Rattle.std.specs.Prelude.{◌≡◌, IfErr, IfOk};
-ghost use Rattle.hp_shared.specs.Closing.{HasCause, HasFault, IsChecked, IsClosed};
+ghost use Rattle.std.specs.Prelude.{◌≡◌, IfErr, IfOk, length};
+ghost use Rattle.hp_shared.specs.Closing.{AreCounted, HasCause, HasFault, IsChecked, IsClosed};
 ghost use Rattle.hp_shared.specs.Shared.{IsShared};
 
 use crate::comparing::{compare, has_each};
@@ -53,10 +53,25 @@ pub struct CloseRefused<L: Job> {
     pub volumes: Vec<Volume>,
 }
 
+/// What comes back where a machine that was taken from its lock was not closed.
+#[derive(Drop)]
+pub struct NotClosed<L: Job> {
+    /// Why.
+    pub fault: CloseFault,
+    /// The machine.
+    pub locked: Locked<L>,
+    /// The seats, in the order in which they came.
+    pub seats: Vec<Seat<L>>,
+    /// The volumes, in the order in which they came.
+    pub volumes: Vec<Volume>,
+}
+
 /// Closes a shared machine, where each seat's receipts are exactly its processor's records, in
 /// order, and there are no others (own rule). The records are those of the volumes, which are all
 /// that the machine sealed, and then the machine's own. It waits for nobody: no other thread has a
-/// part in it any more. Its answer is that of `Locked::check` on what lay under the lock.
+/// part in it any more. It takes the lock off, calls `Locked::close`, and puts the machine under its
+/// lock again if that fails. A contract cannot say what lies under a lock: who has to know of which
+/// machine the answer speaks makes these three calls.
 ///
 /// Errors are those of `Locked::check`; each hands the machine, all seats and all volumes back.
 pub fn close<L: Job>(
@@ -72,26 +87,78 @@ pub fn close<L: Job>(
         (λ refused. (refused.seats.items ≡ seats.items) × (refused.volumes.items ≡ volumes.items)) }
     ensures err { IfErr result (λ refused. HasCause L.layout seats.items volumes.items refused.fault) }
 {
-    let mut locked = shared.into_locked();
-    let mut seats = seats;
-    // No effect at run time: the proof reads from this call what the seats count.
-    audit_all(&mut locked, &mut seats);
-    match locked.check(alloc, &seats, &volumes) {
-        Ok(records) => Ok(Closed {
-            machine: locked.into_machine(),
-            volumes,
-            records,
-        }),
-        Err(fault) => Err(CloseRefused {
+    match shared.into_locked().close(alloc, seats, volumes) {
+        Ok(closed) => Ok(closed),
+        Err(refused) => Err(refused.share()),
+    }
+}
+
+impl<L: Job> NotClosed<L> {
+    /// Puts the machine under a lock again.
+    pub fn share(self) -> CloseRefused<L>
+        ensures fault { result.fault ≡ self.fault }
+        ensures seats { result.seats.items ≡ self.seats.items }
+        ensures volumes { result.volumes.items ≡ self.volumes.items }
+    {
+        let NotClosed {
             fault,
-            shared: Shared::again(locked),
+            locked,
             seats,
             volumes,
-        }),
+        } = self;
+        CloseRefused {
+            fault,
+            shared: Shared::from_locked(locked),
+            seats,
+            volumes,
+        }
     }
 }
 
 impl<L: Job> Locked<L> {
+    /// Closes the machine, where each seat's receipts are exactly its processor's records, in order,
+    /// and there are no others: those of the volumes, which are all that the machine sealed, and
+    /// then the machine's own. As many seats as processors have as many receipts as this machine has
+    /// records.
+    ///
+    /// Errors are those of `check`; each hands this very machine, all seats and all volumes back.
+    pub fn close(
+        self,
+        alloc: Global,
+        seats: Vec<Seat<L>>,
+        volumes: Vec<Volume>,
+    ) -> Result<Closed, NotClosed<L>>
+        ensures ok { IfOk result
+            (λ closed. IsClosed L.layout seats.items volumes.items closed.machine closed.records) }
+        ensures machine { IfOk result (λ closed. closed.machine ≡ self.machine) }
+        ensures volumes { IfOk result (λ closed. closed.volumes.items ≡ volumes.items) }
+        ensures same { IfErr result (λ refused. refused.locked ≡ self) }
+        ensures back { IfErr result
+            (λ refused. (refused.seats.items ≡ seats.items) × (refused.volumes.items ≡ volumes.items)) }
+        ensures err { IfErr result
+            (λ refused. HasFault self.machine L.layout.cpus seats.items volumes.items refused.fault) }
+        ensures counted { length seats.items ≡ L.layout.cpus → AreCounted L.layout seats.items self }
+        ensures shown { IsShared L.layout self }
+    {
+        let mut locked = self;
+        let mut seats = seats;
+        // No effect at run time: the proof reads from this call what the seats count.
+        audit_all(&mut locked, &mut seats);
+        match locked.check(alloc, &seats, &volumes) {
+            Ok(records) => Ok(Closed {
+                machine: locked.into_machine(),
+                volumes,
+                records,
+            }),
+            Err(fault) => Err(NotClosed {
+                fault,
+                locked,
+                seats,
+                volumes,
+            }),
+        }
+    }
+
     /// Whether it may be closed (own rule): there is one seat for each processor, the volumes are
     /// all that the machine sealed, and each seat's receipts are exactly its processor's records, in
     /// the volumes and then in the machine. It answers how many records there are in all. Its time

@@ -24,7 +24,7 @@ mod seat_port;
 mod shared;
 mod volumes;
 
-pub use closing::{CloseFault, CloseRefused, Closed, close};
+pub use closing::{CloseFault, CloseRefused, Closed, NotClosed, close};
 pub use job::{Fulls, Job, Sealed};
 pub use locked::Locked;
 pub use seat::Seat;

@@ -65,8 +65,9 @@ impl<L: Job> Locked<L> {
 
     /// The one step of a seat: a call of the machine, answered by the serial of its record and the
     /// reply (own rule). Where it was recorded, the total and the seat's share each rise by one; no
-    /// share is above the total. Where it found the history full, `told` rises by one. It waits for
-    /// nobody, since whoever calls it holds the lock.
+    /// share is above the total. Where it found the history full, `told` rises by one; a seat for
+    /// which it rose gets only serials above the limit from then on. It waits for nobody, since
+    /// whoever calls it holds the lock.
     ///
     /// Errors are those of `Machine::answer`, `HistoryFull` exactly where the history holds its
     /// limit or the last serial is 2^64 - 1; they leave all as it was. To a share of a part for each
@@ -96,12 +97,14 @@ impl<L: Job> Locked<L> {
             × (handed.new.parts ≡ handed.old.parts) }
         ensures told { (told.new.amount ≡ told.old.amount + fulls_of result)
             × (told.new.parts ≡ told.old.parts) }
+        ensures late { IfOk result (λ answer. 0 < told.old.amount → L.layout.history < answer.0) }
         ensures within { share.new.amount ≤ self.new.total }
         ensures shown { IsShared L.layout self.old }
         ensures kept { IsShared L.layout self.new }
     {
         self.book.audit(share);
         self.sealed.audit(handed);
+        self.fulls.audit(told);
         let answer = self.machine.answer(alloc, cpu, event);
         count_full(&mut self.fulls, told, &answer);
         if answer.is_ok() {
@@ -171,24 +174,24 @@ impl<L: Job> Locked<L> {
         self.fulls.audit(told);
     }
 
-    /// The number of processors.
-    pub(crate) fn cpus(&self) -> u32
+    /// Returns the number of processors.
+    pub fn cpus(&self) -> u32
         ensures is { result ≡ L.layout.cpus }
         ensures some { 1 ≤ L.layout.cpus }
     {
         self.machine.layout().cpus()
     }
 
-    /// The machine.
-    pub(crate) fn machine(&self) -> &Machine
+    /// Returns the machine, to look at.
+    pub fn machine(&self) -> &Machine
         ensures machine { result.now ≡ self.now.machine }
         ensures kept { IsShared L.layout self.now }
     {
         &self.machine
     }
 
-    /// The machine alone.
-    pub(crate) fn into_machine(self) -> Machine
+    /// Returns the machine alone. Nobody's calls are counted any more.
+    pub fn into_machine(self) -> Machine
         ensures { result ≡ self.machine }
     {
         let Locked {

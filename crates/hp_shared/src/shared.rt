@@ -104,6 +104,7 @@ impl<L: Job> Shared<L> {
             × (handed.new.parts ≡ handed.old.parts) }
         ensures told { (told.new.amount ≡ told.old.amount + fulls_of result)
             × (told.new.parts ≡ told.old.parts) }
+        ensures late { IfOk result (λ answer. 0 < told.old.amount → L.layout.history < answer.0) }
     {
         self.locked
             .lock(rt)
@@ -130,8 +131,8 @@ impl<L: Job> Shared<L> {
         self.locked.lock(rt).seal(alloc, share, handed)
     }
 
-    /// A machine under a lock again.
-    pub(crate) fn again(locked: Locked<L>) -> Shared<L> {
+    /// Puts a machine that was taken from its lock under a lock again.
+    pub fn from_locked(locked: Locked<L>) -> Shared<L> {
         let cpus = locked.cpus();
         Shared {
             locked: Mutex::new(locked),
@@ -139,8 +140,8 @@ impl<L: Job> Shared<L> {
         }
     }
 
-    /// What lay under the lock.
-    pub(crate) fn into_locked(self) -> Locked<L> {
+    /// Takes the lock off. It waits for nobody, since nobody else has a part in the machine.
+    pub fn into_locked(self) -> Locked<L> {
         let Shared { locked, cpus: _ } = self;
         locked.into_inner()
     }

@@ -2,7 +2,7 @@
 //! searches, in one thread and in several; and the commands, with streams that give and take pieces
 //! or fail.
 //!
-//! Each module tests a crate or two through what they make public: `seats` tests hp_shared,
+//! Each module tests a crate or two through what they make public: `seats` and `locks` test hp_shared,
 //! `workers` hp_workers, with a gate of its own, `explorations` hp_schedules, hp_explore and
 //! hp_parts; `runs`, `pieces` and `ends` test hp_commands, on the streams of `streams`. What these
 //! commands write for many scenarios is compared by runs/check_runs.py.
@@ -15,6 +15,8 @@
 mod ends;
 #[cfg(test)]
 mod explorations;
+#[cfg(test)]
+mod locks;
 #[cfg(test)]
 mod pieces;
 #[cfg(test)]

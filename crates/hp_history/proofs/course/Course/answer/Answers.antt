@@ -1,8 +1,10 @@
 -- The journal's record is the one that is pushed, and its base stays.
-use Rattle.std.proofs.Common.{◌≡◌, ◌∙◌, List, [], ◌∷◌, ◌++◌, ap, subst, sym}
+use Rattle.std.proofs.Common.{◌≡◌, ◌∙◌, true, List, [], ◌∷◌, ◌++◌, ap, subst, sym}
 use Rattle.hp_units.specs.LayoutParts.{LayoutParts}
+use Rattle.hp_units.specs.History.{goes_back}
 use Rattle.hp_units.specs.Memory.{Memory}
 use Rattle.hp_history.specs.Course.{CourseValue, IsAnswered, receipt_for, record_of}
+use Rattle.hp_history.specs.Entries.{IsUndone}
 use Rattle.hp_history.specs.Kept.{pictured}
 use Rattle.hp_history.proofs.Names.{Event, Record}
 use Rattle.hp_history.proofs.course.Course.answer.Goals as goal
@@ -26,3 +28,8 @@ returns-clause-ok c =
     subst (λ (m : CourseValue). IsAnswered m c.args.cpu c.args.event.now
     (receipt_for c.args.event.now c.in_ok-answer.answer) c.answer.new.self) c.self.view_is
     c.in_ok-answer.ensures.ok
+
+pub returns-clause-back : goal.returns-clause-back
+returns-clause-back c =
+    subst (λ (m : CourseValue). goes_back c.in_ok-answer.answer.1 ≡ true → IsUndone m c.answer.new.self)
+    c.self.view_is c.in_ok-answer.ensures.back

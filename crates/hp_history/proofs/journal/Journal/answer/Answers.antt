@@ -3,6 +3,7 @@ use Rattle.std.proofs.Common.{refl, sym, subst, rules}
 use Rattle.hp_history.specs.Kept.{IsStep}
 use Rattle.hp_history.proofs.Cuts.{acts, step_needs}
 use Rattle.hp_history.proofs.Names.{Event}
+use Rattle.hp_history.proofs.Undone.{acted}
 use Rattle.hp_history.proofs.journal.Journal.answer.Goals as goal
 
 pub act-requires-in_default : goal.act-requires-in_default
@@ -52,3 +53,23 @@ returns-in_default-clause-err c = search rules
 
 pub returns-in_default-clause-ok : goal.returns-in_default-clause-ok
 returns-in_default-clause-ok c = search rules
+
+pub returns-in-UndoAfter-clause-back : goal.returns-in-UndoAfter-clause-back
+returns-in-UndoAfter-clause-back c = λ _. c.go_back.ensures.back
+
+pub returns-in-Some-clause-back : goal.returns-in-Some-clause-back
+returns-in-Some-clause-back c = λ _. c.go_back-in-Some.ensures.back
+
+pub returns-in-None-clause-back : goal.returns-in-None-clause-back
+returns-in-None-clause-back c =
+    acted c.args.self.now c.act.new.self c.args.cpu c.args.event.now c.act.result
+    (step_needs c.args.self.now c.args.cpu c.args.event.now
+    (subst (λ (e : Event). IsStep c.args.self.now c.args.cpu e) (sym c.in-Cancel.is) c.in-None.ensures.step)
+    (λ serial e. cc (e, c.in-Cancel.is))) c.act.ensures.ok
+
+pub returns-in_default-clause-back : goal.returns-in_default-clause-back
+returns-in_default-clause-back c =
+    acted c.args.self.now c.act-in_default.new.self c.args.cpu c.args.event.now c.act-in_default.result
+    (step_needs c.args.self.now c.args.cpu c.args.event.now
+    (acts c.args.self.now c.args.cpu c.args.event.now c.in_default.not-UndoAfter c.in_default.not-Cancel)
+    c.in_default.not-UndoAfter) c.act-in_default.ensures.ok

@@ -6,12 +6,13 @@ use Rattle.hp_memory.specs.Memory.{LeadsBack}
 use Rattle.hp_history.specs.declared.entries.Entry.{Entry}
 use Rattle.hp_history.specs.declared.remembered.Remembered.{Remembered}
 use Rattle.hp_history.proofs.Names.{Record}
-use Rattle.hp_history.specs.Entries.{start_of}
+use Rattle.hp_history.specs.Entries.{IsUndone, start_of}
 use Rattle.hp_history.specs.Course.{IsAnswered, record_of}
 use Rattle.hp_history.specs.Kept.{IsCourse, IsCut}
 use Rattle.hp_history.specs.Seen.{seen}
 use Rattle.hp_history.proofs.Journals.{start_within, way_back}
 use Rattle.hp_history.proofs.Courses.{IsBack, cut_answered, cut_fields, one_more, value_with}
+use Rattle.hp_history.proofs.Undone.{cut_undone}
 use Rattle.hp_history.proofs.journal.Journal.go_back.Goals as goal
 use Rattle.hp_history.proofs.journal.Journal.go_back.Goals.{After-and-past, After-start_of-start}
 
@@ -103,13 +104,24 @@ invariant_of-self c =
           c.self.invariant.1,
     )
 
-pub returns : goal.returns
-returns c =
-    let here = (goal.at.returns c).After-start_of-start in
-    let end = (goal.at.returns c).After-and-past in
+pub returns-clause-answered : goal.returns-clause-answered
+returns-clause-answered c =
+    let here = (goal.at.returns-clause-answered c).After-start_of-start in
+    let end = (goal.at.returns-clause-answered c).After-and-past in
     rw (← c.self.view_is)
     (subst (λ (p : Remembered). IsAnswered (seen c.self.inside) c.args.cpu c.args.event.now (receipt end)
     (value_with c.self.inside.before p.base p.history c.back.new.self)) (sym c.and-past.ensures)
     (cut_answered (seen c.self.inside) c.self.inside.entries.items c.self.inside.deltas.deltas c.args.cpu
+    c.args.keep (receipt end) c.back.new.self (longer end) c.truncate.new.self.items
+    c.back.new.tape.deltas (back end (start here) (cut here) (leads here))))
+
+pub returns-clause-back : goal.returns-clause-back
+returns-clause-back c =
+    let here = (goal.at.returns-clause-back c).After-start_of-start in
+    let end = (goal.at.returns-clause-back c).After-and-past in
+    rw (← c.self.view_is)
+    (subst (λ (p : Remembered). IsUndone (seen c.self.inside)
+    (value_with c.self.inside.before p.base p.history c.back.new.self)) (sym c.and-past.ensures)
+    (cut_undone (seen c.self.inside) c.self.inside.entries.items c.self.inside.deltas.deltas c.args.cpu
     c.args.keep (receipt end) c.back.new.self (longer end) c.truncate.new.self.items
     c.back.new.tape.deltas (back end (start here) (cut here) (leads here))))

@@ -29,3 +29,9 @@ returns-clause-err c = search rules
 
 pub returns-clause-ok : goal.returns-clause-ok
 returns-clause-ok c = search rules
+
+pub returns-then-is_full-clause-back : goal.returns-then-is_full-clause-back
+returns-then-is_full-clause-back c = search rules
+
+pub returns-clause-back : goal.returns-clause-back
+returns-clause-back c = search rules

@@ -40,3 +40,15 @@ returns-in-Err-clause-err c = search rules
 
 pub returns-in-Err-clause-ok : goal.returns-in-Err-clause-ok
 returns-in-Err-clause-ok c = search rules
+
+pub returns-then-is_full-clause-back : goal.returns-then-is_full-clause-back
+returns-then-is_full-clause-back c = search rules
+
+pub returns-in_default-clause-back : goal.returns-in_default-clause-back
+returns-in_default-clause-back c = search rules
+
+pub returns-in-Ok-answer-clause-back : goal.returns-in-Ok-answer-clause-back
+returns-in-Ok-answer-clause-back c = search rules
+
+pub returns-in-Err-clause-back : goal.returns-in-Err-clause-back
+returns-in-Err-clause-back c = search rules

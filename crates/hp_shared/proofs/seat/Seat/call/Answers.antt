@@ -29,7 +29,8 @@ returns-in-Ok-turn-clause-ok g c =
     c.self.inside.share.amount c.turn.new.share.amount c.self.inside.sealed.amount c.turn.new.handed.amount
     c.self.inside.fulls.amount c.turn.new.told.amount c.in-Ok-copy.ensures.ok c.self.invariant.0
     c.reserve.ensures.items c.push_reserved.ensures.items c.self.invariant.2 c.in-Ok-turn.ensures.counted
-    c.in-Ok-turn.ensures.handed.0 c.in-Ok-turn.ensures.told.0 c.in-Ok-turn.ensures.ok)
+    c.in-Ok-turn.ensures.handed.0 c.in-Ok-turn.ensures.told.0 c.in-Ok-turn.ensures.late
+    c.in-Ok-turn.ensures.ok)
 
 pub returns-in-Ok-turn-clause-err : goal.returns-in-Ok-turn-clause-err
 returns-in-Ok-turn-clause-err g c = search rules
