@@ -71,7 +71,9 @@ fn changes_show_what_was_and_came(rt: HostRuntime) {
         was: Frame(1),
         now: Frame(2),
     };
-    assert!(rt; change.block() == Block(255) && change.before() == HELD && change.after() == online);
+    assert!(rt;
+        change.block() == Block(255) && change.before() == HELD && change.after() == online
+    );
     assert!(rt; moved.before() == Some(Frame(1)));
     let page = Delta::of_page(Owner(63), Page(65535), moved);
     assert!(rt;
