@@ -1,7 +1,10 @@
 -- What the calls of the layer note.
-use Rattle.std.proofs.lemmas.List.{set-set, set-get_or}
+use Rattle.std.proofs.lemmas.List.{get_or-set_same, length-set, set-set, set-get_or}
+use Rattle.std.proofs.lemmas.Option.{slice_get-get_or}
 use Rattle.hp_units.specs.Memory.{offline_row}
-use Rattle.std.proofs.Common.{◌≡◌, ℕ, ◌<◌, List, [], ◌∷◌, ◌++◌, refl, ap, ◌∙◌, arith}
+use Rattle.std.proofs.Common.{◌≡◌, ℕ, ◌<◌, List, [], ◌∷◌, ◌++◌, Some, length, set, refl, ap, ◌∙◌, arith}
+use Rattle.std.specs.Prelude.{slice_get}
+use Rattle.hp_units.specs.InLayout.{AreBlocksOf}
 use Rattle.hp_units.specs.LayoutParts.{LayoutParts}
 use Rattle.hp_units.specs.Memory.{Blocks, row_of, with_row}
 use Rattle.hp_units.specs.declared.rows.Row.{Row}
@@ -19,23 +22,31 @@ seen_as was now deltas room noted =
     ap (λ (r : ℕ). record now { room = r }) room
     ∙ ap (λ (ds : List Delta). record { room = was.room; deltas = ds }) noted
 
--- a row before it is set
-abbrev pub change_of : (block : ℕ) → (before : Row) → RowChangeValue
-change_of block before = record { block = block; before = before }
+-- a row before it is set, and the one that it is set to
+abbrev pub change_of : (block : ℕ) → (before after : Row) → RowChangeValue
+change_of block before after = record { block = block; before = before; after = after }
+
+-- a row that was set is there
+get_row : (rows : List Row) (block : ℕ) (row : Row) → block < length rows
+    → slice_get (set rows block row) block ≡ Some row
+get_row rows block row lt =
+    slice_get-get_or (set rows block row) block row (rw length-set lt)
+    ∙ ap (λ (r : Row). Some r) (get_or-set_same rows block row row lt)
 
 -- a row was set
 pub notes-row : (l : LayoutParts) (bs : Blocks) (block : ℕ) (row : Row) (was now : TapeValue)
-    → block < l.blocks
-    → now.room ≡ was.room → now.deltas ≡ was.deltas ++ RowDelta (change_of block (row_of bs block)) ∷ []
+    → AreBlocksOf l bs → block < l.blocks
+    → now.room ≡ was.room
+    → now.deltas ≡ was.deltas ++ RowDelta (change_of block (row_of bs block) row) ∷ []
     → NotesBlocks l 1 was now (with_row bs block row) bs
-notes-row l bs block row was now lt room noted = record {
-  deltas = RowDelta (change_of block (row_of bs block)) ∷ [];
+notes-row l bs block row was now are lt room noted = record {
+  deltas = RowDelta (change_of block (row_of bs block) row) ∷ [];
   tape = seen_as was now _ room noted;
   few = omega arith;
   own = (tt, tt);
   numbers = (lt, tt);
   lead = record {
-    fit = (tt, tt);
+    fit = (tt, get_row bs.rows block row (omega (arith, are.rows, lt)));
     back =
         ap (λ (rows : List Row). record bs { rows = rows })
         (set-set bs.rows block row (row_of bs block) ∙ set-get_or bs.rows block offline_row);

@@ -107,7 +107,7 @@ impl Blocks {
         ensures layout { self.new.layout ≡ self.old.layout }
         ensures notes { NotesBlocks self.old.layout 1 tape.old tape.new self.new.blocks self.old.blocks }
     {
-        let change = RowChange::new(block, self.row(block));
+        let change = RowChange::new(block, &self.row(block), &row);
         tape.note(Delta::Row(change));
         self.rows[block.0 as usize] = row;
     }

@@ -1,6 +1,6 @@
 -- A write of a word: what the call changes and notes is what the rule says.
 use Rattle.std.proofs.Common.{◌≡◌, ◌≢◌, cond, ℕ, ◌<◌, Bool, false, List, [], ◌∷◌, ◌++◌, length, get_or, set, replicate, Option, Some, None, refl, sym, ap, ◌∙◌, subst, inl, inr, arith}
-use Rattle.std.specs.Prelude.{IfSome, IsSome, option_map, slice_get, slice_index, unwrap_or}
+use Rattle.std.specs.Prelude.{IfSome, option_map, slice_get, slice_index, unwrap_or}
 use Rattle.std.proofs.lemmas.Bool.{cases_eq, eq-eqb, ne_eqb}
 use Rattle.std.proofs.lemmas.List.{get_or-set_same, length-replicate, length-set, set-set, set-get_or}
 use Rattle.std.proofs.lemmas.Option.{same_Some, slice_get-get_or}
@@ -120,7 +120,7 @@ pub notes-word : (l : LayoutParts) (v : PageFrames) (frame index before value : 
     (was now : TapeValue)
     → AreSized l v
     → IsFrame l frame → index < l.words → buffer_of v frame ≡ Some words → before ≡ slice_index words index
-    → now.room ≡ was.room → now.deltas ≡ was.deltas ++ WordDelta index frame before ∷ []
+    → now.room ≡ was.room → now.deltas ≡ was.deltas ++ WordDelta index frame before value ∷ []
     → NotesPages l 1 was now (with_buffer v frame (option_map (λ ws. set ws index value) (buffer_of v frame)))
     v
 notes-word l v frame index before value words was now are in_frames in_words there read room noted =
@@ -133,7 +133,7 @@ notes-word l v frame index before value words was now are in_frames in_words the
     get_or-set_same v.buffers frame (option_map (λ ws. set ws index value) (buffer_of v frame)) None within
     ∙ ap (option_map (λ ws. set ws index value)) there in
     record {
-      deltas = WordDelta index frame before ∷ [];
+      deltas = WordDelta index frame before value ∷ [];
       tape = noted_one was now _ room noted;
       few = omega arith;
       own = (tt, tt);
@@ -141,9 +141,8 @@ notes-word l v frame index before value words was now are in_frames in_words the
       lead = record {
         fit = (
           tt,
-          subst (λ (o : Option ℕ). IsSome o) (sym (ap
-              (λ (b : Option (List ℕ)). slice_get (unwrap_or b []) index) new
-              ∙ get_set words index value index_in)) refl,
+          ap (λ (b : Option (List ℕ)). slice_get (unwrap_or b []) index) new
+              ∙ get_set words index value index_in,
         );
         back = same_frames _ _ _ _ refl
             (ap (λ (b : Option (List ℕ)). set
@@ -163,7 +162,7 @@ pub notes-changed : (l : LayoutParts) (v : PageFrames) (frame index before value
     → AreSized l v
     → IsFrame l frame → index < l.words → buffer_of v frame ≡ b
     → slice_get (unwrap_or b []) index ≡ Some before
-    → now.room ≡ was.room → now.deltas ≡ was.deltas ++ WordDelta index frame before ∷ []
+    → now.room ≡ was.room → now.deltas ≡ was.deltas ++ WordDelta index frame before value ∷ []
     → NotesPages l 1 was now (with_buffer v frame (option_map (λ ws. set ws index value) (buffer_of v frame)))
     v
 notes-changed l v frame index before value None was now are in_frames in_words there read room noted =

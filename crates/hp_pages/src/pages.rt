@@ -339,7 +339,12 @@ impl Pages {
     {
         self.buffers.set_word(frame, index, now);
         let index = index as u16;
-        tape.note(Delta::Word { index, frame, was });
+        tape.note(Delta::Word {
+            index,
+            frame,
+            was,
+            now,
+        });
     }
 
     /// Moves the page at one frame of the layout to another that holds none; the buffers change

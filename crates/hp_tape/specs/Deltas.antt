@@ -1,6 +1,6 @@
 -- What a delta undoes, and the state as the journal sees it: with the words of a page in a buffer
 -- of its frame.
-use Rattle.std.specs.Prelude.{◌≡◌, ◌<◌, ◌≤◌, ℕ, length, IfSome, IsSome, Bool, true, false, not, ◌&&◌, List, [], ◌∷◌, Option, Some, None, ◌==◌, map, replicate, slice_get, slice_index_or, slice_set, unwrap_or, if◌then◌else◌}
+use Rattle.std.specs.Prelude.{◌≡◌, ◌<◌, ◌≤◌, ℕ, length, IfSome, Bool, true, false, not, ◌&&◌, List, [], ◌∷◌, Option, Some, None, ◌==◌, map, replicate, slice_get, slice_index_or, slice_set, unwrap_or, if◌then◌else◌}
 use Rattle.std.specs.List.{list_all}
 use Rattle.std.specs.Option.{option_map, option_map_or, option_and_then}
 use Rattle.hp_tape.specs.declared.deltas.Delta.{Delta}
@@ -86,7 +86,7 @@ abbrev pub pages_undo : Delta → PageFrames → PageFrames
 pages_undo (MapDelta owner page change) v =
     record v { table = with_entry v.table owner page (frame_before change) }
 pages_undo (Swap a b) v = with_buffer (with_buffer v a (buffer_of v b)) b (buffer_of v a)
-pages_undo (WordDelta index frame was) v =
+pages_undo (WordDelta index frame was now) v =
     with_buffer v frame (option_map (λ words. slice_set words index was) (buffer_of v frame))
 pages_undo (Filled index frame now) v = with_buffer v frame None
 pages_undo (Emptied frame words) v = with_buffer v frame (Some words)
@@ -162,7 +162,8 @@ HasOneWord index value (Some words) = words ≡ slice_set (replicate (length wor
 abbrev pub FitsPages : Delta → PageFrames → Type 0
 FitsPages (MapDelta owner page change) v =
     (entry_of v.table owner page ≡ frame_after change) × IsFresh change v
-FitsPages (WordDelta index frame was) v = IsSome (slice_get (unwrap_or (buffer_of v frame) []) index)
+FitsPages (WordDelta index frame was now) v =
+    slice_get (unwrap_or (buffer_of v frame) []) index ≡ Some now
 FitsPages (Filled index frame now) v = HasOneWord index now (buffer_of v frame)
 FitsPages (Emptied frame words) v = buffer_of v frame ≡ None
 FitsPages delta v = Unit {0}
@@ -172,6 +173,7 @@ FitsKernel (KernelDelta frame was now) kernel = slice_get kernel frame ≡ Some 
 FitsKernel delta kernel = Unit {0}
 
 abbrev pub FitsBlocks : Delta → Blocks → Type 0
+FitsBlocks (RowDelta change) bs = slice_get bs.rows change.block ≡ Some change.after
 FitsBlocks (AutoDelta was now) bs = bs.auto ≡ now
 FitsBlocks delta bs = Unit {0}
 
@@ -201,7 +203,7 @@ IsDeltaOf l (MapDelta owner page change) =
     (owner < l.owners) × (page < l.pages) × IfSome (frame_before change) (IsFrame l)
     × IfSome (frame_after change) (IsFrame l)
 IsDeltaOf l (Swap a b) = IsFrame l a × IsFrame l b
-IsDeltaOf l (WordDelta index frame was) = IsFrame l frame × (index < l.words)
+IsDeltaOf l (WordDelta index frame was now) = IsFrame l frame × (index < l.words)
 IsDeltaOf l (Filled index frame now) = IsFrame l frame × (index < l.words)
 IsDeltaOf l (Emptied frame words) = IsFrame l frame × (length words ≡ l.words)
 IsDeltaOf l (RowDelta change) = change.block < l.blocks
@@ -227,7 +229,7 @@ IsOfFree delta = ⊥
 abbrev pub IsOfPages : Delta → Type 0
 IsOfPages (MapDelta owner page change) = Unit {0}
 IsOfPages (Swap a b) = Unit {0}
-IsOfPages (WordDelta index frame was) = Unit {0}
+IsOfPages (WordDelta index frame was now) = Unit {0}
 IsOfPages (Filled index frame now) = Unit {0}
 IsOfPages (Emptied frame words) = Unit {0}
 IsOfPages delta = ⊥

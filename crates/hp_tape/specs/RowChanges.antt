@@ -12,10 +12,11 @@ use Rattle.hp_tape.specs.declared.row_changes.ZonePart.TheVariants.{None as NoZo
 use Rattle.hp_tape.specs.declared.row_changes.WishPart.{WishPart}
 use Rattle.hp_tape.specs.declared.row_changes.WishPart.TheVariants.{None as NoWish, Off as OffPart, Normal as NormalWish, Movable as MovableWish}
 
--- a memory block, and its row before a change
+-- a memory block, and its rows before and after a change
 pub record RowChangeValue : Type 0 where
   pub block : ℕ
   pub before : Row
+  pub after : Row
 
 abbrev pub zone_in : ZonePart → Option Zone
 zone_in NoZone = None

@@ -78,12 +78,13 @@ pub enum Delta {
         a: Frame,
         b: Frame,
     },
-    /// One word in the buffer of a frame changed, and was this one before; words are counted from 0, and a
-    /// frame has at most 512.
+    /// One word in the buffer of a frame changed; words are counted from 0, and a frame has at most
+    /// 512.
     Word {
         index: u16,
         frame: Frame,
         was: u64,
+        now: u64,
     },
     /// A frame without a buffer got one, with the first word of its page that is not 0 in it; words
     /// are counted from 0.
@@ -107,8 +108,9 @@ pub enum Delta {
     },
 }
 
-/// Bytes of a delta decide what a journal costs (own rule).
-const _: () = prove!(size_of::<Delta>() <= 16);
+/// Bytes of a delta decide what a journal costs (own rule). A word and a row have what was and what
+/// came, so that whether a delta fits a state can be told of each.
+const _: () = prove!(size_of::<Delta>() <= 24);
 
 impl Delta {
     /// What became of an owner's page.
@@ -165,10 +167,16 @@ impl Delta {
                 change: *change,
             },
             Delta::Swap { a, b } => Delta::Swap { a: *a, b: *b },
-            Delta::Word { index, frame, was } => Delta::Word {
+            Delta::Word {
+                index,
+                frame,
+                was,
+                now,
+            } => Delta::Word {
                 index: *index,
                 frame: *frame,
                 was: *was,
+                now: *now,
             },
             Delta::Filled { index, frame, now } => Delta::Filled {
                 index: *index,

@@ -1,16 +1,17 @@
-//! The row of a memory block before a change, in a form short enough for a delta.
+//! The rows of a memory block before and after a change, in a form short enough for a delta.
 ghost use Rattle.std.specs.Prelude.{◌≡◌, ◌<◌};
 ghost use Rattle.hp_tape.specs.RowChanges.{claim_in, op_in, row_in, zone_in};
 
 use hp_units::{Block, Claim, Row, Serial, State, Wish, Zone};
 use std::marker::Model;
 
-/// A change of a memory block's row, with the row that was before it, in 12 bytes (own rule). A
-/// contract sees the row itself.
+/// A change of a memory block's row, with the rows before and after it, in 23 bytes (own rule). A
+/// contract sees the rows themselves.
 #[derive(Drop)]
 pub struct RowChange {
     block: u8,
     before: PackedRow,
+    after: PackedRow,
 }
 
 impl Model for RowChange {
@@ -18,18 +19,20 @@ impl Model for RowChange {
 
     ghost Value = { RowChangeValue };
 
-    ghost view = { λ c. record { block = c.block; before = row_in c.before } };
+    ghost view = { λ c.
+        record { block = c.block; before = row_in c.before; after = row_in c.after } };
 }
 
 impl RowChange {
-    /// A change of a memory block, of which there are at most 256, from a row.
-    pub fn new(block: Block, before: Row) -> RowChange
+    /// A change of a memory block, of which there are at most 256, from a row to another.
+    pub fn new(block: Block, before: &Row, after: &Row) -> RowChange
         requires { block < 256 }
-        ensures { result ≡ record { block = block; before = before } }
+        ensures { result ≡ record { block = block; before = before.now; after = after.now } }
     {
         RowChange {
             block: block.0 as u8,
             before: PackedRow::new(before),
+            after: PackedRow::new(after),
         }
     }
 
@@ -40,6 +43,7 @@ impl RowChange {
         RowChange {
             block: self.block,
             before: self.before,
+            after: self.after,
         }
     }
 
@@ -56,6 +60,13 @@ impl RowChange {
     {
         self.before.row()
     }
+
+    /// The row after the change.
+    pub fn after(&self) -> Row
+        ensures { result ≡ self.now.after }
+    {
+        self.after.row()
+    }
 }
 
 /// A memory block's row in 11 bytes, with the operation's number as bytes, lowest first, so that it
@@ -69,8 +80,8 @@ struct PackedRow {
 }
 
 impl PackedRow {
-    fn new(row: Row) -> PackedRow
-        ensures { row_in result ≡ row }
+    fn new(row: &Row) -> PackedRow
+        ensures { row_in result ≡ row.now }
     {
         PackedRow {
             state: row.state,

@@ -64,13 +64,16 @@ fn lists_have_short_names(rt: HostRuntime) {
 }
 
 #[test]
-fn changes_show_what_was(rt: HostRuntime) {
-    let change = RowChange::new(Block(255), HELD);
+fn changes_show_what_was_and_came(rt: HostRuntime) {
+    let online = Row::online(Zone::Normal);
+    let change = RowChange::new(Block(255), &HELD, &online);
     let moved = FrameChange::Moved {
         was: Frame(1),
         now: Frame(2),
     };
-    assert!(rt; change.block() == Block(255) && change.before() == HELD);
+    assert!(rt;
+        change.block() == Block(255) && change.before() == HELD && change.after() == online
+    );
     assert!(rt; moved.before() == Some(Frame(1)));
     let page = Delta::of_page(Owner(63), Page(65535), moved);
     assert!(rt;

@@ -52,6 +52,6 @@ fn load_row(blocks: &mut Blocks, image: &Image, block: Block)
         claim: none,
     };
     let row = image.row(block).unwrap_or(offline);
-    let change = RowChange::new(block, row);
+    let change = RowChange::new(block, &row, &blocks.row(block));
     blocks.back(Delta::Row(change));
 }

@@ -42,9 +42,12 @@ impl Pages {
                     .set(owner, page, frame_after(*change), change.before());
             }
             Delta::Swap { a, b } => self.buffers.swap(*a, *b),
-            Delta::Word { index, frame, was } => {
-                self.buffers.set_word(*frame, u32::from(*index), *was)
-            }
+            Delta::Word {
+                index,
+                frame,
+                was,
+                ..
+            } => self.buffers.set_word(*frame, u32::from(*index), *was),
             Delta::Filled { frame, .. } => self.buffers.clear(*frame),
             _ => {}
         }

@@ -10,7 +10,7 @@ use Rattle.hp_blocks.proofs.blocks.Blocks.set.Goals as goal
 pub returns-clause-notes : goal.returns-clause-notes
 returns-clause-notes c =
     let packed =
-    c.new-change.ensures ∙ ap (λ (was : Row). change_of c.args.block was) c.row.ensures.row in
+    c.new-change.ensures ∙ ap (λ (was : Row). change_of c.args.block was c.args.row) c.row.ensures.row in
     let noted =
     c.note.ensures.noted ∙ ap (λ (change : RowChangeValue). c.args.tape.now.deltas ++ RowDelta change ∷ [])
     packed in
@@ -18,7 +18,7 @@ returns-clause-notes c =
     subst (λ (v : BlocksValue). c.args.block < v.layout.blocks) (sym c.self.view_is) c.requires.block in
     let told =
     subst (λ (v : BlocksValue). c.note.new.self.deltas ≡ c.args.tape.now.deltas
-    ++ RowDelta (change_of c.args.block (row_of v.blocks c.args.block)) ∷ []) (sym c.self.view_is) noted in
+    ++ RowDelta (change_of c.args.block (row_of v.blocks c.args.block) c.args.row) ∷ []) (sym c.self.view_is) noted in
     rw (c.block.view_is, ← c.self.view_is)
     (notes-row c.self.inside.layout (record { rows = c.self.inside.rows.items; auto = c.self.inside.auto })
-    c.args.block c.args.row _ _ lt c.note.ensures.room told)
+    c.args.block c.args.row _ _ c.self.invariant.rows lt c.note.ensures.room told)
