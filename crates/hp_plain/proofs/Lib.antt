@@ -16,3 +16,4 @@ pub mod Ranges
 pub mod Scans
 mod Values
 pub mod Walks
+pub mod WellPlaced

@@ -6,11 +6,11 @@ use Rattle.hp_numbers.specs.Numbers.{Frame, Order, Pageblock, Block, Cpu, Owner,
 use Rattle.hp_plain.specs.Names.{NormalZone, Unmovable, Class, Pool, NuPool, NmPool, MmPool, Kind, Row}
 use Rattle.hp_units.specs.LayoutParts.{LayoutParts}
 use Rattle.hp_units.specs.Arithmetic.{block_of, buddy, pageblock_of}
-use Rattle.hp_units.specs.Memory.{Blocks, FreeAreas, FreeFrames, Pages, cached_list, free_list, row_of}
+use Rattle.hp_units.specs.Memory.{Blocks, FreeAreas, FreeFrames, Memory, Pages, cached_list, free_list, row_of}
 use Rattle.hp_units.specs.FreeAreas.{is_on}
 use Rattle.hp_units.specs.Pages.{frame_at, words_at}
 use Rattle.hp_units.specs.Rows.{is_going}
-use Rattle.hp_units.specs.Placement.{IsBlockOf, IsKernelAt, IsPage, IsRow, class_at, covers, is_unplugged, kind_at, pool_at, row_at}
+use Rattle.hp_units.specs.Placement.{IsBlockOf, IsKernelAt, IsPage, IsRow, class_at, covers, is_unplugged, kind_at, places_of, pool_at, row_at}
 
 -- ---- marks
 
@@ -98,3 +98,11 @@ abbrev pub kernel_counts : List (Option Order) → Frame → ℕ
 kernel_counts kernel frame =
     count_by (λ entry. option_map_or (λ order. covers frame order entry.0) entry.1 false)
     (enumerate_from 0 kernel)
+
+-- the lists, the kernel's blocks and the pages are where they may be, and each number is in one place
+pub record ArePlacedOnce (l : LayoutParts) (s : Memory) : Type 0 where
+  pub free : AreListsPlaced l s.free.areas s.blocks.rows
+  pub cached : ArePoolsPlaced l s.free s.blocks.rows
+  pub kernel : IsKernelPlaced l s.blocks.rows s.kernel
+  pub pages : ArePages l s.pages
+  pub once : (frame : Frame) → places_of l s frame ≡ 1
