@@ -1,10 +1,9 @@
 -- Marks, one place further: what a loop over places keeps.
-use Rattle.std.proofs.Common.{◌≡◌, ℕ, zero, suc, ◌+◌, ◌<◌, ◌≤◌, ◌/◌, List, [], ◌∷◌, length, get_or, take, cond, Option, Some, None, refl, sym, ◌∙◌, ap, subst, arith, inl, inr, ◌==◌, true, add-one}
-use Rattle.std.specs.List.{count_by, enumerate_from, sum_by}
+use Rattle.std.proofs.Common.{◌≡◌, ℕ, zero, suc, ◌+◌, ◌<◌, ◌≤◌, ◌/◌, List, [], ◌∷◌, length, get_or, take, refl, sym, ◌∙◌, ap, subst, arith, inl, inr, ◌==◌, true, add-one}
+use Rattle.std.specs.List.{enumerate_from, sum_by}
 use Rattle.std.proofs.lemmas.Bool.{cases_lt, eq-eqb, false≢true, or_left}
-use Rattle.std.proofs.lemmas.Bool.Decides.{nat_tests}
 use Rattle.std.proofs.lemmas.List.Sums.{sum_by-cons}
-use Rattle.hp_units.specs.Placement.{covered, list_places, places_from}
+use Rattle.hp_units.specs.Placement.{list_places, places_from}
 use Rattle.hp_units.specs.FreeAreas.{is_on}
 use Rattle.hp_lemmas.proofs.Lists.{on_cases, on_tail}
 use Rattle.hp_plain.specs.Placing.{AreMarked, IsTwice, mark_of}
@@ -127,12 +126,6 @@ total-lists frame from (frames ∷ lists) =
     ap (λ (n : ℕ). list_places frame (from / 5) frames + n) (total-lists frame (from + 1) lists)
 
 -- ---- the entries of a list
-
--- an entry that is there is read whatever stands past the end
-pub get_or_any : {X : Type 0} (xs : List X) (i : ℕ) (d e : X) → i < length xs → get_or xs i d ≡ get_or xs i e
-get_or_any [] i d e h = absurd (omega arith)
-get_or_any (x ∷ xs) zero d e h = refl
-get_or_any (x ∷ xs) (suc i) d e h = get_or_any xs i d e (omega arith)
 
 -- what holds of each entry holds of each frame on the list, and each entry is on it
 pub on_each : (Q : ℕ → Type 0) (xs : List ℕ) → ((k : ℕ) → k < length xs → Q (get_or xs k 0)) → (x : ℕ)

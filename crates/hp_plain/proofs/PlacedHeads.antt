@@ -1,6 +1,6 @@
 -- The first frames of free blocks, list by list.
-use Rattle.std.proofs.Common.{◌≡◌, ◌≢◌, ℕ, ◌+◌, ◌*◌, ◌/◌, ◌%◌, ◌<◌, ◌≤◌, List, [], ◌∷◌, length, get_or, set, take, Bool, true, false, cond, ◌||◌, ◌==◌, refl, sym, ◌∙◌, ap, subst, arith, inl, inr, ◌↔◌}
-use Rattle.std.proofs.lemmas.Bool.{cases_eq, cases_Bool, cases_lt, eq-eqb, false≢true, ne_eqb}
+use Rattle.std.proofs.Common.{◌≡◌, ℕ, ◌+◌, ◌<◌, ◌≤◌, List, [], ◌∷◌, length, get_or, set, take, Bool, true, false, cond, ◌||◌, ◌==◌, refl, sym, ◌∙◌, ap, arith, inl, inr}
+use Rattle.std.proofs.lemmas.Bool.{cases_eq, eq-eqb, ne_eqb}
 use Rattle.std.proofs.lemmas.List.{get_or-set_other, get_or-set_same, take_more}
 use Rattle.std.proofs.lemmas.List.Folds.{list_any-append}
 use Rattle.hp_units.specs.FreeAreas.{is_on}
@@ -47,3 +47,14 @@ heads_more heads old frames number i x low is there h f = elim (cases_eq f x) [
       get_or-set_other heads x f number 0 apart ∙ h f
       ∙ sym (ap (λ (b : Bool). cond b number (get_or old f 0)) off)
 ]
+
+-- the first frames of a list's blocks have its number, and all others a lower one
+pub heads_below : (old new frames : List ℕ) (number : ℕ)
+    → ((f : ℕ) → get_or new f 0 ≡ cond (is_on f frames) (number + 1) (get_or old f 0))
+    → ((f : ℕ) → get_or old f 0 ≤ number) → (f : ℕ) → get_or new f 0 ≤ number + 1
+heads_below old new frames number is low f =
+    case (is_on f frames) (get_or new f 0) (get_or old f 0) (is f) (low f)
+  where
+    case : (on : Bool) (n o : ℕ) → n ≡ cond on (number + 1) o → o ≤ number → n ≤ number + 1
+    case true n o e h = omega arith
+    case false n o e h = omega arith

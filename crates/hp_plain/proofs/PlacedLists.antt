@@ -1,12 +1,12 @@
 -- One list further in a walk over the free blocks, or over the processors' lists.
-use Rattle.std.proofs.Common.{◌≡◌, ℕ, zero, suc, ◌+◌, ◌*◌, ◌/◌, ◌%◌, ◌<◌, ◌≤◌, List, [], length, get_or, refl, sym, ◌∙◌, ap, subst, arith, true, ◌==◌, inl, inr}
+use Rattle.std.proofs.Common.{◌≡◌, ℕ, zero, suc, ◌+◌, ◌*◌, ◌/◌, ◌%◌, ◌<◌, List, [], length, get_or, refl, sym, ◌∙◌, ap, subst, arith, true, ◌==◌, inl, inr}
 use Rattle.std.specs.List.{count_by}
 use Rattle.std.proofs.lemmas.Bool.{cases_lt, false≢true}
 use Rattle.std.proofs.lemmas.List.{get_or_past}
 use Rattle.hp_units.specs.LayoutParts.{LayoutParts}
 use Rattle.hp_units.specs.Memory.{FreeAreas, FreeFrames, cached_list, class_index, class_numbered, free_list, pool_index}
 use Rattle.hp_units.specs.FreeAreas.{is_on}
-use Rattle.hp_units.specs.Placement.{IsBlockOf, cached_places, class_at, free_places, list_places, places_from}
+use Rattle.hp_units.specs.Placement.{IsBlockOf, cached_places, class_at, free_places, list_places}
 use Rattle.hp_lemmas.proofs.Lists.{class_numbered-index}
 use Rattle.hp_lemmas.proofs.Places.{class_index-lt}
 use Rattle.hp_lemmas.proofs.Pools.{pool_index-lt}

@@ -1,15 +1,15 @@
 -- Rows, kinds and marks of numbers that are not in the layout.
-use Rattle.std.proofs.Common.{◌≡◌, ℕ, ◌+◌, ◌*◌, ◌/◌, ◌^◌, ◌<◌, ◌≤◌, List, length, get_or, cond, IfSome, Option, None, refl, sym, ◌∙◌, ap, subst, arith, inl, inr}
+use Rattle.std.proofs.Common.{◌≡◌, ℕ, ◌+◌, ◌*◌, ◌/◌, ◌^◌, ◌<◌, ◌≤◌, List, [], ◌∷◌, ◌++◌, length, get_or, cond, IfSome, Option, None, refl, sym, ◌∙◌, ap, subst, arith, inl, inr}
 use Rattle.std.proofs.lemmas.Bool.{cases_lt}
-use Rattle.std.proofs.lemmas.List.{get_or_past}
+use Rattle.std.proofs.lemmas.List.{get_or_append_left, get_or_past, get_or_push}
 use Rattle.std.proofs.lemmas.Nat.{pow_pos}
 use Rattle.std.proofs.Math.Nat.{le-div_iff_mul-le, mul-le-mul_left}
 use Rattle.hp_units.specs.LayoutParts.{LayoutParts, IsLayout}
-use Rattle.hp_units.specs.Arithmetic.{block_of, block_of_pageblock, block_size, frame_count, pageblock_count}
+use Rattle.hp_units.specs.Arithmetic.{block_of, block_size, frame_count, pageblock_count}
 use Rattle.hp_units.specs.Memory.{Blocks, offline_row, plain_kind, row_of}
 use Rattle.hp_units.specs.Placement.{IsKernelAt, IsRow, is_unplugged, kind_at, row_at}
 use Rattle.hp_lemmas.proofs.Placed.{size_some}
-use Rattle.hp_plain.specs.Names.{Kind, Mobility, Movable, Unmovable, Row}
+use Rattle.hp_plain.specs.Names.{Kind, Movable, Unmovable, Row}
 use Rattle.hp_plain.specs.Placing.{AreKinds, AreRows, IsKernelPlaced, IsKind, mark_of, unplugged}
 
 -- a frame past the last one is as if offline
@@ -86,4 +86,17 @@ kernel_each l rows kernel number all each first = elim (cases_lt first number) [
   | inr past ↦
       subst (λ (e : Option ℕ). IfSome e (IsKernelAt l rows first))
       (sym (get_or_past kernel first None (omega arith))) tt
+]
+
+-- one more frame's mark
+pub marks_more : (l : LayoutParts) (bs : Blocks) (marks new : List ℕ) (number x : ℕ) → length marks ≡ number
+    → ((k : ℕ) → k < number → get_or marks k 1 ≡ unplugged l bs k) → new ≡ marks ++ x ∷ []
+    → x ≡ unplugged l bs number → (k : ℕ) → k < number + 1 → get_or new k 1 ≡ unplugged l bs k
+marks_more l bs marks new number x long each pushed is k low = elim (cases_lt k number) [
+  | inl before ↦
+      ap (λ (xs : List ℕ). get_or xs k 1) pushed ∙ get_or_append_left marks (x ∷ []) 1 k (omega arith)
+      ∙ each k before
+  | inr past ↦
+      let same : k ≡ number = omega arith in
+      rw (same, pushed) (get_or_push marks x 1 number long ∙ is)
 ]

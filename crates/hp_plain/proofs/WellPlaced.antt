@@ -1,5 +1,5 @@
 -- A state is well placed exactly if its parts are, and each frame is in one place.
-use Rattle.std.proofs.Common.{◌≡◌, ℕ, ◌+◌, ◌≤◌, List, Bool, true, false, MatchBool, sym, ◌∙◌, subst, arith}
+use Rattle.std.proofs.Common.{◌≡◌, ℕ, List, Bool, true, false, MatchBool, sym, ◌∙◌, subst, arith}
 use Rattle.hp_units.specs.LayoutParts.{LayoutParts}
 use Rattle.hp_units.specs.InLayout.{IsMemoryOf}
 use Rattle.hp_units.specs.Memory.{FreeAreas, Memory}

@@ -1,4 +1,4 @@
-use Rattle.std.proofs.Common.{ℕ, ◌≡◌, List, Option, MatchBool, subst, sym}
+use Rattle.std.proofs.Common.{MatchBool, subst, sym}
 use Rattle.hp_units.specs.Memory.{Memory}
 use Rattle.hp_plain.specs.Image.{Pictured}
 use Rattle.hp_plain.specs.Placing.{ArePlacedOnce}

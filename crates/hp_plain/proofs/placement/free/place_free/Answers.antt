@@ -1,4 +1,4 @@
-use Rattle.std.proofs.Common.{arith, ◌≡◌, ◌/◌, ◌<◌, length, refl}
+use Rattle.std.proofs.Common.{arith, ◌<◌, length, refl}
 use Rattle.hp_plain.proofs.PlacedLists.{free_all, free_more, free_twice}
 use Rattle.hp_plain.proofs.placement.free.place_free.Goals as goal
 

@@ -1,7 +1,7 @@
-use Rattle.std.proofs.Common.{ℕ, arith, ◌<◌, ◌≡◌, ◌∙◌, length, get_or, sym}
-use Rattle.hp_units.specs.Memory.{free_list}
+use Rattle.std.proofs.Common.{ℕ, arith, ◌<◌, ◌≡◌, length, sym}
+use Rattle.std.proofs.lemmas.List.{get_or_read}
 use Rattle.hp_units.specs.Placement.{IsBlockOf, class_at, covered, list_places}
-use Rattle.hp_plain.proofs.Counting.{get_or_any, marked_as, on_each, so_far_all, so_far_more, so_far_twice, total-sum, twice_as}
+use Rattle.hp_plain.proofs.Counting.{marked_as, on_each, so_far_all, so_far_more, so_far_twice, total-sum, twice_as}
 use Rattle.hp_plain.proofs.placement.free.place_list.Goals as goal
 
 pub returns-then-not-mark : goal.returns-then-not-mark
@@ -13,7 +13,7 @@ returns-then-not-mark c placed =
     (twice_as (λ frame. list_places frame c.args.order frames)
     (λ frame. total-sum (λ (first : ℕ). covered frame c.args.order first) 0 frames)
     (so_far_twice c.loop-first.invariant x low
-    (get_or_any frames c.loop-first.first-index 0 x low ∙ sym c.first-item.is) c.if-not-mark.ensures))
+    (sym (get_or_read frames c.loop-first.first-index x low c.first-item.is 0)) c.if-not-mark.ensures))
 
 pub loop-first-preserved : goal.loop-first-preserved
 loop-first-preserved c =
@@ -21,7 +21,7 @@ loop-first-preserved c =
     let x : ℕ = c.first-item.result in
     let low : c.loop-first.first-index < length frames = omega arith in
     so_far_more c.loop-first.invariant x low
-    (get_or_any frames c.loop-first.first-index 0 x low ∙ sym c.first-item.is) c.if-not-is_block_of.ensures
+    (sym (get_or_read frames c.loop-first.first-index x low c.first-item.is 0)) c.if-not-is_block_of.ensures
     c.if-not-mark.ensures
 
 pub returns : goal.returns

@@ -1,7 +1,8 @@
-use Rattle.std.proofs.Common.{ℕ, arith, ◌≡◌, ◌∙◌, ◌<◌, IfSome, Option, None, length, get_or, sym, subst}
+use Rattle.std.proofs.Common.{ℕ, arith, ◌≡◌, ◌<◌, IfSome, Option, None, length, get_or, sym, subst}
+use Rattle.std.proofs.lemmas.List.{get_or_read}
 use Rattle.hp_units.specs.Placement.{IsKernelAt}
 use Rattle.hp_plain.specs.Placing.{kernel_counts, kernel_covered}
-use Rattle.hp_plain.proofs.Counting.{get_or_any, marked_as, so_far_all, so_far_more, so_far_twice, total-numbered, twice_as}
+use Rattle.hp_plain.proofs.Counting.{marked_as, so_far_all, so_far_more, so_far_twice, total-numbered, twice_as}
 use Rattle.hp_plain.proofs.PlacedRows.{kernel_each}
 use Rattle.hp_plain.proofs.placement.kernel.place_kernel.Goals as goal
 
@@ -12,7 +13,7 @@ returns-then-not-place_entry c placed =
     let entry : Option ℕ = c.index-kernel-number.result in
     let low : number < length kernel = omega arith in
     let is : get_or kernel number None ≡ entry =
-    get_or_any kernel number None entry low ∙ sym c.index-kernel-number.is in
+    sym (get_or_read kernel number entry low c.index-kernel-number.is None) in
     let here : IfSome entry (IsKernelAt c.args.layout.now c.args.blocks.now.rows number) =
     subst (λ (e : Option ℕ). IfSome e (IsKernelAt c.args.layout.now c.args.blocks.now.rows number)) is
     (placed number) in
@@ -27,7 +28,7 @@ loop-number-preserved c =
     let entry : Option ℕ = c.index-kernel-number.result in
     let low : number < length kernel = omega arith in
     let is : get_or kernel number None ≡ entry =
-    get_or_any kernel number None entry low ∙ sym c.index-kernel-number.is in
+    sym (get_or_read kernel number entry low c.index-kernel-number.is None) in
     so_far_more c.loop-number.invariant entry low is c.if-not-place_entry.ensures.0
     c.if-not-place_entry.ensures.1
 

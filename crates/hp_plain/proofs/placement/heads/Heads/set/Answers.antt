@@ -1,6 +1,7 @@
-use Rattle.std.proofs.Common.{ℕ, arith, ◌≡◌, ◌∙◌, ◌<◌, length, length-set, get_or, true, sym, subst}
+use Rattle.std.proofs.Common.{ℕ, arith, ◌≡◌, ◌∙◌, ◌<◌, length, length-set, true, sym, subst}
+use Rattle.std.proofs.lemmas.List.{get_or_read}
 use Rattle.hp_units.specs.FreeAreas.{is_on}
-use Rattle.hp_plain.proofs.Counting.{entry_on, get_or_any}
+use Rattle.hp_plain.proofs.Counting.{entry_on}
 use Rattle.hp_plain.proofs.PlacedHeads.{heads_more}
 use Rattle.hp_plain.proofs.placement.heads.Heads.set.Goals as goal
 
@@ -28,6 +29,6 @@ loop-frame-preserved c =
           ∙ c.loop-frame.invariant.long;
       each = heads_more c.loop-frame.self-inside.frames.items c.args.self.now frames c.args.number
           c.loop-frame.frame-index c.frame.inside.0 low
-          (get_or_any frames c.loop-frame.frame-index 0 x low ∙ sym c.frame-item.is ∙ sym c.frame.view_is)
+          (sym (get_or_read frames c.loop-frame.frame-index x low c.frame-item.is 0) ∙ sym c.frame.view_is)
           there c.loop-frame.invariant.each;
     }
