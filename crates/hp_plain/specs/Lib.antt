@@ -1,4 +1,5 @@
 pub mod Asked
 pub mod Image
 pub mod Names
+pub mod Placing
 pub mod Plans

@@ -8,6 +8,7 @@ ghost use Rattle.hp_plain.specs.Image.{IsListed, IsPartOf, with_part};
 
 mod adds;
 mod boots;
+mod placed;
 
 use crate::blocks::Blocks;
 use crate::frames::FreeFrames;

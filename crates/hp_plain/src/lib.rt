@@ -13,6 +13,7 @@ mod image;
 mod lists;
 mod pages;
 mod parts;
+mod placement;
 
 pub use blocks::plans::wish_of;
 pub use image::Image;
