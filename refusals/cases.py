@@ -1,4 +1,5 @@
-"""The cases of crates/refusals: calls that may be out of memory, take none, or ask for it once."""
+"""The cases of crates/refusals: calls that may be out of memory, take none, ask for it once, or ask
+for it as often whatever the layout."""
 import os
 
 from refusing import ROOT, Refused, run
@@ -6,6 +7,9 @@ from refusing import ROOT, Refused, run
 CASES = ROOT / "crates" / "refusals" / "out" / "refusals"
 FIXED = ["fixed", "steps-in-room", "undo-in-room"]
 ONCE = ["undo-after-map", "cancel-after-map"]
+# Cases whose call asks for memory as often, whatever the greatest order or the processors.
+AS_OFTEN = [("areas-of-order-0", "areas-of-order-10"),
+            ("lists-of-1-processor", "lists-of-64-processors")]
 AS_WITH_AMPLE = "as with ample memory\n"
 
 
@@ -47,6 +51,19 @@ def check_once(checks, refuser, name):
     print(f"case {name}: one request, and no further one")
 
 
+def count_requests(refuser, name):
+    """How many requests a case makes after its first write."""
+    return sum(1 for _ in refuser.each("memory", [CASES, name], after=1))
+
+
+def check_as_often(checks, refuser, least, most):
+    """Two cases of one call, which ask for memory equally often, and at least once."""
+    counts = [count_requests(refuser, name) for name in (least, most)]
+    checks.holds(f"cases {least} and {most}", counts[0] == counts[1] > 0,
+                 f"made {counts[0]} and {counts[1]} requests")
+    print(f"cases {least} and {most}: {counts[0]} and {counts[1]} requests")
+
+
 def check_refusing(checks, refuser):
     """That requests after the first write are refused where there are any: all cases in turn."""
     ran = refuser.run(Refused("memory", 1, 0, after=1), [CASES])
@@ -64,5 +81,7 @@ def check_cases(checks, refuser):
         check_fixed(checks, refuser, name)
     for name in ONCE:
         check_once(checks, refuser, name)
+    for pair in AS_OFTEN:
+        check_as_often(checks, refuser, *pair)
     check_refusing(checks, refuser)
     print(f"{len(names)} cases: {memory} requests for memory refused")

@@ -105,15 +105,15 @@ class Refuser:
             letters = reports.read().decode()
         return Ran(ran.status, ran.out, ran.err, letters)
 
-    def each(self, kind, command, text=b""):
-        """The runs with the first, second, .. request of a kind refused, until one has none
-        refused, with their numbers."""
+    def each(self, kind, command, text=b"", after=0):
+        """The runs with the first, second, .. request of a kind refused, counted from after so many
+        writes on, until one has none refused, with their numbers."""
         first = 1
         with ThreadPoolExecutor(WORKERS) as pool:
             while first <= MOST:
                 numbers = range(first, first + 4 * WORKERS)
-                runs = pool.map(lambda nth: self.run(Refused(kind, nth, nth), command, text),
-                                numbers)
+                runs = pool.map(
+                    lambda nth: self.run(Refused(kind, nth, nth, after), command, text), numbers)
                 for number, ran in zip(numbers, runs):
                     if not ran.refused:
                         return

@@ -1,5 +1,5 @@
-//! Layers made at both ends of a limit: they ask for memory as often. The same requests, refused one
-//! after another (`rt try --test --fail-alloc N`), fail the two tests of a pair.
+//! Layers made at both ends of a limit. That they ask for memory as often is counted by
+//! refusals/check_refusals.py.
 ghost use Rattle.std.specs.Prelude.{◌≡◌, IfOk};
 
 use crate::layouts::BOOT;

@@ -10,6 +10,7 @@
 mod additions;
 mod audits;
 mod calls;
+mod counts;
 mod fixed;
 mod lines;
 mod maps;
@@ -45,6 +46,10 @@ fn run_case<R: Threads + Wait + Sync>(rt: &R, case: &mut Case<'_>, name: &str) -
         "maps" => maps::run(case.alloc),
         "workers" => workers::run(rt, case.alloc),
         "fixed" => fixed::run(case),
+        "areas-of-order-0" => counts::free_areas(case, 0),
+        "areas-of-order-10" => counts::free_areas(case, 10),
+        "lists-of-1-processor" => counts::lists(case, 1),
+        "lists-of-64-processors" => counts::lists(case, 64),
         _ => run_situation(rt, case, name),
     }
 }

@@ -20,11 +20,17 @@ const BOOT: &[Boot] = &[Boot::Normal, Boot::Normal, Boot::Movable, Boot::Offline
 
 /// Four memory blocks of one pageblock of four frames, and room for so many records.
 pub fn layout_of(alloc: Global, history: u64) -> Outcome<Layout> {
+    layout_with(alloc, 2, 2, history)
+}
+
+/// Four memory blocks of one pageblock, with a greatest order, a number of processors and room for
+/// so many records.
+pub fn layout_with(alloc: Global, order: u64, cpus: u64, history: u64) -> Outcome<Layout> {
     let parts = Parts {
-        order: 2,
+        order,
         pageblocks: 1,
         blocks: 4,
-        cpus: 2,
+        cpus,
         batch: 2,
         high: 2,
         owners: 2,

@@ -2,8 +2,8 @@
 //! searches, in one thread and in several; and the commands, with streams that give and take pieces
 //! or fail.
 //!
-//! Each module tests a crate or two through what they make public: `seats` and `locks` test hp_shared,
-//! `workers` hp_workers, with a gate of its own, `explorations` hp_schedules, hp_explore and
+//! Each module tests a crate or two through what they make public: `seats`, `closes` and `locks` test
+//! hp_shared, `workers` hp_workers, with a gate of its own, `explorations` hp_schedules, hp_explore and
 //! hp_parts; `runs`, `pieces` and `ends` test hp_commands, on the streams of `streams`. What these
 //! commands write for many scenarios is compared by runs/check_runs.py.
 //!
@@ -11,6 +11,8 @@
 //! crate of tests is linked with all below it, which costs as much as some thirty functions.
 #![tactic(auto)]
 
+#[cfg(test)]
+mod closes;
 #[cfg(test)]
 mod ends;
 #[cfg(test)]

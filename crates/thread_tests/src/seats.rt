@@ -15,7 +15,7 @@ use std::thread;
 use std::thread::Threads;
 
 /// A layout of four memory blocks and two processors.
-pub(crate) fn layout(alloc: Global) -> Result<Layout, Fail> {
+pub fn layout(alloc: Global) -> Result<Layout, Fail> {
     let parts = Parts {
         order: 2,
         pageblocks: 1,

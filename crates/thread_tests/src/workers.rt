@@ -7,11 +7,15 @@ mod gates;
 
 use gates::{InOrder, Point};
 use hp_machine::Machine;
+use hp_plain::Image;
 use hp_scenario::{Scenario, Script};
 use hp_shared::{Job, Shared, close};
-use hp_units::{OpEnd, Reply};
+use hp_units::{
+    Block, Class, Cpu, Event, Frame, Item, OpEnd, Order, Owner, Page, Plan, Pool, Reply, Row,
+    State, Wish,
+};
 use hp_workers::{Ends, Gate, LineEnd, RunEnd, run_workers};
-use std::alloc::Global;
+use std::alloc::{AllocError, Global};
 use std::marker::Brand;
 use std::sync::Wait;
 use std::sync::ledger::Blank;
@@ -26,10 +30,11 @@ const LAYOUT: &str = concat!(
 /// The end of a line that was done.
 const DONE: LineEnd = LineEnd::Reply(Reply::Done);
 
-/// How the lines of two processors ended, and how many records that left.
+/// How the lines of two processors ended, and how many records and which state that left.
 struct Outcome {
     ends: Vec<Ends>,
     records: u64,
+    state: Image,
 }
 
 /// A function of its own, so that no proof of a test takes the fields apart.
@@ -38,6 +43,7 @@ impl Drop for Outcome {
         let Outcome {
             ends: _ends,
             records: _records,
+            state: _state,
         } = self;
     }
 }
@@ -68,7 +74,12 @@ fn close_after<L: Job>(alloc: Global, shared: Shared<L>, end: RunEnd<L>) -> Opti
     }
     let closed = close(alloc, shared, seats, volumes).ok()?;
     let records = closed.records;
-    Some(Outcome { ends, records })
+    let state = closed.machine.image(alloc).ok()?;
+    Some(Outcome {
+        ends,
+        records,
+        state,
+    })
 }
 
 /// Runs a script for each processor of a machine, and closes.
@@ -138,6 +149,11 @@ fn two_workers_meet(rt: HostRuntime) -> Result<(), Fail> {
     Ok(())
 }
 
+/// Returns whether the first owner's first page is at a frame.
+fn stands_at(state: &Image, frame: Frame) -> bool {
+    state.frame_at(Owner(0), Page(0)) == Some(frame)
+}
+
 #[test]
 fn a_page_is_written_between_the_calls_of_a_plan(rt: HostRuntime) -> Result<(), Fail> {
     // The page is written after the plan's first migration, before its next call.
@@ -154,24 +170,118 @@ fn a_page_is_written_between_the_calls_of_a_plan(rt: HostRuntime) -> Result<(), 
     let outcome = run_lines(&rt, rt.alloc(), calls, &gate)?;
     let word = LineEnd::Reply(Reply::Word(5));
     assert!(rt; outcome.is(&[LineEnd::Plan(OpEnd::Done)], &[DONE, DONE, word], 9));
+    assert!(rt; stands_at(&outcome.state, Frame(0)));
     assert!(rt; gate.was_met());
     Ok(())
 }
 
-#[test]
-fn a_plan_under_way_is_undone(rt: HostRuntime) -> Result<(), Fail> {
-    // Its Begin and both drains are undone before its first migration, which is refused then.
+/// For each call of a plan before which its steps are undone: how many steps that takes back, and
+/// how many records there are in the end.
+const UNDONE: &[(u64, u64)] = &[(0, 8), (1, 4), (2, 5), (3, 6), (4, 7), (4, 8)];
+
+/// Runs a page's map, and a plan whose steps are undone by the other processor before its nth call.
+fn undone_before<R: Threads + Wait + Sync>(
+    rt: &R,
+    alloc: Global,
+    nth: u64,
+) -> Result<Outcome, Fail> {
     let points = [
-        Point::Before(0, 5),
+        Point::Before(0, nth.saturating_add(1)),
         Point::Before(1, 1),
         Point::After(1, 1),
-        Point::Before(0, 5),
+        Point::Before(0, nth.saturating_add(1)),
     ];
     let gate = InOrder::new(points.as_slice());
     let calls = r#""0 map db 0","0 plan 4 off 2","1 undo 1""#;
-    let outcome = run_lines(&rt, rt.alloc(), calls, &gate)?;
-    let undone = LineEnd::Reply(Reply::Undone { count: 3 });
-    assert!(rt; outcome.is(&[DONE, LineEnd::Plan(OpEnd::Undone)], &[undone], 6));
-    assert!(rt; gate.was_met());
+    let outcome = run_lines(rt, alloc, calls, &gate)?;
+    if gate.was_met() {
+        return Ok(outcome);
+    }
+    Err(Fail::from("the gate was not met"))
+}
+
+/// The plan that takes block 2 offline.
+fn offline(alloc: Global) -> Result<Plan, AllocError> {
+    let item = Item {
+        block: Block(2),
+        wish: Wish::Off,
+    };
+    Plan::new(alloc, vec![in alloc; item]?)
+}
+
+/// Returns the state after the page's map, on one thread, and after the plan if it is carried out.
+fn state_of(alloc: Global, is_planned: bool) -> Result<Image, Fail> {
+    let scenario = scenario_of(alloc, r#""0 map db 0""#)?;
+    let mut machine = Machine::boot(alloc, &scenario.layout)?;
+    let map = Event::Map {
+        owner: Owner(0),
+        page: Page(0),
+    };
+    let mapped = machine.answer(alloc, Cpu(0), &map).is_ok();
+    let is_done = !is_planned || machine.run_plan(alloc, Cpu(0), offline(alloc)?, 4) == OpEnd::Done;
+    if mapped && is_done {
+        return Ok(machine.image(alloc)?);
+    }
+    Err(Fail::from("no state on one thread"))
+}
+
+/// Returns whether a state has a page in block 2, with the frame after it on a processor's list.
+fn is_mapped(state: &Image) -> bool {
+    stands_at(state, Frame(8))
+        && state.list(Class::Mm, Order(1)) == [Frame(10)].as_slice()
+        && state.cpu_list(Cpu(0), Pool::Mm) == [Frame(9)].as_slice()
+        && state.row(Block(2)) != Some(Row::bare(State::Offline))
+}
+
+/// Returns whether a state has the page in block 0, and block 2 is offline.
+fn is_moved(state: &Image) -> bool {
+    stands_at(state, Frame(0))
+        && state.list(Class::Nm, Order(0)) == [Frame(1)].as_slice()
+        && state.list(Class::Nm, Order(1)) == [Frame(2)].as_slice()
+        && state.row(Block(2)) == Some(Row::bare(State::Offline))
+}
+
+/// Returns whether a plan whose steps are undone before its nth call ends so, and leaves the state
+/// of the map alone; undone before its first call, it is carried out.
+fn ends_as_undone<R: Threads + Wait + Sync>(
+    rt: &R,
+    alloc: Global,
+    nth: u64,
+    steps: u64,
+    records: u64,
+) -> Result<bool, Fail> {
+    let outcome = undone_before(rt, alloc, nth)?;
+    let is_planned = nth == 1;
+    let wanted = state_of(alloc, is_planned)?;
+    let end = if is_planned {
+        OpEnd::Done
+    } else {
+        OpEnd::Undone
+    };
+    let undone = LineEnd::Reply(Reply::Undone { count: steps });
+    let is_known = if is_planned {
+        is_moved(&outcome.state)
+    } else {
+        is_mapped(&outcome.state)
+    };
+    let ended = outcome.is(&[DONE, LineEnd::Plan(end)], &[undone], records);
+    Ok(ended && is_known && outcome.state.same(&wanted))
+}
+
+/// Returns whether a plan ends as it should before whichever of its calls it is undone.
+fn each_ends_as_undone<R: Threads + Wait + Sync>(rt: &R, alloc: Global) -> Result<bool, Fail> {
+    let mut nth: u64 = 0;
+    for (steps, records) in UNDONE {
+        nth = nth.saturating_add(1);
+        if !ends_as_undone(rt, alloc, nth, *steps, *records)? {
+            return Ok(false);
+        }
+    }
+    Ok(true)
+}
+
+#[test]
+fn a_plan_under_way_is_undone(rt: HostRuntime) -> Result<(), Fail> {
+    assert!(rt; each_ends_as_undone(&rt, rt.alloc())?);
     Ok(())
 }
