@@ -18,6 +18,10 @@ pub fn four_blocks(alloc: Global, boot: &[Boot], history: u64) -> Result<Layout,
     ensures frames { IfOk result (λ layout. frame_count layout ≡ 16) }
     ensures pageblocks { IfOk result (λ layout. pageblock_count layout ≡ 4) }
     ensures blocks { IfOk result (λ layout. layout.blocks ≡ 4) }
+    ensures cpus { IfOk result (λ layout. layout.cpus ≡ 2) }
+    ensures owners { IfOk result (λ layout. layout.owners ≡ 2) }
+    ensures pages { IfOk result (λ layout. layout.pages ≡ 8) }
+    ensures words { IfOk result (λ layout. layout.words ≡ 2) }
 {
     let parts = Parts {
         order: 2,

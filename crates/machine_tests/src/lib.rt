@@ -3,10 +3,10 @@
 //!
 //! Each module tests a crate or two through what they make public: `memories` hp_memory and
 //! hp_codes, `courses` hp_history, `chains` hp_replays, `machines` and `undone` hp_machine,
-//! `schedules` what hp_schedules keeps for a walk, `images` the state as a value (hp_plain), `plans`
-//! a plan's driver (hp_ops), `controls`, `control_writes`, `scenarios`, `texts`, `maps` and `traces`
-//! what is read and written. `layouts` has the layout that they share, and `looks` the one owner of
-//! a machine for those that only look at one.
+//! `schedules` what hp_schedules keeps for a walk, `images` and `placed` the state as a value
+//! (hp_plain), `plans` a plan's driver (hp_ops), `controls`, `control_writes`, `scenarios`, `texts`,
+//! `maps` and `traces` what is read and written. `layouts` has the layout that they share, and
+//! `looks` the one owner of a machine for those that only look at one.
 //! `sealed` has what the laws of histories say of a machine, sealed or not, proved from what
 //! hp_laws, hp_history and hp_machine make public alone; `machines` calls it. Run the tests by
 //! `rt test` in this folder.
@@ -32,6 +32,8 @@ mod machines;
 mod maps;
 #[cfg(test)]
 mod memories;
+#[cfg(test)]
+mod placed;
 #[cfg(test)]
 mod plans;
 #[cfg(test)]
