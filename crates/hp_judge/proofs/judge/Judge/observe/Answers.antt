@@ -1,7 +1,7 @@
-use Rattle.std.proofs.Common.{sym, subst, [], ◌∷◌, ◌++◌}
+use Rattle.std.proofs.Common.{[], ◌∷◌, ◌++◌, sym, subst}
 use Rattle.hp_judge.specs.Names.{MachineSize}
 use Rattle.hp_judge.specs.Tables.{FollowsAt}
-use Rattle.hp_judge.proofs.Steps.{follows_on}
+use Rattle.hp_judge.proofs.Steps.{follows_grown, follows_on}
 use Rattle.hp_judge.proofs.judge.Judge.observe.Goals as goal
 
 pub returns-then-not-is_well_formed-clause-follows :
@@ -12,5 +12,4 @@ returns-then-not-is_well_formed-clause-follows c = λ log h.
 
 pub returns-clause-follows : goal.returns-clause-follows
 returns-clause-follows c = λ log h.
-    subst (λ (m : MachineSize). FollowsAt m (log ++ c.args.event.now ∷ []) c.apply.new.self) (sym c.apply.ensures.size)
-    (follows_on c.args.self.now.size log c.args.event.now c.args.self.now c.apply.new.self h c.apply.ensures.steps)
+    c.judge.ensures.follows log (follows_grown log c.args.self.now c.reserve.new.self c.reserve.ensures.same h)
