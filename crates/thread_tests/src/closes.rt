@@ -34,7 +34,7 @@ fn maps<L: Job, R: Wait>(rt: &R, alloc: Global, shared: &Shared<L>, seat: &mut S
     }
 }
 
-/// Returns what the first seat seals, after each seat mapped a page.
+/// Returns what the first seat seals after it mapped a page, and before the second one maps its own.
 fn sealed<L: Job, R: Wait>(
     rt: &R,
     alloc: Global,
@@ -42,8 +42,12 @@ fn sealed<L: Job, R: Wait>(
     first: &mut Seat<L>,
     second: &mut Seat<L>,
 ) -> Option<Volume> {
-    if maps(rt, alloc, shared, first) && maps(rt, alloc, shared, second) {
-        return first.seal(rt, alloc, shared).ok();
+    if !maps(rt, alloc, shared, first) {
+        return None;
+    }
+    let volume = first.seal(rt, alloc, shared).ok();
+    if maps(rt, alloc, shared, second) {
+        return volume;
     }
     None
 }
