@@ -1,0 +1,4 @@
+pub mod Names
+pub mod Phases
+pub mod Pieces
+pub mod Logs

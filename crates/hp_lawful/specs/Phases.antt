@@ -1,0 +1,75 @@
+-- The phases of a memory block, and the events that a log has when a block goes from one to another.
+use Rattle.std.specs.Prelude.{Bool, true, false, if◌then◌else◌, List, [], ◌∷◌, ◌++◌, Option, unwrap_or}
+use Rattle.std.specs.Option.{option_map_or}
+use Rattle.hp_numbers.specs.Numbers.{Block}
+use Rattle.hp_lawful.specs.Names.{LogEvent, OnlineBegins, OnlineEnds, OfflineBegins, OfflineEnds, Zone, NormalZone, MovableZone, State, OfflineState, OnlineState, GoingState, AbsentState, Wish, OffWish, NormalWish, MovableWish, Claim, Row}
+
+-- a block is offline, goes online into a zone, is online in one, or goes offline from one
+pub data Phase : Type 0 where
+  Offline : Phase
+  GoingOnline : (zone : Zone) → Phase
+  Online : (zone : Zone) → Phase
+  GoingOffline : (zone : Zone) → Phase
+
+-- ---- the phase of a row
+
+-- an offline block that an operation holds goes online into the zone that it wishes for
+abbrev pub wished_phase : Wish → Phase
+wished_phase OffWish = Offline
+wished_phase NormalWish = GoingOnline NormalZone
+wished_phase MovableWish = GoingOnline MovableZone
+
+-- the phase by the parts of a row. In a log an absent block is offline
+abbrev pub phase_by : State → Option Zone → Option Claim → Phase
+phase_by OfflineState _ claim = option_map_or (λ c. wished_phase c.wish) claim Offline
+phase_by OnlineState zone _ = Online (unwrap_or zone NormalZone)
+phase_by GoingState zone _ = GoingOffline (unwrap_or zone NormalZone)
+phase_by AbsentState _ _ = Offline
+
+abbrev pub phase_of : Row → Phase
+phase_of row = phase_by row.state row.zone row.claim
+
+-- ---- from one phase to another
+
+abbrev pub same_zone : Zone → Zone → Bool
+same_zone NormalZone NormalZone = true
+same_zone MovableZone MovableZone = true
+same_zone zone other = false
+
+-- a block goes offline, whatever its phase
+abbrev pub to_offline : Block → Phase → List LogEvent
+to_offline block Offline = []
+to_offline block (GoingOnline zone) = OnlineEnds block false ∷ []
+to_offline block (Online zone) = OfflineBegins block ∷ OfflineEnds block true ∷ []
+to_offline block (GoingOffline zone) = OfflineEnds block true ∷ []
+
+-- an offline block enters a phase
+abbrev pub from_offline : Block → Phase → List LogEvent
+from_offline block Offline = []
+from_offline block (GoingOnline zone) = OnlineBegins block zone ∷ []
+from_offline block (Online zone) = OnlineBegins block zone ∷ OnlineEnds block true ∷ []
+from_offline block (GoingOffline zone) =
+    OnlineBegins block zone ∷ OnlineEnds block true ∷ OfflineBegins block ∷ []
+
+abbrev pub through_offline : Block → Phase → Phase → List LogEvent
+through_offline block from to = to_offline block from ++ from_offline block to
+
+-- a block goes from one phase to another: in its zone if the phases are of one zone, else through
+-- offline. Only an undo makes most of these changes in one step
+abbrev pub phase_events : Block → Phase → Phase → List LogEvent
+phase_events block (GoingOnline zone) (GoingOnline next) =
+    if same_zone zone next then [] else through_offline block (GoingOnline zone) (GoingOnline next)
+phase_events block (GoingOnline zone) (Online next) =
+    if same_zone zone next then OnlineEnds block true ∷ []
+    else through_offline block (GoingOnline zone) (Online next)
+phase_events block (Online zone) (Online next) =
+    if same_zone zone next then [] else through_offline block (Online zone) (Online next)
+phase_events block (Online zone) (GoingOffline next) =
+    if same_zone zone next then OfflineBegins block ∷ []
+    else through_offline block (Online zone) (GoingOffline next)
+phase_events block (GoingOffline zone) (Online next) =
+    if same_zone zone next then OfflineEnds block false ∷ []
+    else through_offline block (GoingOffline zone) (Online next)
+phase_events block (GoingOffline zone) (GoingOffline next) =
+    if same_zone zone next then [] else through_offline block (GoingOffline zone) (GoingOffline next)
+phase_events block from to = through_offline block from to
