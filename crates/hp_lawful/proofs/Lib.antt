@@ -1,8 +1,11 @@
 pub mod Turns
-pub mod Steps
-pub mod Told
-pub mod InUse
-pub mod PhaseTurns
-pub mod States
+pub mod Allowed
+pub mod Sequences
+pub mod PieceEvents
+pub mod Moves
+pub mod PhasePaths
+pub mod StatePieces
 pub mod StepLogs
 pub mod Histories
+pub mod FrameUse
+mod Worked

@@ -1,6 +1,6 @@
--- The log of a step leads from the picture of the state before it to that of the state after it.
-use Rattle.std.proofs.Common.{◌≡◌, ℕ, ◌+◌, ◌<◌, ◌≤◌, Bool, true, false, not, cond, ◌&&◌, ◌==◌, if◌then◌else◌, List, ◌++◌, length, flat_map, Option, Some, None, refl, sym, ◌∙◌, ap, ap₂, subst, arith, inl, inr}
-use Rattle.std.specs.List.{list_any, range_with_len}
+-- The log of a step leads from what the state before it shows to what the state after it shows.
+use Rattle.std.proofs.Common.{◌≡◌, ℕ, ◌+◌, ◌≤◌, Bool, true, false, not, cond, ◌==◌, if◌then◌else◌, List, ◌++◌, flat_map, Option, Some, None, refl, sym, ◌∙◌, ap, ap₂, subst, arith, inl, inr}
+use Rattle.std.specs.List.{list_any}
 use Rattle.std.proofs.lemmas.Bool.{both_ways, cases_lt, and_parts, eqb-true, false_from_ne_true, not-true}
 use Rattle.std.proofs.lemmas.List.{get_or_past}
 use mathlib.Core.Path.{fun_ext}
@@ -9,21 +9,20 @@ use Rattle.hp_units.specs.LayoutParts.{IsLayout, LayoutParts}
 use Rattle.hp_units.specs.Memory.{Memory, offline_row, row_of}
 use Rattle.hp_units.specs.Placement.{IsWellPlaced}
 use Rattle.hp_judge.specs.Events.{block_of as log_block_of, is_departure as leaves_offline}
-use Rattle.hp_lawful.specs.Logs.{IsSizeOf, allocs_at, block_events, frees_at, stays, step_log}
+use Rattle.hp_lawful.specs.Logs.{IsSizeOf, allocs_at, block_events, changes, frees_at, stays, step_log}
 use Rattle.hp_lawful.specs.Names.{LogEvent, MachineSize, Row}
 use Rattle.hp_lawful.specs.Phases.{Phase, phase_of}
-use Rattle.hp_lawful.specs.Pieces.{Piece, piece_at, same_piece}
-use Rattle.hp_lawful.proofs.Told.{LeadOn, Picture, lead-append, lead-range}
-use Rattle.hp_lawful.proofs.InUse.{allocs_lead, frees_lead, in_use, is_frame_of, kept, picture, picture_of, piece_of, same_picture, staying, upto, upto-above, upto-below, upto-other}
-use Rattle.hp_lawful.proofs.PhaseTurns.{take_phase, turns_lead}
-use Rattle.hp_lawful.proofs.States.{LiesWell, of_some, piece_formed, piece_home, piece_lies, pieces_apart, same_block}
+use Rattle.hp_lawful.specs.Pieces.{Piece, is_frame_of, piece_at, same_piece}
+use Rattle.hp_lawful.specs.Reading.{Shown, shown}
+use Rattle.hp_lawful.proofs.Moves.{move_leads}
+use Rattle.hp_lawful.proofs.Sequences.{EventsLead, as_shown, lead-append, lead-range}
+use Rattle.hp_lawful.proofs.PieceEvents.{allocs_lead, frees_lead, in_pieces, kept, shown_with, piece_of, same_shown, staying, upto, upto-above, upto-below, upto-other}
+use Rattle.hp_lawful.proofs.PhasePaths.{take_phase, turns_lead}
+use Rattle.hp_lawful.proofs.StatePieces.{of_some, piece_formed, piece_home, piece_lies, pieces_apart, same_block}
 
--- the phases of a state's memory blocks, and its picture
+-- the phases of a state's memory blocks
 abbrev pub phases : Memory → ℕ → Phase
 phases s b = phase_of (row_of s.blocks b)
-
-abbrev pub picture_at : LayoutParts → Memory → Picture
-picture_at l s = picture (frame_count l) (piece_at s) (phases s)
 
 -- pieces that are the same are one
 same_piece-is : (a b : Option Piece) → same_piece a b ≡ true → a ≡ b
@@ -43,31 +42,30 @@ same_piece-is (Some a) (Some b) is =
     same_bool false true e = cc
     same_bool false false e = refl
 
--- between equal pictures
-lead_between : (m : MachineSize) (p p' q q' : Picture) (xs : List LogEvent) → p' ≡ p → q' ≡ q
-    → LeadOn m p' xs q' → LeadOn m p xs q
+-- between what is equal
+lead_between : (m : MachineSize) (p p' q q' : Shown) (xs : List LogEvent) → p' ≡ p → q' ≡ q
+    → EventsLead m p' xs q' → EventsLead m p xs q
 lead_between m p p' q q' xs e f h =
-    subst (λ (x : Picture). LeadOn m x xs q) e (subst (λ (x : Picture). LeadOn m p' xs x) f h)
+    subst (λ (x : Shown). EventsLead m x xs q) e (subst (λ (x : Shown). EventsLead m p' xs x) f h)
 
 module _ (l : LayoutParts) (m : MachineSize) (before after : Memory) (layout : IsLayout l)
     (size : IsSizeOf l m) (p : IsWellPlaced l before) (q : IsWellPlaced l after) where
-
   -- ---- the frees
 
-  frees_part : LeadOn m (picture_at l before) (flat_map (frees_at l before after) (all_frames l))
-      (picture (frame_count l) (staying (stays l before after) (piece_at before)) (phases before))
+  frees_part : EventsLead m (shown l before) (flat_map (frees_at l before after) (all_frames l))
+      (shown_with (frame_count l) (staying (stays l before after) (piece_at before)) (phases before))
   frees_part =
       let count : ℕ = frame_count l in
       let pieces : ℕ → Option Piece = piece_at before in
       let left : ℕ → Option Piece = staying (stays l before after) pieces in
-      lead_between m (picture_at l before) (picture count (upto 0 left pieces) (phases before))
-      (picture count left (phases before)) (picture count (upto (0 + count) left pieces) (phases before))
+      lead_between m (shown l before) (shown_with count (upto 0 left pieces) (phases before))
+      (shown_with count left (phases before)) (shown_with count (upto (0 + count) left pieces) (phases before))
       (flat_map (frees_at l before after) (all_frames l))
-      (same_picture count (upto 0 left pieces) pieces (phases before)
+      (same_shown count (upto 0 left pieces) pieces (phases before)
       (λ k low. upto-above 0 left pieces k (omega arith)))
-      (same_picture count (upto (0 + count) left pieces) left (phases before)
+      (same_shown count (upto (0 + count) left pieces) left (phases before)
       (λ k low. upto-below (0 + count) left pieces k (omega arith)))
-      (lead-range m (λ n. picture count (upto n left pieces) (phases before)) (frees_at l before after) 0 count
+      (lead-range m (λ n. shown_with count (upto n left pieces) (phases before)) (frees_at l before after) 0 count
       (λ n low. frees_lead m count (stays l before after) pieces (phases before)
       (pieces_apart l before layout p)
       (λ k piece below is. piece_formed l m before k piece layout size p is) n (omega arith)))
@@ -77,11 +75,11 @@ module _ (l : LayoutParts) (m : MachineSize) (before after : Memory) (layout : I
   -- no frame of a piece that stays is in a block that goes offline
   stays_empty : (n f : ℕ) → log_block_of m f ≡ n
       → list_any leaves_offline (block_events before after n) ≡ true
-      → in_use (frame_count l) (staying (stays l before after) (piece_at before)) f ≡ false
+      → in_pieces (frame_count l) (staying (stays l before after) (piece_at before)) f ≡ false
   stays_empty n f of goes =
-      false_from_ne_true (in_use (frame_count l) (staying (stays l before after) (piece_at before)) f) (λ is.
-          let found = piece_of (frame_count l) (staying (stays l before after) (piece_at before)) f is in
-          by_piece found.0 (stays l before after found.0) refl found.2)
+      false_from_ne_true (in_pieces (frame_count l) (staying (stays l before after) (piece_at before)) f) (λ is.
+      let found = piece_of (frame_count l) (staying (stays l before after) (piece_at before)) f is in
+      by_piece found.0 (stays l before after found.0) refl found.2)
     where
       by_piece : (first : ℕ) (t : Bool) → stays l before after first ≡ t
           → is_frame_of f first (kept t (piece_at before first)) ≡ true → ⊥
@@ -104,20 +102,20 @@ module _ (l : LayoutParts) (m : MachineSize) (before after : Memory) (layout : I
       ap (λ (r : Row). phase_of r)
       (get_or_past s.blocks.rows k offline_row (omega (arith, placed.in_order.shape.rows)))
 
-  blocks_part : LeadOn m
-      (picture (frame_count l) (staying (stays l before after) (piece_at before)) (phases before))
+  blocks_part : EventsLead m
+      (shown_with (frame_count l) (staying (stays l before after) (piece_at before)) (phases before))
       (flat_map (block_events before after) (all_blocks l))
-      (picture (frame_count l) (staying (stays l before after) (piece_at before)) (phases after))
+      (shown_with (frame_count l) (staying (stays l before after) (piece_at before)) (phases after))
   blocks_part =
-      let used : ℕ → Bool = in_use (frame_count l) (staying (stays l before after) (piece_at before)) in
-      lead_between m (picture_of used (phases before))
-      (picture_of used (upto 0 (phases after) (phases before)))
-      (picture_of used (phases after)) (picture_of used (upto (0 + l.blocks) (phases after) (phases before)))
+      let used : ℕ → Bool = in_pieces (frame_count l) (staying (stays l before after) (piece_at before)) in
+      lead_between m (as_shown used (phases before))
+      (as_shown used (upto 0 (phases after) (phases before)))
+      (as_shown used (phases after)) (as_shown used (upto (0 + l.blocks) (phases after) (phases before)))
       (flat_map (block_events before after) (all_blocks l))
-      (ap (λ (x : ℕ → Phase). picture_of used x)
+      (ap (λ (x : ℕ → Phase). as_shown used x)
       (fun_ext (λ k. upto-above 0 (phases after) (phases before) k (omega arith))))
-      (ap (λ (x : ℕ → Phase). picture_of used x) (fun_ext all))
-      (lead-range m (λ n. picture_of used (upto n (phases after) (phases before))) (block_events before after) 0
+      (ap (λ (x : ℕ → Phase). as_shown used x) (fun_ext all))
+      (lead-range m (λ n. as_shown used (upto n (phases after) (phases before))) (block_events before after) 0
       l.blocks
       (λ n low. turns_lead m n used (block_events before after n) (phases before n) (phases after n)
       (upto n (phases after) (phases before)) (upto (n + 1) (phases after) (phases before))
@@ -149,22 +147,22 @@ module _ (l : LayoutParts) (m : MachineSize) (before after : Memory) (layout : I
           (and_parts (same_piece (piece_at before k) (piece_at after k))
           (not (list_any leaves_offline (block_events before after (block_of l k)))) e).0)
 
-  allocs_part : LeadOn m
-      (picture (frame_count l) (staying (stays l before after) (piece_at before)) (phases after))
-      (flat_map (allocs_at l before after) (all_frames l)) (picture_at l after)
+  allocs_part : EventsLead m
+      (shown_with (frame_count l) (staying (stays l before after) (piece_at before)) (phases after))
+      (flat_map (allocs_at l before after) (all_frames l)) (shown l after)
   allocs_part =
       let count : ℕ = frame_count l in
       let pieces : ℕ → Option Piece = piece_at after in
       let left : ℕ → Option Piece = staying (stays l before after) pieces in
-      lead_between m (picture count (staying (stays l before after) (piece_at before)) (phases after))
-      (picture count (upto 0 pieces left) (phases after)) (picture_at l after)
-      (picture count (upto (0 + count) pieces left) (phases after))
+      lead_between m (shown_with count (staying (stays l before after) (piece_at before)) (phases after))
+      (shown_with count (upto 0 pieces left) (phases after)) (shown l after)
+      (shown_with count (upto (0 + count) pieces left) (phases after))
       (flat_map (allocs_at l before after) (all_frames l))
-      (same_picture count (upto 0 pieces left) (staying (stays l before after) (piece_at before)) (phases after)
+      (same_shown count (upto 0 pieces left) (staying (stays l before after) (piece_at before)) (phases after)
       (λ k low. upto-above 0 pieces left k (omega arith) ∙ same_left k))
-      (same_picture count (upto (0 + count) pieces left) pieces (phases after)
+      (same_shown count (upto (0 + count) pieces left) pieces (phases after)
       (λ k low. upto-below (0 + count) pieces left k (omega arith)))
-      (lead-range m (λ n. picture count (upto n pieces left) (phases after)) (allocs_at l before after) 0 count
+      (lead-range m (λ n. shown_with count (upto n pieces left) (phases after)) (allocs_at l before after) 0 count
       (λ n low. allocs_lead m count (stays l before after) pieces (phases after)
       (pieces_apart l after layout q)
       (λ k piece below is. piece_formed l m after k piece layout size q is)
@@ -172,14 +170,18 @@ module _ (l : LayoutParts) (m : MachineSize) (before after : Memory) (layout : I
 
   -- ---- the step
 
-  pub step_leads : LeadOn m (picture_at l before) (step_log l before after) (picture_at l after)
-  step_leads =
+  changes_lead : EventsLead m (shown l before) (changes l before after) (shown l after)
+  changes_lead =
       let count : ℕ = frame_count l in
       let left : ℕ → Option Piece = staying (stays l before after) (piece_at before) in
-      lead-append m (picture_at l before) (picture count left (phases before)) (picture_at l after)
+      lead-append m (shown l before) (shown_with count left (phases before)) (shown l after)
       (flat_map (frees_at l before after) (all_frames l))
       (flat_map (block_events before after) (all_blocks l)
       ++ flat_map (allocs_at l before after) (all_frames l)) frees_part
-      (lead-append m (picture count left (phases before)) (picture count left (phases after))
-      (picture_at l after) (flat_map (block_events before after) (all_blocks l))
+      (lead-append m (shown_with count left (phases before)) (shown_with count left (phases after))
+      (shown l after) (flat_map (block_events before after) (all_blocks l))
       (flat_map (allocs_at l before after) (all_frames l)) blocks_part allocs_part)
+
+  pub step_leads : EventsLead m (shown l before) (step_log l before after) (shown l after)
+  step_leads =
+      move_leads m before after (shown l before) (shown l after) (changes l before after) changes_lead

@@ -3,6 +3,7 @@ use Rattle.std.proofs.Common.{◌≡◌, ℕ, Bool, true, false, ◌==◌, nat_l
 use Rattle.hp_judge.specs.Events.{is_well_formed, takes as allocates, takes_unmovable as allocates_unmovable, gives as frees, is_of, is_online_begin, is_movable_online_begin, is_online_end, is_offline_begin, is_offline_end, is_arrival as leaves_online, is_departure as leaves_offline}
 use Rattle.hp_lawful.specs.Names.{LogEvent, MachineSize, OnlineBegins, OnlineEnds, OfflineBegins, OfflineEnds, Zone, NormalZone, MovableZone}
 use Rattle.hp_lawful.specs.Phases.{Phase, Offline, GoingOnline, Online, GoingOffline}
+use Rattle.hp_lawful.specs.Reading.{next_phase}
 
 -- the event takes block b from one phase to the next
 pub data IsTurn (b : ℕ) : Phase → LogEvent → Phase → Type 0 where
@@ -162,6 +163,14 @@ settles-movable goes h = absurd (cc)
 settles-movable remains h = inl h
 
 -- ---- it is an event of its block, and of no frame
+
+pub turn-next : {b : ℕ} {p q : Phase} {e : LogEvent} → IsTurn b p e q → next_phase e p ≡ q
+turn-next begins = refl
+turn-next comes = refl
+turn-next fails = refl
+turn-next leaves = refl
+turn-next goes = refl
+turn-next remains = refl
 
 pub turn-of : {b : ℕ} {p q : Phase} {e : LogEvent} → IsTurn b p e q → (k : ℕ) → is_of k e ≡ (b == k)
 turn-of begins k = refl

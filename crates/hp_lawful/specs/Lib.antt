@@ -2,3 +2,4 @@ pub mod Names
 pub mod Phases
 pub mod Pieces
 pub mod Logs
+pub mod Reading

@@ -1,13 +1,14 @@
 -- The log of a history: for each record, what differs between the state before it and the state after it.
-use Rattle.std.specs.Prelude.{◌≡◌, ℕ, ◌+◌, ◌^◌, Bool, not, ◌&&◌, if◌then◌else◌, List, [], ◌∷◌, ◌++◌, length, take, flat_map}
+use Rattle.std.specs.Prelude.{◌≡◌, zero, ◌+◌, ◌^◌, Bool, true, false, not, ◌&&◌, ◌==◌, if◌then◌else◌, List, [], ◌∷◌, ◌++◌, Option, Some, length, take, flat_map}
 use Rattle.std.specs.List.{list_any, range_with_len}
-use Rattle.hp_numbers.specs.Numbers.{Frame, Block}
+use Rattle.hp_numbers.specs.Numbers.{Frame, Block, Owner, Page}
 use Rattle.hp_units.specs.Arithmetic.{all_blocks, all_frames, block_of, block_size}
 use Rattle.hp_units.specs.History.{value_of}
 use Rattle.hp_units.specs.LayoutParts.{LayoutParts}
 use Rattle.hp_units.specs.Memory.{Memory, row_of}
+use Rattle.hp_units.specs.Pages.{page_at}
 use Rattle.hp_judge.specs.Events.{is_departure as leaves_offline}
-use Rattle.hp_lawful.specs.Names.{LogEvent, MachineSize, Record}
+use Rattle.hp_lawful.specs.Names.{LogEvent, Alloc, Free, Move, MachineSize, Record}
 use Rattle.hp_lawful.specs.Phases.{phase_events, phase_of}
 use Rattle.hp_lawful.specs.Pieces.{alloc_events, free_events, piece_at, same_piece}
 
@@ -41,11 +42,26 @@ allocs_at l before after frame =
     if stays l before after frame then [] else alloc_events frame (piece_at after frame)
 
 -- first the frees, then the events of memory blocks, then the allocs, each by rising number
-abbrev pub step_log : LayoutParts → (before after : Memory) → List LogEvent
-step_log l before after =
+abbrev pub changes : LayoutParts → (before after : Memory) → List LogEvent
+changes l before after =
     flat_map (frees_at l before after) (all_frames l)
     ++ (flat_map (block_events before after) (all_blocks l)
     ++ flat_map (allocs_at l before after) (all_frames l))
+
+abbrev pub same_page : Option (Owner × Page) → Option (Owner × Page) → Bool
+same_page (Some page) (Some next) = page.0 == next.0 && page.1 == next.1
+same_page page next = false
+
+-- if all that changes is that a page is at another frame, it moves
+abbrev pub with_move : (before after : Memory) → List LogEvent → List LogEvent
+with_move before after (Free from zero ∷ Alloc to zero true ∷ []) =
+    if same_page (page_at before.pages from) (page_at after.pages to) && not (from == to)
+    then Move from to ∷ []
+    else Free from 0 ∷ Alloc to 0 true ∷ []
+with_move before after log = log
+
+abbrev pub step_log : LayoutParts → (before after : Memory) → List LogEvent
+step_log l before after = with_move before after (changes l before after)
 
 -- ---- whole histories
 

@@ -1,6 +1,6 @@
 -- The types and variants of other crates' enums, passed on from one place. Declares nothing.
 pub use Rattle.hp_judge.specs.declared.events.LogEvent.{LogEvent}
-pub use Rattle.hp_judge.specs.declared.events.LogEvent.TheVariants.{Alloc, Free, OnlineBegins, OnlineEnds, OfflineBegins, OfflineEnds}
+pub use Rattle.hp_judge.specs.declared.events.LogEvent.TheVariants.{Alloc, Free, OnlineBegins, OnlineEnds, OfflineBegins, OfflineEnds, Move}
 pub use Rattle.hp_judge.specs.declared.events.MachineSize.{MachineSize}
 pub use Rattle.hp_judge.specs.declared.events.Law.{Law}
 pub use Rattle.hp_judge.specs.declared.events.Law.TheVariants.{Once, InUse, Present, Empty, Movable as MovableLaw, Coming as GoingOnlineLaw, Going as GoingOfflineLaw, Online as OnlineLaw, Offline as OfflineLaw}

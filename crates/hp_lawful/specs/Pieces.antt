@@ -1,9 +1,9 @@
 -- The pieces of memory that are in use: the kernel's blocks, and the frames that hold pages.
-use Rattle.std.specs.Prelude.{Bool, true, false, not, ◌&&◌, ◌==◌, if◌then◌else◌, List, [], ◌∷◌, Option, Some, None, is_some}
-use Rattle.std.specs.Option.{option_map_or}
-use Rattle.hp_numbers.specs.Numbers.{Frame, Order, Owner, Page}
+use Rattle.std.specs.Prelude.{Bool, true, false, not, ◌^◌, ◌&&◌, ◌==◌, if◌then◌else◌, List, [], ◌∷◌, Option, Some, None, is_some}
+use Rattle.hp_numbers.specs.Numbers.{Frame, Order}
 use Rattle.hp_units.specs.Memory.{Memory, kernel_order}
 use Rattle.hp_units.specs.Pages.{page_at}
+use Rattle.hp_judge.specs.Events.{lies_within}
 use Rattle.hp_lawful.specs.Names.{LogEvent, Alloc, Free}
 
 -- 2^order frames that are in use together; a page can move, a block of the kernel cannot
@@ -26,6 +26,11 @@ piece_by None false = None
 -- the piece that starts at a frame
 abbrev pub piece_at : Memory → Frame → Option Piece
 piece_at s frame = piece_by (kernel_order s frame) (is_some (page_at s.pages frame))
+
+-- whether a frame is one of the piece that starts at another
+abbrev pub is_frame_of : (frame first : Frame) → Option Piece → Bool
+is_frame_of frame first None = false
+is_frame_of frame first (Some piece) = lies_within first (2 ^ piece.order) frame
 
 -- the same number of frames is in use, in the same way
 abbrev pub same_piece : Option Piece → Option Piece → Bool

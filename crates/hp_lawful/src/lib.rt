@@ -3,4 +3,7 @@
 
 mod laws;
 
-pub use laws::{layouts_have_sizes, machines_write_lawful_logs};
+pub use laws::{
+    layouts_have_sizes, logs_grow_by_steps, logs_show_their_state, machines_write_lawful_logs,
+    shown_frames_are_in_place,
+};

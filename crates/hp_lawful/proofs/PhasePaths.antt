@@ -1,16 +1,14 @@
 -- The events of a memory block between two phases lead from the one to the other, turn by turn.
-use Rattle.std.proofs.Common.{◌≡◌, ◌≢◌, ℕ, ◌<◌, Bool, true, false, not, cond, ◌&&◌, ◌||◌, ◌==◌, eqb, nat_lt, List, [], ◌∷◌, ◌++◌, refl, sym, ◌∙◌, ap, subst, inl, inr}
+use Rattle.std.proofs.Common.{◌≡◌, ◌≢◌, ℕ, ◌<◌, Bool, true, false, not, cond, ◌&&◌, ◌||◌, eqb, List, [], ◌∷◌, ◌++◌, refl, sym, ◌∙◌, ap, subst, inl, inr}
 use Rattle.std.specs.List.{list_any}
 use Rattle.std.proofs.lemmas.Bool.{cases_eq, and_parts, or_left, or_right, eqb-true, eq-eqb, ne_eqb, both_ways, cond-true, cond-false, lt-ltb}
 use mathlib.Core.Path.{fun_ext}
 use Rattle.hp_judge.specs.Events.{block_of, takes as allocates, gives as frees, is_of, is_departure as leaves_offline}
-use Rattle.hp_judge.specs.Laws.{departs as offlines}
 use Rattle.hp_lawful.specs.Names.{LogEvent, MachineSize, Zone, NormalZone, MovableZone}
 use Rattle.hp_lawful.specs.Phases.{Phase, Offline, GoingOnline, Online, GoingOffline, same_zone, to_offline, from_offline, through_offline, phase_events}
 use Rattle.hp_lawful.proofs.Turns.{IsTurn, begins, comes, fails, leaves, goes, remains, turn-of, turn-allocates, turn-unmovable, turn-frees, turn-well_formed}
-use Rattle.hp_lawful.proofs.Steps.{Leads, used_after}
-use Rattle.hp_lawful.proofs.Told.{LeadOn}
-use Rattle.hp_lawful.proofs.InUse.{picture_of}
+use Rattle.hp_lawful.proofs.Allowed.{Leads}
+use Rattle.hp_lawful.proofs.Sequences.{EventsLead, as_shown}
 
 -- the events take block b from one phase to another
 abbrev pub Take : ℕ → Phase → List LogEvent → Phase → Type 0
@@ -104,9 +102,9 @@ pub turns_lead : (m : MachineSize) (b : ℕ) (used : ℕ → Bool) (es : List Lo
     (phase phase' : ℕ → Phase) → Take b p es q → phase b ≡ p → phase' b ≡ q
     → ((k : ℕ) → k ≢ b → phase' k ≡ phase k) → b < m.blocks
     → ((f : ℕ) → block_of m f ≡ b → list_any leaves_offline es ≡ true → used f ≡ false)
-    → LeadOn m (picture_of used phase) es (picture_of used phase')
+    → EventsLead m (as_shown used phase) es (as_shown used phase')
 turns_lead m b used [] p q phase phase' h from to others low empty =
-    ap (λ (x : ℕ → Phase). picture_of used x) (fun_ext same)
+    ap (λ (x : ℕ → Phase). as_shown used x) (fun_ext same)
   where
     same : (k : ℕ) → phase k ≡ phase' k
     same k = elim (cases_eq k b) [
@@ -114,7 +112,7 @@ turns_lead m b used [] p q phase phase' h from to others low empty =
       | inr ne ↦ sym (others k ne)
     ]
 turns_lead m b used (e ∷ es) p q phase phase' h from to others low empty = (
-  picture_of used (at b h.0 phase),
+  as_shown used (at b h.0 phase),
   leads,
   turns_lead m b used es h.0 q (at b h.0 phase) phase' h.2 (at_here b h.0 phase b refl) to
       (λ k ne. others k ne ∙ sym (at_other b h.0 phase k ne)) low
@@ -150,7 +148,7 @@ turns_lead m b used (e ∷ es) p q phase phase' h from to others low empty = (
           (or_left (leaves_offline e) (list_any leaves_offline es) parts.1));
       used_is =
           λ f. kept_used (allocates m f e) (frees m f e) (used f) (turn-allocates m f h.1)
-              (turn-frees m f h.1);
+          (turn-frees m f h.1);
       turn = λ k of. taken k (block_is k of);
       same = λ k not. at_other b h.0 phase k (other k not);
     }

@@ -1,5 +1,5 @@
 -- The pieces of a well placed state: where they lie, and that no two have a frame in common.
-use Rattle.std.proofs.Common.{◌≡◌, ◌≢◌, ℕ, ◌+◌, ◌*◌, ◌/◌, ◌%◌, ◌^◌, ◌<◌, ◌≤◌, Bool, true, false, ◌||◌, length, Option, Some, None, IfSome, unwrap_or, is_some, refl, sym, ◌∙◌, ap, subst, arith, ◌⊎◌, inl, inr, get_or-set_other, rules}
+use Rattle.std.proofs.Common.{◌≡◌, ℕ, ◌+◌, ◌*◌, ◌/◌, ◌%◌, ◌^◌, ◌<◌, ◌≤◌, true, false, ◌||◌, length, Option, Some, None, IfSome, is_some, refl, sym, ◌∙◌, ap, subst, arith, ◌⊎◌, inl, inr, get_or-set_other, rules}
 use Rattle.std.proofs.lemmas.Bool.{both_ways, cases_eq, cases_lt, and_parts, and_from, leb-true, ltb-true, eq-eqb, le-leb, lt-ltb}
 use Rattle.std.proofs.lemmas.Nat.{pow_below, pow_pos}
 use Rattle.std.proofs.lemmas.Option.{same_Some}
@@ -22,8 +22,8 @@ use Rattle.hp_judge.specs.Events.{block_of as log_block_of, is_piece, lies_withi
 use Rattle.hp_lawful.specs.Logs.{IsSizeOf}
 use Rattle.hp_lawful.specs.Names.{Claim, MachineSize, NormalZone, State, OfflineState, OnlineState, GoingState, AbsentState, Zone}
 use Rattle.hp_lawful.specs.Phases.{phase_by, phase_of}
-use Rattle.hp_lawful.specs.Pieces.{Piece, kernel_piece, page_piece, piece_at, piece_by}
-use Rattle.hp_lawful.proofs.InUse.{AreApart, IsAtHome, is_frame_of}
+use Rattle.hp_lawful.specs.Pieces.{Piece, is_frame_of, kernel_piece, page_piece, piece_at, piece_by}
+use Rattle.hp_lawful.proofs.PieceEvents.{AreApart, IsAtHome}
 use Rattle.hp_lawful.proofs.Turns.{is_normal, is_offline}
 
 -- ---- a piece is a kernel's block or a page
@@ -106,14 +106,14 @@ piece_lies l s n piece layout p e = elim (piece_cases s n piece e) [ inl k ↦ o
           aligned = at.aligned;
           inside =
               λ f is. block_of-pageblock l f ∙ ap (λ (b : ℕ). block_of_pageblock l b)
-                  (kernel_inside l s n piece.order f p k.order_is (frame_within f n piece.order is))
-                  ∙ sym (block_of-pageblock l n);
+              (kernel_inside l s n piece.order f p k.order_is (frame_within f n piece.order is))
+              ∙ sym (block_of-pageblock l n);
           plugged_in =
               λ f is. zone_plugged l s f NormalZone p
-                  (kernel_zone l s n piece.order f p k.order_is (frame_within f n piece.order is));
+              (kernel_zone l s n piece.order f p k.order_is (frame_within f n piece.order is));
           normal =
               λ f unmovable is. kernel_zone l s n piece.order f p k.order_is
-                  (frame_within f n piece.order is);
+              (frame_within f n piece.order is);
         }
 
     of_page : IsPagePiece s n piece → LiesWell l s n piece
@@ -127,7 +127,7 @@ piece_lies l s n piece layout p e = elim (piece_cases s n piece e) [ inl k ↦ o
           inside = λ f is. ap (λ (k : ℕ). block_of l k) (page_frame s f n piece h.order_is is);
           plugged_in =
               λ f is. subst (λ (k : ℕ). IsPluggedIn l s k) (sym (page_frame s f n piece h.order_is is))
-                  (plugged l s n p none);
+              (plugged l s n p none);
           normal = λ f unmovable is. absurd (both_ways piece.movable unmovable h.movable_is);
         }
       where
@@ -154,6 +154,24 @@ page_place : (l : LayoutParts) (s : Memory) (n : ℕ) (piece : Piece) → IsWell
     → IsPagePiece s n piece → 1 ≤ mapped_places s.pages n
 page_place l s n piece p h =
     mapped_some l.owners l.pages s.pages.table h.owner h.page n (table_of l s p.in_order) h.here
+
+-- each frame of a piece is in such a place
+pub piece_places : (l : LayoutParts) (s : Memory) (n : ℕ) (piece : Piece) (f : ℕ) → IsWellPlaced l s
+    → n < frame_count l → piece_at s n ≡ Some piece → lies_within n (2 ^ piece.order) f ≡ true
+    → 1 ≤ mapped_places s.pages f + kernel_places s f
+piece_places l s n piece f p low e is = elim (piece_cases s n piece e) [
+  | inl k ↦
+      omega (
+        arith,
+        kernel_place l s n piece.order f (omega (arith, p.in_order.shape.kernel)) k.order_is
+            (frame_within f n piece.order is),
+      )
+  | inr h ↦
+      let there : 1 ≤ mapped_places s.pages f =
+      subst (λ (k : ℕ). 1 ≤ mapped_places s.pages k) (sym (page_frame s f n piece h.order_is is))
+      (page_place l s n piece p h) in
+      omega arith
+]
 
 pub pieces_apart : (l : LayoutParts) (s : Memory) → IsLayout l → IsWellPlaced l s
     → AreApart (frame_count l) (piece_at s)

@@ -1,7 +1,6 @@
--- An event between two pictures of the machine, each by the frames in use and the phase of each block,
--- keeps every law.
-use Rattle.std.proofs.Common.{◌≡◌, ℕ, Bool, true, false, not, ◌&&◌, ◌||◌, refl, sym, ◌∙◌, ap, ◌⊎◌, inl, inr}
-use Rattle.std.proofs.lemmas.Bool.{both_ways, not-true, not-false, not_from_false, not_from_true, cases_Bool, or_cases, or_left, or_parts, and_parts, and_cases, and_from, and_left, and_right}
+-- An event that leads from one state to another, each as a log shows it, keeps every law.
+use Rattle.std.proofs.Common.{◌≡◌, ℕ, Bool, true, false, not, ◌&&◌, ◌||◌, sym, ◌∙◌, ap, ◌⊎◌, inl, inr}
+use Rattle.std.proofs.lemmas.Bool.{both_ways, not-true, not-false, not_from_false, cases_Bool, or_cases, or_left, or_parts, and_parts, and_cases, and_from, and_left, and_right}
 use Rattle.hp_judge.specs.Events.{block_of, is_well_formed, takes as allocates, takes_unmovable as allocates_unmovable, gives as frees, is_of, is_online_begin, is_online_end, is_offline_begin, is_offline_end, is_movable_online_begin, is_arrival as leaves_online, is_departure as leaves_offline}
 use Rattle.hp_judge.specs.Laws.{sentence, onlines, departs as offlines, IsPlace}
 use Rattle.hp_judge.specs.Machines.{IsAllowed}
@@ -25,8 +24,8 @@ settled m used phase OfflineLaw b = not (is_offline (phase b))
 abbrev pub used_after : MachineSize → ℕ → LogEvent → Bool → Bool
 used_after m f e used = allocates m f e || (not (frees m f e) && used)
 
--- the event leads from one picture to the next, and may: frames are handed out once and not from an
--- offline block, they come back from use, and a block takes its turn and goes offline empty
+-- the event leads from one state to the next: it hands out frames that are not in use, of blocks that are
+-- not offline; it brings back frames that are in use; a block takes its turn, and goes offline empty
 pub record Leads (m : MachineSize) (used : ℕ → Bool) (phase : ℕ → Phase) (e : LogEvent) (used' : ℕ → Bool)
     (phase' : ℕ → Phase) : Type 0 where
   pub well_formed : is_well_formed m e ≡ true
@@ -41,7 +40,6 @@ pub record Leads (m : MachineSize) (used : ℕ → Bool) (phase : ℕ → Phase)
 
 module _ (m : MachineSize) (used : ℕ → Bool) (phase : ℕ → Phase) (e : LogEvent) (used' : ℕ → Bool)
     (phase' : ℕ → Phase) (h : Leads m used phase e used' phase') where
-
   -- ---- what the event asks
 
   asks : (law : Law) (place : ℕ) → IsPlace m law place → (sentence m law place).later e ≡ true
@@ -146,10 +144,10 @@ module _ (m : MachineSize) (used : ℕ → Bool) (phase : ℕ → Phase) (e : Lo
       elim (of_phase (block_of m f) (λ p. not (is_offline p)) is) [
         | inl was ↦ inl was
         | inr of ↦ elim (settles-offline (h.turn (block_of m f) of)
-        (not-true (is_offline (phase' (block_of m f))) is)) [
-          | inl was ↦ inl (not_from_false (is_offline (phase (block_of m f))) was)
-          | inr begin ↦ inr (and_from (is_of (block_of m f) e) (is_online_begin e) of begin)
-        ]
+            (not-true (is_offline (phase' (block_of m f))) is)) [
+              | inl was ↦ inl (not_from_false (is_offline (phase (block_of m f))) was)
+              | inr begin ↦ inr (and_from (is_of (block_of m f) e) (is_online_begin e) of begin)
+            ]
       ]
   settles Empty f inside is = settles_unused f is
   settles MovableLaw f inside is =

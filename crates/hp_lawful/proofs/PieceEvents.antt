@@ -1,15 +1,16 @@
 -- The frames of pieces, and the events of pieces that come back and that are handed out.
-use Rattle.std.proofs.Common.{◌≡◌, ◌≢◌, ℕ, zero, suc, ◌+◌, ◌^◌, ◌<◌, ◌≤◌, Bool, true, false, not, cond, ◌&&◌, ◌||◌, ltb, List, [], Option, Some, None, refl, sym, ◌∙◌, ap, subst, arith, inl, inr}
+use Rattle.std.proofs.Common.{◌≡◌, ◌≢◌, ℕ, zero, suc, ◌+◌, ◌^◌, ◌<◌, ◌≤◌, Bool, true, false, not, cond, ◌&&◌, ◌||◌, ltb, [], Option, Some, None, refl, sym, ◌∙◌, ap, subst, arith, inl, inr}
 use Rattle.std.specs.List.{list_any, range_with_len}
-use Rattle.std.proofs.lemmas.Bool.{cases_eq, cases_lt, cases_Bool, or_cases, or_left, or_right, and_parts, both_ways, false_from_ne_true, cond-true, cond-false, lt-ltb, le-ltb}
+use Rattle.std.proofs.lemmas.Bool.{cases_eq, cases_lt, or_cases, or_left, or_right, and_parts, false_from_ne_true, cond-true, cond-false, lt-ltb, le-ltb}
 use mathlib.Core.Path.{fun_ext}
 use Rattle.hp_judge.specs.Events.{block_of, is_piece, lies_within}
-use Rattle.hp_lawful.specs.Names.{LogEvent, Alloc, Free, MachineSize}
+use Rattle.hp_lawful.specs.Names.{Alloc, Free, MachineSize}
 use Rattle.hp_lawful.specs.Phases.{Phase}
-use Rattle.hp_lawful.specs.Pieces.{Piece, alloc_events, free_events}
+use Rattle.hp_lawful.specs.Reading.{Shown}
+use Rattle.hp_lawful.specs.Pieces.{Piece, alloc_events, free_events, is_frame_of}
 use Rattle.hp_lawful.proofs.Turns.{is_offline, is_normal}
-use Rattle.hp_lawful.proofs.Steps.{Leads}
-use Rattle.hp_lawful.proofs.Told.{LeadOn, Picture}
+use Rattle.hp_lawful.proofs.Allowed.{Leads}
+use Rattle.hp_lawful.proofs.Sequences.{EventsLead, as_shown}
 
 -- ---- ranges
 
@@ -55,14 +56,9 @@ upto-other n f g k ne = elim (cases_lt k n) [
 
 -- ---- the frames of pieces
 
--- whether a frame is one of the piece that starts at another
-abbrev pub is_frame_of : ℕ → ℕ → Option Piece → Bool
-is_frame_of f first None = false
-is_frame_of f first (Some piece) = lies_within first (2 ^ piece.order) f
-
 -- whether it is one of a piece that starts below a number
-abbrev pub in_use : ℕ → (ℕ → Option Piece) → ℕ → Bool
-in_use count pieces f = list_any (λ first. is_frame_of f first (pieces first)) (range_with_len 0 count)
+abbrev pub in_pieces : ℕ → (ℕ → Option Piece) → ℕ → Bool
+in_pieces count pieces f = list_any (λ first. is_frame_of f first (pieces first)) (range_with_len 0 count)
 
 -- no two pieces have a frame in common
 abbrev pub AreApart : ℕ → (ℕ → Option Piece) → Type 0
@@ -70,35 +66,35 @@ AreApart count pieces =
     (f a b : ℕ) → a < count → b < count → is_frame_of f a (pieces a) ≡ true
     → is_frame_of f b (pieces b) ≡ true → a ≡ b
 
-pub in_use_of : (count : ℕ) (pieces : ℕ → Option Piece) (f n : ℕ) → n < count
-    → is_frame_of f n (pieces n) ≡ true → in_use count pieces f ≡ true
-in_use_of count pieces f n low is =
+pub in_pieces_of : (count : ℕ) (pieces : ℕ → Option Piece) (f n : ℕ) → n < count
+    → is_frame_of f n (pieces n) ≡ true → in_pieces count pieces f ≡ true
+in_pieces_of count pieces f n low is =
     some_in (λ first. is_frame_of f first (pieces first)) 0 count n (omega arith) (omega arith) is
 
-pub piece_of : (count : ℕ) (pieces : ℕ → Option Piece) (f : ℕ) → in_use count pieces f ≡ true
+pub piece_of : (count : ℕ) (pieces : ℕ → Option Piece) (f : ℕ) → in_pieces count pieces f ≡ true
     → (n : ℕ) × (n < count) × (is_frame_of f n (pieces n) ≡ true)
 piece_of count pieces f is =
     let found = one_of (λ first. is_frame_of f first (pieces first)) 0 count is in
     (found.0, omega (arith, found.1), found.2)
 
 -- two tests of which each passes where the other does
-same_tests : (a b : Bool) → (a ≡ true → b ≡ true) → (b ≡ true → a ≡ true) → a ≡ b
+pub same_tests : (a b : Bool) → (a ≡ true → b ≡ true) → (b ≡ true → a ≡ true) → a ≡ b
 same_tests true b to from = sym (to refl)
 same_tests false true to from = from refl
 same_tests false false to from = refl
 
 -- the same pieces have the same frames
-pub in_use-same : (count : ℕ) (pieces others : ℕ → Option Piece)
-    → ((k : ℕ) → k < count → pieces k ≡ others k) → in_use count pieces ≡ in_use count others
-in_use-same count pieces others same =
-    fun_ext (λ f. same_tests (in_use count pieces f) (in_use count others f) (one f pieces others same)
+pub in_pieces-same : (count : ℕ) (pieces others : ℕ → Option Piece)
+    → ((k : ℕ) → k < count → pieces k ≡ others k) → in_pieces count pieces ≡ in_pieces count others
+in_pieces-same count pieces others same =
+    fun_ext (λ f. same_tests (in_pieces count pieces f) (in_pieces count others f) (one f pieces others same)
     (one f others pieces (λ k low. sym (same k low))))
   where
     one : (f : ℕ) (some other : ℕ → Option Piece) → ((k : ℕ) → k < count → some k ≡ other k)
-        → in_use count some f ≡ true → in_use count other f ≡ true
+        → in_pieces count some f ≡ true → in_pieces count other f ≡ true
     one f some other e is =
         let found = piece_of count some f is in
-        in_use_of count other f found.0 found.1
+        in_pieces_of count other f found.0 found.1
         (subst (λ (p : Option Piece). is_frame_of f found.0 p ≡ true) (e found.0 found.1) found.2)
 
 -- ---- one piece more or less
@@ -113,7 +109,6 @@ pub record AreWithout (count n : ℕ) (piece : Piece) (with without : ℕ → Op
 
 module _ (count n : ℕ) (piece : Piece) (with without : ℕ → Option Piece)
     (h : AreWithout count n piece with without) where
-
   -- the frames of the piece
   its : ℕ → Bool
   its f = lies_within n (2 ^ piece.order) f
@@ -130,38 +125,38 @@ module _ (count n : ℕ) (piece : Piece) (with without : ℕ → Option Piece)
       no_frame e = cc
 
   -- the frames are those of the piece and of what is left
-  pub with_piece : (f : ℕ) → in_use count with f ≡ (lies_within n (2 ^ piece.order) f || in_use count without f)
+  pub with_piece : (f : ℕ) → in_pieces count with f ≡ (lies_within n (2 ^ piece.order) f || in_pieces count without f)
   with_piece f =
-      same_tests (in_use count with f) (lies_within n (2 ^ piece.order) f || in_use count without f) split join
+      same_tests (in_pieces count with f) (lies_within n (2 ^ piece.order) f || in_pieces count without f) split join
     where
-      split : in_use count with f ≡ true → (lies_within n (2 ^ piece.order) f || in_use count without f) ≡ true
+      split : in_pieces count with f ≡ true → (lies_within n (2 ^ piece.order) f || in_pieces count without f) ≡ true
       split is =
           let found = piece_of count with f is in
           elim (cases_eq found.0 n) [
             | inl same ↦
-                or_left (lies_within n (2 ^ piece.order) f) (in_use count without f)
+                or_left (lies_within n (2 ^ piece.order) f) (in_pieces count without f)
                 (subst (λ (p : Option Piece). is_frame_of f n p ≡ true) h.here
                 (subst (λ (k : ℕ). is_frame_of f k (with k) ≡ true) same found.2))
             | inr other ↦
-                or_right (lies_within n (2 ^ piece.order) f) (in_use count without f)
-                (in_use_of count without f found.0 found.1
+                or_right (lies_within n (2 ^ piece.order) f) (in_pieces count without f)
+                (in_pieces_of count without f found.0 found.1
                 (subst (λ (p : Option Piece). is_frame_of f found.0 p ≡ true) (sym (h.others found.0 other))
                 found.2))
           ]
 
-      join : (lies_within n (2 ^ piece.order) f || in_use count without f) ≡ true → in_use count with f ≡ true
-      join is = elim (or_cases (lies_within n (2 ^ piece.order) f) (in_use count without f) is) [
+      join : (lies_within n (2 ^ piece.order) f || in_pieces count without f) ≡ true → in_pieces count with f ≡ true
+      join is = elim (or_cases (lies_within n (2 ^ piece.order) f) (in_pieces count without f) is) [
         | inl its ↦
-            in_use_of count with f n h.low
+            in_pieces_of count with f n h.low
             (subst (λ (p : Option Piece). is_frame_of f n p ≡ true) (sym h.here) its)
         | inr left ↦
             let found = piece_of count without f left in
-            in_use_of count with f found.0 found.1 (left_is f found.0 found.2).1
+            in_pieces_of count with f found.0 found.1 (left_is f found.0 found.2).1
       ]
 
   -- and none of the piece is among what is left
-  pub alone : (f : ℕ) → lies_within n (2 ^ piece.order) f ≡ true → in_use count without f ≡ false
-  alone f its = false_from_ne_true (in_use count without f) (λ left.
+  pub alone : (f : ℕ) → lies_within n (2 ^ piece.order) f ≡ true → in_pieces count without f ≡ false
+  alone f its = false_from_ne_true (in_pieces count without f) (λ left.
       let found = piece_of count without f left in
       let was = left_is f found.0 found.2 in
       was.0 (h.apart f found.0 n found.1 h.low was.1
@@ -184,7 +179,7 @@ no_event e = absurd (cc)
 
 pub free_leads : (m : MachineSize) (count n : ℕ) (piece : Piece) (with without : ℕ → Option Piece)
     (phase : ℕ → Phase) → AreWithout count n piece with without → is_piece m n piece.order ≡ true
-    → Leads m (in_use count with) phase (Free n piece.order) (in_use count without) phase
+    → Leads m (in_pieces count with) phase (Free n piece.order) (in_pieces count without) phase
 free_leads m count n piece with without phase h is = record {
   well_formed = is;
   free = λ f e. no_event e;
@@ -192,13 +187,13 @@ free_leads m count n piece with without phase h is = record {
   normal = λ f e. no_event e;
   in_use =
       λ f e. with_piece count n piece with without h f
-          ∙ or_left (lies_within n (2 ^ piece.order) f) (in_use count without f)
-          (and_parts (is_piece m n piece.order) (lies_within n (2 ^ piece.order) f) e).1;
+      ∙ or_left (lies_within n (2 ^ piece.order) f) (in_pieces count without f)
+      (and_parts (is_piece m n piece.order) (lies_within n (2 ^ piece.order) f) e).1;
   empty = λ f e. no_event e;
   used_is =
-      λ f. taken_out (lies_within n (2 ^ piece.order) f) (is_piece m n piece.order) (in_use count with f)
-          (in_use count without f) is (with_piece count n piece with without h f)
-          (alone count n piece with without h f);
+      λ f. taken_out (lies_within n (2 ^ piece.order) f) (is_piece m n piece.order) (in_pieces count with f)
+      (in_pieces count without f) is (with_piece count n piece with without h f)
+      (alone count n piece with without h f);
   turn = λ b e. no_event e;
   same = λ b e. refl;
 }
@@ -214,20 +209,20 @@ pub record IsAtHome (m : MachineSize) (phase : ℕ → Phase) (n : ℕ) (piece :
 pub alloc_leads : (m : MachineSize) (count n : ℕ) (piece : Piece) (with without : ℕ → Option Piece)
     (phase : ℕ → Phase) → AreWithout count n piece with without → is_piece m n piece.order ≡ true
     → IsAtHome m phase n piece
-    → Leads m (in_use count without) phase (Alloc n piece.order piece.movable) (in_use count with) phase
+    → Leads m (in_pieces count without) phase (Alloc n piece.order piece.movable) (in_pieces count with) phase
 alloc_leads m count n piece with without phase h is home = record {
   well_formed = is;
   free = λ f e. alone count n piece with without h f (its f e);
   present = λ f e. home.present f (its f e);
   normal =
       λ f e. (let parts = and_parts (not piece.movable)
-          (is_piece m n piece.order && lies_within n (2 ^ piece.order) f) e in
+      (is_piece m n piece.order && lies_within n (2 ^ piece.order) f) e in
       home.normal f (not_movable piece.movable parts.0) (its f parts.1));
   in_use = λ f e. no_event e;
   empty = λ f e. no_event e;
   used_is =
-      λ f. put_in (lies_within n (2 ^ piece.order) f) (is_piece m n piece.order) (in_use count with f)
-          (in_use count without f) is (with_piece count n piece with without h f);
+      λ f. put_in (lies_within n (2 ^ piece.order) f) (is_piece m n piece.order) (in_pieces count with f)
+      (in_pieces count without f) is (with_piece count n piece with without h f);
   turn = λ b e. no_event e;
   same = λ b e. refl;
 }
@@ -264,17 +259,14 @@ pub kept_of : (f k : ℕ) (t : Bool) (piece : Option Piece) → is_frame_of f k 
 kept_of f k true piece is = is
 kept_of f k false piece is = absurd (cc)
 
--- the picture of pieces and phases
-abbrev pub picture_of : (ℕ → Bool) → (ℕ → Phase) → Picture
-picture_of used phase = record { used = used; phase = phase }
+-- what pieces and phases show
+abbrev pub shown_with : ℕ → (ℕ → Option Piece) → (ℕ → Phase) → Shown
+shown_with count pieces phase = as_shown (in_pieces count pieces) phase
 
-abbrev pub picture : ℕ → (ℕ → Option Piece) → (ℕ → Phase) → Picture
-picture count pieces phase = picture_of (in_use count pieces) phase
-
-pub same_picture : (count : ℕ) (pieces others : ℕ → Option Piece) (phase : ℕ → Phase)
-    → ((k : ℕ) → k < count → pieces k ≡ others k) → picture count pieces phase ≡ picture count others phase
-same_picture count pieces others phase same =
-    ap (λ (u : ℕ → Bool). picture_of u phase) (in_use-same count pieces others same)
+pub same_shown : (count : ℕ) (pieces others : ℕ → Option Piece) (phase : ℕ → Phase)
+    → ((k : ℕ) → k < count → pieces k ≡ others k) → shown_with count pieces phase ≡ shown_with count others phase
+same_shown count pieces others phase same =
+    ap (λ (u : ℕ → Bool). as_shown u phase) (in_pieces-same count pieces others same)
 
 -- the pieces that stay
 abbrev pub staying : (ℕ → Bool) → (ℕ → Option Piece) → ℕ → Option Piece
@@ -303,8 +295,7 @@ unchanged stays pieces n k e = elim (cases_eq k n) [
 module _ (m : MachineSize) (count : ℕ) (stays : ℕ → Bool) (pieces : ℕ → Option Piece) (phase : ℕ → Phase)
     (apart : AreApart count pieces)
     (formed : (n : ℕ) (piece : Piece) → n < count → pieces n ≡ Some piece
-        → is_piece m n piece.order ≡ true) where
-
+    → is_piece m n piece.order ≡ true) where
   -- whether a frame is of a piece that is among them
   freed_within : (n f k : ℕ) → is_frame_of f k (upto n (staying stays pieces) pieces k) ≡ true
       → is_frame_of f k (pieces k) ≡ true
@@ -330,20 +321,20 @@ module _ (m : MachineSize) (count : ℕ) (stays : ℕ → Bool) (pieces : ℕ �
 
   -- the pieces that start below a number come back, but for those that stay
   pub frees_lead : (n : ℕ) → n < count
-      → LeadOn m (picture count (upto n (staying stays pieces) pieces) phase)
+      → EventsLead m (shown_with count (upto n (staying stays pieces) pieces) phase)
       (cond (stays n) [] (free_events n (pieces n)))
-      (picture count (upto (n + 1) (staying stays pieces) pieces) phase)
+      (shown_with count (upto (n + 1) (staying stays pieces) pieces) phase)
   frees_lead n low = by_piece (stays n) refl (pieces n) refl
     where
-      same : staying stays pieces n ≡ pieces n → picture count (upto n (staying stays pieces) pieces) phase
-          ≡ picture count (upto (n + 1) (staying stays pieces) pieces) phase
+      same : staying stays pieces n ≡ pieces n → shown_with count (upto n (staying stays pieces) pieces) phase
+          ≡ shown_with count (upto (n + 1) (staying stays pieces) pieces) phase
       same e =
-          same_picture count (upto n (staying stays pieces) pieces) (upto (n + 1) (staying stays pieces) pieces)
+          same_shown count (upto n (staying stays pieces) pieces) (upto (n + 1) (staying stays pieces) pieces)
           phase (λ k below. (unchanged stays pieces n k e).0)
 
       by_piece : (t : Bool) → stays n ≡ t → (p : Option Piece) → pieces n ≡ p
-          → LeadOn m (picture count (upto n (staying stays pieces) pieces) phase)
-          (cond t [] (free_events n p)) (picture count (upto (n + 1) (staying stays pieces) pieces) phase)
+          → EventsLead m (shown_with count (upto n (staying stays pieces) pieces) phase)
+          (cond t [] (free_events n p)) (shown_with count (upto (n + 1) (staying stays pieces) pieces) phase)
       by_piece true is p e = same (ap (λ (t : Bool). kept t (pieces n)) is)
       by_piece false is None e =
           same (ap (λ (p : Option Piece). kept (stays n) p) e ∙ kept_none (stays n) ∙ sym e)
@@ -360,7 +351,7 @@ module _ (m : MachineSize) (count : ℕ) (stays : ℕ → Bool) (pieces : ℕ �
                 part_apart count pieces (upto n (staying stays pieces) pieces)
                 (λ f k at. freed_within n f k at) apart;
           } in (
-            picture count (upto (n + 1) (staying stays pieces) pieces) phase,
+            shown_with count (upto (n + 1) (staying stays pieces) pieces) phase,
             free_leads m count n piece (upto n (staying stays pieces) pieces)
                 (upto (n + 1) (staying stays pieces) pieces) phase without (formed n piece low e),
             refl,
@@ -369,20 +360,20 @@ module _ (m : MachineSize) (count : ℕ) (stays : ℕ → Bool) (pieces : ℕ �
   -- and are handed out
   pub allocs_lead : ((n : ℕ) (piece : Piece) → n < count → pieces n ≡ Some piece → IsAtHome m phase n piece)
       → (n : ℕ) → n < count
-      → LeadOn m (picture count (upto n pieces (staying stays pieces)) phase)
+      → EventsLead m (shown_with count (upto n pieces (staying stays pieces)) phase)
       (cond (stays n) [] (alloc_events n (pieces n)))
-      (picture count (upto (n + 1) pieces (staying stays pieces)) phase)
+      (shown_with count (upto (n + 1) pieces (staying stays pieces)) phase)
   allocs_lead home n low = by_piece (stays n) refl (pieces n) refl
     where
-      same : staying stays pieces n ≡ pieces n → picture count (upto n pieces (staying stays pieces)) phase
-          ≡ picture count (upto (n + 1) pieces (staying stays pieces)) phase
+      same : staying stays pieces n ≡ pieces n → shown_with count (upto n pieces (staying stays pieces)) phase
+          ≡ shown_with count (upto (n + 1) pieces (staying stays pieces)) phase
       same e =
-          same_picture count (upto n pieces (staying stays pieces)) (upto (n + 1) pieces (staying stays pieces))
+          same_shown count (upto n pieces (staying stays pieces)) (upto (n + 1) pieces (staying stays pieces))
           phase (λ k below. (unchanged stays pieces n k e).1)
 
       by_piece : (t : Bool) → stays n ≡ t → (p : Option Piece) → pieces n ≡ p
-          → LeadOn m (picture count (upto n pieces (staying stays pieces)) phase)
-          (cond t [] (alloc_events n p)) (picture count (upto (n + 1) pieces (staying stays pieces)) phase)
+          → EventsLead m (shown_with count (upto n pieces (staying stays pieces)) phase)
+          (cond t [] (alloc_events n p)) (shown_with count (upto (n + 1) pieces (staying stays pieces)) phase)
       by_piece true is p e = same (ap (λ (t : Bool). kept t (pieces n)) is)
       by_piece false is None e =
           same (ap (λ (p : Option Piece). kept (stays n) p) e ∙ kept_none (stays n) ∙ sym e)
@@ -399,7 +390,7 @@ module _ (m : MachineSize) (count : ℕ) (stays : ℕ → Bool) (pieces : ℕ �
                 part_apart count pieces (upto (n + 1) pieces (staying stays pieces))
                 (λ f k at. taken_within (n + 1) f k at) apart;
           } in (
-            picture count (upto (n + 1) pieces (staying stays pieces)) phase,
+            shown_with count (upto (n + 1) pieces (staying stays pieces)) phase,
             alloc_leads m count n piece (upto (n + 1) pieces (staying stays pieces))
                 (upto n pieces (staying stays pieces)) phase without (formed n piece low e)
                 (home n piece low e),
