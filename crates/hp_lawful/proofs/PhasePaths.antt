@@ -1,11 +1,12 @@
 -- The events of a memory block between two phases lead from the one to the other, turn by turn.
-use Rattle.std.proofs.Common.{◌≡◌, ◌≢◌, ℕ, ◌<◌, Bool, true, false, not, cond, ◌&&◌, ◌||◌, eqb, List, [], ◌∷◌, ◌++◌, refl, sym, ◌∙◌, ap, subst, inl, inr}
+use Rattle.std.proofs.Common.{◌≡◌, ◌≢◌, ℕ, ◌<◌, Bool, true, false, not, cond, ◌&&◌, ◌||◌, eqb, List, [], ◌∷◌, ◌++◌, unwrap_or, refl, sym, ◌∙◌, ap, subst, inl, inr}
+use Rattle.std.specs.Bool.{then_some}
 use Rattle.std.specs.List.{list_any}
 use Rattle.std.proofs.lemmas.Bool.{cases_eq, and_parts, or_left, or_right, eqb-true, eq-eqb, ne_eqb, both_ways, cond-true, cond-false, lt-ltb}
 use mathlib.Core.Path.{fun_ext}
 use Rattle.hp_judge.specs.Events.{block_of, takes as allocates, gives as frees, is_of, is_departure as leaves_offline}
 use Rattle.hp_lawful.specs.Names.{LogEvent, MachineSize, Zone, NormalZone, MovableZone}
-use Rattle.hp_lawful.specs.Phases.{Phase, Offline, GoingOnline, Online, GoingOffline, same_zone, to_offline, from_offline, through_offline, phase_events}
+use Rattle.hp_lawful.specs.Phases.{Phase, Offline, GoingOnline, Online, GoingOffline, same_zone, to_offline, from_offline, phase_events}
 use Rattle.hp_lawful.proofs.Turns.{IsTurn, begins, comes, fails, leaves, goes, remains, turn-of, turn-allocates, turn-unmovable, turn-frees, turn-well_formed}
 use Rattle.hp_lawful.proofs.Allowed.{Leads}
 use Rattle.hp_lawful.proofs.Sequences.{EventsLead, as_shown}
@@ -34,8 +35,9 @@ take_up b (GoingOnline z) = (GoingOnline z, begins, refl)
 take_up b (Online z) = (GoingOnline z, begins, (Online z, comes, refl))
 take_up b (GoingOffline z) = (GoingOnline z, begins, (Online z, comes, (GoingOffline z, leaves, refl)))
 
-take_through : (b : ℕ) (p q : Phase) → Take b p (through_offline b p q) q
-take_through b p q = take-append b p Offline q (to_offline b p) (from_offline b q) (take_down b p) (take_up b q)
+take_through : (b : ℕ) (p q : Phase) → Take b p (to_offline b p ++ from_offline b q) q
+take_through b p q =
+    take-append b p Offline q (to_offline b p) (from_offline b q) (take_down b p) (take_up b q)
 
 same_zone-is : (z y : Zone) → same_zone z y ≡ true → z ≡ y
 same_zone-is NormalZone NormalZone e = refl
@@ -44,35 +46,29 @@ same_zone-is MovableZone NormalZone e = cc
 same_zone-is MovableZone MovableZone e = refl
 
 -- by whether the zones are one
-by_zone : (b : ℕ) (p q : Phase) (xs ys : List LogEvent) (z y : Zone) → (z ≡ y → Take b p xs q)
-    → Take b p ys q → Take b p (cond (same_zone z y) xs ys) q
-by_zone b p q xs ys z y same other = by_test (same_zone z y) refl
+by_zone : (b : ℕ) (p q : Phase) (xs : List LogEvent) (z y : Zone) → (z ≡ y → Take b p xs q)
+    → Take b p (unwrap_or (then_some (same_zone z y) xs) (to_offline b p ++ from_offline b q)) q
+by_zone b p q xs z y same = by_test (same_zone z y) refl
   where
-    by_test : (t : Bool) → same_zone z y ≡ t → Take b p (cond t xs ys) q
+    by_test : (t : Bool) → same_zone z y ≡ t
+        → Take b p (unwrap_or (then_some t xs) (to_offline b p ++ from_offline b q)) q
     by_test true is = same (same_zone-is z y is)
-    by_test false is = other
+    by_test false is = take_through b p q
 
 pub take_phase : (b : ℕ) (p q : Phase) → Take b p (phase_events b p q) q
 take_phase b (GoingOnline z) (GoingOnline y) =
-    by_zone b (GoingOnline z) (GoingOnline y) [] (through_offline b (GoingOnline z) (GoingOnline y)) z y
-    (λ e. ap (λ (x : Zone). GoingOnline x) e) (take_through b (GoingOnline z) (GoingOnline y))
+    by_zone b (GoingOnline z) (GoingOnline y) [] z y (λ e. ap (λ (x : Zone). GoingOnline x) e)
 take_phase b (GoingOnline z) (Online y) =
-    by_zone b (GoingOnline z) (Online y) _ (through_offline b (GoingOnline z) (Online y)) z y
-    (λ e. (Online z, comes, ap (λ (x : Zone). Online x) e)) (take_through b (GoingOnline z) (Online y))
+    by_zone b (GoingOnline z) (Online y) _ z y (λ e. (Online z, comes, ap (λ (x : Zone). Online x) e))
 take_phase b (Online z) (Online y) =
-    by_zone b (Online z) (Online y) [] (through_offline b (Online z) (Online y)) z y
-    (λ e. ap (λ (x : Zone). Online x) e) (take_through b (Online z) (Online y))
+    by_zone b (Online z) (Online y) [] z y (λ e. ap (λ (x : Zone). Online x) e)
 take_phase b (Online z) (GoingOffline y) =
-    by_zone b (Online z) (GoingOffline y) _ (through_offline b (Online z) (GoingOffline y)) z y
+    by_zone b (Online z) (GoingOffline y) _ z y
     (λ e. (GoingOffline z, leaves, ap (λ (x : Zone). GoingOffline x) e))
-    (take_through b (Online z) (GoingOffline y))
 take_phase b (GoingOffline z) (Online y) =
-    by_zone b (GoingOffline z) (Online y) _ (through_offline b (GoingOffline z) (Online y)) z y
-    (λ e. (Online z, remains, ap (λ (x : Zone). Online x) e))
-    (take_through b (GoingOffline z) (Online y))
+    by_zone b (GoingOffline z) (Online y) _ z y (λ e. (Online z, remains, ap (λ (x : Zone). Online x) e))
 take_phase b (GoingOffline z) (GoingOffline y) =
-    by_zone b (GoingOffline z) (GoingOffline y) [] (through_offline b (GoingOffline z) (GoingOffline y)) z y
-    (λ e. ap (λ (x : Zone). GoingOffline x) e) (take_through b (GoingOffline z) (GoingOffline y))
+    by_zone b (GoingOffline z) (GoingOffline y) [] z y (λ e. ap (λ (x : Zone). GoingOffline x) e)
 take_phase b Offline q = take_through b Offline q
 take_phase b (GoingOnline z) Offline = take_through b (GoingOnline z) Offline
 take_phase b (GoingOnline z) (GoingOffline y) = take_through b (GoingOnline z) (GoingOffline y)

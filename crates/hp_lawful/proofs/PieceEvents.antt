@@ -109,10 +109,6 @@ pub record AreWithout (count n : ℕ) (piece : Piece) (with without : ℕ → Op
 
 module _ (count n : ℕ) (piece : Piece) (with without : ℕ → Option Piece)
     (h : AreWithout count n piece with without) where
-  -- the frames of the piece
-  its : ℕ → Bool
-  its f = lies_within n (2 ^ piece.order) f
-
   -- a piece that is left is another
   left_is : (f k : ℕ) → is_frame_of f k (without k) ≡ true → (k ≢ n) × (is_frame_of f k (with k) ≡ true)
   left_is f k is = (

@@ -1,5 +1,6 @@
 -- The phases of a memory block, and the events that a log has when a block goes from one to another.
-use Rattle.std.specs.Prelude.{Bool, true, false, if◌then◌else◌, List, [], ◌∷◌, ◌++◌, Option, unwrap_or}
+use Rattle.std.specs.Prelude.{Bool, true, false, List, [], ◌∷◌, ◌++◌, Option, None, unwrap_or}
+use Rattle.std.specs.Bool.{then_some}
 use Rattle.std.specs.Option.{option_map_or}
 use Rattle.hp_numbers.specs.Numbers.{Block}
 use Rattle.hp_lawful.specs.Names.{LogEvent, OnlineBegins, OnlineEnds, OfflineBegins, OfflineEnds, Zone, NormalZone, MovableZone, State, OfflineState, OnlineState, GoingState, AbsentState, Wish, OffWish, NormalWish, MovableWish, Claim, Row}
@@ -51,25 +52,21 @@ from_offline block (Online zone) = OnlineBegins block zone ∷ OnlineEnds block 
 from_offline block (GoingOffline zone) =
     OnlineBegins block zone ∷ OnlineEnds block true ∷ OfflineBegins block ∷ []
 
-abbrev pub through_offline : Block → Phase → Phase → List LogEvent
-through_offline block from to = to_offline block from ++ from_offline block to
+-- the events between two phases of one zone, if the block need not go offline in between
+abbrev pub direct_events : Block → Phase → Phase → Option (List LogEvent)
+direct_events block (GoingOnline zone) (GoingOnline next) = then_some (same_zone zone next) []
+direct_events block (GoingOnline zone) (Online next) =
+    then_some (same_zone zone next) (OnlineEnds block true ∷ [])
+direct_events block (Online zone) (Online next) = then_some (same_zone zone next) []
+direct_events block (Online zone) (GoingOffline next) =
+    then_some (same_zone zone next) (OfflineBegins block ∷ [])
+direct_events block (GoingOffline zone) (Online next) =
+    then_some (same_zone zone next) (OfflineEnds block false ∷ [])
+direct_events block (GoingOffline zone) (GoingOffline next) = then_some (same_zone zone next) []
+direct_events block from to = None
 
--- a block goes from one phase to another: in its zone if the phases are of one zone, else through
--- offline. Only an undo makes most of these changes in one step
+-- a block goes from one phase to another, through offline unless there is a direct way. An undo can
+-- make any of these changes in one step
 abbrev pub phase_events : Block → Phase → Phase → List LogEvent
-phase_events block (GoingOnline zone) (GoingOnline next) =
-    if same_zone zone next then [] else through_offline block (GoingOnline zone) (GoingOnline next)
-phase_events block (GoingOnline zone) (Online next) =
-    if same_zone zone next then OnlineEnds block true ∷ []
-    else through_offline block (GoingOnline zone) (Online next)
-phase_events block (Online zone) (Online next) =
-    if same_zone zone next then [] else through_offline block (Online zone) (Online next)
-phase_events block (Online zone) (GoingOffline next) =
-    if same_zone zone next then OfflineBegins block ∷ []
-    else through_offline block (Online zone) (GoingOffline next)
-phase_events block (GoingOffline zone) (Online next) =
-    if same_zone zone next then OfflineEnds block false ∷ []
-    else through_offline block (GoingOffline zone) (Online next)
-phase_events block (GoingOffline zone) (GoingOffline next) =
-    if same_zone zone next then [] else through_offline block (GoingOffline zone) (GoingOffline next)
-phase_events block from to = through_offline block from to
+phase_events block from to =
+    unwrap_or (direct_events block from to) (to_offline block from ++ from_offline block to)

@@ -17,8 +17,8 @@ ghost use Rattle.hp_units.specs.declared.replies.Record.{Record};
 pub fn machines_write_lawful_logs()
     ensures history { (l : LayoutParts) (m : MachineSize) (base : Memory) (h : List Record) → IsLayout l
         → IsSizeOf l m → IsWellPlaced l base → IsLawful m (log_of l base h) }
-    ensures histories { (l : LayoutParts) (m : MachineSize) (base : Memory) (hs : List (List Record)) → IsLayout l
-        → IsSizeOf l m → IsWellPlaced l base → IsLawful m (log_of_all l base hs) }
+    ensures histories { (l : LayoutParts) (m : MachineSize) (base : Memory) (hs : List (List Record))
+        → IsLayout l → IsSizeOf l m → IsWellPlaced l base → IsLawful m (log_of_all l base hs) }
     ensures boot { (l : LayoutParts) (m : MachineSize) (hs : List (List Record)) → IsLayout l
         → IsSizeOf l m → IsLawful m (log_of_all l (boot_memory l) hs) }
 {}
@@ -29,8 +29,8 @@ pub fn logs_show_their_state()
     ensures history { (l : LayoutParts) (m : MachineSize) (base : Memory) (h : List Record) → IsLayout l
         → IsSizeOf l m → IsWellPlaced l base
         → after_log m (shown l base) (log_of l base h) ≡ shown l (value_of l base h) }
-    ensures histories { (l : LayoutParts) (m : MachineSize) (base : Memory) (hs : List (List Record)) → IsLayout l
-        → IsSizeOf l m → IsWellPlaced l base
+    ensures histories { (l : LayoutParts) (m : MachineSize) (base : Memory) (hs : List (List Record))
+        → IsLayout l → IsSizeOf l m → IsWellPlaced l base
         → after_log m (shown l base) (log_of_all l base hs) ≡ shown l (value_of_all l base hs) }
 {}
 
