@@ -5,11 +5,11 @@ use Rattle.hp_judge.specs.Events.{block_of, is_well_formed, takes as allocates, 
 use Rattle.hp_judge.specs.Laws.{sentence, onlines, departs as offlines, IsPlace}
 use Rattle.hp_judge.specs.Machines.{IsAllowed}
 use Rattle.hp_lawful.specs.Names.{LogEvent, MachineSize, Law, Once, InUse, Present, Empty, MovableLaw, GoingOnlineLaw, GoingOfflineLaw, OnlineLaw, OfflineLaw}
-use Rattle.hp_lawful.specs.Phases.{Phase}
+use Rattle.hp_lawful.specs.Phases.{BlockPhase}
 use Rattle.hp_lawful.proofs.Turns.{IsTurn, is_offline, is_going_online, is_online, is_going_offline, is_normal, opens-offline, opens-online, opens-going_online, opens-going_offline, opens-movable, asks-offline, asks-online, asks-going_online, asks-going_offline, settles-offline, settles-movable}
 
 -- which laws are settled where
-abbrev pub settled : MachineSize → (ℕ → Bool) → (ℕ → Phase) → Law → ℕ → Bool
+abbrev pub settled : MachineSize → (ℕ → Bool) → (ℕ → BlockPhase) → Law → ℕ → Bool
 settled m used phase Once f = not (used f)
 settled m used phase InUse f = used f
 settled m used phase Present f = not (is_offline (phase (block_of m f)))
@@ -26,8 +26,8 @@ used_after m f e used = allocates m f e || (not (frees m f e) && used)
 
 -- the event leads from one state to the next: it hands out frames that are not in use, of blocks that are
 -- not offline; it brings back frames that are in use; a block takes its turn, and goes offline empty
-pub record Leads (m : MachineSize) (used : ℕ → Bool) (phase : ℕ → Phase) (e : LogEvent) (used' : ℕ → Bool)
-    (phase' : ℕ → Phase) : Type 0 where
+pub record Leads (m : MachineSize) (used : ℕ → Bool) (phase : ℕ → BlockPhase) (e : LogEvent) (used' : ℕ → Bool)
+    (phase' : ℕ → BlockPhase) : Type 0 where
   pub well_formed : is_well_formed m e ≡ true
   pub free : (f : ℕ) → allocates m f e ≡ true → used f ≡ false
   pub present : (f : ℕ) → allocates m f e ≡ true → is_offline (phase (block_of m f)) ≡ false
@@ -38,8 +38,8 @@ pub record Leads (m : MachineSize) (used : ℕ → Bool) (phase : ℕ → Phase)
   pub turn : (b : ℕ) → is_of b e ≡ true → IsTurn b (phase b) e (phase' b)
   pub same : (b : ℕ) → is_of b e ≡ false → phase' b ≡ phase b
 
-module _ (m : MachineSize) (used : ℕ → Bool) (phase : ℕ → Phase) (e : LogEvent) (used' : ℕ → Bool)
-    (phase' : ℕ → Phase) (h : Leads m used phase e used' phase') where
+module _ (m : MachineSize) (used : ℕ → Bool) (phase : ℕ → BlockPhase) (e : LogEvent) (used' : ℕ → Bool)
+    (phase' : ℕ → BlockPhase) (h : Leads m used phase e used' phase') where
   -- ---- what the event asks
 
   asks : (law : Law) (place : ℕ) → IsPlace m law place → (sentence m law place).later e ≡ true
@@ -125,7 +125,7 @@ module _ (m : MachineSize) (used : ℕ → Bool) (phase : ℕ → Phase) (e : Lo
   ]
 
   -- a block's phase that settles a law did before, if the event is not of the block
-  of_phase : (b : ℕ) (test : Phase → Bool) → test (phase' b) ≡ true
+  of_phase : (b : ℕ) (test : BlockPhase → Bool) → test (phase' b) ≡ true
       → (test (phase b) ≡ true) ⊎ (is_of b e ≡ true)
   of_phase b test is = elim (cases_Bool (is_of b e)) [
     | inl of ↦ inr of

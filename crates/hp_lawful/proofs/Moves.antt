@@ -6,7 +6,7 @@ use Rattle.hp_units.specs.Pages.{page_at}
 use Rattle.hp_judge.specs.Events.{block_of, frame_count, takes as allocates, gives as frees, is_move, is_piece, lies_within}
 use Rattle.hp_lawful.specs.Logs.{same_page, with_move}
 use Rattle.hp_lawful.specs.Names.{LogEvent, Alloc, Free, Move, MachineSize}
-use Rattle.hp_lawful.specs.Phases.{Phase}
+use Rattle.hp_lawful.specs.Phases.{BlockPhase}
 use Rattle.hp_lawful.specs.Reading.{Shown}
 use Rattle.hp_lawful.proofs.Turns.{is_offline}
 use Rattle.hp_lawful.proofs.PieceEvents.{same_tests}
@@ -87,7 +87,7 @@ module _ (m : MachineSize) (from to : ℕ) (p mid q : Shown)
         λ f is. unused_before (frees m f (Free from 0)) (p.used f) (mid.used f) (h.used_is f)
         (k.free f (sym (move_takes f) ∙ is)) (not_given f is);
     present =
-        λ f is. ap (λ (x : Phase). is_offline x) (sym (h.same (block_of m f) refl))
+        λ f is. ap (λ (x : BlockPhase). is_offline x) (sym (h.same (block_of m f) refl))
         ∙ k.present f (sym (move_takes f) ∙ is);
     normal = λ f e. no_event e;
     in_use = λ f is. h.in_use f (sym (move_gives f) ∙ is);

@@ -6,36 +6,36 @@ use Rattle.std.proofs.lemmas.Bool.{cases_eq, and_parts, or_left, or_right, eqb-t
 use mathlib.Core.Path.{fun_ext}
 use Rattle.hp_judge.specs.Events.{block_of, takes as allocates, gives as frees, is_of, is_departure as leaves_offline}
 use Rattle.hp_lawful.specs.Names.{LogEvent, MachineSize, Zone, NormalZone, MovableZone}
-use Rattle.hp_lawful.specs.Phases.{Phase, Offline, GoingOnline, Online, GoingOffline, same_zone, to_offline, from_offline, phase_events}
+use Rattle.hp_lawful.specs.Phases.{BlockPhase, Offline, GoingOnline, Online, GoingOffline, same_zone, to_offline, from_offline, phase_events}
 use Rattle.hp_lawful.proofs.Turns.{IsTurn, begins, comes, fails, leaves, goes, remains, turn-of, turn-allocates, turn-unmovable, turn-frees, turn-well_formed}
 use Rattle.hp_lawful.proofs.Allowed.{Leads}
 use Rattle.hp_lawful.proofs.Sequences.{EventsLead, as_shown}
 
 -- the events take block b from one phase to another
-abbrev pub Take : ℕ → Phase → List LogEvent → Phase → Type 0
+abbrev pub Take : ℕ → BlockPhase → List LogEvent → BlockPhase → Type 0
 Take b p [] q = p ≡ q
-Take b p (e ∷ es) q = (r : Phase) × IsTurn b p e r × Take b r es q
+Take b p (e ∷ es) q = (r : BlockPhase) × IsTurn b p e r × Take b r es q
 
-take-append : (b : ℕ) (p q r : Phase) (xs ys : List LogEvent) → Take b p xs q → Take b q ys r
+take-append : (b : ℕ) (p q r : BlockPhase) (xs ys : List LogEvent) → Take b p xs q → Take b q ys r
     → Take b p (xs ++ ys) r
-take-append b p q r [] ys h k = subst (λ (x : Phase). Take b x ys r) (sym h) k
+take-append b p q r [] ys h k = subst (λ (x : BlockPhase). Take b x ys r) (sym h) k
 take-append b p q r (x ∷ xs) ys h k = (h.0, h.1, take-append b h.0 q r xs ys h.2 k)
 
 -- ---- from each phase to each other
 
-take_down : (b : ℕ) (p : Phase) → Take b p (to_offline b p) Offline
+take_down : (b : ℕ) (p : BlockPhase) → Take b p (to_offline b p) Offline
 take_down b Offline = refl
 take_down b (GoingOnline z) = (Offline, fails, refl)
 take_down b (Online z) = (GoingOffline z, leaves, (Offline, goes, refl))
 take_down b (GoingOffline z) = (Offline, goes, refl)
 
-take_up : (b : ℕ) (p : Phase) → Take b Offline (from_offline b p) p
+take_up : (b : ℕ) (p : BlockPhase) → Take b Offline (from_offline b p) p
 take_up b Offline = refl
 take_up b (GoingOnline z) = (GoingOnline z, begins, refl)
 take_up b (Online z) = (GoingOnline z, begins, (Online z, comes, refl))
 take_up b (GoingOffline z) = (GoingOnline z, begins, (Online z, comes, (GoingOffline z, leaves, refl)))
 
-take_through : (b : ℕ) (p q : Phase) → Take b p (to_offline b p ++ from_offline b q) q
+take_through : (b : ℕ) (p q : BlockPhase) → Take b p (to_offline b p ++ from_offline b q) q
 take_through b p q =
     take-append b p Offline q (to_offline b p) (from_offline b q) (take_down b p) (take_up b q)
 
@@ -46,7 +46,7 @@ same_zone-is MovableZone NormalZone e = cc
 same_zone-is MovableZone MovableZone e = refl
 
 -- by whether the zones are one
-by_zone : (b : ℕ) (p q : Phase) (xs : List LogEvent) (z y : Zone) → (z ≡ y → Take b p xs q)
+by_zone : (b : ℕ) (p q : BlockPhase) (xs : List LogEvent) (z y : Zone) → (z ≡ y → Take b p xs q)
     → Take b p (unwrap_or (then_some (same_zone z y) xs) (to_offline b p ++ from_offline b q)) q
 by_zone b p q xs z y same = by_test (same_zone z y) refl
   where
@@ -55,7 +55,7 @@ by_zone b p q xs z y same = by_test (same_zone z y) refl
     by_test true is = same (same_zone-is z y is)
     by_test false is = take_through b p q
 
-pub take_phase : (b : ℕ) (p q : Phase) → Take b p (phase_events b p q) q
+pub take_phase : (b : ℕ) (p q : BlockPhase) → Take b p (phase_events b p q) q
 take_phase b (GoingOnline z) (GoingOnline y) =
     by_zone b (GoingOnline z) (GoingOnline y) [] z y (λ e. ap (λ (x : Zone). GoingOnline x) e)
 take_phase b (GoingOnline z) (Online y) =
@@ -80,13 +80,13 @@ take_phase b (GoingOffline z) (GoingOnline y) = take_through b (GoingOffline z) 
 -- ---- the events lead on, if no frame of the block is in use when it goes offline
 
 -- the phases, with another for one block
-abbrev at : ℕ → Phase → (ℕ → Phase) → ℕ → Phase
+abbrev at : ℕ → BlockPhase → (ℕ → BlockPhase) → ℕ → BlockPhase
 at b p phase k = cond (eqb k b) p (phase k)
 
-at_here : (b : ℕ) (p : Phase) (phase : ℕ → Phase) (k : ℕ) → k ≡ b → at b p phase k ≡ p
+at_here : (b : ℕ) (p : BlockPhase) (phase : ℕ → BlockPhase) (k : ℕ) → k ≡ b → at b p phase k ≡ p
 at_here b p phase k e = cond-true (eqb k b) p (phase k) (eq-eqb k b e)
 
-at_other : (b : ℕ) (p : Phase) (phase : ℕ → Phase) (k : ℕ) → k ≢ b → at b p phase k ≡ phase k
+at_other : (b : ℕ) (p : BlockPhase) (phase : ℕ → BlockPhase) (k : ℕ) → k ≢ b → at b p phase k ≡ phase k
 at_other b p phase k ne = cond-false (eqb k b) p (phase k) (ne_eqb k b ne)
 
 kept_used : (a g u : Bool) → a ≡ false → g ≡ false → u ≡ (a || (not g && u))
@@ -94,13 +94,13 @@ kept_used true g u e f = absurd (cc)
 kept_used false true u e f = absurd (cc)
 kept_used false false u e f = refl
 
-pub turns_lead : (m : MachineSize) (b : ℕ) (used : ℕ → Bool) (es : List LogEvent) (p q : Phase)
-    (phase phase' : ℕ → Phase) → Take b p es q → phase b ≡ p → phase' b ≡ q
+pub turns_lead : (m : MachineSize) (b : ℕ) (used : ℕ → Bool) (es : List LogEvent) (p q : BlockPhase)
+    (phase phase' : ℕ → BlockPhase) → Take b p es q → phase b ≡ p → phase' b ≡ q
     → ((k : ℕ) → k ≢ b → phase' k ≡ phase k) → b < m.blocks
     → ((f : ℕ) → block_of m f ≡ b → list_any leaves_offline es ≡ true → used f ≡ false)
     → EventsLead m (as_shown used phase) es (as_shown used phase')
 turns_lead m b used [] p q phase phase' h from to others low empty =
-    ap (λ (x : ℕ → Phase). as_shown used x) (fun_ext same)
+    ap (λ (x : ℕ → BlockPhase). as_shown used x) (fun_ext same)
   where
     same : (k : ℕ) → phase k ≡ phase' k
     same k = elim (cases_eq k b) [
@@ -123,9 +123,9 @@ turns_lead m b used (e ∷ es) p q phase phase' h from to others low empty = (
 
     taken : (k : ℕ) → k ≡ b → IsTurn k (phase k) e (at b h.0 phase k)
     taken k same =
-        subst (λ (r : Phase). IsTurn k (phase k) e r) (sym (at_here b h.0 phase k same))
+        subst (λ (r : BlockPhase). IsTurn k (phase k) e r) (sym (at_here b h.0 phase k same))
         (subst (λ (j : ℕ). IsTurn j (phase j) e h.0) (sym same)
-        (subst (λ (r : Phase). IsTurn b r e h.0) (sym from) h.1))
+        (subst (λ (r : BlockPhase). IsTurn b r e h.0) (sym from) h.1))
 
     other : (k : ℕ) → is_of k e ≡ false → k ≢ b
     other k not same =

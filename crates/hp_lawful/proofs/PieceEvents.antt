@@ -5,7 +5,7 @@ use Rattle.std.proofs.lemmas.Bool.{cases_eq, cases_lt, or_cases, or_left, or_rig
 use mathlib.Core.Path.{fun_ext}
 use Rattle.hp_judge.specs.Events.{block_of, is_piece, lies_within}
 use Rattle.hp_lawful.specs.Names.{Alloc, Free, MachineSize}
-use Rattle.hp_lawful.specs.Phases.{Phase}
+use Rattle.hp_lawful.specs.Phases.{BlockPhase}
 use Rattle.hp_lawful.specs.Reading.{Shown}
 use Rattle.hp_lawful.specs.Pieces.{Piece, alloc_events, free_events, is_frame_of}
 use Rattle.hp_lawful.proofs.Turns.{is_offline, is_normal}
@@ -174,7 +174,7 @@ no_event e = absurd (cc)
 -- ---- a piece comes back
 
 pub free_leads : (m : MachineSize) (count n : ℕ) (piece : Piece) (with without : ℕ → Option Piece)
-    (phase : ℕ → Phase) → AreWithout count n piece with without → is_piece m n piece.order ≡ true
+    (phase : ℕ → BlockPhase) → AreWithout count n piece with without → is_piece m n piece.order ≡ true
     → Leads m (in_pieces count with) phase (Free n piece.order) (in_pieces count without) phase
 free_leads m count n piece with without phase h is = record {
   well_formed = is;
@@ -197,13 +197,13 @@ free_leads m count n piece with without phase h is = record {
 -- ---- a piece is handed out
 
 -- the blocks of its frames are not offline, and of zone Normal if it cannot move
-pub record IsAtHome (m : MachineSize) (phase : ℕ → Phase) (n : ℕ) (piece : Piece) : Type 0 where
+pub record IsAtHome (m : MachineSize) (phase : ℕ → BlockPhase) (n : ℕ) (piece : Piece) : Type 0 where
   pub present : (f : ℕ) → lies_within n (2 ^ piece.order) f ≡ true → is_offline (phase (block_of m f)) ≡ false
   pub normal : (f : ℕ) → piece.movable ≡ false → lies_within n (2 ^ piece.order) f ≡ true
       → is_normal (phase (block_of m f)) ≡ true
 
 pub alloc_leads : (m : MachineSize) (count n : ℕ) (piece : Piece) (with without : ℕ → Option Piece)
-    (phase : ℕ → Phase) → AreWithout count n piece with without → is_piece m n piece.order ≡ true
+    (phase : ℕ → BlockPhase) → AreWithout count n piece with without → is_piece m n piece.order ≡ true
     → IsAtHome m phase n piece
     → Leads m (in_pieces count without) phase (Alloc n piece.order piece.movable) (in_pieces count with) phase
 alloc_leads m count n piece with without phase h is home = record {
@@ -256,10 +256,10 @@ kept_of f k true piece is = is
 kept_of f k false piece is = absurd (cc)
 
 -- what pieces and phases show
-abbrev pub shown_with : ℕ → (ℕ → Option Piece) → (ℕ → Phase) → Shown
+abbrev pub shown_with : ℕ → (ℕ → Option Piece) → (ℕ → BlockPhase) → Shown
 shown_with count pieces phase = as_shown (in_pieces count pieces) phase
 
-pub same_shown : (count : ℕ) (pieces others : ℕ → Option Piece) (phase : ℕ → Phase)
+pub same_shown : (count : ℕ) (pieces others : ℕ → Option Piece) (phase : ℕ → BlockPhase)
     → ((k : ℕ) → k < count → pieces k ≡ others k) → shown_with count pieces phase ≡ shown_with count others phase
 same_shown count pieces others phase same =
     ap (λ (u : ℕ → Bool). as_shown u phase) (in_pieces-same count pieces others same)
@@ -288,7 +288,7 @@ unchanged stays pieces n k e = elim (cases_eq k n) [
   )
 ]
 
-module _ (m : MachineSize) (count : ℕ) (stays : ℕ → Bool) (pieces : ℕ → Option Piece) (phase : ℕ → Phase)
+module _ (m : MachineSize) (count : ℕ) (stays : ℕ → Bool) (pieces : ℕ → Option Piece) (phase : ℕ → BlockPhase)
     (apart : AreApart count pieces)
     (formed : (n : ℕ) (piece : Piece) → n < count → pieces n ≡ Some piece
     → is_piece m n piece.order ≡ true) where

@@ -7,12 +7,12 @@ use Rattle.hp_judge.specs.Laws.{IsLawful}
 use Rattle.hp_judge.specs.Machines.{Agrees}
 use Rattle.hp_judge.proofs.Machines.{agrees_push, allowed_push}
 use Rattle.hp_lawful.specs.Names.{LogEvent, MachineSize}
-use Rattle.hp_lawful.specs.Phases.{Phase}
+use Rattle.hp_lawful.specs.Phases.{BlockPhase}
 use Rattle.hp_lawful.specs.Reading.{Shown, after_event, after_log, next_phase}
 use Rattle.hp_lawful.proofs.Allowed.{Leads, allowed, settled}
 use Rattle.hp_lawful.proofs.Turns.{turn-next}
 
-abbrev pub as_shown : (ℕ → Bool) → (ℕ → Phase) → Shown
+abbrev pub as_shown : (ℕ → Bool) → (ℕ → BlockPhase) → Shown
 as_shown used phase = record { used = used; phase = phase }
 
 -- the events lead from one state to another, one after another

@@ -11,7 +11,7 @@ use Rattle.hp_units.specs.Placement.{IsWellPlaced}
 use Rattle.hp_judge.specs.Events.{block_of as log_block_of, is_departure as leaves_offline}
 use Rattle.hp_lawful.specs.Logs.{IsSizeOf, allocs_at, block_events, changes, frees_at, stays, step_log}
 use Rattle.hp_lawful.specs.Names.{LogEvent, MachineSize, Row}
-use Rattle.hp_lawful.specs.Phases.{Phase, phase_of}
+use Rattle.hp_lawful.specs.Phases.{BlockPhase, phase_of}
 use Rattle.hp_lawful.specs.Pieces.{Piece, is_frame_of, piece_at, same_piece}
 use Rattle.hp_lawful.specs.Reading.{Shown, shown}
 use Rattle.hp_lawful.proofs.Moves.{move_leads}
@@ -21,7 +21,7 @@ use Rattle.hp_lawful.proofs.PhasePaths.{take_phase, turns_lead}
 use Rattle.hp_lawful.proofs.StatePieces.{of_some, piece_formed, piece_home, piece_lies, pieces_apart, same_block}
 
 -- the phases of a state's memory blocks
-abbrev pub phases : Memory → ℕ → Phase
+abbrev pub phases : Memory → ℕ → BlockPhase
 phases s b = phase_of (row_of s.blocks b)
 
 -- pieces that are the same are one
@@ -112,9 +112,9 @@ module _ (l : LayoutParts) (m : MachineSize) (before after : Memory) (layout : I
       (as_shown used (upto 0 (phases after) (phases before)))
       (as_shown used (phases after)) (as_shown used (upto (0 + l.blocks) (phases after) (phases before)))
       (flat_map (block_events before after) (all_blocks l))
-      (ap (λ (x : ℕ → Phase). as_shown used x)
+      (ap (λ (x : ℕ → BlockPhase). as_shown used x)
       (fun_ext (λ k. upto-above 0 (phases after) (phases before) k (omega arith))))
-      (ap (λ (x : ℕ → Phase). as_shown used x) (fun_ext all))
+      (ap (λ (x : ℕ → BlockPhase). as_shown used x) (fun_ext all))
       (lead-range m (λ n. as_shown used (upto n (phases after) (phases before))) (block_events before after) 0
       l.blocks
       (λ n low. turns_lead m n used (block_events before after n) (phases before n) (phases after n)

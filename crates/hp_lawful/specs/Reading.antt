@@ -7,13 +7,13 @@ use Rattle.hp_units.specs.LayoutParts.{LayoutParts}
 use Rattle.hp_units.specs.Memory.{Memory, row_of}
 use Rattle.hp_judge.specs.Events.{takes as allocates, gives as frees, is_of}
 use Rattle.hp_lawful.specs.Names.{LogEvent, OnlineBegins, OnlineEnds, OfflineBegins, OfflineEnds, MachineSize}
-use Rattle.hp_lawful.specs.Phases.{Phase, Offline, GoingOnline, Online, GoingOffline, phase_of}
+use Rattle.hp_lawful.specs.Phases.{BlockPhase, Offline, GoingOnline, Online, GoingOffline, phase_of}
 use Rattle.hp_lawful.specs.Pieces.{is_frame_of, piece_at}
 
 -- the machine as a log shows it: whether a frame is in use, and the phase of a memory block
 pub record Shown : Type 0 where
   pub used : Frame → Bool
-  pub phase : Block → Phase
+  pub phase : Block → BlockPhase
 
 -- a state: a frame is in use if some piece has it
 abbrev pub in_use : LayoutParts → Memory → Frame → Bool
@@ -23,7 +23,7 @@ abbrev pub shown : LayoutParts → Memory → Shown
 shown l s = record { used = in_use l s; phase = λ block. phase_of (row_of s.blocks block) }
 
 -- the phase of a block after an event of it
-abbrev pub next_phase : LogEvent → Phase → Phase
+abbrev pub next_phase : LogEvent → BlockPhase → BlockPhase
 next_phase (OnlineBegins block zone) phase = GoingOnline zone
 next_phase (OnlineEnds block true) (GoingOnline zone) = Online zone
 next_phase (OnlineEnds block false) phase = Offline
