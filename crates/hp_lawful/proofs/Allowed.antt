@@ -1,8 +1,8 @@
 -- An event that leads from one state to another, each as a log shows it, keeps every law.
 use Rattle.std.proofs.Common.{◌≡◌, ℕ, Bool, true, false, not, ◌&&◌, ◌||◌, sym, ◌∙◌, ap, ◌⊎◌, inl, inr}
 use Rattle.std.proofs.lemmas.Bool.{both_ways, not-true, not-false, not_from_false, cases_Bool, or_cases, or_left, or_parts, and_parts, and_cases, and_from, and_left, and_right}
-use Rattle.hp_judge.specs.Events.{block_of, is_well_formed, takes as allocates, takes_unmovable as allocates_unmovable, gives as frees, is_of, is_online_begin, is_online_end, is_offline_begin, is_offline_end, is_movable_online_begin, is_arrival as leaves_online, is_departure as leaves_offline}
-use Rattle.hp_judge.specs.Laws.{sentence, onlines, departs as offlines, IsPlace}
+use Rattle.hp_judge.specs.Events.{block_of, is_well_formed, allocates, allocates_unmovable, frees, is_of, is_online_begin, is_online_end, is_offline_begin, is_offline_end, is_movable_online_begin, leaves_online, leaves_offline}
+use Rattle.hp_judge.specs.Laws.{sentence, onlines, offlines, IsPlace}
 use Rattle.hp_judge.specs.Machines.{IsAllowed}
 use Rattle.hp_lawful.specs.Names.{LogEvent, MachineSize, Law, Once, InUse, Present, Empty, MovableLaw, GoingOnlineLaw, GoingOfflineLaw, OnlineLaw, OfflineLaw}
 use Rattle.hp_lawful.specs.Phases.{BlockPhase}

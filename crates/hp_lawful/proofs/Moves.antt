@@ -3,7 +3,7 @@ use Rattle.std.proofs.Common.{◌≡◌, ◌≢◌, ℕ, zero, ◌+◌, ◌%◌,
 use Rattle.std.proofs.lemmas.Bool.{and_parts, and_from, eq-eqb, eqb-true, eqb-false, le-leb, leb-true, lt-ltb, ltb-true, ne_eqb, not-true}
 use Rattle.hp_units.specs.Memory.{Memory}
 use Rattle.hp_units.specs.Pages.{page_at}
-use Rattle.hp_judge.specs.Events.{block_of, frame_count, takes as allocates, gives as frees, is_move, is_piece, lies_within}
+use Rattle.hp_judge.specs.Events.{block_of, frame_count, allocates, frees, is_move, is_piece, lies_within}
 use Rattle.hp_lawful.specs.Logs.{same_page, with_move}
 use Rattle.hp_lawful.specs.Names.{LogEvent, Alloc, Free, Move, MachineSize}
 use Rattle.hp_lawful.specs.Phases.{BlockPhase}

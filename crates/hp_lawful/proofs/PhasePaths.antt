@@ -4,7 +4,7 @@ use Rattle.std.specs.Bool.{then_some}
 use Rattle.std.specs.List.{list_any}
 use Rattle.std.proofs.lemmas.Bool.{cases_eq, and_parts, or_left, or_right, eqb-true, eq-eqb, ne_eqb, both_ways, cond-true, cond-false, lt-ltb}
 use mathlib.Core.Path.{fun_ext}
-use Rattle.hp_judge.specs.Events.{block_of, takes as allocates, gives as frees, is_of, is_departure as leaves_offline}
+use Rattle.hp_judge.specs.Events.{block_of, allocates, frees, is_of, leaves_offline}
 use Rattle.hp_lawful.specs.Names.{LogEvent, MachineSize, Zone, NormalZone, MovableZone}
 use Rattle.hp_lawful.specs.Phases.{BlockPhase, Offline, GoingOnline, Online, GoingOffline, same_zone, to_offline, from_offline, phase_events}
 use Rattle.hp_lawful.proofs.Turns.{IsTurn, begins, comes, fails, leaves, goes, remains, turn-of, turn-allocates, turn-unmovable, turn-frees, turn-well_formed}

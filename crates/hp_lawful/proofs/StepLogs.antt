@@ -8,7 +8,7 @@ use Rattle.hp_units.specs.Arithmetic.{all_blocks, all_frames, block_of, frame_co
 use Rattle.hp_units.specs.LayoutParts.{IsLayout, LayoutParts}
 use Rattle.hp_units.specs.Memory.{Memory, offline_row, row_of}
 use Rattle.hp_units.specs.Placement.{IsWellPlaced}
-use Rattle.hp_judge.specs.Events.{block_of as log_block_of, is_departure as leaves_offline}
+use Rattle.hp_judge.specs.Events.{block_of as log_block_of, leaves_offline}
 use Rattle.hp_lawful.specs.Logs.{IsSizeOf, allocs_at, block_events, changes, frees_at, stays, step_log}
 use Rattle.hp_lawful.specs.Names.{LogEvent, MachineSize, Row}
 use Rattle.hp_lawful.specs.Phases.{BlockPhase, phase_of}

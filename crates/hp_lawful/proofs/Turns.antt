@@ -1,6 +1,6 @@
 -- The events that take a memory block from one phase to the next, and what the laws ask of each.
 use Rattle.std.proofs.Common.{◌≡◌, ℕ, Bool, true, false, ◌==◌, nat_lt, refl, ◌⊎◌, inl, inr}
-use Rattle.hp_judge.specs.Events.{is_well_formed, takes as allocates, takes_unmovable as allocates_unmovable, gives as frees, is_of, is_online_begin, is_movable_online_begin, is_online_end, is_offline_begin, is_offline_end, is_arrival as leaves_online, is_departure as leaves_offline}
+use Rattle.hp_judge.specs.Events.{is_well_formed, allocates, allocates_unmovable, frees, is_of, is_online_begin, is_movable_online_begin, is_online_end, is_offline_begin, is_offline_end, leaves_online, leaves_offline}
 use Rattle.hp_lawful.specs.Names.{LogEvent, MachineSize, OnlineBegins, OnlineEnds, OfflineBegins, OfflineEnds, Zone, NormalZone, MovableZone}
 use Rattle.hp_lawful.specs.Phases.{BlockPhase, Offline, GoingOnline, Online, GoingOffline}
 use Rattle.hp_lawful.specs.Reading.{next_phase}

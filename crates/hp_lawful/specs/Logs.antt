@@ -7,7 +7,7 @@ use Rattle.hp_units.specs.History.{value_of}
 use Rattle.hp_units.specs.LayoutParts.{LayoutParts}
 use Rattle.hp_units.specs.Memory.{Memory, row_of}
 use Rattle.hp_units.specs.Pages.{page_at}
-use Rattle.hp_judge.specs.Events.{is_departure as leaves_offline}
+use Rattle.hp_judge.specs.Events.{leaves_offline}
 use Rattle.hp_lawful.specs.Names.{LogEvent, Alloc, Free, Move, MachineSize, Record}
 use Rattle.hp_lawful.specs.Phases.{phase_events, phase_of}
 use Rattle.hp_lawful.specs.Pieces.{alloc_events, free_events, piece_at, same_piece}

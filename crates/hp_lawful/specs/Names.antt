@@ -2,8 +2,8 @@
 pub use Rattle.hp_judge.specs.declared.events.LogEvent.{LogEvent}
 pub use Rattle.hp_judge.specs.declared.events.LogEvent.TheVariants.{Alloc, Free, OnlineBegins, OnlineEnds, OfflineBegins, OfflineEnds, Move}
 pub use Rattle.hp_judge.specs.declared.events.MachineSize.{MachineSize}
-pub use Rattle.hp_judge.specs.declared.events.Law.{Law}
-pub use Rattle.hp_judge.specs.declared.events.Law.TheVariants.{Once, InUse, Present, Empty, Movable as MovableLaw, Coming as GoingOnlineLaw, Going as GoingOfflineLaw, Online as OnlineLaw, Offline as OfflineLaw}
+pub use Rattle.hp_judge.specs.declared.faults.Law.{Law}
+pub use Rattle.hp_judge.specs.declared.faults.Law.TheVariants.{Once, InUse, Present, Empty, Movable as MovableLaw, GoingOnline as GoingOnlineLaw, GoingOffline as GoingOfflineLaw, Online as OnlineLaw, Offline as OfflineLaw}
 pub use Rattle.hp_units.specs.declared.rows.Zone.{Zone}
 pub use Rattle.hp_units.specs.declared.rows.Zone.TheVariants.{Normal as NormalZone, Movable as MovableZone}
 pub use Rattle.hp_units.specs.declared.rows.State.{State}

@@ -5,7 +5,7 @@ use Rattle.hp_numbers.specs.Numbers.{Frame, Block}
 use Rattle.hp_units.specs.Arithmetic.{all_frames}
 use Rattle.hp_units.specs.LayoutParts.{LayoutParts}
 use Rattle.hp_units.specs.Memory.{Memory, row_of}
-use Rattle.hp_judge.specs.Events.{takes as allocates, gives as frees, is_of}
+use Rattle.hp_judge.specs.Events.{allocates, frees, is_of}
 use Rattle.hp_lawful.specs.Names.{LogEvent, OnlineBegins, OnlineEnds, OfflineBegins, OfflineEnds, MachineSize}
 use Rattle.hp_lawful.specs.Phases.{BlockPhase, Offline, GoingOnline, Online, GoingOffline, phase_of}
 use Rattle.hp_lawful.specs.Pieces.{is_frame_of, piece_at}
