@@ -8,4 +8,5 @@ pub mod StatePieces
 pub mod StepLogs
 pub mod Histories
 pub mod FrameUse
+pub mod Unchanged
 mod Worked

@@ -40,9 +40,11 @@ pub fn shown_frames_are_in_place()
         → mapped_places s.pages frame + kernel_places s frame ≡ if in_use l s frame then 1 else 0 }
 {}
 
-/// One more record adds the log of its step to the log.
+/// One more record adds the log of its step to the log, and a step that leaves the state as it is
+/// writes nothing.
 pub fn logs_grow_by_steps()
-    ensures { (l : LayoutParts) (base : Memory) (h : List Record) (r : Record) → log_of l base (h ++ r ∷ [])
+    ensures unchanged { (l : LayoutParts) (s : Memory) → step_log l s s ≡ [] }
+    ensures more { (l : LayoutParts) (base : Memory) (h : List Record) (r : Record) → log_of l base (h ++ r ∷ [])
         ≡ log_of l base h ++ step_log l (value_of l base h) (value_of l base (h ++ r ∷ [])) }
 {}
 
