@@ -1,0 +1,5 @@
+pub mod Names
+pub mod Phases
+pub mod Pieces
+pub mod Logs
+pub mod Reading
