@@ -38,7 +38,8 @@ impl Judge {
     fn violation_of_alloc(&self, start: Frame, order: Order, movable: bool) -> Option<Violation>
         requires piece { is_piece self.now.size start order ≡ true }
         requires room { block_of self.now.size start < length self.now.blocks }
-        ensures { FindsViolation self.now.size (violation_in self.now (LogEvent.Alloc start order movable)) result }
+        ensures { FindsViolation self.now.size
+            (violation_in self.now (LogEvent.Alloc start order movable)) result }
     {
         if let Some(found) = self.frames.first_in_use(start.0, piece_size(order)) {
             return Some(Violation {
