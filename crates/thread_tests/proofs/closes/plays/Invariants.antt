@@ -1,0 +1,8 @@
+use Rattle.thread_tests.proofs.closes.plays.Given as goal
+
+-- the machine's own layout, and the ledgers that were just made
+abbrev pub ghosts-plays_on-L-Job : goal.ghosts-plays_on-L-Job
+ghosts-plays_on-L-Job g a = record { layout = a.machine.layout; sealed = a.sealed.name; fulls = a.fulls.name }
+
+abbrev pub ghosts-plays_on-L-Ledger : goal.ghosts-plays_on-L-Ledger
+ghosts-plays_on-L-Ledger g a = record { name = a.records.name; parts = a.records.parts }
