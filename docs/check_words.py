@@ -322,7 +322,7 @@ def check_lab(checks, lab):
         checks.same(f"hotplug_lab {words}", (2, ""), (status, out))
         checks.holds(f"hotplug_lab {words}", error, "says nothing")
     check_full(checks, lab)
-    for words in (("--help",), ("explore", "--help"), ("--version",)):
+    for words in (("--help",), ("explore", "--help"), ("judge", "--help"), ("--version",)):
         status, out, error = lab.call(*words)
         checks.same(f"hotplug_lab {words}", (0, ""), (status, error))
         checks.holds(f"hotplug_lab {words}", out, "writes nothing")

@@ -2,13 +2,14 @@
 //! standard output.
 //!
 //! What a word writes stands in a library of its own: `check` in hp_check, `explore` in hp_lab, its
-//! parts and their `sum` in hp_part_files, `trace` in hp_trace, its picture in hp_svg. The command line,
-//! and all that is around the answers, stands in hp_lab_shell; here the words are answered. The exit
-//! status is 0; or 1 after a fault, which standard error names, and after a check that finds
-//! faults; or 2 where the command line is wrong; or 3 where a search finds nothing, or what is
-//! never to be, where an end that is asked for is not there, and where only the first
-//! interleavings are told. It is the same where standard error takes no text. The help is a
-//! text like any other: where standard output does not take it, the status is 1.
+//! parts and their `sum` in hp_part_files, `trace` in hp_trace, its picture in hp_svg, and `judge`,
+//! which reads no scenario, in hp_verdicts. The command line, and all that is around the answers,
+//! stands in hp_lab_shell; here the other words are answered. The exit status is 0; or 1 after a
+//! fault, which standard error names, and after a check that finds faults; or 2 where the command
+//! line is wrong; or 3 where a search finds nothing, or what is never to be, where an end that is
+//! asked for is not there, where only the first interleavings are told, and where a log is unlawful.
+//! It is the same where standard error takes no text. The help is a text like any other: where
+//! standard output does not take it, the status is 1.
 #![tactic(auto)]
 
 mod answering;

@@ -24,6 +24,21 @@ pub const PART: &str = "part";
 /// The option that searches in threads.
 pub const JOBS: &str = "jobs";
 
+/// The option that reads the text of ftrace.
+pub const FTRACE: &str = "ftrace";
+
+/// The option that says how many frames a memory block has.
+pub const BLOCK_FRAMES: &str = "block-frames";
+
+/// The option that judges some memory blocks alone.
+pub const BLOCKS: &str = "blocks";
+
+/// The option that allows a kind of faults.
+pub const ALLOW: &str = "allow";
+
+/// The option that prints more faults, or fewer.
+pub const MOST: &str = "most";
+
 /// The argument that names files.
 pub const FILE: &str = "FILE";
 
@@ -35,6 +50,10 @@ enum Takes {
     Number,
     /// One of how many parts.
     Part,
+    /// Some memory blocks.
+    Blocks,
+    /// A kind of faults; it may stand several times.
+    Kinds,
     /// A text; it may stand several times.
     Texts,
     /// The name of a file, with no name of its own before it.
@@ -203,8 +222,54 @@ const TRACE: [Argument; 8] = [
     SCENARIO_FILE,
 ];
 
+/// What `judge` takes.
+const JUDGE: [Argument; 7] = [
+    Argument {
+        name: FTRACE,
+        takes: Takes::Nothing,
+        help: "Reads the text of Linux's ftrace, and not an object of JSON a line",
+        against: &[],
+    },
+    Argument {
+        name: BLOCK_FRAMES,
+        takes: Takes::Number,
+        help: "How many frames a memory block has, a power of two; always needed",
+        against: &[],
+    },
+    Argument {
+        name: BLOCKS,
+        takes: Takes::Blocks,
+        help: "Judges only the memory blocks from A on, before B",
+        against: &[],
+    },
+    Argument {
+        name: ALLOW,
+        takes: Takes::Kinds,
+        help: "Counts faults of this kind, as in-use, but takes them for lawful",
+        against: &[],
+    },
+    Argument {
+        name: JSON,
+        takes: Takes::Nothing,
+        help: "Writes an object of JSON a line",
+        against: &[],
+    },
+    Argument {
+        name: MOST,
+        takes: Takes::Number,
+        help: "Prints at most so many faults (10)",
+        against: &[],
+    },
+    Argument {
+        name: FILE,
+        takes: Takes::File,
+        help: "A log; standard input where none is named, or -",
+        against: &[],
+    },
+];
+
 /// The words of the program.
-const WORDS: [Word; 4] = [
+const WORDS: [Word; 5] = [
     Word {
         name: "check",
         about: "Writes what is wrong with a scenario and where; the status is 0 where there are no faults",
@@ -224,6 +289,11 @@ const WORDS: [Word; 4] = [
         name: "trace",
         about: "Writes what each line answers, with a picture of the memory after each call",
         arguments: &TRACE,
+    },
+    Word {
+        name: "judge",
+        about: "Judges the log of a memory machine: whether a lawful machine can have written it",
+        arguments: &JUDGE,
     },
 ];
 
@@ -246,7 +316,7 @@ fn without_words<'a>(alloc: Global) -> Command<'a> {
             "Exit status: 0; 1 after a fault, which standard error names, and after a check that \
              finds faults (warnings alone: 0); 2 for a wrong command line; 3 where --find finds \
              nothing, where --never finds something, where no end has the number of --scenario, \
-             and, but for --scenario, where explore stops at its limit.",
+             where explore stops at its limit (but for --scenario), and where a log is unlawful.",
         )
         .subcommand_required(true)
 }
@@ -292,6 +362,11 @@ fn taking<'a>(arg: Arg<'a>, argument: &Argument) -> Arg<'a> {
             .value_name("N")
             .value_parser(value_parser!(u64)),
         Takes::Part => arg.long(argument.name).value_name("I/N"),
+        Takes::Blocks => arg.long(argument.name).value_name("A..B"),
+        Takes::Kinds => arg
+            .long(argument.name)
+            .value_name("KIND")
+            .action(ArgAction::Append),
         Takes::Texts => arg
             .long(argument.name)
             .value_name("TEXT")

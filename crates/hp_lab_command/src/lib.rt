@@ -6,4 +6,7 @@
 
 mod command;
 
-pub use command::{FILE, FIND, JOBS, JSON, NEVER, PART, PROGRESS, SCENARIO, lab_command};
+pub use command::{
+    ALLOW, BLOCK_FRAMES, BLOCKS, FILE, FIND, FTRACE, JOBS, JSON, MOST, NEVER, PART, PROGRESS,
+    SCENARIO, lab_command,
+};

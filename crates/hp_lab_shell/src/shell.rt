@@ -1,6 +1,7 @@
 //! The command line, from its words to the exit status.
 
 use crate::files::bytes_of;
+use crate::judging::serve_judge;
 use crate::laboratory::Laboratory;
 use crate::messages::{file_name, say_fault, say_unbegun, say_words};
 use crate::progress::{Progress, Shown, shown_on};
@@ -137,6 +138,19 @@ fn serve_matches<L: Laboratory, T: Threads + Sync>(
     threads: &T,
     matches: &ArgMatches<'_>,
 ) -> Result<u8, ProgramFault> {
+    match matches.subcommand() {
+        Some(("judge", words)) => Ok(serve_judge(rt, words)),
+        _ => serve_scenario(rt, lab, threads, matches),
+    }
+}
+
+/// Does what parsed words ask of a scenario, and answers the exit status.
+fn serve_scenario<L: Laboratory, T: Threads + Sync>(
+    rt: &HostRuntime,
+    lab: &L,
+    threads: &T,
+    matches: &ArgMatches<'_>,
+) -> Result<u8, ProgramFault> {
     if is_past_the_found(matches) {
         let _ = eprintln!(rt; "hotplug_lab: a search tells one interleaving: --scenario 1");
         return Ok(2);
@@ -192,7 +206,7 @@ fn run_words<L: Laboratory, T: Threads + Sync>(
 
 /// Does what the program was called for, and answers the exit status: 0; or 1 after a fault, which
 /// standard error names, and where a check finds one; or 2 where the words are wrong; or 3 where a
-/// search does not find what was asked for.
+/// search does not find what was asked for, and where a log is unlawful.
 pub fn run_program<L: Laboratory, T: Threads + Sync>(
     rt: &HostRuntime,
     lab: &L,

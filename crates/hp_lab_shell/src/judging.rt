@@ -1,0 +1,213 @@
+//! The word that judges a log.
+
+use crate::messages::file_name;
+use clap::ArgMatches;
+use hp_escapes::{Brackets, write_escaped};
+use hp_lab_command::{ALLOW, BLOCK_FRAMES, BLOCKS, FILE, FTRACE, JSON, MOST};
+use hp_logs::{LineFault, LogFault, LogForm};
+use hp_numbers::number64;
+use hp_streams::Counted;
+use hp_verdicts::{AllowedKinds, Asked, BlockRange, JudgeFault, ReportForm, judge_log};
+use std::fs;
+use std::io::Read;
+
+/// How many faults are printed where no number is given.
+const SHOWN_FAULTS: u64 = 10;
+
+/// Judges the log that is named, or else standard input, and returns the exit status: 0 for a lawful
+/// log, 3 for one with faults, 1 for one that cannot be read.
+pub(crate) fn serve_judge(rt: &HostRuntime, words: &ArgMatches<'_>) -> u8 {
+    match asked_from(words) {
+        Ok(asked) => judge_file(rt, words, &asked),
+        Err(text) => {
+            let _ = eprintln!(rt; "hotplug_lab: {text}");
+            2
+        }
+    }
+}
+
+/// Returns what the words ask for, or why they ask for nothing.
+fn asked_from(words: &ArgMatches<'_>) -> Result<Asked, &'static str> {
+    let Some(block_frames) = words.get_one::<u64>(BLOCK_FRAMES) else {
+        return Err("judge needs --block-frames");
+    };
+    let range = range_from(words)?;
+    let allowed = allowed_from(words)?;
+    let most = words.get_one::<u64>(MOST).unwrap_or(SHOWN_FAULTS);
+    match Asked::new(block_frames, range, allowed, most) {
+        Some(asked) => Ok(asked),
+        None => Err(
+            "--block-frames may be a power of two up to 67108864, and the last frame of \
+             --blocks a number of 32 bits",
+        ),
+    }
+}
+
+/// Returns the memory blocks that the words name.
+fn range_from(words: &ArgMatches<'_>) -> Result<Option<BlockRange>, &'static str> {
+    let Some(text) = words.get_str(BLOCKS) else {
+        return Ok(None);
+    };
+    match range_named(text) {
+        Some(range) => Ok(Some(range)),
+        None => Err("--blocks may be A..B, with A below B"),
+    }
+}
+
+/// Returns the memory blocks that a text names as `A..B`.
+fn range_named(text: &str) -> Option<BlockRange> {
+    let (first, end) = text.split_once("..")?;
+    let (first, end) = (number64(first)?, number64(end)?);
+    if first >= end || end > u32::MAX as u64 {
+        return None;
+    }
+    Some(BlockRange {
+        first: first as u32,
+        end: end as u32,
+    })
+}
+
+/// Returns the kinds of faults that the words allow.
+fn allowed_from(words: &ArgMatches<'_>) -> Result<AllowedKinds, &'static str> {
+    let mut allowed = AllowedKinds::none();
+    let Some(names) = words.get_strs(ALLOW) else {
+        return Ok(allowed);
+    };
+    for name in names {
+        if !allowed.add(name) {
+            return Err(
+                "--allow may be malformed, once, in-use, present, empty, movable, \
+                 going-online, going-offline, online or offline",
+            );
+        }
+    }
+    Ok(allowed)
+}
+
+/// Judges the file that the words name, and returns the exit status.
+fn judge_file(rt: &HostRuntime, words: &ArgMatches<'_>, asked: &Asked) -> u8 {
+    let name = named_file(words);
+    if name == "-" {
+        let judged = judge_input(rt, words, asked, rt.stdin());
+        return status_of(rt, None, judged);
+    }
+    match fs::open(rt, name) {
+        Ok(input) => {
+            let judged = judge_input(rt, words, asked, input);
+            status_of(rt, file_name(name), judged)
+        }
+        Err(_) => {
+            say_of_file(rt, Some(name), "file not opened");
+            1
+        }
+    }
+}
+
+/// Returns the name of the file; `-` where none is named.
+fn named_file<'a>(words: &ArgMatches<'a>) -> &'a str {
+    match words.get_strs(FILE) {
+        Some(names) => match names.first() {
+            Some(name) => *name,
+            None => "-",
+        },
+        None => "-",
+    }
+}
+
+/// Judges the log that an input has, and writes the report to standard output.
+fn judge_input<R: Read + Drop>(
+    rt: &HostRuntime,
+    words: &ArgMatches<'_>,
+    asked: &Asked,
+    input: R,
+) -> Result<bool, JudgeFault> {
+    let mut source = Counted::new(input);
+    let mut sink = Counted::new(rt.stdout());
+    judge_log(
+        rt.alloc(),
+        log_form(words),
+        asked,
+        report_form(words),
+        &mut source,
+        &mut sink,
+    )
+}
+
+/// Returns the form of the log.
+fn log_form(words: &ArgMatches<'_>) -> LogForm {
+    if words.get_flag(FTRACE) {
+        LogForm::Ftrace
+    } else {
+        LogForm::Json
+    }
+}
+
+/// Returns the form of the report.
+fn report_form(words: &ArgMatches<'_>) -> ReportForm {
+    if words.get_flag(JSON) {
+        ReportForm::Objects
+    } else {
+        ReportForm::Text
+    }
+}
+
+/// Returns the exit status of a judgement. Standard error names a fault.
+fn status_of(rt: &HostRuntime, file: Option<&str>, judged: Result<bool, JudgeFault>) -> u8 {
+    match judged {
+        Ok(true) => 0,
+        Ok(false) => 3,
+        Err(fault) => {
+            say_fault(rt, file, fault);
+            1
+        }
+    }
+}
+
+/// Says on standard error why a log was not judged.
+fn say_fault(rt: &HostRuntime, file: Option<&str>, fault: JudgeFault) {
+    match fault {
+        JudgeFault::Log(LogFault::ReadFailed) => say_of_file(rt, file, "reading failed"),
+        JudgeFault::Log(LogFault::Line { number, fault }) => say_line(rt, number, fault),
+        JudgeFault::TooManyLines => say_of_file(rt, file, "too many lines"),
+        JudgeFault::WriteFailed => say_of_file(rt, None, "writing failed"),
+        JudgeFault::OutOfMemory => say_of_file(rt, None, "out of memory"),
+    }
+}
+
+/// Says on standard error what failed, with the name of the file.
+fn say_of_file(rt: &HostRuntime, file: Option<&str>, text: &str) {
+    let _ = match escaped_name(rt, file) {
+        Some(name) => eprintln!(rt; "hotplug_lab: {name}: {text}"),
+        None => eprintln!(rt; "hotplug_lab: {text}"),
+    };
+}
+
+/// Returns the name of a file as JSON has it; none where there is no memory for it.
+fn escaped_name(rt: &HostRuntime, file: Option<&str>) -> Option<String> {
+    let mut name = String::new(rt.alloc());
+    match write_escaped(&mut name, file?, Brackets::Kept) {
+        Ok(()) => Some(name),
+        Err(_) => None,
+    }
+}
+
+/// Says on standard error what is wrong with a line.
+fn say_line(rt: &HostRuntime, number: u64, fault: LineFault) {
+    let text = line_text(fault);
+    let _ = eprintln!(rt; "hotplug_lab: line {number}: {text}");
+}
+
+/// Returns what is wrong with a line.
+fn line_text(fault: LineFault) -> &'static str {
+    match fault {
+        LineFault::TooLong => "longer than 65536 bytes",
+        LineFault::NotAnObject => "no object of JSON",
+        LineFault::UnknownKey => "unknown key",
+        LineFault::RepeatedKey => "a key comes twice",
+        LineFault::WrongValue => "wrong value of a key",
+        LineFault::NotAnEvent => "keys of no event",
+        LineFault::WrongFields => "no frame or order that can be read",
+        LineFault::EventsLost => "the kernel's buffer was full, and events are missing",
+        LineFault::OutOfMemory => "out of memory",
+    }
+}

@@ -1,0 +1,46 @@
+//! What can be wrong with a log.
+ghost use Rattle.std.specs.Prelude.{◌≡◌};
+ghost use Rattle.hp_logs.specs.declared.faults.LineFault.TheVariants.{OutOfMemory};
+
+use std::alloc::AllocError;
+
+/// What is wrong with a line of a log.
+#[derive(Clone, Copy, Debug, PartialEq, Eq, Drop)]
+pub enum LineFault {
+    /// The line is longer than 65,536 bytes.
+    TooLong,
+    /// The line is not a JSON object.
+    NotAnObject,
+    /// A key is none of those of an event.
+    UnknownKey,
+    /// A key comes twice.
+    RepeatedKey,
+    /// A key's value is not of its kind, or too large.
+    WrongValue,
+    /// The line has no key that names its event, or several, or keys that do not belong to the
+    /// event.
+    NotAnEvent,
+    /// A page event of ftrace has no frame or order that can be read.
+    WrongFields,
+    /// The kernel's buffer was full, and events are missing.
+    EventsLost,
+    /// Out of memory.
+    OutOfMemory,
+}
+
+impl From<AllocError> for LineFault {
+    ghost from_gives = { λ _ e. e ≡ OutOfMemory };
+
+    fn from(_e: AllocError) -> LineFault {
+        LineFault::OutOfMemory
+    }
+}
+
+/// Why a log cannot be read on.
+#[derive(Clone, Copy, Debug, PartialEq, Eq, Drop)]
+pub enum LogFault {
+    /// A call of the stream failed.
+    ReadFailed,
+    /// The line with this number, from 1, has a fault.
+    Line { number: u64, fault: LineFault },
+}

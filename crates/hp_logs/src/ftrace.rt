@@ -1,0 +1,207 @@
+//! Events in the text of Linux's ftrace.
+
+use crate::faults::LineFault;
+use hp_judge::LogEvent;
+use hp_numbers::{Block, Frame, Order};
+use hp_units::Zone;
+use memchr::memchr;
+
+/// Reads a line of ftrace as an event.
+///
+/// The page events are the kernel's `mm_page_alloc` and `mm_page_free`. Onlines and offlines are
+/// marks that a test writes into trace_marker around each write to a file of a memory block: `begin
+/// memory32/state offline`, and then `end memory32/state offline ok`, or another word than `ok`.
+/// Every other line is `LogEvent::Other`.
+pub fn ftrace_event(line: &[u8]) -> Result<LogEvent, LineFault> {
+    match traced(line) {
+        Some((b"mm_page_alloc", fields)) => alloc_event(fields),
+        Some((b"mm_page_free", fields)) => free_event(fields),
+        Some((b"tracing_mark_write", text)) => Ok(mark_event(text)),
+        Some((b"print", text)) => Ok(print_event(text)),
+        Some(_) => Ok(LogEvent::Other),
+        None => untraced_event(line),
+    }
+}
+
+/// Splits a line `TASK-PID [CPU] FLAGS TIME: NAME: TEXT` into the event's name and its text.
+fn traced(line: &[u8]) -> Option<(&[u8], &[u8])> {
+    let rest = after_processor(line)?;
+    let time_end = memchr(b':', rest)?;
+    let rest = without_spaces(&rest[time_end + 1..]);
+    let name_end = memchr(b':', rest)?;
+    Some((&rest[..name_end], &rest[name_end + 1..]))
+}
+
+/// Returns what follows the processor's number in brackets. A task's name may have brackets too.
+fn after_processor(line: &[u8]) -> Option<&[u8]> {
+    let mut rest = line;
+    for _bracket in 0..line.len() {
+        let open = memchr(b'[', rest)?;
+        rest = &rest[open + 1..];
+        let close = memchr(b']', rest)?;
+        if close > 0 && rest[..close].iter().all(|b| b.is_ascii_digit()) {
+            return Some(&rest[close + 1..]);
+        }
+    }
+    None
+}
+
+/// Passes spaces.
+fn without_spaces(text: &[u8]) -> &[u8] {
+    match text.iter().position(|b| *b != b' ') {
+        Some(start) => &text[start..],
+        None => &[],
+    }
+}
+
+/// Reads a line that no processor wrote: a comment, or that events are missing.
+fn untraced_event(line: &[u8]) -> Result<LogEvent, LineFault> {
+    if line.starts_with(b"CPU:") && line.ends_with(b"]") {
+        return Err(LineFault::EventsLost);
+    }
+    Ok(LogEvent::Other)
+}
+
+/// The fields of a page event.
+#[derive(Clone, Copy, Drop)]
+struct PageFields {
+    frame: Option<u32>,
+    order: Option<u32>,
+    movable: bool,
+}
+
+/// Reads the fields of a page event.
+fn page_fields(text: &[u8]) -> PageFields {
+    let mut fields = PageFields {
+        frame: None,
+        order: None,
+        movable: false,
+    };
+    let Ok(text) = str::from_utf8(text) else {
+        return fields;
+    };
+    for word in text.split(' ') {
+        if let Some(number) = word.strip_prefix("pfn=") {
+            fields.frame = frame_number(number);
+        } else if let Some(number) = word.strip_prefix("order=") {
+            fields.order = number.parse::<u32>().ok();
+        } else if let Some(flags) = word.strip_prefix("gfp_flags=") {
+            fields.movable = is_movable(flags);
+        }
+    }
+    fields
+}
+
+/// Reads the number of a frame. Before Linux 5.10 it was decimal.
+fn frame_number(text: &str) -> Option<u32> {
+    match text.strip_prefix("0x") {
+        Some(digits) => u32::from_str_radix(digits, 16).ok(),
+        None => text.parse::<u32>().ok(),
+    }
+}
+
+/// Returns whether the flags of an alloc say that its page can be moved. Linux writes some flags under
+/// one name, as GFP_TRANSHUGE: include/trace/events/mmflags.h has the names.
+fn is_movable(flags: &str) -> bool {
+    flags.split('|').any(|flag| {
+        matches!(
+            flag,
+            "__GFP_MOVABLE" | "GFP_HIGHUSER_MOVABLE" | "GFP_TRANSHUGE" | "GFP_TRANSHUGE_LIGHT"
+        )
+    })
+}
+
+/// Reads an alloc. Linux writes frame 0 for a request that it refused.
+fn alloc_event(text: &[u8]) -> Result<LogEvent, LineFault> {
+    let fields = page_fields(text);
+    match (fields.frame, fields.order) {
+        (Some(0), Some(_)) => Ok(LogEvent::Other),
+        (Some(frame), Some(order)) => Ok(LogEvent::Alloc {
+            frame: Frame(frame),
+            order: Order(order),
+            movable: fields.movable,
+        }),
+        _ => Err(LineFault::WrongFields),
+    }
+}
+
+/// Reads a free.
+fn free_event(text: &[u8]) -> Result<LogEvent, LineFault> {
+    let fields = page_fields(text);
+    match (fields.frame, fields.order) {
+        (Some(frame), Some(order)) => Ok(LogEvent::Free {
+            frame: Frame(frame),
+            order: Order(order),
+        }),
+        _ => Err(LineFault::WrongFields),
+    }
+}
+
+/// Reads a mark as `trace-cmd report` prints it: `print: tracing_mark_write: TEXT`.
+fn print_event(text: &[u8]) -> LogEvent {
+    match without_spaces(text).strip_prefix(b"tracing_mark_write:") {
+        Some(text) => mark_event(text),
+        None => LogEvent::Other,
+    }
+}
+
+/// Reads a mark. One that is not about a memory block is a test's own.
+fn mark_event(text: &[u8]) -> LogEvent {
+    match str::from_utf8(text) {
+        Ok(text) => marked(text).unwrap_or(LogEvent::Other),
+        Err(_) => LogEvent::Other,
+    }
+}
+
+/// Reads `begin memoryBLOCK/FILE WRITTEN` or `end memoryBLOCK/FILE WRITTEN RESULT`.
+fn marked(text: &str) -> Option<LogEvent> {
+    let mut words = text.split_whitespace();
+    let verb = words.next()?;
+    let (block, file) = words.next()?.strip_prefix("memory")?.split_once('/')?;
+    let block = Block(block.parse::<u32>().ok()?);
+    let write = write_of(file, words.next()?)?;
+    match verb {
+        "begin" => Some(write.begin(block)),
+        "end" => Some(write.end(block, words.next()? == "ok")),
+        _ => None,
+    }
+}
+
+/// What a write to a file of a memory block asks for.
+#[derive(Clone, Copy, Drop)]
+enum StateWrite {
+    Online(Zone),
+    Offline,
+}
+
+impl StateWrite {
+    /// Returns the event that begins it.
+    fn begin(self, block: Block) -> LogEvent {
+        match self {
+            StateWrite::Online(zone) => LogEvent::OnlineBegins { block, zone },
+            StateWrite::Offline => LogEvent::OfflineBegins { block },
+        }
+    }
+
+    /// Returns the event that ends it.
+    fn end(self, block: Block, ok: bool) -> LogEvent {
+        match self {
+            StateWrite::Online(_) => LogEvent::OnlineEnds { block, ok },
+            StateWrite::Offline => LogEvent::OfflineEnds { block, ok },
+        }
+    }
+}
+
+/// Reads what was written to a block's file. Where the kernel chose the zone, the log does not say
+/// that it is Movable.
+fn write_of(file: &str, text: &str) -> Option<StateWrite> {
+    match (file, text) {
+        ("state", "online_movable") => Some(StateWrite::Online(Zone::Movable)),
+        ("state", "online_kernel") => Some(StateWrite::Online(Zone::Normal)),
+        ("state", "online") => Some(StateWrite::Online(Zone::Normal)),
+        ("online", "1") => Some(StateWrite::Online(Zone::Normal)),
+        ("state", "offline") => Some(StateWrite::Offline),
+        ("online", "0") => Some(StateWrite::Offline),
+        _ => None,
+    }
+}

@@ -1,0 +1,21 @@
+//! Reads logs of memory machines, line by line: each line becomes an event for hp_judge.
+//!
+//! There are two forms. JSON has an object a line: `{"alloc": 512, "order": 3, "movable": true}`.
+//! The other is the text of Linux's ftrace, as /sys/kernel/tracing/trace and `trace-cmd report`
+//! print it. A log can have any length: a reader keeps one line of it, of at most 65,536 bytes.
+//!
+//! The crate owns both forms and what can be wrong with a line. Reading is safe and total; which
+//! text is which event is tested. It judges nothing and prints nothing. Read `reader` first.
+#![tactic(auto)]
+
+mod faults;
+mod ftrace;
+mod lines;
+mod objects;
+mod reader;
+
+pub use faults::{LineFault, LogFault};
+pub use ftrace::ftrace_event;
+pub use lines::{LINE_LIMIT, LineReader};
+pub use objects::json_event;
+pub use reader::{LogForm, LogReader};

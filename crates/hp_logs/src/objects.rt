@@ -1,0 +1,262 @@
+//! Events as lines of JSON.
+
+use crate::faults::LineFault;
+use hp_judge::LogEvent;
+use hp_numbers::{Block, Frame, Order};
+use hp_units::Zone;
+use json::{Reader, Scratch, Token};
+
+/// No object has more keys than this, if none comes twice.
+const MOST_KEYS: usize = 12;
+
+/// Reads a line as an event. An empty line and an object with only a note are `LogEvent::Other`.
+pub fn json_event(line: &[u8], scratch: &mut Scratch) -> Result<LogEvent, LineFault> {
+    let Ok(text) = str::from_utf8(line) else {
+        return Err(LineFault::NotAnObject);
+    };
+    let mut reader = Reader::new(text, scratch)?;
+    match reader.next() {
+        Some(Token::BeginObject) => object_event(&mut reader),
+        None => Ok(LogEvent::Other),
+        Some(_) => Err(LineFault::NotAnObject),
+    }
+}
+
+/// Reads the rest of a line whose object has begun.
+fn object_event(reader: &mut Reader<'_>) -> Result<LogEvent, LineFault> {
+    let keys = read_keys(reader)?;
+    if reader.next().is_some() {
+        return Err(LineFault::NotAnObject);
+    }
+    keys.event()
+}
+
+/// Reads all keys of an object and their values.
+fn read_keys(reader: &mut Reader<'_>) -> Result<Keys, LineFault> {
+    let mut keys = Keys::none();
+    for _key in 0..=MOST_KEYS {
+        match reader.next_key() {
+            Ok(Some("note")) => skip_value(reader)?,
+            Ok(Some(key)) => keys.set(key, reader.next())?,
+            Ok(None) => return Ok(keys),
+            Err(_) => return Err(LineFault::NotAnObject),
+        }
+    }
+    Err(LineFault::RepeatedKey)
+}
+
+/// Passes a value of any kind.
+fn skip_value(reader: &mut Reader<'_>) -> Result<(), LineFault> {
+    match reader.skip_value(MOST_KEYS) {
+        Ok(()) => Ok(()),
+        Err(_) => Err(LineFault::NotAnObject),
+    }
+}
+
+/// The keys of a line and their values.
+#[derive(Clone, Copy, Drop)]
+struct Keys {
+    alloc: Option<u32>,
+    free: Option<u32>,
+    online: Option<u32>,
+    offline: Option<u32>,
+    moved: Option<u32>,
+    to: Option<u32>,
+    order: Option<u32>,
+    movable: Option<bool>,
+    zone: Option<Zone>,
+    end: Option<bool>,
+}
+
+impl Keys {
+    /// Returns the keys of an empty object.
+    fn none() -> Keys {
+        Keys {
+            alloc: None,
+            free: None,
+            online: None,
+            offline: None,
+            moved: None,
+            to: None,
+            order: None,
+            movable: None,
+            zone: None,
+            end: None,
+        }
+    }
+
+    /// Gives a key its value.
+    fn set(&mut self, key: &str, value: Option<Token<'_>>) -> Result<(), LineFault> {
+        match key {
+            "alloc" => set_number(&mut self.alloc, value),
+            "free" => set_number(&mut self.free, value),
+            "online" => set_number(&mut self.online, value),
+            "offline" => set_number(&mut self.offline, value),
+            "move" => set_number(&mut self.moved, value),
+            "to" => set_number(&mut self.to, value),
+            "order" => set_number(&mut self.order, value),
+            "movable" => set_bool(&mut self.movable, value),
+            "zone" => set_zone(&mut self.zone, value),
+            "end" => set_end(&mut self.end, value),
+            _ => Err(LineFault::UnknownKey),
+        }
+    }
+
+    /// Returns the event that the keys make.
+    fn event(&self) -> Result<LogEvent, LineFault> {
+        match (self.alloc, self.free, self.online, self.offline, self.moved) {
+            (Some(frame), None, None, None, None) => self.alloc_event(Frame(frame)),
+            (None, Some(frame), None, None, None) => self.free_event(Frame(frame)),
+            (None, None, Some(block), None, None) => self.online_event(Block(block)),
+            (None, None, None, Some(block), None) => self.offline_event(Block(block)),
+            (None, None, None, None, Some(from)) => self.move_event(Frame(from)),
+            (None, None, None, None, None) => self.other_event(),
+            _ => Err(LineFault::NotAnEvent),
+        }
+    }
+
+    /// Returns whether the line has a key of an online, an offline or a move.
+    fn is_of_blocks(&self) -> bool {
+        self.zone.is_some() || self.end.is_some() || self.to.is_some()
+    }
+
+    /// Returns whether the line has a key of an alloc or a free.
+    fn is_of_pieces(&self) -> bool {
+        self.order.is_some() || self.movable.is_some()
+    }
+
+    /// Returns the alloc from a frame on.
+    fn alloc_event(&self, frame: Frame) -> Result<LogEvent, LineFault> {
+        if self.is_of_blocks() {
+            return Err(LineFault::NotAnEvent);
+        }
+        Ok(LogEvent::Alloc {
+            frame,
+            order: Order(self.order.unwrap_or(0)),
+            movable: self.movable.unwrap_or(false),
+        })
+    }
+
+    /// Returns the free from a frame on.
+    fn free_event(&self, frame: Frame) -> Result<LogEvent, LineFault> {
+        if self.is_of_blocks() || self.movable.is_some() {
+            return Err(LineFault::NotAnEvent);
+        }
+        Ok(LogEvent::Free {
+            frame,
+            order: Order(self.order.unwrap_or(0)),
+        })
+    }
+
+    /// Returns the begin or the end of an online.
+    fn online_event(&self, block: Block) -> Result<LogEvent, LineFault> {
+        if self.is_of_pieces() || self.to.is_some() {
+            return Err(LineFault::NotAnEvent);
+        }
+        match (self.end, self.zone) {
+            (Some(ok), None) => Ok(LogEvent::OnlineEnds { block, ok }),
+            (Some(_), Some(_)) => Err(LineFault::NotAnEvent),
+            (None, zone) => Ok(LogEvent::OnlineBegins {
+                block,
+                zone: zone.unwrap_or(Zone::Normal),
+            }),
+        }
+    }
+
+    /// Returns the begin or the end of an offline.
+    fn offline_event(&self, block: Block) -> Result<LogEvent, LineFault> {
+        if self.is_of_pieces() || self.to.is_some() || self.zone.is_some() {
+            return Err(LineFault::NotAnEvent);
+        }
+        match self.end {
+            Some(ok) => Ok(LogEvent::OfflineEnds { block, ok }),
+            None => Ok(LogEvent::OfflineBegins { block }),
+        }
+    }
+
+    /// Returns the move of a page.
+    fn move_event(&self, from: Frame) -> Result<LogEvent, LineFault> {
+        if self.is_of_pieces() || self.zone.is_some() || self.end.is_some() {
+            return Err(LineFault::NotAnEvent);
+        }
+        match self.to {
+            Some(to) => Ok(LogEvent::Move {
+                from,
+                to: Frame(to),
+            }),
+            None => Err(LineFault::NotAnEvent),
+        }
+    }
+
+    /// Returns that a line has no event.
+    fn other_event(&self) -> Result<LogEvent, LineFault> {
+        if self.is_of_pieces() || self.is_of_blocks() {
+            return Err(LineFault::NotAnEvent);
+        }
+        Ok(LogEvent::Other)
+    }
+}
+
+/// Gives a key a number.
+fn set_number(slot: &mut Option<u32>, value: Option<Token<'_>>) -> Result<(), LineFault> {
+    if slot.is_some() {
+        return Err(LineFault::RepeatedKey);
+    }
+    *slot = number_of(value);
+    checked(slot.is_some())
+}
+
+/// Gives a key a truth value.
+fn set_bool(slot: &mut Option<bool>, value: Option<Token<'_>>) -> Result<(), LineFault> {
+    if slot.is_some() {
+        return Err(LineFault::RepeatedKey);
+    }
+    *slot = match value {
+        Some(Token::Bool(value)) => Some(value),
+        _ => None,
+    };
+    checked(slot.is_some())
+}
+
+/// Gives a key a zone.
+fn set_zone(slot: &mut Option<Zone>, value: Option<Token<'_>>) -> Result<(), LineFault> {
+    if slot.is_some() {
+        return Err(LineFault::RepeatedKey);
+    }
+    *slot = match value {
+        Some(Token::String("normal")) => Some(Zone::Normal),
+        Some(Token::String("movable")) => Some(Zone::Movable),
+        _ => None,
+    };
+    checked(slot.is_some())
+}
+
+/// Gives a key an end: whether it is `ok`, and not `failed`.
+fn set_end(slot: &mut Option<bool>, value: Option<Token<'_>>) -> Result<(), LineFault> {
+    if slot.is_some() {
+        return Err(LineFault::RepeatedKey);
+    }
+    *slot = match value {
+        Some(Token::String("ok")) => Some(true),
+        Some(Token::String("failed")) => Some(false),
+        _ => None,
+    };
+    checked(slot.is_some())
+}
+
+/// Returns a number of 32 bits.
+fn number_of(value: Option<Token<'_>>) -> Option<u32> {
+    match value {
+        Some(Token::Number(text)) => text.parse::<u32>().ok(),
+        _ => None,
+    }
+}
+
+/// Refuses a value that is not of its key's kind.
+fn checked(is_known: bool) -> Result<(), LineFault> {
+    if is_known {
+        Ok(())
+    } else {
+        Err(LineFault::WrongValue)
+    }
+}

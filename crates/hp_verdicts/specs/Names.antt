@@ -1,0 +1,8 @@
+-- The types and variants of the judge, passed on from one place. Declares nothing.
+pub use Rattle.hp_judge.specs.declared.events.LogEvent.{LogEvent}
+pub use Rattle.hp_judge.specs.declared.events.MachineSize.{MachineSize}
+pub use Rattle.hp_judge.specs.declared.faults.Law.{Law}
+pub use Rattle.hp_judge.specs.declared.faults.Law.TheVariants.{Once, InUse, Present, Empty, Movable, GoingOnline, GoingOffline, Online, Offline}
+pub use Rattle.hp_judge.specs.declared.faults.Fault.{Fault}
+pub use Rattle.hp_judge.specs.declared.faults.Fault.TheVariants.{Malformed, Unlawful}
+pub use Rattle.hp_judge.specs.declared.faults.NumberedFault.{NumberedFault}

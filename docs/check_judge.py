@@ -1,0 +1,550 @@
+#!/usr/bin/env python3
+"""Tries `hotplug_lab judge` on logs whose verdicts are known. `check` at the top runs it after the gate;
+alone it takes the folder of the crates:
+
+    python3 docs/check_judge.py [CRATES]        without CRATES: crates
+
+What is tried:
+- a log of Debian's Linux 6.1 (docs/linux/first.trace.xz): exactly its eight known faults, and none
+  with `--allow in-use`; the same by each memory block alone;
+- twelve changes of that log, each with the event at which it has to be named: a free taken out, an
+  alloc and a free doubled, an alloc moved into a block that is gone, a failed offline that is said to
+  have succeeded, and others;
+- 300 random logs of a small machine, lawful ones and changed ones: the faults, each with its law, its
+  place and the earlier event, and what is counted of each memory block, are those of a slow judge that
+  looks for contradictions by the sentences of the laws (crates/hp_judge/specs/Laws.antt); also with
+  `--blocks`, `--allow` and `--most`;
+- logs and command lines that cannot be read.
+The last line is 'judge: N passed, M failed'; the exit status is 0 where nothing failed, else 1.
+"""
+import json
+import lzma
+import random
+import subprocess
+import sys
+from pathlib import Path
+
+ROOT = Path(__file__).resolve().parent.parent
+SECONDS = 60
+LOGS = 300
+BLOCK_FRAMES = 32768
+KNOWN = [26187, 26188, 26189, 26190, 29819, 29820, 29821, 29822]
+
+
+class Checks:
+    """What was checked, and what failed."""
+
+    def __init__(self):
+        self.passed, self.failures = 0, []
+
+    def holds(self, where, is_right, message):
+        if is_right:
+            self.passed += 1
+        else:
+            self.failures.append(f"{where}: {message}")
+
+
+class Judge:
+    """The program."""
+
+    def __init__(self, crates):
+        self.lab = crates / "hotplug_lab/out/hotplug_lab"
+
+    def call(self, log, *words):
+        """The status, and what is written to standard output and to standard error."""
+        text = log if isinstance(log, bytes) else log.encode()
+        ran = subprocess.run([self.lab, "judge", *words], input=text, capture_output=True,
+                             timeout=SECONDS)
+        return ran.returncode, ran.stdout.decode(), ran.stderr.decode()
+
+    def report(self, log, *words):
+        """The status, and the objects of the report."""
+        status, out, said = self.call(log, "--json", *words)
+        return status, [json.loads(line) for line in out.splitlines()], said
+
+
+def faults_of(report):
+    return [one for one in report if "fault" in one]
+
+
+# ---- the log of Linux
+
+def frame_of(line):
+    """The frame of a page event."""
+    at = line.find("pfn=0x")
+    return int(line[at + 6:].split(" ")[0], 16) if at >= 0 else None
+
+
+def order_of(line):
+    return int(line.split(" order=")[1].split(" ")[0])
+
+
+def index_of(lines, test, start=0):
+    return next(at for at in range(start, len(lines)) if test(lines[at]))
+
+
+def covers(line, frame):
+    """Whether a page event has the frame."""
+    is_page = ": mm_page_alloc:" in line or ": mm_page_free:" in line
+    return is_page and frame_of(line) <= frame < frame_of(line) + (1 << order_of(line))
+
+
+def free_before_alloc(lines):
+    """Where a frame comes back, and where it is handed out again after that, with nothing between."""
+    frames = (frame_of(line) for line in lines if ": mm_page_alloc:" in line and order_of(line) == 0)
+    for frame in frames:
+        events = [at for at, line in enumerate(lines) if covers(line, frame)]
+        for first, second, third in zip(events, events[1:], events[2:]):
+            if [": mm_page_alloc:" in lines[at] for at in (first, second, third)] == [True, False, True]:
+                return second, third
+    raise ValueError("no such frame")
+
+
+def check_linux(checks, judge):
+    log = lzma.open(ROOT / "docs/linux/first.trace.xz").read().decode()
+    options = ["--ftrace", "--block-frames", str(BLOCK_FRAMES)]
+    status, report, _said = judge.report(log, *options)
+    faults = faults_of(report)
+    lines = log.split("\n")
+    found = [one["line"] for one in faults]
+    checks.holds("linux", status == 3 and found == KNOWN, f"{status} {faults}")
+    checks.holds("linux", all(one["fault"] == "in-use" for one in faults), str(faults))
+    for one in faults:
+        line, since = lines[one["line"] - 1], lines[one["since_line"] - 1]
+        is_free = "mm_page_free:" in line and "mm_page_free:" in since
+        checks.holds("linux", is_free and frame_of(line) == one["frame"], f"{one} {line} {since}")
+    text = lines[faults[0]["line"] - 1].rstrip("\r")
+    checks.holds("linux", faults[0].get("text") == text, f"{faults[0]} {text}")
+    checks.holds("linux", report[-1] == {"lawful": False, "faults": len(KNOWN), "allowed": 0}, str(report[-1]))
+    status, report, _said = judge.report(log, *options, "--allow", "in-use")
+    checks.holds("linux", status == 0 and not faults_of(report), str(report))
+    checks.holds("linux", report[-1] == {"lawful": True, "faults": 0, "allowed": len(KNOWN)}, str(report[-1]))
+    first = report[0]
+    counts = {"allocs": log.count(": mm_page_alloc:"), "frees": log.count(": mm_page_free:"),
+              "onlines": log.count("begin memory32/state online") + log.count("begin memory33/state online"),
+              "ends": log.count(": end memory"), "lines": log.count("\n")}
+    checks.holds("linux", all(first[key] == count for key, count in counts.items()), f"{first} {counts}")
+    by_block = {one["block"]: one for one in report if "block" in one}
+    wanted = {"onlines": 3, "failed_onlines": 0, "offlines": 3, "failed_offlines": 0}
+    checks.holds("linux", all(by_block[32][key] == count for key, count in wanted.items()), str(by_block[32]))
+    wanted = {"onlines": 1, "failed_onlines": 0, "offlines": 0, "failed_offlines": 2}
+    checks.holds("linux", all(by_block[33][key] == count for key, count in wanted.items()), str(by_block[33]))
+    total = 0
+    for block in by_block:
+        _status, report, _said = judge.report(log, *options, "--blocks", f"{block}..{block + 1}")
+        total += len(faults_of(report))
+        counted = [one for one in report if "lines" not in one and "lawful" not in one and "fault" not in one]
+        checks.holds(f"block {block}", counted == [by_block[block]], f"{counted} {by_block[block]}")
+    checks.holds("blocks", total == len(KNOWN), str(total))
+    check_changes(checks, judge, lines, options)
+
+
+def check_changes(checks, judge, lines, options):
+    """Changes the log in one place each, and looks whether the event is named."""
+
+    def change(name, kind, at, changed):
+        """The fault has to be of the kind, and on line `at`, from 0, of the changed log. Faults that the
+        log has anyway are left out."""
+        shift = len(changed) - len(lines)
+        also = {line + (shift if line - 1 >= at else 0) for line in KNOWN}
+        _status, report, _said = judge.report("\n".join(changed), *options, "--most", "100000")
+        found = [(one["fault"], one["line"] - 1) for one in faults_of(report) if one["line"] not in also]
+        checks.holds(name, found[:1] == [(kind, at)], f"{found[:3]}, wanted {kind} at {at}")
+
+    def doubled(at):
+        return lines[:at + 1] + lines[at:at + 1] + lines[at + 1:]
+
+    def replaced(at, line):
+        return lines[:at] + [line] + lines[at + 1:]
+
+    alloc = index_of(lines, lambda line: ": mm_page_alloc:" in line and order_of(line) == 0)
+    free = index_of(lines, lambda line: ": mm_page_free:" in line and order_of(line) == 0)
+    change("an alloc doubled", "once", alloc + 1, doubled(alloc))
+    change("a free doubled", "in-use", free + 1, doubled(free))
+    # A free taken out shows at the next alloc of its frame.
+    free, later = free_before_alloc(lines)
+    change("a free taken out", "once", later, replaced(free, "# taken out"))
+    offline_ok = index_of(lines, lambda line: "end memory32/state offline ok" in line)
+    gone = index_of(lines, lambda line: ": mm_page_alloc:" in line and order_of(line) == 0, offline_ok)
+    change("an alloc from a block that is gone", "present", gone,
+           replaced(gone, lines[gone].replace(f"pfn={frame_of(lines[gone]):#x}", "pfn=0x100123")))
+    busy = index_of(lines, lambda line: "end memory33/state offline Device" in line)
+    change("a failed offline that succeeded", "empty", busy,
+           replaced(busy, lines[busy].replace("Device or resource busy", "ok")))
+    online_end = index_of(lines, lambda line: "end memory32/state online_movable ok" in line)
+    movable = index_of(lines, lambda line: ": mm_page_alloc:" in line
+                       and frame_of(line) // BLOCK_FRAMES == 32, online_end)
+    flags = lines[movable].split("gfp_flags=")
+    change("an unmovable page in zone Movable", "movable", movable,
+           replaced(movable, flags[0] + "gfp_flags=GFP_KERNEL"))
+    odd = index_of(lines, lambda line: ": mm_page_free:" in line and frame_of(line) % 2 == 1)
+    change("a piece that is not aligned", "malformed", odd,
+           replaced(odd, lines[odd].replace("order=0", "order=1")))
+    online = index_of(lines, lambda line: "begin memory32/state online" in line)
+    change("an online that begins twice", "going-online", online + 1, doubled(online))
+    offline = index_of(lines, lambda line: "begin memory32/state offline" in line)
+    change("an offline that begins twice", "going-offline", offline + 1, doubled(offline))
+    change("an offline that ends twice", "offline", offline_ok + 1, doubled(offline_ok))
+    change("an offline with no begin", "online", offline_ok, replaced(offline, "# taken out"))
+    far = index_of(lines, lambda line: ": mm_page_free:" in line)
+    change("a frame past the machine", "malformed", far,
+           replaced(far, lines[far].replace(f"pfn={frame_of(lines[far]):#x}", "pfn=0x4000000")))
+
+
+# ---- random logs of a small machine
+
+BLOCKS = 3
+ORDER = 3
+SIZE = 1 << ORDER
+
+
+def is_well_formed(event):
+    kind = event[0]
+    if kind in ("alloc", "free"):
+        _kind, frame, order, *_rest = event
+        return order <= ORDER and frame % (1 << order) == 0 and frame < MACHINE * SIZE
+    if kind == "move":
+        return event[1] < MACHINE * SIZE and event[2] < MACHINE * SIZE and event[1] != event[2]
+    return kind == "other" or event[1] < MACHINE
+
+
+# As many blocks as 2^26 frames are.
+MACHINE = (1 << 26) // SIZE
+
+
+def allocated(event):
+    """The frames that an event hands out."""
+    if not is_well_formed(event):
+        return range(0)
+    if event[0] == "alloc":
+        return range(event[1], event[1] + (1 << event[2]))
+    return range(event[2], event[2] + 1) if event[0] == "move" else range(0)
+
+
+def freed(event):
+    if not is_well_formed(event):
+        return range(0)
+    if event[0] == "free":
+        return range(event[1], event[1] + (1 << event[2]))
+    return range(event[1], event[1] + 1) if event[0] == "move" else range(0)
+
+
+def is_online_begin(event, block):
+    return event[0] == "online" and event[1] == block
+
+
+def is_of(event, block):
+    return event[0] in ("online", "online_end", "offline", "offline_end") and event[1] == block
+
+
+def leaves_offline(event):
+    return (event[0] == "online_end" and not event[2]) or (event[0] == "offline_end" and event[2])
+
+
+def leaves_online(event):
+    return (event[0] == "online_end" and event[2]) or (event[0] == "offline_end" and not event[2])
+
+
+def frames_at(event):
+    """The places at which an event can break a law of frames."""
+    if event[0] in ("alloc", "free", "move"):
+        return sorted({*allocated(event), *freed(event)})
+    if event[0] == "other":
+        return []
+    return range(event[1] * SIZE, (event[1] + 1) * SIZE)
+
+
+# Each law: its name, the test of an earlier event, of a later one, and of what settles it, at a place.
+FRAME_LAWS = [
+    ("once", lambda e, f: f in allocated(e), lambda e, f: f in allocated(e),
+     lambda e, f: f in freed(e) or is_online_begin(e, f // SIZE)),
+    ("in-use", lambda e, f: f in freed(e), lambda e, f: f in freed(e),
+     lambda e, f: f in allocated(e) or is_online_begin(e, f // SIZE)),
+    ("present", lambda e, f: is_of(e, f // SIZE) and leaves_offline(e), lambda e, f: f in allocated(e),
+     lambda e, f: is_online_begin(e, f // SIZE)),
+    ("empty", lambda e, f: f in allocated(e), lambda e, f: is_of(e, f // SIZE) and leaves_offline(e),
+     lambda e, f: f in freed(e) or is_online_begin(e, f // SIZE)),
+    ("movable", lambda e, f: is_online_begin(e, f // SIZE) and e[2] == "movable",
+     lambda e, f: e[0] == "alloc" and not e[3] and f in allocated(e),
+     lambda e, f: is_online_begin(e, f // SIZE)),
+]
+BLOCK_LAWS = [
+    ("going-online", lambda e, b: is_of(e, b) and e[0] == "online",
+     lambda e, b: is_of(e, b) and e[0] != "online_end", is_of),
+    ("going-offline", lambda e, b: is_of(e, b) and e[0] == "offline",
+     lambda e, b: is_of(e, b) and e[0] != "offline_end", is_of),
+    ("online", lambda e, b: is_of(e, b) and leaves_online(e),
+     lambda e, b: is_of(e, b) and e[0] != "offline", is_of),
+    ("offline", lambda e, b: is_of(e, b) and leaves_offline(e),
+     lambda e, b: is_of(e, b) and e[0] != "online", is_of),
+]
+
+
+def contradicted(log, number, law, place):
+    """The latest earlier event that event `number` contradicts: one of the law's first kind, with none
+    between the two that settles it."""
+    _name, earlier, later, settles = law
+    if not later(log[number], place):
+        return None
+    for at in range(number - 1, -1, -1):
+        if earlier(log[at], place):
+            return at
+        if settles(log[at], place):
+            return None
+    return None
+
+
+def fault_of(log, number):
+    """The first law that an event breaks, the lowest place, and the earlier event."""
+    event = log[number]
+    if not is_well_formed(event):
+        return ("malformed", number, None, None)
+    for law in FRAME_LAWS:
+        for frame in frames_at(event):
+            at = contradicted(log, number, law, frame)
+            if at is not None:
+                return (law[0], number, frame, at)
+    for law in BLOCK_LAWS:
+        if event[0] in ("online", "online_end", "offline", "offline_end"):
+            at = contradicted(log, number, law, event[1])
+            if at is not None:
+                return (law[0], number, event[1], at)
+    return None
+
+
+def faults_by_laws(log):
+    return [fault for fault in (fault_of(log, number) for number in range(len(log))) if fault]
+
+
+def told_faults(report):
+    """The faults of a report, in the form of `fault_of`."""
+    told = []
+    for one in faults_of(report):
+        place = one.get("frame", one.get("block"))
+        told.append((one["fault"], one["event"], place, one.get("since_event")))
+        assert one["line"] == one["event"] + 1
+    return told
+
+
+def counts_by_hand(log):
+    """What is counted of each block."""
+    rows, phases, used = {}, {}, {}
+
+    def row(block):
+        return rows.setdefault(block, {"block": block, "onlines": 0, "failed_onlines": 0, "offlines": 0,
+                                       "failed_offlines": 0, "most_in_use": 0, "handed_out": 0, "moved": 0})
+
+    for event in log:
+        if not is_well_formed(event):
+            continue
+        kind = event[0]
+        for frame in {*allocated(event), *freed(event)}:
+            row(frame // SIZE)
+        for frame in allocated(event):
+            if phases.get(frame // SIZE) == "offline":
+                row(frame // SIZE)["handed_out"] += 1
+        for frame in freed(event):
+            used.setdefault(frame // SIZE, set()).discard(frame)
+            if kind == "move":
+                row(frame // SIZE)["moved"] += 1
+        for frame in allocated(event):
+            used.setdefault(frame // SIZE, set()).add(frame)
+        if kind == "online":
+            used[event[1]] = set()
+        if kind in ("online", "online_end", "offline", "offline_end"):
+            phases[event[1]] = kind
+            row(event[1])
+        if kind in ("online_end", "offline_end"):
+            row(event[1])[("" if event[2] else "failed_") + kind.replace("_end", "s")] += 1
+        for block, frames in used.items():
+            if block in rows:
+                row(block)["most_in_use"] = max(row(block)["most_in_use"], len(frames))
+    return [rows[block] for block in sorted(rows)]
+
+
+def line_of(event):
+    kind = event[0]
+    if kind == "alloc":
+        return json.dumps({"alloc": event[1], "order": event[2], "movable": event[3]})
+    if kind == "free":
+        return json.dumps({"free": event[1], "order": event[2]})
+    if kind == "move":
+        return json.dumps({"move": event[1], "to": event[2]})
+    if kind == "online":
+        return json.dumps({"online": event[1], "zone": event[2]})
+    if kind == "offline":
+        return json.dumps({"offline": event[1]})
+    if kind == "other":
+        return random.choice(["", "{}", json.dumps({"note": [1, {"a": None}]})])
+    return json.dumps({kind.replace("_end", ""): event[1], "end": "ok" if event[2] else "failed"})
+
+
+def random_event():
+    frame, order = random.randrange(BLOCKS * SIZE), random.choice([0, 0, 0, 1, 2, 3])
+    frame -= frame % (1 << order) if random.random() < 0.97 else 0
+    block = random.randrange(BLOCKS)
+    ok = random.random() < 0.7
+    return random.choice([
+        ("alloc", frame, order, random.random() < 0.7), ("alloc", frame, order, True),
+        ("free", frame, order), ("free", frame, order),
+        ("move", frame, random.randrange(BLOCKS * SIZE)),
+        ("online", block, random.choice(["normal", "movable"])), ("online_end", block, ok),
+        ("offline", block), ("offline_end", block, ok), ("other",)])
+
+
+def lawful_log(length):
+    """Random events, each taken only if it may follow those before it."""
+    log = []
+    while len(log) < length:
+        event = random_event()
+        if fault_of(log + [event], len(log)) is None:
+            log.append(event)
+    return log
+
+
+def changed_log(log):
+    """The log with one event taken out, doubled, replaced, or moved to another place."""
+    log, at = list(log), random.randrange(len(log))
+    how = random.randrange(4)
+    if how == 0:
+        del log[at]
+    elif how == 1:
+        log.insert(at, log[at])
+    elif how == 2:
+        log[at] = random_event()
+    else:
+        log.insert(random.randrange(len(log)), log.pop(at))
+    return log
+
+
+def part_of(event, first, end):
+    """What an event is for some memory blocks."""
+    def inside(frame):
+        return first <= frame // SIZE < end
+
+    if event[0] in ("alloc", "free"):
+        return event if inside(event[1]) else ("other",)
+    if event[0] == "move":
+        leaves, comes = inside(event[1]), inside(event[2])
+        if leaves and comes:
+            return event
+        if leaves:
+            return ("free", event[1], 0)
+        return ("alloc", event[2], 0, True) if comes else ("other",)
+    return event if event[0] == "other" or first <= event[1] < end else ("other",)
+
+
+def check_random(checks, judge):
+    random.seed(60)
+    unlawful = 0
+    for number in range(LOGS):
+        log = lawful_log(random.choice([10, 30, 60]))
+        if number % 3:
+            log = changed_log(log)
+        if number % 3 == 2:
+            log = [random_event() for _event in range(random.choice([20, 60]))]
+        text = "\n".join(map(line_of, log)) + random.choice(["", "\n"])
+        wanted = faults_by_laws(log)
+        unlawful += bool(wanted)
+        options = ["--block-frames", str(SIZE)]
+        status, report, said = judge.report(text, *options, "--most", "1000")
+        where = f"log {number}"
+        checks.holds(where, told_faults(report) == wanted, f"{told_faults(report)} {wanted} {said}\n{text}")
+        checks.holds(where, status == (3 if wanted else 0), str(status))
+        counted = [one for one in report if "block" in one and "fault" not in one]
+        checks.holds(where, counted == counts_by_hand(log), f"{counted} {counts_by_hand(log)}\n{text}")
+        kind = random.choice(["once", "in-use", "present", "empty", "movable", "malformed", "online"])
+        status, report, _said = judge.report(text, *options, "--allow", kind, "--most", "2")
+        left = [fault for fault in wanted if fault[0] != kind]
+        last = {"lawful": not left, "faults": len(left), "allowed": len(wanted) - len(left)}
+        checks.holds(where, told_faults(report) == left[:2] and report[-1] == last, f"{report} {left}")
+        first = random.randrange(BLOCKS)
+        end = random.randrange(first + 1, BLOCKS + 1)
+        part = [part_of(event, first, end) for event in log]
+        status, report, _said = judge.report(text, *options, "--most", "1000", "--blocks", f"{first}..{end}")
+        checks.holds(where, told_faults(report) == faults_by_laws(part), f"blocks {first}..{end}\n{text}")
+    checks.holds("random", LOGS // 3 < unlawful < LOGS, str(unlawful))
+
+
+# ---- odd inputs
+
+def check_odd(checks, judge):
+    json_options = ["--block-frames", "8"]
+    ftrace_options = ["--block-frames", "8", "--ftrace"]
+    alloc = '{"alloc": 0}'
+    for name, log, last in [
+            ("empty", "", "lawful: 0 faults, 0 allowed"),
+            ("blank", "\n\n", "lawful: 0 faults, 0 allowed"),
+            ("no newline", alloc, "lawful: 0 faults, 0 allowed"),
+            ("carriage returns", f"{alloc}\r\n{alloc}\r\n", "unlawful: 1 faults, 0 allowed"),
+            ("order 40", '{"alloc": 0, "order": 40}', "unlawful: 1 faults, 0 allowed"),
+            ("order 4294967295", '{"free": 0, "order": 4294967295}', "unlawful: 1 faults, 0 allowed"),
+            ("past the last frame", '{"alloc": 67108864}', "unlawful: 1 faults, 0 allowed"),
+            ("past the last block", '{"online": 8388608}', "unlawful: 1 faults, 0 allowed")]:
+        status, out, said = judge.call(log, *json_options)
+        wanted = 0 if last.startswith("lawful") else 3
+        is_right = status == wanted and out.splitlines()[-1] == last and said == ""
+        checks.holds(name, is_right, f"{status} {out} {said}")
+    for name, log, number, text in [
+            ("not JSON", f"{alloc}\nalloc 1", 2, "no object of JSON"),
+            ("an array", "[1]", 1, "no object of JSON"),
+            ("two objects", alloc + alloc, 1, "no object of JSON"),
+            ("cut off", '{"alloc": 1', 1, "no object of JSON"),
+            ("not UTF-8", b'\n\n{"alloc": "\xff"}', 3, "no object of JSON"),
+            ("an unknown key", '{"allok": 1}', 1, "unknown key"),
+            ("a key twice", '{"alloc": 1, "alloc": 1}', 1, "a key comes twice"),
+            ("a negative number", '{"alloc": -1}', 1, "wrong value of a key"),
+            ("a fraction", '{"alloc": 1.5}', 1, "wrong value of a key"),
+            ("a large number", '{"alloc": 4294967296}', 1, "wrong value of a key"),
+            ("two events", '{"alloc": 1, "free": 1}', 1, "keys of no event"),
+            ("a move to nowhere", '{"move": 1}', 1, "keys of no event"),
+            ("a long line", alloc + "\n" + " " * 65537, 2, "longer than 65536 bytes")]:
+        status, out, said = judge.call(log, *json_options)
+        is_right = status == 1 and out == "" and said == f"hotplug_lab: line {number}: {text}\n"
+        checks.holds(name, is_right, f"{status} {out} {said}")
+    event = "  a-1 [000] d..1. 1.000000: mm_page_free: page=0 pfn={} order={}"
+    hostile = "  \x1b[31m\u202e-1 [000] d..1. 1.000000: mm_page_free: page=0 pfn=0x1 order=0"
+    status, out, said = judge.call(f"{hostile}\n{hostile}\n", *ftrace_options)
+    is_right = status == 3 and "\\u001b" in out and "\x1b" not in out and "\u202e" not in out
+    checks.holds("hostile", is_right, f"{status} {out} {said}")
+    lost = event.format("0x1", 0) + "\nCPU:1 [LOST 12 EVENTS]\n"
+    status, out, said = judge.call(lost, *ftrace_options)
+    is_right = status == 1 and said == ("hotplug_lab: line 2: the kernel's buffer was full, and events"
+                                        " are missing\n")
+    checks.holds("lost", is_right, f"{status} {out} {said}")
+    status, out, said = judge.call(event.format("zero", 0), *ftrace_options)
+    is_right = status == 1 and said == "hotplug_lab: line 1: no frame or order that can be read\n"
+    checks.holds("no frame", is_right, f"{status} {out} {said}")
+    for words in [[], ["--block-frames", "0"], ["--block-frames", "3"], ["--block-frames", "134217728"],
+                  [*json_options, "--blocks", "5..5"], [*json_options, "--blocks", "5"],
+                  [*json_options, "--blocks", "a..b"], [*json_options, "--blocks", "0..536870912"],
+                  [*json_options, "--allow", "all"], [*json_options, "--most", "x"],
+                  [*json_options, "--svg"]]:
+        status, out, said = judge.call(alloc, *words)
+        checks.holds(" ".join(words), status == 2 and out == "" and said != "", f"{status} {out} {said}")
+    status, out, said = judge.call("", *json_options, "/no/such/file")
+    is_right = status == 1 and said == "hotplug_lab: /no/such/file: file not opened\n"
+    checks.holds("no file", is_right, f"{status} {out} {said}")
+    twice = f"{alloc}\n{alloc}\n{alloc}\n"
+    status, out, _said = judge.call(twice, *json_options, "--most", "0")
+    is_right = status == 3 and out.splitlines()[-2:] == ["and 2 more", "unlawful: 2 faults, 0 allowed"]
+    checks.holds("--most 0", is_right, f"{status} {out}")
+    status, out, _said = judge.call(twice, *json_options, "--blocks", "1..536870911")
+    is_right = status == 0 and out.splitlines()[-1] == "lawful: 0 faults, 0 allowed"
+    checks.holds("past 2^26 frames", is_right, f"{status} {out}")
+
+
+def main():
+    crates = Path(sys.argv[1]) if len(sys.argv) > 1 else ROOT / "crates"
+    checks, judge = Checks(), Judge(crates.resolve())
+    check_linux(checks, judge)
+    check_random(checks, judge)
+    check_odd(checks, judge)
+    for failure in checks.failures:
+        print(f"failed: {failure}")
+    print(f"judge: {checks.passed} passed, {len(checks.failures)} failed")
+    return 1 if checks.failures else 0
+
+
+if __name__ == "__main__":
+    sys.exit(main())
