@@ -107,9 +107,9 @@ impl Layers {
         if let Some(refusal) = self.word_refusal(owner, page, index) {
             return Ok(Reply::Refused(refusal));
         }
-        let spare = self.pages.spare_for(alloc, owner, page, value)?;
+        let prepared = self.pages.prepare(alloc, owner, page, index, value)?;
         tape.reserve(1)?;
-        self.pages.write(owner, page, index, value, spare, tape);
+        self.pages.write(owner, page, index, value, prepared, tape);
         Ok(Reply::Done)
     }
 
