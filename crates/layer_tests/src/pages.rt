@@ -1,4 +1,4 @@
-ghost use Rattle.std.specs.Prelude.{◌≡◌, [], ◌∷◌, IfOk, None, Some};
+ghost use Rattle.std.specs.Prelude.{◌≡◌, [], ◌∷◌, IfOk, None, OnOk, Some};
 ghost use Rattle.hp_tape.specs.Tapes.{HasRoom, NotesPages};
 ghost use Rattle.hp_pages.specs.Pages.{AreSettled};
 ghost use Rattle.layer_tests.specs.SmallLayouts.{two_blocks};
@@ -7,8 +7,8 @@ ghost use Rattle.layer_tests.specs.SmallPages.{no_pages, second_page};
 use crate::layouts::two_blocks;
 use hp_pages::Pages;
 use hp_tape::{Delta, Tape};
-use hp_units::{Frame, Owner, Page, Words};
-use std::alloc::Global;
+use hp_units::{Frame, Owner, Page};
+use std::alloc::{AllocError, Global};
 use std::test::Fail;
 
 /// The pages of four frames, none mapped.

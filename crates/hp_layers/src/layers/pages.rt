@@ -87,7 +87,8 @@ impl Layers {
         Ok(Reply::Done)
     }
 
-    /// One word of a mapped page changes. The first that is not 0 takes memory for all words of the page.
+    /// One word of a mapped page changes. The first that is not 0 takes memory for all words of the
+    /// page, and a word of 2^32 or more for its delta.
     pub(crate) fn write(
         &mut self,
         alloc: Global,
