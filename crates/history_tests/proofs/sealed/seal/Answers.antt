@@ -1,6 +1,6 @@
 -- The volume of a seal stands after those before it, and the machine goes on from all of them.
-use Rattle.machine_tests.proofs.SealedMachines.{sealed_once_more}
-use Rattle.machine_tests.proofs.sealed.seal.Goals as goal
+use Rattle.history_tests.proofs.SealedMachines.{sealed_once_more}
+use Rattle.history_tests.proofs.sealed.seal.Goals as goal
 
 pub returns-clause-volumes : goal.returns-clause-volumes
 returns-clause-volumes c =

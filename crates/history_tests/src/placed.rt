@@ -2,9 +2,9 @@
 ghost use Rattle.std.specs.Prelude.{◌≡◌, ◌+◌, ◌^◌, ◌<◌, ◌≤◌, IfOk};
 ghost use Rattle.hp_units.specs.Arithmetic.{frame_count};
 
-use crate::layouts::{LAST_ABSENT, LAST_OFFLINE, four_blocks};
 use hp_plain::{Image, Part};
 use hp_units::{Block, Class, Cpu, Frame, Layout, Order, Owner, Page, Pool, Row, Words, Zone};
+use layouts_for_tests::{LAST_ABSENT, LAST_OFFLINE, four_blocks};
 use std::alloc::{AllocError, Global};
 use std::test::Fail;
 

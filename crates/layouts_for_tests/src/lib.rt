@@ -1,4 +1,9 @@
-//! A small layout.
+//! A small layout for the tests of several crates, and what its memory blocks are at boot.
+//!
+//! Its frames are few enough to name each of them, and its blocks lie in both zones or are not there.
+//! It is a library, so that each crate of tests is checked beside the others. Read `four_blocks`.
+#![tactic(auto)]
+
 ghost use Rattle.std.specs.Prelude.{◌≡◌, IfOk};
 ghost use Rattle.hp_units.specs.Arithmetic.{frame_count, pageblock_count};
 

@@ -1,10 +1,10 @@
 //! Histories and chains of volumes that something is wrong with, each with its fault.
-use crate::layouts::{LAST_OFFLINE, four_blocks};
 use hp_history::{Records, Volume};
 use hp_machine::Machine;
 use hp_plain::Image;
 use hp_replays::{ChainFault, ReplayFault, audit_chain, replay};
 use hp_units::{Cpu, Event, Frame, Layout, Order, Record, Refusal, Reply, Serial};
+use layouts_for_tests::{LAST_OFFLINE, four_blocks};
 use std::alloc::{AllocError, Global};
 use std::test::Fail;
 

@@ -1,6 +1,6 @@
 -- The base of each machine is well placed, so its records can be replayed from there.
-use Rattle.machine_tests.proofs.SealedMachines.{replay_fault, replay_value}
-use Rattle.machine_tests.proofs.sealed.replayed.Goals as goal
+use Rattle.history_tests.proofs.SealedMachines.{replay_fault, replay_value}
+use Rattle.history_tests.proofs.sealed.replayed.Goals as goal
 
 pub returns-clause-value : goal.returns-clause-value
 returns-clause-value c =

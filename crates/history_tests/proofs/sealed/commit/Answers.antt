@@ -3,8 +3,8 @@ use Rattle.std.proofs.Common.{subst}
 use Rattle.hp_units.specs.History.{net_of}
 use Rattle.hp_units.specs.Memory.{Memory}
 use Rattle.hp_laws.specs.Offline.{IsUndisturbed}
-use Rattle.machine_tests.proofs.SealedMachines.{commit_done}
-use Rattle.machine_tests.proofs.sealed.commit.Goals as goal
+use Rattle.history_tests.proofs.SealedMachines.{commit_done}
+use Rattle.history_tests.proofs.sealed.commit.Goals as goal
 
 pub returns : goal.returns
 returns c undisturbed low =

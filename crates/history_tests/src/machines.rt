@@ -1,11 +1,11 @@
 //! A block that goes offline by the driver of a plan, and an operation that is sealed under way.
-use crate::layouts::{LAST_OFFLINE, four_blocks};
 use crate::sealed::{commit, hands_out_plugged_frames, replayed, seal};
 use hp_machine::Machine;
 use hp_units::{
     Block, CallFault, Cpu, Event, Frame, Item, OpEnd, Owner, Page, Plan, Reply, Row, Serial, State,
     Wish,
 };
+use layouts_for_tests::{LAST_OFFLINE, four_blocks};
 use std::alloc::{AllocError, Global};
 use std::test::Fail;
 

@@ -4,7 +4,7 @@ use Rattle.hp_units.specs.Contents.{handed_frame}
 use Rattle.hp_units.specs.History.{IsLegal, value_of}
 use Rattle.hp_units.specs.Memory.{Memory}
 use Rattle.hp_units.specs.declared.replies.Record.{Record}
-use Rattle.machine_tests.proofs.sealed.hands_out_plugged_frames.Goals as goal
+use Rattle.history_tests.proofs.sealed.hands_out_plugged_frames.Goals as goal
 
 pub returns : goal.returns
 returns c h r frame is handed =

@@ -1,10 +1,10 @@
 //! Records undone one at a time: the machine goes back through every earlier state.
-use crate::layouts::{LAST_ABSENT, four_blocks};
 use hp_machine::Machine;
 use hp_plain::Image;
 use hp_units::{
     Auto, Block, Cpu, Event, Frame, Item, Order, Owner, Page, Plan, Reply, Serial, Wish, Zone,
 };
+use layouts_for_tests::{LAST_ABSENT, four_blocks};
 use std::alloc::{AllocError, Global};
 use std::test::Fail;
 

@@ -1,9 +1,9 @@
 //! A course of a few records, and worked records that lead back to the state at boot.
-use crate::layouts::{LAST_OFFLINE, four_blocks};
 use hp_history::{Course, Records, Volume};
 use hp_plain::Image;
 use hp_replays::audit_chain;
 use hp_units::{Cpu, Event, Frame, Layout, Order, Record, Reply, Serial};
+use layouts_for_tests::{LAST_OFFLINE, four_blocks};
 use std::alloc::{AllocError, Global};
 use std::test::Fail;
 

@@ -3,9 +3,9 @@
 ghost use Rattle.std.specs.Prelude.{◌≡◌};
 ghost use Rattle.hp_units.specs.Arithmetic.{frame_count, pageblock_count};
 
-use crate::layouts::{LAST_OFFLINE, four_blocks};
 use hp_plain::{Image, Part, wish_of};
 use hp_units::{Auto, Block, Frame, Item, Kind, Mobility, Order, Pageblock, Row, State, Wish};
+use layouts_for_tests::{LAST_OFFLINE, four_blocks};
 use std::alloc::AllocError;
 use std::test::Fail;
 
