@@ -1,5 +1,5 @@
-//! Parts that take no memory, added to an empty state of four memory blocks. crates/refusals adds the
-//! others.
+//! Parts that take no memory, added to an empty state of four memory blocks. crates/refused_values
+//! adds the others.
 ghost use Rattle.std.specs.Prelude.{◌≡◌};
 ghost use Rattle.hp_units.specs.Arithmetic.{frame_count, pageblock_count};
 

@@ -1,7 +1,7 @@
 //! A small layout for the tests of several crates, and what its memory blocks are at boot.
 //!
-//! Its frames are few enough to name each of them, and its blocks lie in both zones or are not there.
-//! It is a library, so that each crate of tests is checked beside the others. Read `four_blocks`.
+//! It has four memory blocks of four frames: two of zone Normal, one of zone Movable, and one that is
+//! offline or absent at boot. The clauses of `four_blocks` say what the tests need of it.
 #![tactic(auto)]
 
 ghost use Rattle.std.specs.Prelude.{◌≡◌, IfOk};
