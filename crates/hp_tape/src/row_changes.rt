@@ -23,9 +23,10 @@ impl Model for RowChange {
     ghost Value = { RowChangeValue };
 
     ghost view = { λ c. record {
-        block = c.block;
-        before = row_in c.before (from_le_bytes w64 c.op);
-        after = row_in c.after (from_le_bytes w64 c.op) } };
+      block = c.block;
+      before = row_in c.before (from_le_bytes w64 c.op);
+      after = row_in c.after (from_le_bytes w64 c.op);
+    } };
 }
 
 impl RowChange {

@@ -86,7 +86,13 @@ fn is_large_word_noted(
     pages.write(Owner(0), Page(1), 1, large, prepared, tape);
     let copy = tape.copy(alloc)?;
     let is_noted = match copy.as_slice() {
-        [Delta::LargeWord { index: 1, change, .. }] => change.was() == 7 && change.now() == large,
+        [
+            Delta::LargeWord {
+                index: 1,
+                change,
+                ..
+            },
+        ] => change.was() == 7 && change.now() == large,
         _ => false,
     };
     Ok(is_noted && pages.read(Owner(0), Page(1), 1) == large)

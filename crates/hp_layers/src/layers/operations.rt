@@ -8,7 +8,11 @@ ghost use Rattle.hp_tape.specs.Tapes.{HasRoom};
 ghost use Rattle.hp_layers.specs.Frames.{IsTidy};
 ghost use Rattle.hp_layers.specs.Layers.{AreOfOneLayout, state_of};
 ghost use Rattle.hp_layers.specs.Operations.{
-    AreHeldByNone, IsReworked, IsHeldByNone, claimed_at, claimed_below
+  AreHeldByNone,
+  IsReworked,
+  IsHeldByNone,
+  claimed_at,
+  claimed_below,
 };
 
 use super::Layers;
