@@ -85,8 +85,8 @@ impl Blocks {
         self.rows[at]
     }
 
-    /// Makes an operation hold a memory block of the layout that no other operation holds; with wish
-    /// Off the block is going (Linux guide: offlining; own rule). One delta.
+    /// Makes an operation hold a memory block of the layout that no other one holds; with wish Off
+    /// the block is going (Linux guide: offlining; own rule). One delta.
     pub fn claim(&mut self, block: Block, op: Serial, wish: Wish, tape: &mut Tape)
         requires block { block < self.old.layout.blocks }
         requires one { IfSome (row_of self.old.blocks block).claim (λ claim. claim.op ≡ op) }
@@ -100,8 +100,8 @@ impl Blocks {
         self.set(block, row.claimed(op, wish), tape);
     }
 
-    /// Gives a memory block of the layout another row. Where an operation holds the block before and
-    /// after, it is the same one. One delta.
+    /// Gives a memory block of the layout another row. Where an operation holds the block before
+    /// and after, it is the same one. One delta.
     pub fn set(&mut self, block: Block, row: Row, tape: &mut Tape)
         requires block { block < self.old.layout.blocks }
         requires one { IfSome row.claim

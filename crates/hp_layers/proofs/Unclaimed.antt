@@ -44,8 +44,8 @@ later-stays m n o op plan number other ne is earlier =
     ∙ (claim-others n.layout op (state_of n) number other (wish_of plan number) ne ∙ earlier)
 
 -- and no operation holds it
-pub unclaimed-still : (plan : List Item) (bs first : Blocks) (block : ℕ) → row_of bs block ≡ row_of first block
-    → AreHeldByNone plan first → IsHeldByNone plan bs block
+pub unclaimed-still : (plan : List Item) (bs first : Blocks) (block : ℕ)
+    → row_of bs block ≡ row_of first block → AreHeldByNone plan first → IsHeldByNone plan bs block
 unclaimed-still plan bs first block same none =
     subst (λ (row : Row). IfSome (wish_of plan block) (λ wish. row.claim ≡ None)) (sym same) (none block)
 
@@ -59,8 +59,9 @@ not-some (Some claim) e = absurd cc
 pub plan-unclaimed : (l : LayoutParts) (s : Memory) (plan : List Item)
     → first_some (plan_refusals l s plan) ≡ None → AreHeldByNone plan s.blocks
 plan-unclaimed l s plan e block =
-    by_item (find (λ item. item.block == block) plan) refl (map_none _
-    (find (λ item. is_claimed (row_of s.blocks item.block)) plan) (all_none (plan_refusals l s plan) e).1.1.1.0)
+    let none = all_none (plan_refusals l s plan) e in
+    by_item (find (λ item. item.block == block) plan) refl
+    (map_none _ (find (λ item. is_claimed (row_of s.blocks item.block)) plan) none.1.1.1.0)
   where
     by_item : (o : Option Item) → find (λ item. item.block == block) plan ≡ o
         → find (λ item. is_claimed (row_of s.blocks item.block)) plan ≡ None

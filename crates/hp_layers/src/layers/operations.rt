@@ -53,8 +53,8 @@ impl Layers {
         }
     }
 
-    /// An operation claims a block that none holds for a wish, and isolates one that is going (Linux,
-    /// memory hotplug: offlining; own rule).
+    /// An operation claims a block that none holds for a wish, and isolates one that is going
+    /// (Linux, memory hotplug: offlining; own rule).
     fn claim_block(&mut self, op: Serial, block: Block, wish: Wish, tape: &mut Tape)
         requires one { AreOfOneLayout self.old }
         requires tidy { IsTidy self.old.frames }
