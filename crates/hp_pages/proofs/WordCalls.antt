@@ -10,7 +10,7 @@ use Rattle.hp_tape.specs.declared.deltas.Delta.{Delta}
 use Rattle.hp_tape.specs.declared.deltas.Delta.TheVariants.{Word as WordDelta, LargeWord, Filled}
 use Rattle.hp_tape.specs.Deltas.{FitsPages, HasOneWord, IsDeltaOf, IsOfPages, PageFrames, buffer_for, buffer_of, is_blank, pages_undo, with_buffer, word_delta}
 use Rattle.hp_tape.specs.Tapes.{TapeValue, NotesPages}
-use Rattle.hp_pages.specs.declared.pages.Prepared.TheVariants.{Change, Fill}
+use Rattle.hp_pages.specs.declared.pages.PreparedWrite.TheVariants.{Change, Fill}
 use Rattle.hp_pages.specs.Pages.{change_at, needs_buffer, prepared_at, words_in, write_at}
 use Rattle.hp_pages.proofs.Blanks.{none-needed, some-needed, set-some, set-zero, zeros-blank}
 use Rattle.hp_lemmas.proofs.Tables.{get_set}

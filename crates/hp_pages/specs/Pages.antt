@@ -9,8 +9,8 @@ use Rattle.hp_units.specs.Pages.{fresh_words, page_from}
 use Rattle.hp_tape.specs.declared.deltas.Delta.{Delta}
 use Rattle.hp_tape.specs.declared.deltas.Delta.TheVariants.{Emptied}
 use Rattle.hp_tape.specs.Deltas.{PageFrames, buffer_for, buffer_of, is_blank, with_buffer, word_delta}
-use Rattle.hp_pages.specs.declared.pages.Prepared.{Prepared}
-use Rattle.hp_pages.specs.declared.pages.Prepared.TheVariants.{Change, Fill}
+use Rattle.hp_pages.specs.declared.pages.PreparedWrite.{PreparedWrite}
+use Rattle.hp_pages.specs.declared.pages.PreparedWrite.TheVariants.{Change, Fill}
 use Rattle.hp_pages.specs.Places.{TableValue, holders}
 
 -- the layout, and the pages with their words by frame
@@ -95,13 +95,13 @@ abbrev pub needs_buffer : Option (List ℕ) → (value : ℕ) → Bool
 needs_buffer buffer value = not (is_some buffer) && not (value == 0)
 
 -- what a write of a word in a frame, and in a page's frame, needs
-abbrev pub prepared_at : LayoutParts → PageFrames → (index value frame : ℕ) → Prepared
+abbrev pub prepared_at : LayoutParts → PageFrames → (index value frame : ℕ) → PreparedWrite
 prepared_at l v index value frame =
     if needs_buffer (buffer_of v frame) value
     then Fill (fresh_words l)
     else Change (change_at l v frame index value)
 
-abbrev pub prepared_for : LayoutParts → PageFrames → (owner page index value : ℕ) → Prepared
+abbrev pub prepared_for : LayoutParts → PageFrames → (owner page index value : ℕ) → PreparedWrite
 prepared_for l v owner page index value =
     prepared_at l v index value (unwrap_or (entry_of v.table owner page) 0)
 

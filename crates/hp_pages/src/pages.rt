@@ -54,7 +54,7 @@ impl Model for Pages {
 
 /// What a write of a word needs, made before anything changes.
 #[derive(Drop)]
-pub enum Prepared {
+pub enum PreparedWrite {
     /// A buffer of zeros for a frame without one.
     Fill(Words),
     /// The delta of the word.
@@ -240,7 +240,7 @@ impl Pages {
         page: Page,
         index: u32,
         value: u64,
-    ) -> Result<Prepared, AllocError>
+    ) -> Result<PreparedWrite, AllocError>
         requires owner { owner < self.now.layout.owners }
         requires page { page < self.now.layout.pages }
         requires index { index < self.now.layout.words }
@@ -250,11 +250,11 @@ impl Pages {
     {
         let frame = self.frame_at(owner, page).unwrap();
         if value != 0 && self.buffers.words(frame).is_none() {
-            return Ok(Prepared::Fill(zeros(alloc, &self.layout)?));
+            return Ok(PreparedWrite::Fill(zeros(alloc, &self.layout)?));
         }
         let was = self.words_in(frame)[index as usize];
         let change = Delta::of_word(alloc, frame, index, was, value)?;
-        Ok(Prepared::Change(change))
+        Ok(PreparedWrite::Change(change))
     }
 
     /// Changes one word of a mapped page of the layout; words are counted from 0. It takes no memory, but
@@ -265,7 +265,7 @@ impl Pages {
         page: Page,
         index: u32,
         value: u64,
-        prepared: Prepared,
+        prepared: PreparedWrite,
         tape: &mut Tape,
     )
         requires owner { owner < self.old.layout.owners }
@@ -283,8 +283,8 @@ impl Pages {
     {
         let frame = self.frame_at(owner, page).unwrap();
         match prepared {
-            Prepared::Fill(words) => self.fill(frame, words, index, value, tape),
-            Prepared::Change(change) => self.overwrite(frame, index, value, change, tape),
+            PreparedWrite::Fill(words) => self.fill(frame, words, index, value, tape),
+            PreparedWrite::Change(change) => self.overwrite(frame, index, value, change, tape),
         }
     }
 
@@ -310,14 +310,7 @@ impl Pages {
 
     /// A word changes in a frame of the layout, which has a buffer unless the word stays 0. A
     /// buffer whose words are all 0 then moves into the tape, as it was.
-    fn overwrite(
-        &mut self,
-        frame: Frame,
-        index: u32,
-        value: u64,
-        change: Delta,
-        tape: &mut Tape,
-    )
+    fn overwrite(&mut self, frame: Frame, index: u32, value: u64, change: Delta, tape: &mut Tape)
         requires frame { IsFrame self.old.layout frame }
         requires index { index < self.old.layout.words }
         requires change { change ≡ change_at self.old.layout self.old.pages frame index value }
