@@ -26,8 +26,8 @@ used_after m f e used = allocates m f e || (not (frees m f e) && used)
 
 -- the event leads from one state to the next: it hands out frames that are not in use, of blocks that are
 -- not offline; it brings back frames that are in use; a block takes its turn, and goes offline empty
-pub record Leads (m : MachineSize) (used : ℕ → Bool) (phase : ℕ → BlockPhase) (e : LogEvent) (used' : ℕ → Bool)
-    (phase' : ℕ → BlockPhase) : Type 0 where
+pub record Leads (m : MachineSize) (used : ℕ → Bool) (phase : ℕ → BlockPhase) (e : LogEvent)
+    (used' : ℕ → Bool) (phase' : ℕ → BlockPhase) : Type 0 where
   pub well_formed : is_well_formed m e ≡ true
   pub free : (f : ℕ) → allocates m f e ≡ true → used f ≡ false
   pub present : (f : ℕ) → allocates m f e ≡ true → is_offline (phase (block_of m f)) ≡ false

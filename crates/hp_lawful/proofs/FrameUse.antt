@@ -1,8 +1,8 @@
 -- A frame is in use, as a log shows it, exactly if a page or a block of the kernel has it.
-use Rattle.std.proofs.Common.{◌≡◌, ℕ, suc, ◌+◌, ◌^◌, ◌<◌, Bool, true, false, cond, List, [], ◌∷◌, get_or, Option, Some, None, is_some, refl, sym, ap, ap₂, subst, nat_le, nat_lt, arith, inl, inr}
+use Rattle.std.proofs.Common.{◌≡◌, ℕ, suc, ◌+◌, ◌^◌, ◌<◌, Bool, true, false, cond, List, [], ◌∷◌, get_or, Option, Some, None, is_some, refl, sym, ap, ap₂, subst, arith, inl, inr}
 use Rattle.std.specs.List.{count_by, enumerate_from}
 use Rattle.std.specs.Option.{option_map_or}
-use Rattle.std.proofs.lemmas.Bool.{and_from, both_ways, cases_lt, le-leb, lt-ltb}
+use Rattle.std.proofs.lemmas.Bool.{both_ways, cases_lt}
 use Rattle.std.proofs.lemmas.List.{get_or_past}
 use Rattle.std.proofs.lemmas.Nat.{pow_pos}
 use Rattle.std.proofs.lemmas.List.Sums.{sum_by-cons}
@@ -13,6 +13,7 @@ use Rattle.hp_units.specs.Pages.{page_at}
 use Rattle.hp_units.specs.Placement.{IsWellPlaced, covers, kernel_places, mapped_places}
 use Rattle.hp_lemmas.proofs.KernelBlocks.{kernel_covered}
 use Rattle.hp_laws.proofs.OfflineCommit.{none_mapped}
+use Rattle.hp_judge.proofs.Pieces.{within_from}
 use Rattle.hp_lawful.specs.Pieces.{Piece, is_frame_of, kernel_piece, page_piece, piece_at, piece_by}
 use Rattle.hp_lawful.specs.Reading.{in_use}
 use Rattle.hp_lawful.proofs.PieceEvents.{in_pieces_of, piece_of}
@@ -59,7 +60,8 @@ module _ (l : LayoutParts) (s : Memory) (frame : ℕ) (layout : IsLayout l) (p :
       by_test : (t : Bool) → is_frame_of frame first (piece_at s first) ≡ t → t ≡ false
       by_test false e = refl
       by_test true e =
-          absurd (both_ways (in_use l s frame) is (in_pieces_of (frame_count l) (piece_at s) frame first low e))
+          absurd (both_ways (in_use l s frame) is
+          (in_pieces_of (frame_count l) (piece_at s) frame first low e))
 
   unused_kernel : in_use l s frame ≡ false → kernel_places s frame ≡ 0
   unused_kernel is = no_kernel frame 0 s.kernel each
@@ -94,8 +96,7 @@ module _ (l : LayoutParts) (s : Memory) (frame : ℕ) (layout : IsLayout l) (p :
   own piece e =
       let some : 0 < 2 ^ piece.order = pow_pos piece.order in
       subst (λ (o : Option Piece). is_frame_of frame frame o ≡ true) (sym e)
-      (and_from (nat_le frame frame) (nat_lt frame (frame + 2 ^ piece.order)) (le-leb frame frame (omega arith))
-      (lt-ltb frame (frame + 2 ^ piece.order) (omega arith)))
+      (within_from frame (2 ^ piece.order) frame (omega arith) (omega arith))
 
   unused_pages : in_use l s frame ≡ false → mapped_places s.pages frame ≡ 0
   unused_pages is = by_page (page_at s.pages frame) refl

@@ -49,7 +49,8 @@ logs_lead l m base (h ∷ later) layout size p =
     (logs_lead l m (value_of l base h) later layout size (value-placed l base h layout p))
 
 -- a log that leads on from nothing is lawful
-pub lead-lawful : (m : MachineSize) (p q : Shown) (log : List LogEvent) → EventsLead m p log q → IsLawful m log
+pub lead-lawful : (m : MachineSize) (p q : Shown) (log : List LogEvent) → EventsLead m p log q
+    → IsLawful m log
 lead-lawful m p q log h =
     let start : IsGoodLog m [] p =
     record { lawful = lawful_none m; agrees = agrees_none m (settled m p.used p.phase) } in

@@ -1,15 +1,15 @@
 -- A page that comes back at one frame and is handed out at another moves, in one event.
-use Rattle.std.proofs.Common.{◌≡◌, ◌≢◌, ℕ, zero, ◌+◌, ◌%◌, ◌<◌, ◌≤◌, Bool, true, false, not, cond, ◌&&◌, ◌||◌, ◌==◌, nat_le, nat_lt, List, [], ◌∷◌, refl, sym, ◌∙◌, ap, ap₂, arith}
-use Rattle.std.proofs.lemmas.Bool.{and_parts, and_from, eq-eqb, eqb-true, eqb-false, le-leb, leb-true, lt-ltb, ltb-true, ne_eqb, not-true}
+use Rattle.std.proofs.Common.{◌≡◌, ◌≢◌, ℕ, zero, ◌%◌, Bool, true, false, not, cond, ◌&&◌, ◌||◌, ◌==◌, nat_le, nat_lt, List, [], ◌∷◌, refl, sym, ◌∙◌, ap, ap₂, arith}
+use Rattle.std.proofs.lemmas.Bool.{and_parts, and_from, eq-eqb, eqb-true, eqb-false, ne_eqb, not-true}
 use Rattle.hp_units.specs.Memory.{Memory}
 use Rattle.hp_units.specs.Pages.{page_at}
 use Rattle.hp_judge.specs.Events.{block_of, frame_count, allocates, frees, is_move, is_piece, lies_within}
+use Rattle.hp_judge.proofs.Pieces.{same_tests, within_from, within_parts}
 use Rattle.hp_lawful.specs.Logs.{same_page, with_move}
 use Rattle.hp_lawful.specs.Names.{LogEvent, Alloc, Free, Move, MachineSize}
 use Rattle.hp_lawful.specs.Phases.{BlockPhase}
 use Rattle.hp_lawful.specs.Reading.{Shown}
 use Rattle.hp_lawful.proofs.Turns.{is_offline}
-use Rattle.hp_lawful.proofs.PieceEvents.{same_tests}
 use Rattle.hp_lawful.proofs.Allowed.{Leads}
 use Rattle.hp_lawful.proofs.Sequences.{EventsLead}
 
@@ -17,17 +17,9 @@ use Rattle.hp_lawful.proofs.Sequences.{EventsLead}
 one_frame : (f n : ℕ) → lies_within n 1 f ≡ (f == n)
 one_frame f n =
     same_tests (lies_within n 1 f) (f == n)
-    (λ is. (let parts = and_parts (nat_le n f) (nat_lt f (n + 1)) is in
-    let low : n ≤ f = leb-true n f parts.0 in
-    let high : f < n + 1 = ltb-true f (n + 1) parts.1 in
-    eq-eqb f n (omega arith)))
-    (λ is. and_from (nat_le n f) (nat_lt f (n + 1)) (low (eqb-true f n is)) (high (eqb-true f n is)))
-  where
-    low : f ≡ n → nat_le n f ≡ true
-    low e = le-leb n f (omega arith)
-
-    high : f ≡ n → nat_lt f (n + 1) ≡ true
-    high e = lt-ltb f (n + 1) (omega arith)
+    (λ is. (let parts = within_parts n 1 f is in eq-eqb f n (omega (arith, parts.0, parts.1))))
+    (λ is. (let same = eqb-true f n is in
+    within_from n 1 f (omega (arith, same)) (omega (arith, same))))
 
 -- a test that comes after one that passes
 after_true : (a b c : Bool) → a ≡ true → b ≡ c → (a && b) ≡ c
@@ -50,7 +42,8 @@ module _ (m : MachineSize) (from to : ℕ) (p mid q : Shown)
     (k : Leads m mid.used mid.phase (Alloc to 0 true) q.used q.phase) (ne : from ≢ to) where
   -- the tests of the move are those of the two events
   gives_is : (f : ℕ) → frees m f (Free from 0) ≡ (f == from)
-  gives_is f = after_true (is_piece m from 0) (lies_within from 1 f) (f == from) h.well_formed (one_frame f from)
+  gives_is f =
+      after_true (is_piece m from 0) (lies_within from 1 f) (f == from) h.well_formed (one_frame f from)
 
   takes_is : (f : ℕ) → allocates m f (Alloc to 0 true) ≡ (f == to)
   takes_is f = after_true (is_piece m to 0) (lies_within to 1 f) (f == to) k.well_formed (one_frame f to)
@@ -93,8 +86,8 @@ module _ (m : MachineSize) (from to : ℕ) (p mid q : Shown)
     in_use = λ f is. h.in_use f (sym (move_gives f) ∙ is);
     empty = λ f e. no_event e;
     used_is =
-        λ f. used_both (allocates m f (Alloc to 0 true)) (frees m f (Free from 0)) false (p.used f) (mid.used f)
-        (q.used f) (h.used_is f) (k.used_is f) refl
+        λ f. used_both (allocates m f (Alloc to 0 true)) (frees m f (Free from 0)) false (p.used f)
+        (mid.used f) (q.used f) (h.used_is f) (k.used_is f) refl
         ∙ ap₂ (λ (a g : Bool). a || (not g && p.used f)) (sym (move_takes f)) (sym (move_gives f));
     turn = λ b e. no_event e;
     same = λ b e. k.same b refl ∙ h.same b refl;
@@ -111,7 +104,8 @@ move_leads m before after p q (Free from zero ∷ (Alloc to zero true ∷ [])) h
     by_test true is =
         let ne : from ≢ to =
         eqb-false from to (not-true (from == to)
-        (and_parts (same_page (page_at before.pages from) (page_at after.pages to)) (not (from == to)) is).1) in
+        (and_parts (same_page (page_at before.pages from) (page_at after.pages to)) (not (from == to))
+        is).1) in
         (h.2.0, moves_lead m from to p h.0 h.2.0 h.1 h.2.1 ne, h.2.2)
     by_test false is = h
 move_leads m before after p q log h = h

@@ -1,9 +1,10 @@
 -- The frames of pieces, and the events of pieces that come back and that are handed out.
 use Rattle.std.proofs.Common.{◌≡◌, ◌≢◌, ℕ, zero, suc, ◌+◌, ◌^◌, ◌<◌, ◌≤◌, Bool, true, false, not, cond, ◌&&◌, ◌||◌, ltb, [], Option, Some, None, refl, sym, ◌∙◌, ap, subst, arith, inl, inr}
 use Rattle.std.specs.List.{list_any, range_with_len}
-use Rattle.std.proofs.lemmas.Bool.{cases_eq, cases_lt, or_cases, or_left, or_right, and_parts, false_from_ne_true, cond-true, cond-false, lt-ltb, le-ltb}
+use Rattle.std.proofs.lemmas.Bool.{cases_eq, cases_lt, or_cases, or_left, or_right, and_parts, false_from_ne_true, not-true, cond-true, cond-false, lt-ltb, le-ltb}
 use mathlib.Core.Path.{fun_ext}
 use Rattle.hp_judge.specs.Events.{block_of, is_piece, lies_within}
+use Rattle.hp_judge.proofs.Pieces.{same_tests}
 use Rattle.hp_lawful.specs.Names.{Alloc, Free, MachineSize}
 use Rattle.hp_lawful.specs.Phases.{BlockPhase}
 use Rattle.hp_lawful.specs.Reading.{Shown}
@@ -77,12 +78,6 @@ piece_of count pieces f is =
     let found = one_of (λ first. is_frame_of f first (pieces first)) 0 count is in
     (found.0, omega (arith, found.1), found.2)
 
--- two tests of which each passes where the other does
-pub same_tests : (a b : Bool) → (a ≡ true → b ≡ true) → (b ≡ true → a ≡ true) → a ≡ b
-same_tests true b to from = sym (to refl)
-same_tests false true to from = from refl
-same_tests false false to from = refl
-
 -- the same pieces have the same frames
 pub in_pieces-same : (count : ℕ) (pieces others : ℕ → Option Piece)
     → ((k : ℕ) → k < count → pieces k ≡ others k) → in_pieces count pieces ≡ in_pieces count others
@@ -121,11 +116,14 @@ module _ (count n : ℕ) (piece : Piece) (with without : ℕ → Option Piece)
       no_frame e = cc
 
   -- the frames are those of the piece and of what is left
-  pub with_piece : (f : ℕ) → in_pieces count with f ≡ (lies_within n (2 ^ piece.order) f || in_pieces count without f)
+  pub with_piece : (f : ℕ)
+      → in_pieces count with f ≡ (lies_within n (2 ^ piece.order) f || in_pieces count without f)
   with_piece f =
-      same_tests (in_pieces count with f) (lies_within n (2 ^ piece.order) f || in_pieces count without f) split join
+      same_tests (in_pieces count with f) (lies_within n (2 ^ piece.order) f || in_pieces count without f)
+      split join
     where
-      split : in_pieces count with f ≡ true → (lies_within n (2 ^ piece.order) f || in_pieces count without f) ≡ true
+      split : in_pieces count with f ≡ true
+          → (lies_within n (2 ^ piece.order) f || in_pieces count without f) ≡ true
       split is =
           let found = piece_of count with f is in
           elim (cases_eq found.0 n) [
@@ -140,7 +138,8 @@ module _ (count n : ℕ) (piece : Piece) (with without : ℕ → Option Piece)
                 found.2))
           ]
 
-      join : (lies_within n (2 ^ piece.order) f || in_pieces count without f) ≡ true → in_pieces count with f ≡ true
+      join : (lies_within n (2 ^ piece.order) f || in_pieces count without f) ≡ true
+          → in_pieces count with f ≡ true
       join is = elim (or_cases (lies_within n (2 ^ piece.order) f) (in_pieces count without f) is) [
         | inl its ↦
             in_pieces_of count with f n h.low
@@ -213,7 +212,7 @@ alloc_leads m count n piece with without phase h is home = record {
   normal =
       λ f e. (let parts = and_parts (not piece.movable)
       (is_piece m n piece.order && lies_within n (2 ^ piece.order) f) e in
-      home.normal f (not_movable piece.movable parts.0) (its f parts.1));
+      home.normal f (not-true piece.movable parts.0) (its f parts.1));
   in_use = λ f e. no_event e;
   empty = λ f e. no_event e;
   used_is =
@@ -226,10 +225,6 @@ alloc_leads m count n piece with without phase h is home = record {
     its : (f : ℕ) → (is_piece m n piece.order && lies_within n (2 ^ piece.order) f) ≡ true
         → lies_within n (2 ^ piece.order) f ≡ true
     its f e = (and_parts (is_piece m n piece.order) (lies_within n (2 ^ piece.order) f) e).1
-
-    not_movable : (t : Bool) → not t ≡ true → t ≡ false
-    not_movable true e = cc
-    not_movable false e = refl
 
 -- ---- all pieces that do not stay, one after another
 
@@ -260,7 +255,8 @@ abbrev pub shown_with : ℕ → (ℕ → Option Piece) → (ℕ → BlockPhase) 
 shown_with count pieces phase = as_shown (in_pieces count pieces) phase
 
 pub same_shown : (count : ℕ) (pieces others : ℕ → Option Piece) (phase : ℕ → BlockPhase)
-    → ((k : ℕ) → k < count → pieces k ≡ others k) → shown_with count pieces phase ≡ shown_with count others phase
+    → ((k : ℕ) → k < count → pieces k ≡ others k)
+    → shown_with count pieces phase ≡ shown_with count others phase
 same_shown count pieces others phase same =
     ap (λ (u : ℕ → Bool). as_shown u phase) (in_pieces-same count pieces others same)
 
@@ -292,7 +288,7 @@ module _ (m : MachineSize) (count : ℕ) (stays : ℕ → Bool) (pieces : ℕ �
     (apart : AreApart count pieces)
     (formed : (n : ℕ) (piece : Piece) → n < count → pieces n ≡ Some piece
     → is_piece m n piece.order ≡ true) where
-  -- whether a frame is of a piece that is among them
+  -- a frame of a piece that is left is of the piece that was there
   freed_within : (n f k : ℕ) → is_frame_of f k (upto n (staying stays pieces) pieces k) ≡ true
       → is_frame_of f k (pieces k) ≡ true
   freed_within n f k is = elim (cases_lt k n) [

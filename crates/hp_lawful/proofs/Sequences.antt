@@ -47,10 +47,11 @@ pub record IsGoodLog (m : MachineSize) (log : List LogEvent) (p : Shown) : Type 
   pub agrees : Agrees m log (settled m p.used p.phase)
 
 -- events that lead on make it longer
-pub good_on : (m : MachineSize) (p q : Shown) (log es : List LogEvent) → EventsLead m p es q → IsGoodLog m log p
-    → IsGoodLog m (log ++ es) q
+pub good_on : (m : MachineSize) (p q : Shown) (log es : List LogEvent) → EventsLead m p es q
+    → IsGoodLog m log p → IsGoodLog m (log ++ es) q
 good_on m p q log [] h t =
-    subst (λ (es : List LogEvent). IsGoodLog m es q) (sym (append-nil log)) (subst (λ (x : Shown). IsGoodLog m log x) h t)
+    subst (λ (es : List LogEvent). IsGoodLog m es q) (sym (append-nil log))
+    (subst (λ (x : Shown). IsGoodLog m log x) h t)
 good_on m p q log (e ∷ es) h t =
     let is = allowed m p.used p.phase e h.0.used h.0.phase h.1 in
     let now : IsGoodLog m (log ++ e ∷ []) h.0 = record {

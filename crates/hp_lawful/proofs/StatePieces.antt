@@ -1,6 +1,6 @@
 -- The pieces of a well placed state: where they lie, and that no two have a frame in common.
 use Rattle.std.proofs.Common.{◌≡◌, ℕ, ◌+◌, ◌*◌, ◌/◌, ◌%◌, ◌^◌, ◌<◌, ◌≤◌, true, false, ◌||◌, length, Option, Some, None, IfSome, is_some, refl, sym, ◌∙◌, ap, subst, arith, ◌⊎◌, inl, inr, get_or-set_other, rules}
-use Rattle.std.proofs.lemmas.Bool.{both_ways, cases_eq, cases_lt, and_parts, and_from, leb-true, ltb-true, eq-eqb, le-leb, lt-ltb}
+use Rattle.std.proofs.lemmas.Bool.{both_ways, cases_eq, cases_lt, and_from, eq-eqb, le-leb, lt-ltb}
 use Rattle.std.proofs.lemmas.Nat.{pow_below, pow_pos}
 use Rattle.std.proofs.lemmas.Option.{same_Some}
 use Rattle.std.proofs.Math.Nat.{mul-le-mul_right}
@@ -19,6 +19,7 @@ use Rattle.hp_laws.proofs.Migrations.{page_from-at}
 use Rattle.hp_laws.proofs.States.{block_of-pageblock, in_layout}
 use Rattle.hp_laws.proofs.Tables.{live_row}
 use Rattle.hp_judge.specs.Events.{block_of as log_block_of, is_piece, lies_within}
+use Rattle.hp_judge.proofs.Pieces.{within_parts}
 use Rattle.hp_lawful.specs.Logs.{IsSizeOf}
 use Rattle.hp_lawful.specs.Names.{Claim, MachineSize, NormalZone, State, OfflineState, OnlineState, GoingState, AbsentState, Zone}
 use Rattle.hp_lawful.specs.Phases.{phase_by, phase_of}
@@ -68,8 +69,8 @@ piece_cases s n piece e = by_kernel (kernel_order s n) refl e
 -- the frames of a piece are those of its order
 frame_within : (f n order : ℕ) → lies_within n (2 ^ order) f ≡ true → IsFrameOf f order n
 frame_within f n order is =
-    let parts = and_parts _ _ is in
-    record { low = leb-true n f parts.0; high = ltb-true f (n + 2 ^ order) parts.1 }
+    let parts = within_parts n (2 ^ order) f is in
+    record { low = parts.0; high = parts.1 }
 
 -- the only frame of a page
 page_frame : (s : Memory) (f n : ℕ) (piece : Piece) → piece.order ≡ 0

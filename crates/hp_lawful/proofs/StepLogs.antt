@@ -59,13 +59,15 @@ module _ (l : LayoutParts) (m : MachineSize) (before after : Memory) (layout : I
       let pieces : ℕ → Option Piece = piece_at before in
       let left : ℕ → Option Piece = staying (stays l before after) pieces in
       lead_between m (shown l before) (shown_with count (upto 0 left pieces) (phases before))
-      (shown_with count left (phases before)) (shown_with count (upto (0 + count) left pieces) (phases before))
+      (shown_with count left (phases before))
+      (shown_with count (upto (0 + count) left pieces) (phases before))
       (flat_map (frees_at l before after) (all_frames l))
       (same_shown count (upto 0 left pieces) pieces (phases before)
       (λ k low. upto-above 0 left pieces k (omega arith)))
       (same_shown count (upto (0 + count) left pieces) left (phases before)
       (λ k low. upto-below (0 + count) left pieces k (omega arith)))
-      (lead-range m (λ n. shown_with count (upto n left pieces) (phases before)) (frees_at l before after) 0 count
+      (lead-range m (λ n. shown_with count (upto n left pieces) (phases before))
+      (frees_at l before after) 0 count
       (λ n low. frees_lead m count (stays l before after) pieces (phases before)
       (pieces_apart l before layout p)
       (λ k piece below is. piece_formed l m before k piece layout size p is) n (omega arith)))
@@ -77,7 +79,8 @@ module _ (l : LayoutParts) (m : MachineSize) (before after : Memory) (layout : I
       → list_any leaves_offline (block_events before after n) ≡ true
       → in_pieces (frame_count l) (staying (stays l before after) (piece_at before)) f ≡ false
   stays_empty n f of goes =
-      false_from_ne_true (in_pieces (frame_count l) (staying (stays l before after) (piece_at before)) f) (λ is.
+      false_from_ne_true (in_pieces (frame_count l) (staying (stays l before after) (piece_at before)) f)
+      (λ is.
       let found = piece_of (frame_count l) (staying (stays l before after) (piece_at before)) f is in
       by_piece found.0 (stays l before after found.0) refl found.2)
     where
@@ -93,7 +96,8 @@ module _ (l : LayoutParts) (m : MachineSize) (before after : Memory) (layout : I
           (not (list_any leaves_offline (block_events before after (block_of l first)))) e in
           both_ways (list_any leaves_offline (block_events before after n))
           (not-true (list_any leaves_offline (block_events before after n))
-          (subst (λ (b : ℕ). not (list_any leaves_offline (block_events before after b)) ≡ true) same parts.1))
+          (subst (λ (b : ℕ). not (list_any leaves_offline (block_events before after b)) ≡ true) same
+          parts.1))
           goes
 
   -- a block beyond the layout has no row
@@ -140,7 +144,8 @@ module _ (l : LayoutParts) (m : MachineSize) (before after : Memory) (layout : I
       ≡ staying (stays l before after) (piece_at before) k
   same_left k = by_test (stays l before after k) refl
     where
-      by_test : (t : Bool) → stays l before after k ≡ t → kept t (piece_at after k) ≡ kept t (piece_at before k)
+      by_test : (t : Bool) → stays l before after k ≡ t
+          → kept t (piece_at after k) ≡ kept t (piece_at before k)
       by_test false e = refl
       by_test true e =
           sym (same_piece-is (piece_at before k) (piece_at after k)
@@ -162,7 +167,8 @@ module _ (l : LayoutParts) (m : MachineSize) (before after : Memory) (layout : I
       (λ k low. upto-above 0 pieces left k (omega arith) ∙ same_left k))
       (same_shown count (upto (0 + count) pieces left) pieces (phases after)
       (λ k low. upto-below (0 + count) pieces left k (omega arith)))
-      (lead-range m (λ n. shown_with count (upto n pieces left) (phases after)) (allocs_at l before after) 0 count
+      (lead-range m (λ n. shown_with count (upto n pieces left) (phases after))
+      (allocs_at l before after) 0 count
       (λ n low. allocs_lead m count (stays l before after) pieces (phases after)
       (pieces_apart l after layout q)
       (λ k piece below is. piece_formed l m after k piece layout size q is)

@@ -71,8 +71,8 @@ opens-online leaves h = refl
 opens-online goes h = refl
 opens-online remains h = cc
 
-pub opens-going_online : {b : ℕ} {p q : BlockPhase} {e : LogEvent} → IsTurn b p e q → is_going_online q ≡ false
-    → is_online_begin e ≡ false
+pub opens-going_online : {b : ℕ} {p q : BlockPhase} {e : LogEvent} → IsTurn b p e q
+    → is_going_online q ≡ false → is_online_begin e ≡ false
 opens-going_online begins h = cc
 opens-going_online comes h = refl
 opens-going_online fails h = refl
@@ -80,8 +80,8 @@ opens-going_online leaves h = refl
 opens-going_online goes h = refl
 opens-going_online remains h = refl
 
-pub opens-going_offline : {b : ℕ} {p q : BlockPhase} {e : LogEvent} → IsTurn b p e q → is_going_offline q ≡ false
-    → is_offline_begin e ≡ false
+pub opens-going_offline : {b : ℕ} {p q : BlockPhase} {e : LogEvent} → IsTurn b p e q
+    → is_going_offline q ≡ false → is_offline_begin e ≡ false
 opens-going_offline begins h = refl
 opens-going_offline comes h = refl
 opens-going_offline fails h = refl

@@ -27,7 +27,7 @@ piece_by None false = None
 abbrev pub piece_at : Memory → Frame → Option Piece
 piece_at s frame = piece_by (kernel_order s frame) (is_some (page_at s.pages frame))
 
--- whether a frame is one of the piece that starts at another
+-- the frame is one of the piece that starts at `first`, if there is one
 abbrev pub is_frame_of : (frame first : Frame) → Option Piece → Bool
 is_frame_of frame first None = false
 is_frame_of frame first (Some piece) = lies_within first (2 ^ piece.order) frame

@@ -1,4 +1,4 @@
-//! The laws of the machine's logs. Each is a function that does nothing; what it ensures is the law.
+//! The laws of the machine's logs. Each is a function that does nothing and ensures a law.
 ghost use Rattle.std.specs.Prelude.{◌≡◌, ℕ, ◌+◌, if◌then◌else◌, List, [], ◌∷◌, ◌++◌};
 ghost use Rattle.hp_judge.specs.Laws.{IsLawful};
 ghost use Rattle.hp_judge.specs.declared.events.MachineSize.{MachineSize};
@@ -12,8 +12,8 @@ ghost use Rattle.hp_units.specs.Memory.{Memory};
 ghost use Rattle.hp_units.specs.Placement.{IsWellPlaced, kernel_places, mapped_places};
 ghost use Rattle.hp_units.specs.declared.replies.Record.{Record};
 
-/// The machine writes a lawful log: over every well placed base state, and from boot on over histories
-/// that follow one another, as volumes do.
+/// The machine writes a lawful log, over every well placed base state and from boot on. Histories
+/// can follow one another, as those of sealed volumes do.
 pub fn machines_write_lawful_logs()
     ensures history { (l : LayoutParts) (m : MachineSize) (base : Memory) (h : List Record) → IsLayout l
         → IsSizeOf l m → IsWellPlaced l base → IsLawful m (log_of l base h) }
@@ -23,8 +23,8 @@ pub fn machines_write_lawful_logs()
         → IsSizeOf l m → IsLawful m (log_of_all l (boot_memory l) hs) }
 {}
 
-/// The log says which frames are in use and in which phase each memory block is: reading it from the
-/// base state leads to what the state that the history leads to shows.
+/// The log shows which frames are in use and in which phase each memory block is: whoever knows
+/// that of the base state, and reads the log, knows it of the state that the history leads to.
 pub fn logs_show_their_state()
     ensures history { (l : LayoutParts) (m : MachineSize) (base : Memory) (h : List Record) → IsLayout l
         → IsSizeOf l m → IsWellPlaced l base
@@ -40,15 +40,17 @@ pub fn shown_frames_are_in_place()
         → mapped_places s.pages frame + kernel_places s frame ≡ if in_use l s frame then 1 else 0 }
 {}
 
-/// One more record adds the log of its step to the log, and a step that leaves the state as it is
-/// writes nothing.
+/// A record adds the log of its own step to the log. A step that leaves the state as it is writes
+/// nothing.
 pub fn logs_grow_by_steps()
     ensures unchanged { (l : LayoutParts) (s : Memory) → step_log l s s ≡ [] }
-    ensures more { (l : LayoutParts) (base : Memory) (h : List Record) (r : Record) → log_of l base (h ++ r ∷ [])
+    ensures more { (l : LayoutParts) (base : Memory) (h : List Record) (r : Record)
+        → log_of l base (h ++ r ∷ [])
         ≡ log_of l base h ++ step_log l (value_of l base h) (value_of l base (h ++ r ∷ [])) }
 {}
 
-/// Each layout has a size: its memory blocks are 2^n frames.
+/// Each layout has a size as the judge wants it: the number of frames of its memory blocks is a
+/// power of two.
 pub fn layouts_have_sizes()
     ensures { (l : LayoutParts) → IsLayout l → (m : MachineSize) × IsSizeOf l m }
 {}

@@ -1,4 +1,6 @@
-//! The log of every history of the machine keeps the laws of the judge of logs. The log is in specs/Logs.
+//! The log of every history of the machine is lawful: it keeps the laws of the judge of logs.
+//!
+//! What the log of a history is, specs/Logs defines. Read it first, then `laws`.
 #![tactic(auto)]
 
 mod laws;

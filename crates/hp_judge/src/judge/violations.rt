@@ -129,7 +129,7 @@ impl Judge {
         self.wrong_transition(block, event)
     }
 
-    /// Returns the first law that an event breaks after which its block is offline.
+    /// Returns the first law that an event breaks by which its block is offline from then on.
     fn violation_of_offlining(&self, block: Block, event: &LogEvent) -> Option<Violation>
         requires inside { block < self.now.size.blocks }
         requires room { block < length self.now.blocks }
