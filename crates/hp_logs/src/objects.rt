@@ -9,26 +9,34 @@ use json::{Reader, Scratch, Token};
 /// No object has more keys than this, if none comes twice.
 const MOST_KEYS: usize = 12;
 
-/// Reads a line as an event. An empty line and an object with only a note are `LogEvent::Other`.
-pub fn json_event(line: &[u8], scratch: &mut Scratch) -> Result<LogEvent, LineFault> {
+/// What a line of JSON says.
+#[derive(Clone, Copy, Drop)]
+pub enum JsonLine {
+    Event(LogEvent),
+    /// How many frames a memory block has.
+    BlockFrames(u32),
+}
+
+/// Reads a line. An empty line and an object with only a note are `LogEvent::Other`.
+pub fn json_line(line: &[u8], scratch: &mut Scratch) -> Result<JsonLine, LineFault> {
     let Ok(text) = str::from_utf8(line) else {
         return Err(LineFault::NotAnObject);
     };
     let mut reader = Reader::new(text, scratch)?;
     match reader.next() {
-        Some(Token::BeginObject) => object_event(&mut reader),
-        None => Ok(LogEvent::Other),
+        Some(Token::BeginObject) => object_line(&mut reader),
+        None => Ok(JsonLine::Event(LogEvent::Other)),
         Some(_) => Err(LineFault::NotAnObject),
     }
 }
 
 /// Reads the rest of a line whose object has begun.
-fn object_event(reader: &mut Reader<'_>) -> Result<LogEvent, LineFault> {
+fn object_line(reader: &mut Reader<'_>) -> Result<JsonLine, LineFault> {
     let keys = read_keys(reader)?;
     if reader.next().is_some() {
         return Err(LineFault::NotAnObject);
     }
-    keys.event()
+    keys.line()
 }
 
 /// Reads all keys of an object and their values.
@@ -66,6 +74,7 @@ struct Keys {
     movable: Option<bool>,
     zone: Option<Zone>,
     end: Option<bool>,
+    block_frames: Option<u32>,
 }
 
 impl Keys {
@@ -82,6 +91,7 @@ impl Keys {
             movable: None,
             zone: None,
             end: None,
+            block_frames: None,
         }
     }
 
@@ -98,7 +108,18 @@ impl Keys {
             "movable" => set_bool(&mut self.movable, value),
             "zone" => set_zone(&mut self.zone, value),
             "end" => set_end(&mut self.end, value),
+            "block_frames" => set_number(&mut self.block_frames, value),
             _ => Err(LineFault::UnknownKey),
+        }
+    }
+
+    /// Returns what the keys say.
+    fn line(&self) -> Result<JsonLine, LineFault> {
+        let event = self.event()?;
+        match (self.block_frames, event) {
+            (None, _) => Ok(JsonLine::Event(event)),
+            (Some(frames), LogEvent::Other) => Ok(JsonLine::BlockFrames(frames)),
+            (Some(_), _) => Err(LineFault::NotAnEvent),
         }
     }
 

@@ -1,3 +1,4 @@
 pub mod LogFaults
 pub mod Counting
 pub mod Verdicts
+pub mod Selected
