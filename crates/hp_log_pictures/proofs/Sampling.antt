@@ -5,7 +5,7 @@ use Rattle.std.proofs.Math.Nat.{div-div-eq-div-mul}
 use Rattle.std.proofs.Math.ListN.{get_or-append}
 use Rattle.std.proofs.Math.Seq.{get_or-append_seam}
 use Rattle.std.proofs.lemmas.Bool.{cases_lt, cases_eq}
-use Rattle.hp_log_pictures.specs.Columns.{Sampled, events_below}
+use Rattle.hp_log_pictures.specs.Columns.{Sampled, events_below, peak_at}
 
 pub some_columns : (n w e r : ℕ) → e + r ≡ n * w → 0 < r → 0 < n
 some_columns zero w e r is h = omega arith
@@ -107,3 +107,27 @@ below_is s (suc k) =
 
 pub all_below : (s : Sampled) (n : ℕ) → s.events ≤ n * s.width → events_below s n ≡ s.events
 all_below s n h = below_is s n ∙ omega arith
+
+-- from one value to a later one, and on to the next: what is held, and what is kept
+pub more_held : (s t u : Sampled) → t.count ≡ s.count
+    → ((e : ℕ) → s.events ≤ e → e < t.events → s.count ≤ peak_at t e)
+    → ((e : ℕ) → e < t.events → peak_at t e ≤ peak_at u e)
+    → ((e : ℕ) → t.events ≤ e → e < u.events → t.count ≤ peak_at u e)
+    → (e : ℕ) → s.events ≤ e → e < u.events → s.count ≤ peak_at u e
+more_held s t u same held kept more e low high =
+    elim (cases_lt e t.events) [
+      inl before ↦
+          let a : s.count ≤ peak_at t e = held e low before in
+          let b : peak_at t e ≤ peak_at u e = kept e before in
+          omega arith
+      | inr after ↦ let a : t.count ≤ peak_at u e = more e after high in omega arith
+    ]
+
+pub more_kept : (s t u : Sampled) → s.events ≤ t.events
+    → ((e : ℕ) → e < s.events → peak_at s e ≤ peak_at t e)
+    → ((e : ℕ) → e < t.events → peak_at t e ≤ peak_at u e)
+    → (e : ℕ) → e < s.events → peak_at s e ≤ peak_at u e
+more_kept s t u more first second e low =
+    let a : peak_at s e ≤ peak_at t e = first e low in
+    let b : peak_at t e ≤ peak_at u e = second e (omega arith) in
+    omega arith

@@ -115,9 +115,8 @@ impl Columns {
             → peak_at self.old e ≤ peak_at self.new e) }
     {
         self.extend(event)?;
-        self.count = count;
-        self.state = state;
-        self.add_some(1, state.with(ends))?;
+        self.set(count, state);
+        self.add_some(1, ends)?;
         Ok(())
     }
 
@@ -132,16 +131,37 @@ impl Columns {
         ensures kept { OnOk result ((e : ℕ) → e < self.old.events
             → peak_at self.old e ≤ peak_at self.new e) }
     {
-        while self.events < events {
-            self.add_some(events - self.events, self.state)?;
+        'behind: while self.event_count() < events {
+            let rest = events - self.event_count();
+            self.add_some(rest, Marks::none())?;
         }
         Ok(())
     }
 }
 
 impl Columns {
+    /// Notes what the events from now on leave.
+    fn set(&mut self, count: u32, state: Marks)
+        ensures { self.new ≡ record self.old { count = count } }
+    {
+        self.count = count;
+        self.state = state;
+    }
+
+    /// Returns how many more events the last column takes.
+    fn room(&self) -> u64
+        ensures { result ≡ self.now.room }
+    {
+        self.room
+    }
+
+    /// Returns the marks of an event with these ends.
+    fn marks_with(&self, ends: Marks) -> Marks {
+        self.state.with(ends)
+    }
+
     /// Adds at least one event and at most `most`, all in one column, that left the count as it is.
-    fn add_some(&mut self, most: u64, marks: Marks) -> Result<(), AllocError>
+    fn add_some(&mut self, most: u64, ends: Marks) -> Result<(), AllocError>
         requires some { 0 < most }
         requires small { self.old.events + most ≤ 2 ^ 63 }
         ensures count { self.new.count ≡ self.old.count }
@@ -152,14 +172,40 @@ impl Columns {
         ensures kept { OnOk result ((e : ℕ) → e < self.old.events
             → peak_at self.old e ≤ peak_at self.new e) }
     {
-        if self.room > 0 {
+        let marks = self.marks_with(ends);
+        if self.room() > 0 {
             self.raise_last(most, marks);
             return Ok(());
         }
-        if self.peaks.len() == MOST_COLUMNS {
+        self.make_room()?;
+        self.push_column(most, marks)?;
+        Ok(())
+    }
+
+    /// Joins neighbours if there are as many columns as there may be.
+    fn make_room(&mut self) -> Result<(), AllocError>
+        requires full { self.old.room ≡ 0 }
+        requires small { self.old.events < 2 ^ 63 }
+        ensures count { self.new.count ≡ self.old.count }
+        ensures events { OnOk result (self.new.events ≡ self.old.events) }
+        ensures full { OnOk result (self.new.room ≡ 0) }
+        ensures few { OnOk result (length self.new.peaks < 1024) }
+        ensures kept { OnOk result ((e : ℕ) → e < self.old.events
+            → peak_at self.old e ≤ peak_at self.new e) }
+    {
+        if self.column_count() == MOST_COLUMNS {
             self.join()?;
+            return Ok(());
         }
-        self.push_column(most, marks)
+        Ok(())
+    }
+
+    /// Returns how many columns there are.
+    fn column_count(&self) -> usize
+        ensures columns { result ≡ length self.now.peaks }
+        ensures few { result ≤ 1024 }
+    {
+        self.peaks.len()
     }
 
     /// Adds events to the last column.

@@ -1,4 +1,3 @@
 pub mod LogFaults
 pub mod Counting
 pub mod Verdicts
-pub mod Selected

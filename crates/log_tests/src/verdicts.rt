@@ -1,6 +1,6 @@
 //! Verdicts on small logs, of memory blocks of eight frames.
 
-use crate::streams::{LogBytes, Report};
+use crate::streams::{LogBytes, Report, answer_of};
 use hp_logs::LogForm;
 use hp_verdicts::{
     AllowedKinds, BlockRange, JudgeFault, JudgeOptions, ReportForm, SizeFault, judge_log,
@@ -13,7 +13,8 @@ const LAWFUL: &str = "{\"block_frames\": 8}\n{\"online\": 1}\n{\"free\": 8, \"or
      {\"offline\": 1, \"end\": \"ok\"}\n";
 
 /// Frame 1 is handed out twice, frame 9 comes back twice, frame 1 once more.
-const UNLAWFUL: &str = "{\"alloc\": 1}\n{\"alloc\": 1}\n{\"free\": 9}\n{\"free\": 9}\n{\"alloc\": 1}\n";
+const UNLAWFUL: &str = "{\"alloc\": 1}\n{\"alloc\": 1}\n{\"free\": 9}\n{\"free\": 9}\n\
+     {\"alloc\": 1}\n";
 
 /// What is asked of a judgement in a test.
 #[derive(Clone, Copy, Drop)]
@@ -55,10 +56,8 @@ fn judged(
 /// Whether a log is judged so, and its report ends so.
 fn ends_with(alloc: Global, case: Case, log: &str, is_lawful: bool, end: &str) -> bool {
     let mut report = Report::new(alloc);
-    match judged(alloc, case, log, &mut report) {
-        Ok(answer) => answer == is_lawful && report.bytes.as_slice().ends_with(end.as_bytes()),
-        Err(_) => false,
-    }
+    let answer = answer_of(judged(alloc, case, log, &mut report));
+    answer == Some(is_lawful) && report.ends_with(end)
 }
 
 /// Whether a log is not judged for a reason of its size.
@@ -73,8 +72,8 @@ fn fails_for_size(alloc: Global, case: Case, log: &str, wanted: SizeFault) -> bo
 #[test]
 fn a_lawful_log_has_no_fault_and_its_blocks_are_counted(rt: HostRuntime) {
     let mut report = Report::new(rt.alloc());
-    let is_lawful = judged(rt.alloc(), plain(), LAWFUL, &mut report);
-    assert!(rt; matches!(is_lawful, Ok(true)));
+    let answer = answer_of(judged(rt.alloc(), plain(), LAWFUL, &mut report));
+    assert_eq!(rt; answer, Some(true));
     let text = "8 lines: 1 allocs, 2 frees, 0 moves, 1 onlines, 1 offlines, 2 ends, 1 others\n\
          block 1: onlines 1 ok, 0 failed; offlines 1 ok, 0 failed; at most 1 frames in use, \
          0 handed out while going offline, 0 pages moved away\nlawful: 0 faults, 0 allowed\n";
@@ -83,12 +82,12 @@ fn a_lawful_log_has_no_fault_and_its_blocks_are_counted(rt: HostRuntime) {
 
 #[test]
 fn an_unlawful_log_has_its_faults_in_order(rt: HostRuntime) {
-    let end = "line 2, event 1: once: frame 1 (0x1, of block 0) is handed out, and has been in use since \
-         line 1, event 0\n    \"{\\\"alloc\\\": 1}\"\n\
-         line 4, event 3: in-use: frame 9 (0x9, of block 1) comes back, and has been free since line 3, \
-         event 2\n\
-         line 5, event 4: once: frame 1 (0x1, of block 0) is handed out, and has been in use since line 2, \
-         event 1\nunlawful: 3 faults, 0 allowed\n";
+    let end = "line 2, event 1: once: frame 1 (0x1, of block 0) is handed out, and has been in \
+         use since line 1, event 0\n    \"{\\\"alloc\\\": 1}\"\n\
+         line 4, event 3: in-use: frame 9 (0x9, of block 1) comes back, and has been free since \
+         line 3, event 2\n\
+         line 5, event 4: once: frame 1 (0x1, of block 0) is handed out, and has been in use since \
+         line 2, event 1\nunlawful: 3 faults, 0 allowed\n";
     assert!(rt; ends_with(rt.alloc(), plain(), UNLAWFUL, false, end));
 }
 

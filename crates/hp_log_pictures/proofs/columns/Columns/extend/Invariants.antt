@@ -2,8 +2,8 @@ use Rattle.std.proofs.Common.{◌≡◌, ℕ, ◌-◌, ◌<◌, ◌≤◌}
 use Rattle.hp_log_pictures.specs.Columns.{peak_at}
 use Rattle.hp_log_pictures.proofs.columns.Columns.extend.Given as goal
 
-abbrev pub invariant-loop-self : goal.invariant-loop-self
-invariant-loop-self l = record {
+abbrev pub invariant-behind : goal.invariant-behind
+invariant-behind l = record {
   low : l.initial.self.events ≤ l.self.events;
   high : l.self.events ≤ l.events;
   count : l.self.count ≡ l.initial.self.count;
@@ -11,5 +11,5 @@ invariant-loop-self l = record {
   kept : (e : ℕ) → e < l.initial.self.events → peak_at l.initial.self e ≤ peak_at l.self e;
 }
 
-abbrev pub decreases-loop-self : goal.decreases-loop-self
-decreases-loop-self l = l.events - l.self.events
+abbrev pub decreases-behind : goal.decreases-behind
+decreases-behind l = l.events - l.self.events
