@@ -146,8 +146,6 @@ fn extend(columns: &mut Columns, events: u64) -> Result<(), AllocError> {
 
 /// Returns how many frames of a memory block are in use, if the log names it.
 fn count_in_use(log: &JudgedLog, block: u32) -> Option<u32> {
-    match log.blocks().rows().get(block as usize) {
-        Some(row) if row.is_named => Some(row.in_use),
-        _ => None,
-    }
+    let row = log.blocks().rows().get(block as usize)?;
+    if row.is_named { Some(row.in_use) } else { None }
 }

@@ -23,8 +23,8 @@ pub(crate) struct Scale {
 impl Scale {
     /// Returns where an event lies.
     pub(crate) fn x_of(&self, event: u64) -> u64 {
-        let all = self.events.max(1);
-        LEFT + event.min(all).saturating_mul(PLOT) / all
+        let right = event.saturating_mul(PLOT) / self.events.max(1);
+        LEFT + right.min(PLOT)
     }
 
     /// Returns where a column begins.
@@ -129,7 +129,7 @@ fn write_peaks(
     top: u64,
     columns: &Columns,
 ) -> Result<(), AllocError> {
-    let base = top + BAND;
+    let base = top.saturating_add(BAND);
     let mut drawn = 0;
     write!(out, "<path d='M{LEFT} {base}")?;
     for (column, peak) in columns.peaks().iter().enumerate() {

@@ -18,5 +18,5 @@ mod reader;
 pub use faults::{LineFault, LogFault};
 pub use ftrace::ftrace_event;
 pub use lines::{LINE_LIMIT, LineReader};
-pub use objects::{JsonLine, json_line};
+pub use objects::{json_block_frames, json_event};
 pub use reader::{LogForm, LogReader};

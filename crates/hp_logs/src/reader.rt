@@ -4,7 +4,7 @@ ghost use Rattle.std.specs.Prelude.{◌≡◌, ◌<◌, ◌-◌, ◌^◌, OnOk};
 use crate::faults::{LineFault, LogFault};
 use crate::ftrace::ftrace_event;
 use crate::lines::LineReader;
-use crate::objects::{JsonLine, json_line};
+use crate::objects::{json_block_frames, json_event};
 use hp_judge::LogEvent;
 use hp_streams::Source;
 use json::Scratch;
@@ -90,24 +90,17 @@ impl LogReader {
     /// Returns the event of the current line.
     fn event(&mut self) -> Result<LogEvent, LineFault> {
         match self.form {
-            LogForm::Json => self.json_event(),
+            LogForm::Json => {
+                json_event(self.lines.line(), self.lines.number() == 1, &mut self.scratch)
+            }
             LogForm::Ftrace => ftrace_event(self.lines.line()),
-        }
-    }
-
-    /// Returns the event of the current line of JSON.
-    fn json_event(&mut self) -> Result<LogEvent, LineFault> {
-        match json_line(self.lines.line(), &mut self.scratch)? {
-            JsonLine::Event(event) => Ok(event),
-            JsonLine::BlockFrames(_) if self.lines.number() == 1 => Ok(LogEvent::Other),
-            JsonLine::BlockFrames(_) => Err(LineFault::LateBlockFrames),
         }
     }
 
     /// Returns how many frames a memory block has, if the current line says so.
     fn told_frames(&mut self) -> Result<Option<u32>, LineFault> {
         match self.form {
-            LogForm::Json => told_frames(self.lines.line(), &mut self.scratch),
+            LogForm::Json => json_block_frames(self.lines.line(), &mut self.scratch),
             LogForm::Ftrace => Ok(None),
         }
     }
@@ -118,13 +111,5 @@ impl LogReader {
             number: self.lines.number(),
             fault,
         }
-    }
-}
-
-/// Returns how many frames a memory block has, if a line of JSON says so.
-fn told_frames(line: &[u8], scratch: &mut Scratch) -> Result<Option<u32>, LineFault> {
-    match json_line(line, scratch)? {
-        JsonLine::BlockFrames(frames) => Ok(Some(frames)),
-        JsonLine::Event(_) => Ok(None),
     }
 }

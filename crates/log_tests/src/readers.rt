@@ -1,7 +1,7 @@
 //! Lines and the events that they mean.
 
 use hp_judge::LogEvent;
-use hp_logs::{JsonLine, LineFault, ftrace_event, json_line};
+use hp_logs::{LineFault, ftrace_event, json_block_frames, json_event};
 use hp_units::Zone;
 use json::Scratch;
 use std::alloc::Global;
@@ -31,13 +31,11 @@ fn zone_number(zone: Zone) -> u32 {
     }
 }
 
-/// What a line of JSON says as numbers; a number of frames as kind 9.
+/// The event of a first line of JSON as numbers.
 fn json_numbers(alloc: Global, line: &str) -> Result<[u32; 4], LineFault> {
     let mut scratch = Scratch::new(alloc);
-    match json_line(line.as_bytes(), &mut scratch)? {
-        JsonLine::Event(event) => Ok(numbers_of(&event)),
-        JsonLine::BlockFrames(frames) => Ok([9, frames, 0, 0]),
-    }
+    let event = json_event(line.as_bytes(), true, &mut scratch)?;
+    Ok(numbers_of(&event))
 }
 
 /// Whether each line of JSON says what stands beside it.
@@ -89,7 +87,7 @@ fn is_lost(line: &str) -> bool {
 
 /// The lines of a log of all kinds.
 const JSON_LINES: &[(&str, [u32; 4])] = &[
-    ("{\"block_frames\": 8}", [9, 8, 0, 0]),
+    ("{\"block_frames\": 8}", [8, 0, 0, 0]),
     ("{\"alloc\": 16, \"order\": 3, \"movable\": true}", [1, 16, 3, 1]),
     ("{\"alloc\": 3, \"note\": [1, {\"a\": null}]}", [1, 3, 0, 0]),
     ("{\"order\": 2, \"free\": 4294967295}", [2, 4294967295, 2, 0]),
@@ -171,4 +169,23 @@ fn ftrace_lines_are_their_events(rt: HostRuntime) {
 fn lost_events_are_a_fault_of_ftrace(rt: HostRuntime) {
     assert!(rt; is_lost("CPU:1 [LOST 12 EVENTS]"));
     assert!(rt; !is_lost("CPU:1"));
+}
+
+#[test]
+fn the_first_line_alone_says_how_many_frames_a_block_has(rt: HostRuntime) {
+    let mut scratch = Scratch::new(rt.alloc());
+    let line = b"{\"block_frames\": 32768, \"note\": \"x86\"}";
+    assert_eq!(rt; json_block_frames(line, &mut scratch), Ok(Some(32768)));
+    assert_eq!(rt; json_block_frames(b"{\"alloc\": 1}", &mut scratch), Ok(None));
+    assert!(rt; is_late(rt.alloc(), line));
+    assert!(rt; !is_late(rt.alloc(), b"{}"));
+}
+
+/// Whether a line is none but the first.
+fn is_late(alloc: Global, line: &[u8]) -> bool {
+    let mut scratch = Scratch::new(alloc);
+    match json_event(line, false, &mut scratch) {
+        Ok(_) => false,
+        Err(fault) => fault == LineFault::LateBlockFrames,
+    }
 }
