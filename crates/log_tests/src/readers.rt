@@ -151,7 +151,8 @@ const FTRACE_LINES: &[(&str, [u32; 4])] = &[
         [6, 33, 0, 0],
     ),
     (
-        "  sh-9 [000] ..... 6: print: end memory33/state offline Device or resource busy",
+        "  sh-9 [000] ..... 6: print: tracing_mark_write: end memory33/state offline Device or \
+         resource busy",
         [7, 33, 0, 0],
     ),
     (
