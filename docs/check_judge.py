@@ -13,15 +13,20 @@ What is tried:
 - 300 random logs of a small machine, lawful ones and changed ones: the faults, each with its law, its
   place and the earlier event, and what is counted of each memory block, are those of a slow judge that
   looks for contradictions by the sentences of the laws (crates/hp_judge/specs/Laws.antt); also with
-  `--blocks`, `--allow` and `--most`;
+  `--blocks`, `--allow` and `--most`; and the picture of each has these blocks, their frames in use,
+  and where they are going online or offline and where that ended;
+- a picture of a longer log, and of the log of Linux;
+- logs that say on their first line how many frames a memory block has;
 - logs and command lines that cannot be read.
 The last line is 'judge: N passed, M failed'; the exit status is 0 where nothing failed, else 1.
 """
 import json
 import lzma
 import random
+import re
 import subprocess
 import sys
+import xml.etree.ElementTree as xml
 from pathlib import Path
 
 ROOT = Path(__file__).resolve().parent.parent
@@ -434,6 +439,142 @@ def part_of(event, first, end):
     return event if event[0] == "other" or first <= event[1] < end else ("other",)
 
 
+# ---- pictures
+
+LEFT, PLOT, TOP, PITCH, BAND = 80, 1024, 92, 24, 20
+FILLS = {"online": "#7dd3fc", "offline": "#fdba74", "gone": "#d4d4d8"}
+SIGNS = {"online_end": "l4 8h-8z", "offline_end": "m-4 0h8l-4 8z"}
+
+
+def elements(picture, name):
+    return [one for one in xml.fromstring(picture).iter() if one.tag.endswith("}" + name)]
+
+
+def names_in(picture):
+    """The numbers of the blocks that have a band, from above."""
+    texts = [one.text for one in elements(picture, "text")]
+    return [int(text[6:]) for text in texts if text.startswith("block ")]
+
+
+def signs_in(picture):
+    """The sign of each end: what ended, whether it went well, and where."""
+    signs = []
+    for one in elements(picture, "path"):
+        for kind, path in SIGNS.items():
+            at = re.fullmatch(r"M(\d+) (\d+)" + re.escape(path), one.get("d"))
+            if at and int(at[2]) >= TOP:
+                ok = one.get("fill") == "#16a34a"
+                signs.append((kind, ok, int(at[1]), (int(at[2]) - TOP) // PITCH))
+    return sorted(signs)
+
+
+def shades_in(picture):
+    rects = elements(picture, "rect")
+    kinds = {fill: kind for kind, fill in FILLS.items()}
+    return sorted((kinds[one.get("fill")], int(one.get("x")), int(one.get("width")),
+                   (int(one.get("y")) - TOP) // PITCH)
+                  for one in rects if one.get("fill") in kinds and int(one.get("y")) >= TOP)
+
+
+def areas_in(picture):
+    """The area of the frames in use of each band, from above."""
+    paths = [one.get("d") for one in elements(picture, "path")]
+    return [path for path in paths if path.startswith(f"M{LEFT} ") and path.endswith("Z")]
+
+
+def picture_by_hand(log):
+    """The blocks, signs, shades and areas of a log of at most 1,024 events."""
+    def x_of(at):
+        return LEFT + at * PLOT // len(log)
+
+    blocks = [row["block"] for row in counts_by_hand(log)]
+    most = max([row["most_in_use"] for row in counts_by_hand(log)] + [1])
+    signs, shades, areas = [], [], []
+    for band, block in enumerate(blocks):
+        used, phase, counts, phases = set(), None, [], []
+        for at, event in enumerate(log):
+            if is_well_formed(event):
+                used -= {frame for frame in freed(event) if frame // SIZE == block}
+                used |= {frame for frame in allocated(event) if frame // SIZE == block}
+                if is_of(event, block):
+                    used = set() if event[0] == "online" else used
+                    phase = event[0] if event[0] in FILLS else "gone" if leaves_offline(event) else None
+                    if event[0] in SIGNS:
+                        signs.append((event[0], event[2], x_of(at), band))
+            counts.append(len(used))
+            phases.append(phase)
+        base, path, drawn = TOP + band * PITCH + BAND, "", 0
+        for at, count in enumerate(counts):
+            height = min(-(-count * BAND // most), BAND)
+            if height != drawn:
+                path, drawn = f"{path}H{x_of(at)}V{base - height}", height
+        areas.append(f"M{LEFT} {base}{path}H{LEFT + PLOT}V{base}Z")
+        for kind in FILLS:
+            runs = "".join("x" if phase == kind else " " for phase in phases)
+            for run in re.finditer("x+", runs):
+                end = x_of(run.end())
+                shades.append((kind, x_of(run.start()), end - x_of(run.start()), band))
+    return blocks, sorted(signs), sorted(shades), areas
+
+
+def check_picture(checks, judge, where, log, text, wanted):
+    options = ["--block-frames", str(SIZE), "--svg"]
+    status, picture, said = judge.call(text, *options)
+    checks.holds(where, status == (3 if wanted else 0) and said == "", f"{status} {said}")
+    found = names_in(picture), signs_in(picture), shades_in(picture), areas_in(picture)
+    drawn = picture_by_hand(log)
+    checks.holds(where, found == drawn, f"{found}\n{drawn}\n{text}")
+
+
+def check_pictures(checks, judge):
+    """A picture of many events, one of the log of Linux, and what excludes a picture."""
+    lines = ["{}"] * 5000
+    lines[1234], lines[1235] = '{"alloc": 0, "order": 3}', '{"free": 0, "order": 3}'
+    status, picture, _said = judge.call("\n".join(lines), "--block-frames", "8", "--svg")
+    # 625 columns of eight events: the one with both events, 1232 to 1239, is full.
+    first, last = LEFT + 1232 * PLOT // 5000, LEFT + 1240 * PLOT // 5000
+    area = f"M80 112H{first}V92H{last}V112H1104V112Z"
+    checks.holds("long", status == 0 and areas_in(picture) == [area], f"{areas_in(picture)} {area}")
+    checks.holds("long", "5000 events, lawful: 0 faults, 0 allowed" in picture, picture[:600])
+    log = lzma.open(ROOT / "docs/linux/first.trace.xz").read().decode()
+    options = ["--ftrace", "--block-frames", str(BLOCK_FRAMES)]
+    status, picture, said = judge.call(log, *options, "--svg")
+    _status, report, _said = judge.report(log, *options)
+    rows = [one for one in report if "block" in one and "fault" not in one]
+    checks.holds("linux", status == 3 and said == "", f"{status} {said}")
+    checks.holds("linux", names_in(picture) == [one["block"] for one in rows], str(names_in(picture)))
+    ends = sum(one[key] for one in rows for key in ("onlines", "failed_onlines", "offlines", "failed_offlines"))
+    checks.holds("linux", len(signs_in(picture)) == ends, f"{signs_in(picture)} {ends}")
+    for words in (["--json", "--svg"], ["--svg", "--json"]):
+        status, out, said = judge.call("", "--block-frames", "8", *words)
+        checks.holds(" ".join(words), status == 2 and out == "" and said != "", f"{status} {out} {said}")
+
+
+# ---- logs that say how many frames a memory block has
+
+def check_first_lines(checks, judge):
+    first, twice = '{"block_frames": 8}\n', '{"alloc": 9}\n{"alloc": 9}\n'
+    for words in ([], ["--block-frames", "8"]):
+        status, report, said = judge.report(first + twice, *words)
+        faults = [(one["fault"], one["line"], one["block"]) for one in faults_of(report)]
+        checks.holds("first line", status == 3 and faults == [("once", 3, 1)], f"{status} {faults} {said}")
+        checks.holds("first line", report[0]["lines"] == 3 and report[0]["others"] == 1, str(report[0]))
+    for name, log, words, status, text in [
+            ("other frames", first, ["--block-frames", "16"], 1, "line 1: block_frames is not that of --block-frames"),
+            ("no power of two", '{"block_frames": 7}', [], 1, "line 1: block_frames may be a power of two up to"),
+            ("too many frames", '{"block_frames": 134217728}', [], 1, "line 1: block_frames may be a power of two"),
+            ("negative", '{"block_frames": -8}', [], 1, "line 1: wrong value of a key"),
+            ("with an event", '{"block_frames": 8, "alloc": 1}', [], 1, "line 1: keys of no event"),
+            ("on another line", "{}\n" + first, ["--block-frames", "8"], 1, "line 2: block_frames may be on the"),
+            ("twice", first + first, [], 1, "line 2: block_frames may be on the first line alone"),
+            ("unsaid", twice, [], 2, "judge needs --block-frames"),
+            ("unsaid in ftrace", "", ["--ftrace"], 2, "judge needs --block-frames"),
+            ("nothing", "", [], 2, "judge needs --block-frames")]:
+        found, out, said = judge.call(log, *words)
+        is_right = found == status and out == "" and said.startswith(f"hotplug_lab: {text}")
+        checks.holds(name, is_right, f"{found} {out} {said}")
+
+
 def check_random(checks, judge):
     random.seed(60)
     unlawful = 0
@@ -453,6 +594,8 @@ def check_random(checks, judge):
         checks.holds(where, status == (3 if wanted else 0), str(status))
         counted = [one for one in report if "block" in one and "fault" not in one]
         checks.holds(where, counted == counts_by_hand(log), f"{counted} {counts_by_hand(log)}\n{text}")
+        # A line without an event that no newline ends is none.
+        check_picture(checks, judge, where, log[:report[0]["lines"]], text, wanted)
         kind = random.choice(["once", "in-use", "present", "empty", "movable", "malformed", "online"])
         status, report, _said = judge.report(text, *options, "--allow", kind, "--most", "2")
         left = [fault for fault in wanted if fault[0] != kind]
@@ -519,7 +662,7 @@ def check_odd(checks, judge):
                   [*json_options, "--blocks", "5..5"], [*json_options, "--blocks", "5"],
                   [*json_options, "--blocks", "a..b"], [*json_options, "--blocks", "0..536870912"],
                   [*json_options, "--allow", "all"], [*json_options, "--most", "x"],
-                  [*json_options, "--svg"]]:
+                  [*json_options, "--svg", "x", "y"]]:
         status, out, said = judge.call(alloc, *words)
         checks.holds(" ".join(words), status == 2 and out == "" and said != "", f"{status} {out} {said}")
     status, out, said = judge.call("", *json_options, "/no/such/file")
@@ -539,6 +682,8 @@ def main():
     checks, judge = Checks(), Judge(crates.resolve())
     check_linux(checks, judge)
     check_random(checks, judge)
+    check_pictures(checks, judge)
+    check_first_lines(checks, judge)
     check_odd(checks, judge)
     for failure in checks.failures:
         print(f"failed: {failure}")

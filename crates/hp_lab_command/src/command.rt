@@ -39,6 +39,9 @@ pub const ALLOW: &str = "allow";
 /// The option that prints more faults, or fewer.
 pub const MOST: &str = "most";
 
+/// The option that draws a picture.
+pub const SVG: &str = "svg";
+
 /// The argument that names files.
 pub const FILE: &str = "FILE";
 
@@ -223,7 +226,7 @@ const TRACE: [Argument; 8] = [
 ];
 
 /// What `judge` takes.
-const JUDGE: [Argument; 7] = [
+const JUDGE: [Argument; 8] = [
     Argument {
         name: FTRACE,
         takes: Takes::Nothing,
@@ -233,7 +236,7 @@ const JUDGE: [Argument; 7] = [
     Argument {
         name: BLOCK_FRAMES,
         takes: Takes::Number,
-        help: "How many frames a memory block has, a power of two; always needed",
+        help: "How many frames a memory block has, a power of two; needed unless the log says it",
         against: &[],
     },
     Argument {
@@ -259,6 +262,12 @@ const JUDGE: [Argument; 7] = [
         takes: Takes::Number,
         help: "Prints at most so many faults (10)",
         against: &[],
+    },
+    Argument {
+        name: SVG,
+        takes: Takes::Nothing,
+        help: "Writes one SVG picture: the frames in use of each memory block over the log",
+        against: &[JSON],
     },
     Argument {
         name: FILE,

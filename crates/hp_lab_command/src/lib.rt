@@ -8,5 +8,5 @@ mod command;
 
 pub use command::{
     ALLOW, BLOCK_FRAMES, BLOCKS, FILE, FIND, FTRACE, JOBS, JSON, MOST, NEVER, PART, PROGRESS,
-    SCENARIO, lab_command,
+    SCENARIO, SVG, lab_command,
 };

@@ -3,11 +3,14 @@
 use crate::messages::file_name;
 use clap::ArgMatches;
 use hp_escapes::{Brackets, write_escaped};
-use hp_lab_command::{ALLOW, BLOCK_FRAMES, BLOCKS, FILE, FTRACE, JSON, MOST};
+use hp_lab_command::{ALLOW, BLOCK_FRAMES, BLOCKS, FILE, FTRACE, JSON, MOST, SVG};
+use hp_log_pictures::draw_log;
 use hp_logs::{LineFault, LogFault, LogForm};
 use hp_numbers::number64;
 use hp_streams::Counted;
-use hp_verdicts::{AllowedKinds, Asked, BlockRange, JudgeFault, ReportForm, judge_log};
+use hp_verdicts::{
+    AllowedKinds, BlockRange, JudgeFault, JudgeOptions, ReportForm, SizeFault, judge_log,
+};
 use std::fs;
 use std::io::Read;
 
@@ -17,8 +20,8 @@ const SHOWN_FAULTS: u64 = 10;
 /// Judges the log that is named, or else standard input, and returns the exit status: 0 for a lawful
 /// log, 3 for one with faults, 1 for one that cannot be read.
 pub(crate) fn serve_judge(rt: &HostRuntime, words: &ArgMatches<'_>) -> u8 {
-    match asked_from(words) {
-        Ok(asked) => judge_file(rt, words, &asked),
+    match options_from(words) {
+        Ok(options) => judge_file(rt, words, &options),
         Err(text) => {
             let _ = eprintln!(rt; "hotplug_lab: {text}");
             2
@@ -27,15 +30,13 @@ pub(crate) fn serve_judge(rt: &HostRuntime, words: &ArgMatches<'_>) -> u8 {
 }
 
 /// Returns what the words ask for, or why they ask for nothing.
-fn asked_from(words: &ArgMatches<'_>) -> Result<Asked, &'static str> {
-    let Some(block_frames) = words.get_one::<u64>(BLOCK_FRAMES) else {
-        return Err("judge needs --block-frames");
-    };
+fn options_from(words: &ArgMatches<'_>) -> Result<JudgeOptions, &'static str> {
+    let block_frames = words.get_one::<u64>(BLOCK_FRAMES);
     let range = range_from(words)?;
     let allowed = allowed_from(words)?;
     let most = words.get_one::<u64>(MOST).unwrap_or(SHOWN_FAULTS);
-    match Asked::new(block_frames, range, allowed, most) {
-        Some(asked) => Ok(asked),
+    match JudgeOptions::new(block_frames, range, allowed, most) {
+        Some(options) => Ok(options),
         None => Err(
             "--block-frames may be a power of two up to 67108864, and the last frame of \
              --blocks a number of 32 bits",
@@ -85,15 +86,15 @@ fn allowed_from(words: &ArgMatches<'_>) -> Result<AllowedKinds, &'static str> {
 }
 
 /// Judges the file that the words name, and returns the exit status.
-fn judge_file(rt: &HostRuntime, words: &ArgMatches<'_>, asked: &Asked) -> u8 {
+fn judge_file(rt: &HostRuntime, words: &ArgMatches<'_>, options: &JudgeOptions) -> u8 {
     let name = named_file(words);
     if name == "-" {
-        let judged = judge_input(rt, words, asked, rt.stdin());
+        let judged = judge_input(rt, words, options, rt.stdin());
         return status_of(rt, None, judged);
     }
     match fs::open(rt, name) {
         Ok(input) => {
-            let judged = judge_input(rt, words, asked, input);
+            let judged = judge_input(rt, words, options, input);
             status_of(rt, file_name(name), judged)
         }
         Err(_) => {
@@ -114,19 +115,23 @@ fn named_file<'a>(words: &ArgMatches<'a>) -> &'a str {
     }
 }
 
-/// Judges the log that an input has, and writes the report to standard output.
+/// Judges the log that an input has, and writes the report or the picture to standard output.
 fn judge_input<R: Read + Drop>(
     rt: &HostRuntime,
     words: &ArgMatches<'_>,
-    asked: &Asked,
+    options: &JudgeOptions,
     input: R,
 ) -> Result<bool, JudgeFault> {
     let mut source = Counted::new(input);
     let mut sink = Counted::new(rt.stdout());
+    let form = log_form(words);
+    if words.get_flag(SVG) {
+        return draw_log(rt.alloc(), form, options, &mut source, &mut sink);
+    }
     judge_log(
         rt.alloc(),
-        log_form(words),
-        asked,
+        form,
+        options,
         report_form(words),
         &mut source,
         &mut sink,
@@ -156,6 +161,10 @@ fn status_of(rt: &HostRuntime, file: Option<&str>, judged: Result<bool, JudgeFau
     match judged {
         Ok(true) => 0,
         Ok(false) => 3,
+        Err(JudgeFault::Size(SizeFault::Missing)) => {
+            say_of_file(rt, None, "judge needs --block-frames");
+            2
+        }
         Err(fault) => {
             say_fault(rt, file, fault);
             1
@@ -168,6 +177,7 @@ fn say_fault(rt: &HostRuntime, file: Option<&str>, fault: JudgeFault) {
     match fault {
         JudgeFault::Log(LogFault::ReadFailed) => say_of_file(rt, file, "reading failed"),
         JudgeFault::Log(LogFault::Line { number, fault }) => say_line(rt, number, fault),
+        JudgeFault::Size(fault) => say_size(rt, fault),
         JudgeFault::TooManyLines => say_of_file(rt, file, "too many lines"),
         JudgeFault::WriteFailed => say_of_file(rt, None, "writing failed"),
         JudgeFault::OutOfMemory => say_of_file(rt, None, "out of memory"),
@@ -191,6 +201,19 @@ fn escaped_name(rt: &HostRuntime, file: Option<&str>) -> Option<String> {
     }
 }
 
+/// Says on standard error why a machine has no size.
+fn say_size(rt: &HostRuntime, fault: SizeFault) {
+    let text = match fault {
+        SizeFault::Missing => "no block_frames, and no --block-frames",
+        SizeFault::Different => "block_frames is not that of --block-frames",
+        SizeFault::Wrong => {
+            "block_frames may be a power of two up to 67108864, and the last frame of --blocks a \
+             number of 32 bits"
+        }
+    };
+    let _ = eprintln!(rt; "hotplug_lab: line 1: {text}");
+}
+
 /// Says on standard error what is wrong with a line.
 fn say_line(rt: &HostRuntime, number: u64, fault: LineFault) {
     let text = line_text(fault);
@@ -206,6 +229,7 @@ fn line_text(fault: LineFault) -> &'static str {
         LineFault::RepeatedKey => "a key comes twice",
         LineFault::WrongValue => "wrong value of a key",
         LineFault::NotAnEvent => "keys of no event",
+        LineFault::LateBlockFrames => "block_frames may be on the first line alone",
         LineFault::WrongFields => "no frame or order that can be read",
         LineFault::EventsLost => "the kernel's buffer was full, and events are missing",
         LineFault::OutOfMemory => "out of memory",

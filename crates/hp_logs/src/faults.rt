@@ -20,6 +20,8 @@ pub enum LineFault {
     /// The line has no key that names its event, or several, or keys that do not belong to the
     /// event.
     NotAnEvent,
+    /// The number of frames of a memory block stands on another line than the first.
+    LateBlockFrames,
     /// A page event of ftrace has no frame or order that can be read.
     WrongFields,
     /// The kernel's buffer was full, and events are missing.

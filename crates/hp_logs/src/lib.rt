@@ -1,6 +1,7 @@
 //! Reads logs of memory machines, line by line: each line becomes an event for hp_judge.
 //!
-//! There are two forms. JSON has an object a line: `{"alloc": 512, "order": 3, "movable": true}`.
+//! There are two forms. JSON has an object a line: `{"alloc": 512, "order": 3, "movable": true}`,
+//! and the first line may say how many frames a memory block has: `{"block_frames": 32768}`.
 //! The other is the text of Linux's ftrace, as /sys/kernel/tracing/trace and `trace-cmd report`
 //! print it. A log can have any length: a reader keeps one line of it, of at most 65,536 bytes.
 //!
@@ -17,5 +18,5 @@ mod reader;
 pub use faults::{LineFault, LogFault};
 pub use ftrace::ftrace_event;
 pub use lines::{LINE_LIMIT, LineReader};
-pub use objects::json_event;
+pub use objects::{json_block_frames, json_event};
 pub use reader::{LogForm, LogReader};

@@ -9,26 +9,46 @@ use json::{Reader, Scratch, Token};
 /// No object has more keys than this, if none comes twice.
 const MOST_KEYS: usize = 12;
 
-/// Reads a line as an event. An empty line and an object with only a note are `LogEvent::Other`.
-pub fn json_event(line: &[u8], scratch: &mut Scratch) -> Result<LogEvent, LineFault> {
+/// Reads a line as an event. An empty line, an object with only a note, and the first line if it says
+/// how many frames a memory block has, are `LogEvent::Other`.
+pub fn json_event(
+    line: &[u8],
+    is_first: bool,
+    scratch: &mut Scratch,
+) -> Result<LogEvent, LineFault> {
+    let keys = line_keys(line, scratch)?;
+    if keys.block_frames.is_some() && !is_first {
+        return Err(LineFault::LateBlockFrames);
+    }
+    keys.event()
+}
+
+/// Returns how many frames a memory block has, if a line says so.
+pub fn json_block_frames(line: &[u8], scratch: &mut Scratch) -> Result<Option<u32>, LineFault> {
+    let keys = line_keys(line, scratch)?;
+    Ok(keys.block_frames)
+}
+
+/// Reads the keys of a line; none of an empty one.
+fn line_keys(line: &[u8], scratch: &mut Scratch) -> Result<Keys, LineFault> {
     let Ok(text) = str::from_utf8(line) else {
         return Err(LineFault::NotAnObject);
     };
     let mut reader = Reader::new(text, scratch)?;
     match reader.next() {
-        Some(Token::BeginObject) => object_event(&mut reader),
-        None => Ok(LogEvent::Other),
+        Some(Token::BeginObject) => object_keys(&mut reader),
+        None => Ok(Keys::none()),
         Some(_) => Err(LineFault::NotAnObject),
     }
 }
 
 /// Reads the rest of a line whose object has begun.
-fn object_event(reader: &mut Reader<'_>) -> Result<LogEvent, LineFault> {
+fn object_keys(reader: &mut Reader<'_>) -> Result<Keys, LineFault> {
     let keys = read_keys(reader)?;
     if reader.next().is_some() {
         return Err(LineFault::NotAnObject);
     }
-    keys.event()
+    Ok(keys)
 }
 
 /// Reads all keys of an object and their values.
@@ -66,6 +86,7 @@ struct Keys {
     movable: Option<bool>,
     zone: Option<Zone>,
     end: Option<bool>,
+    block_frames: Option<u32>,
 }
 
 impl Keys {
@@ -82,6 +103,7 @@ impl Keys {
             movable: None,
             zone: None,
             end: None,
+            block_frames: None,
         }
     }
 
@@ -98,12 +120,16 @@ impl Keys {
             "movable" => set_bool(&mut self.movable, value),
             "zone" => set_zone(&mut self.zone, value),
             "end" => set_end(&mut self.end, value),
+            "block_frames" => set_number(&mut self.block_frames, value),
             _ => Err(LineFault::UnknownKey),
         }
     }
 
     /// Returns the event that the keys make.
     fn event(&self) -> Result<LogEvent, LineFault> {
+        if self.block_frames.is_some() && self.is_named() {
+            return Err(LineFault::NotAnEvent);
+        }
         match (self.alloc, self.free, self.online, self.offline, self.moved) {
             (Some(frame), None, None, None, None) => self.alloc_event(Frame(frame)),
             (None, Some(frame), None, None, None) => self.free_event(Frame(frame)),
@@ -113,6 +139,12 @@ impl Keys {
             (None, None, None, None, None) => self.other_event(),
             _ => Err(LineFault::NotAnEvent),
         }
+    }
+
+    /// Returns whether a key names an event.
+    fn is_named(&self) -> bool {
+        let is_of_frames = self.alloc.is_some() || self.free.is_some() || self.moved.is_some();
+        is_of_frames || self.online.is_some() || self.offline.is_some()
     }
 
     /// Returns whether the line has a key of an online, an offline or a move.

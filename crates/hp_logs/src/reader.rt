@@ -4,7 +4,7 @@ ghost use Rattle.std.specs.Prelude.{◌≡◌, ◌<◌, ◌-◌, ◌^◌, OnOk};
 use crate::faults::{LineFault, LogFault};
 use crate::ftrace::ftrace_event;
 use crate::lines::LineReader;
-use crate::objects::json_event;
+use crate::objects::{json_block_frames, json_event};
 use hp_judge::LogEvent;
 use hp_streams::Source;
 use json::Scratch;
@@ -24,6 +24,8 @@ pub enum LogForm {
 pub struct LogReader {
     form: LogForm,
     lines: LineReader,
+    /// Whether the current line's event is still to be returned.
+    is_ahead: bool,
     scratch: Scratch,
 }
 
@@ -33,6 +35,7 @@ impl LogReader {
         Ok(LogReader {
             form,
             lines: LineReader::new(alloc)?,
+            is_ahead: false,
             scratch: Scratch::new(alloc),
         })
     }
@@ -42,30 +45,71 @@ impl LogReader {
         self.lines.line()
     }
 
+    /// Returns how many frames a memory block has, if the first line says so.
+    ///
+    /// It is called before the first event is read. The line counts as one without an event.
+    pub fn block_frames<R: Source>(&mut self, source: &mut R) -> Result<Option<u32>, LogFault>
+        requires { R.failures source.old < 2 ^ 64 - 1 }
+        ensures { OnOk result (R.failures source.new ≡ R.failures source.old) }
+    {
+        self.is_ahead = self.lines.advance(source)?;
+        match self.told_frames() {
+            Ok(frames) => Ok(frames),
+            Err(fault) => Err(self.fault_of_line(fault)),
+        }
+    }
+
     /// Returns the event of the next line, if there is one.
     pub fn next<R: Source>(&mut self, source: &mut R) -> Result<Option<LogEvent>, LogFault>
         requires { R.failures source.old < 2 ^ 64 - 1 }
         ensures { OnOk result (R.failures source.new ≡ R.failures source.old) }
     {
-        if !self.lines.advance(source)? {
+        if !self.has_line(source)? {
             return Ok(None);
         }
         match self.event() {
             Ok(event) => Ok(Some(event)),
-            Err(fault) => Err(LogFault::Line {
-                number: self.lines.number(),
-                fault,
-            }),
+            Err(fault) => Err(self.fault_of_line(fault)),
         }
     }
 }
 
 impl LogReader {
+    /// Moves to the line whose event is next, and returns whether there is one.
+    fn has_line<R: Source>(&mut self, source: &mut R) -> Result<bool, LogFault>
+        requires { R.failures source.old < 2 ^ 64 - 1 }
+        ensures { OnOk result (R.failures source.new ≡ R.failures source.old) }
+    {
+        if self.is_ahead {
+            self.is_ahead = false;
+            return Ok(true);
+        }
+        self.lines.advance(source)
+    }
+
     /// Returns the event of the current line.
     fn event(&mut self) -> Result<LogEvent, LineFault> {
         match self.form {
-            LogForm::Json => json_event(self.lines.line(), &mut self.scratch),
+            LogForm::Json => {
+                json_event(self.lines.line(), self.lines.number() == 1, &mut self.scratch)
+            }
             LogForm::Ftrace => ftrace_event(self.lines.line()),
+        }
+    }
+
+    /// Returns how many frames a memory block has, if the current line says so.
+    fn told_frames(&mut self) -> Result<Option<u32>, LineFault> {
+        match self.form {
+            LogForm::Json => json_block_frames(self.lines.line(), &mut self.scratch),
+            LogForm::Ftrace => Ok(None),
+        }
+    }
+
+    /// Returns a fault with the number of the current line.
+    fn fault_of_line(&self, fault: LineFault) -> LogFault {
+        LogFault::Line {
+            number: self.lines.number(),
+            fault,
         }
     }
 }

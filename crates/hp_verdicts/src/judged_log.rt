@@ -2,7 +2,7 @@
 ghost use Rattle.std.specs.Prelude.{◌≡◌, ◌<◌, ◌≤◌, ◌↔◌, ◌^◌, IsTrue};
 ghost use Rattle.hp_judge.specs.Events.{frame_count};
 
-use crate::asked::Asked;
+use crate::options::JudgeOptions;
 use crate::counts::{BlockTallies, EventCounts, Usage, frames_of};
 use crate::selection::BlockRange;
 use crate::verdict::Verdict;
@@ -24,11 +24,14 @@ pub struct JudgedLog {
 
 impl JudgedLog {
     /// Makes a log of no events.
-    pub fn new(alloc: Global, asked: &Asked) -> JudgedLog {
+    pub fn new(alloc: Global, size: &MachineSize, options: &JudgeOptions) -> JudgedLog
+        requires order { size.now.block_order < 32 }
+        requires small { frame_count size.now < 2 ^ 32 }
+    {
         JudgedLog {
-            size: asked.size(),
-            range: asked.range(),
-            verdict: Verdict::new(alloc, asked.size(), asked.allowed(), asked.most()),
+            size: *size,
+            range: options.range(),
+            verdict: Verdict::new(alloc, *size, options.allowed(), options.most()),
             events: EventCounts::none(),
             blocks: BlockTallies::new(alloc),
         }

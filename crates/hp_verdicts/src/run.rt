@@ -1,43 +1,13 @@
 //! Judges the log that a stream has.
 ghost use Rattle.std.specs.Prelude.{◌≡◌, ◌<◌, ◌-◌, ◌^◌, OnOk};
-ghost use Rattle.hp_verdicts.specs.declared.run.JudgeFault.TheVariants.{Log, OutOfMemory};
 
-use crate::asked::Asked;
-use crate::judged_log::JudgedLog;
 use crate::objects::report_objects;
+use crate::options::JudgeOptions;
+use crate::reading::{JudgeFault, LogReading};
 use crate::texts::report_text;
-use hp_logs::{LogFault, LogForm, LogReader};
+use hp_logs::LogForm;
 use hp_streams::{Failed, Sink, Source, write_all};
 use std::alloc::{AllocError, Global};
-
-/// Why a log was not judged.
-#[derive(Clone, Copy, Debug, PartialEq, Eq, Drop)]
-pub enum JudgeFault {
-    /// The log cannot be read on.
-    Log(LogFault),
-    /// The log has more than 2^63 lines.
-    TooManyLines,
-    /// The report cannot be written.
-    WriteFailed,
-    /// Out of memory.
-    OutOfMemory,
-}
-
-impl From<AllocError> for JudgeFault {
-    ghost from_gives = { λ _ e. e ≡ OutOfMemory };
-
-    fn from(_e: AllocError) -> JudgeFault {
-        JudgeFault::OutOfMemory
-    }
-}
-
-impl From<LogFault> for JudgeFault {
-    ghost from_gives = { λ fault e. e ≡ Log fault };
-
-    fn from(fault: LogFault) -> JudgeFault {
-        JudgeFault::Log(fault)
-    }
-}
 
 /// The form of a report.
 #[derive(Clone, Copy, Drop)]
@@ -55,7 +25,7 @@ pub enum ReportForm {
 pub fn judge_log<R: Source, W: Sink>(
     alloc: Global,
     form: LogForm,
-    asked: &Asked,
+    options: &JudgeOptions,
     report: ReportForm,
     source: &mut R,
     sink: &mut W,
@@ -63,76 +33,36 @@ pub fn judge_log<R: Source, W: Sink>(
     requires source { R.failures source.old < 2 ^ 64 - 1 }
     requires sink { W.failures sink.old < 2 ^ 64 - 1 }
 {
-    let mut first = String::new(alloc);
-    let log = read_log(alloc, form, asked, &mut first, source)?;
-    let text = report_of(alloc, &log, &first, report)?;
+    let log = read_log(alloc, form, options, source)?;
+    let text = report_of(alloc, &log, report)?;
     match write_all(sink, text.as_bytes()) {
-        Ok(()) => Ok(log.is_lawful()),
+        Ok(()) => Ok(log.log().is_lawful()),
         Err(Failed) => Err(JudgeFault::WriteFailed),
     }
 }
 
 /// Writes a report.
-fn report_of(
-    alloc: Global,
-    log: &JudgedLog,
-    first: &str,
-    form: ReportForm,
-) -> Result<String, AllocError> {
+fn report_of(alloc: Global, log: &LogReading, form: ReportForm) -> Result<String, AllocError> {
     match form {
-        ReportForm::Text => report_text(alloc, log, first),
-        ReportForm::Objects => report_objects(alloc, log, first),
+        ReportForm::Text => report_text(alloc, log.log(), log.first_fault()),
+        ReportForm::Objects => report_objects(alloc, log.log(), log.first_fault()),
     }
 }
 
-/// Reads a log to its end, and the line of its first fault into `first`.
+/// Reads a log to its end.
 fn read_log<R: Source>(
     alloc: Global,
     form: LogForm,
-    asked: &Asked,
-    first: &mut String,
+    options: &JudgeOptions,
     source: &mut R,
-) -> Result<JudgedLog, JudgeFault>
+) -> Result<LogReading, JudgeFault>
     requires { R.failures source.old < 2 ^ 64 - 1 }
 {
-    let mut reader = LogReader::new(alloc, form)?;
-    let mut log = JudgedLog::new(alloc, asked);
+    let mut log = LogReading::begin(alloc, form, options, source)?;
     for _line in 0..1u64 << 63 {
-        if !read_event(&mut reader, &mut log, first, source)? {
+        if log.next(source)?.is_none() {
             return Ok(log);
         }
     }
     Err(JudgeFault::TooManyLines)
-}
-
-/// Reads the next event of a log, and returns whether there is one.
-fn read_event<R: Source>(
-    reader: &mut LogReader,
-    log: &mut JudgedLog,
-    first: &mut String,
-    source: &mut R,
-) -> Result<bool, JudgeFault>
-    requires { R.failures source.old < 2 ^ 64 - 1 }
-    ensures { OnOk result (R.failures source.new ≡ R.failures source.old) }
-{
-    let Some(event) = reader.next(source)? else {
-        return Ok(false);
-    };
-    if log.is_full() {
-        return Err(JudgeFault::TooManyLines);
-    }
-    let is_lawful = log.is_lawful();
-    log.read(&event)?;
-    if is_lawful && !log.is_lawful() {
-        push_line(first, reader.line())?;
-    }
-    Ok(true)
-}
-
-/// Adds a line to a text, if it is UTF-8.
-fn push_line(text: &mut String, line: &[u8]) -> Result<(), AllocError> {
-    match str::from_utf8(line) {
-        Ok(line) => text.push_str(line),
-        Err(_) => text.push_str("(not UTF-8)"),
-    }
 }

@@ -1,0 +1,24 @@
+-- The events of a log in columns of equal numbers of events, of which each keeps the greatest count.
+use Rattle.std.specs.Prelude.{ℕ, zero, suc, ◌+◌, ◌-◌, ◌*◌, ◌/◌, List, min, slice_index}
+
+pub record Sampled : Type 0 where
+  -- how many events a full column has, how many there are, and how many more the last column takes
+  pub width : ℕ
+  pub events : ℕ
+  pub room : ℕ
+  -- what the last event left
+  pub count : ℕ
+  -- the greatest count of each column
+  pub peaks : List ℕ
+
+-- event number e, from 0, lies in column number e / width: the count of that column
+abbrev pub peak_at : Sampled → ℕ → ℕ
+peak_at s e = slice_index s.peaks (e / s.width)
+
+-- how many events lie in column j, and in the first k columns
+abbrev pub events_in : Sampled → ℕ → ℕ
+events_in s j = min s.width (s.events - j * s.width)
+
+abbrev pub events_below : Sampled → ℕ → ℕ
+events_below s zero = 0
+events_below s (suc k) = events_below s k + events_in s k

@@ -1,0 +1,131 @@
+//! What is asked of a judgement.
+ghost use Rattle.std.specs.Prelude.{◌≡◌, ◌<◌, ◌≤◌, ◌^◌, IfOk, IfSome};
+ghost use Rattle.hp_judge.specs.Events.{frame_count};
+
+use crate::allowed::AllowedKinds;
+use crate::selection::BlockRange;
+use hp_judge::{MachineSize, piece_size};
+use hp_numbers::Order;
+
+/// A machine has at most 2^26 frames unless blocks beyond them are asked for: 256 GiB of 4 KiB each,
+/// for which a judge takes 1 GiB.
+const MOST_FRAMES_ORDER: u32 = 26;
+
+/// What is asked of the judge of a log.
+#[derive(Clone, Copy, Drop)]
+pub struct JudgeOptions {
+    block_frames: Option<u64>,
+    range: Option<BlockRange>,
+    allowed: AllowedKinds,
+    most: u64,
+}
+
+/// Why a machine has no size.
+#[derive(Clone, Copy, Debug, PartialEq, Eq, Drop)]
+pub enum SizeFault {
+    /// Neither the options nor the log say how many frames a memory block has.
+    Missing,
+    /// The log says another number than the options.
+    Different,
+    /// The log's number is no power of two up to 2^26, or the blocks of the range have frames beyond
+    /// the numbers of 32 bits then.
+    Wrong,
+}
+
+impl JudgeOptions {
+    /// Asks for a log of memory blocks of `block_frames` frames each; if there is none, the log has
+    /// to say how many. Returns None unless that is a power of two up to 2^26, and the blocks of the
+    /// range have numbers of frames in 32 bits.
+    pub fn new(
+        block_frames: Option<u64>,
+        range: Option<BlockRange>,
+        allowed: AllowedKinds,
+        most: u64,
+    ) -> Option<JudgeOptions> {
+        if let Some(frames) = block_frames {
+            let _size = machine_size(frames, range)?;
+        }
+        Some(JudgeOptions {
+            block_frames,
+            range,
+            allowed,
+            most,
+        })
+    }
+
+    /// Returns the size of the machine. `told` is how many frames a memory block has if the log says
+    /// so.
+    pub fn machine_size(&self, told: Option<u32>) -> Result<MachineSize, SizeFault>
+        ensures order { IfOk result (λ size. size.block_order < 32) }
+        ensures small { IfOk result (λ size. frame_count size < 2 ^ 32) }
+    {
+        match machine_size(self.frames_with(told)?, self.range) {
+            Some(size) => Ok(size),
+            None => Err(SizeFault::Wrong),
+        }
+    }
+
+    /// Returns how many frames a memory block has.
+    fn frames_with(&self, told: Option<u32>) -> Result<u64, SizeFault> {
+        match (self.block_frames, told) {
+            (Some(frames), Some(told)) if frames != told as u64 => Err(SizeFault::Different),
+            (Some(frames), _) => Ok(frames),
+            (None, Some(told)) => Ok(told as u64),
+            (None, None) => Err(SizeFault::Missing),
+        }
+    }
+
+    /// Returns the memory blocks that are judged; all if there is none.
+    pub fn range(&self) -> Option<BlockRange> {
+        self.range
+    }
+
+    /// Returns the kinds of faults that are allowed.
+    pub fn allowed(&self) -> AllowedKinds {
+        self.allowed
+    }
+
+    /// Returns how many faults are printed at most.
+    pub fn most(&self) -> u64 {
+        self.most
+    }
+}
+
+/// Returns the size of a machine that has 2^26 frames, or all blocks of the range.
+fn machine_size(block_frames: u64, range: Option<BlockRange>) -> Option<MachineSize>
+    ensures order { IfSome result (λ size. size.block_order < 32) }
+    ensures small { IfSome result (λ size. frame_count size < 2 ^ 32) }
+{
+    let order = order_of(block_frames)?;
+    let blocks = most_blocks(order, range);
+    match blocks.checked_mul(piece_size(Order(order))) {
+        Some(_) => Some(MachineSize {
+            block_order: Order(order),
+            blocks,
+        }),
+        None => None,
+    }
+}
+
+/// Returns the order of a power of two.
+fn order_of(count: u64) -> Option<u32>
+    ensures { IfSome result (λ order. order ≤ 26) }
+{
+    for order in 0..MOST_FRAMES_ORDER + 1 {
+        if 1u64 << order == count {
+            return Some(order);
+        }
+    }
+    None
+}
+
+/// Returns how many memory blocks 2^26 frames are, or how many lie before the range's end.
+fn most_blocks(order: u32, range: Option<BlockRange>) -> u32
+    requires { order ≤ 26 }
+{
+    let count = 1u32 << (MOST_FRAMES_ORDER - order);
+    match range {
+        Some(range) => count.max(range.end),
+        None => count,
+    }
+}
