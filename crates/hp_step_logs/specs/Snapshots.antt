@@ -2,7 +2,7 @@
 use Rattle.std.specs.Prelude.{◌≡◌, List, Option, Some, None, is_some, map, slice_index_or}
 use Rattle.hp_numbers.specs.Numbers.{Frame, Order, Owner, Page}
 use Rattle.hp_units.specs.Arithmetic.{all_frames}
-use Rattle.hp_units.specs.LayoutParts.{LayoutParts}
+use Rattle.hp_units.specs.LayoutParts.{IsLayout, LayoutParts}
 use Rattle.hp_units.specs.Memory.{Memory, kernel_order}
 use Rattle.hp_units.specs.Pages.{page_at}
 use Rattle.hp_units.specs.Placement.{IsWellPlaced}
@@ -45,8 +45,9 @@ pub record SnapshotValue : Type 0 where
 abbrev pub snapshot_of : LayoutParts → Memory → SnapshotValue
 snapshot_of l s = record { holders = map (holder_of s) (all_frames l); rows = s.blocks.rows }
 
--- it shows a well placed state
+-- it shows a well placed state of a layout
 pub record Shows (l : LayoutParts) (s : Memory) (snapshot : SnapshotValue) : Type 0 where
+  pub limits : IsLayout l
   pub placed : IsWellPlaced l s
   pub is : snapshot ≡ snapshot_of l s
 

@@ -3,6 +3,7 @@ ghost use Rattle.std.specs.Prelude.{◌≡◌, ℕ, ◌<◌, ◌++◌, ◌∷◌
 ghost use Rattle.std.specs.List.{flat_map};
 ghost use Rattle.std.specs.Option.{option_map_or};
 ghost use Rattle.hp_units.specs.Arithmetic.{all_blocks, all_frames, frame_count};
+ghost use Rattle.hp_units.specs.LayoutParts.{LayoutParts};
 ghost use Rattle.hp_units.specs.Memory.{Memory};
 ghost use Rattle.hp_lawful.specs.Logs.{allocs_at, block_events, frees_at, same_page, stays, step_log, with_move};
 ghost use Rattle.hp_step_logs.specs.Snapshots.{Shows, holder_at, page_in};
@@ -30,7 +31,7 @@ pub fn step_log(
     push_frees(&mut log, layout, before, after)?;
     push_block_events(&mut log, layout, before, after)?;
     push_allocs(&mut log, layout, before, after)?;
-    match found_move(layout, before, after, log.as_slice()) {
+    match found_move(before, after, log.as_slice()) {
         Some(event) => log_of_one(alloc, event),
         None => Ok(log),
     }
@@ -145,13 +146,8 @@ fn stays(layout: &Layout, before: &Snapshot, after: &Snapshot, frame: Frame) -> 
 }
 
 /// Returns the move that a log is, if all that changes is that one page is at another frame.
-fn found_move(
-    layout: &Layout,
-    before: &Snapshot,
-    after: &Snapshot,
-    log: &[LogEvent],
-) -> Option<LogEvent>
-    ensures { (s t : Memory) → Shows layout.now s before.now → Shows layout.now t after.now
+fn found_move(before: &Snapshot, after: &Snapshot, log: &[LogEvent]) -> Option<LogEvent>
+    ensures { (l : LayoutParts) (s t : Memory) → Shows l s before.now → Shows l t after.now
         → with_move s t log.now ≡ option_map_or (λ event. event ∷ []) result log.now }
 {
     let [first, second] = log else {

@@ -1,5 +1,5 @@
 -- The log of the states that rows show is the log of the histories that lead to them.
-use Rattle.std.proofs.Common.{◌≡◌, ◌⊎◌, ℕ, ◌+◌, Bool, true, false, ◌==◌, if◌then◌else◌, List, [], ◌∷◌, ◌++◌, length, append_assoc, refl, sym, ap, ap₂, subst, inl, inr, ◌∙◌, arith}
+use Rattle.std.proofs.Common.{◌≡◌, ◌⊎◌, ℕ, ◌+◌, Bool, true, false, ◌==◌, if◌then◌else◌, List, [], ◌∷◌, ◌++◌, length, append_assoc, Option, refl, sym, ap, ap₂, subst, inl, inr, ◌∙◌, arith}
 use Rattle.std.proofs.lemmas.Bool.{eq-eqb, eqb-true}
 use Rattle.hp_units.specs.Boot.{boot_memory}
 use Rattle.hp_units.specs.History.{net_of, run, value_of}
@@ -13,6 +13,7 @@ use Rattle.hp_lawful.specs.Logs.{log_of, log_of_all, step_log}
 use Rattle.hp_lawful.proofs.Histories.{log-push}
 use Rattle.hp_lawful.proofs.Unchanged.{unchanged}
 use Rattle.hp_machine.specs.Machine.{IsCalled, MachineValue, booted, record_of, sealed}
+use Rattle.hp_pictures.specs.declared.row_picture.Move.{Move}
 use Rattle.hp_trace.specs.Logs.{histories}
 use Rattle.hp_trace.specs.Rows.{Row, drawing, words}
 
@@ -105,7 +106,7 @@ called_turn m n cpu event r reached called = record {
       called.state
       ∙ ap₂ (λ (l : LayoutParts) (b : Memory). value_of l b n.history) (sym called.layout) (sym called.base);
   whole = λ rows asked answer moved ih.
-      sym (append_assoc {xs = own_log m})
+      sym (append_assoc (own_log m) (step_log m.layout m.state n.state) (rows_log n rows))
       ∙ (ap (λ (xs : List LogEvent). xs ++ rows_log n rows) (sym (more_own m n cpu event r reached called))
       ∙ (ih ∙ (ap₂ (λ (l : LayoutParts) (b : Memory). log_of_all l b (histories n rows)) called.layout called.base
       ∙ ap (λ (hs : List (List Record)). log_of_all m.layout m.base hs)

@@ -1,9 +1,9 @@
 -- The rows that lines make show turns of the machine, and drawn as a log they add its events.
-use Rattle.std.proofs.Common.{◌≡◌, ℕ, List, [], ◌∷◌, ◌++◌, length, append_assoc, append-nil, Option, Some, None, Result, Ok, Err, refl, sym, ap, subst, inl, inr, ◌∙◌}
+use Rattle.std.proofs.Common.{◌≡◌, ℕ, ◌+◌, ◌<◌, List, [], ◌∷◌, ◌++◌, get_or, length, take, append_assoc, append-nil, Option, Some, None, Result, Ok, Err, refl, sym, ap, subst, inl, inr, ◌∙◌}
+use Rattle.std.proofs.lemmas.List.{take_more}
 use Rattle.hp_units.specs.Arithmetic.{block_size}
 use Rattle.hp_units.specs.Boot.{boot_memory}
 use Rattle.hp_units.specs.LayoutParts.{LayoutParts}
-use Rattle.hp_units.specs.Placement.{IsWellPlaced}
 use Rattle.hp_units.specs.declared.events.Event.{Event}
 use Rattle.hp_units.specs.declared.plans.Item.{Item}
 use Rattle.hp_units.specs.declared.replies.CallFault.TheVariants.{HistoryFull}
@@ -107,7 +107,7 @@ lines_turns m (line ∷ lines) rows after run =
 -- the form is that of a log, and the state that was seen last is the machine's
 pub record HasSeen (m : MachineValue) (rows : RowsValue) : Type 0 where
   pub form : rows.form ≡ Logged
-  pub placed : IsWellPlaced m.layout m.state
+  pub shows : Shows m.layout m.state (snapshot_of m.layout m.state)
   pub seen : rows.log.seen ≡ Some (snapshot_of m.layout m.state)
 
 -- the first row
@@ -119,7 +119,7 @@ first_seen m old new form none drawn =
     (ap (λ (g : LogValue). g.seen) none) drawn.logged.step in (
       record {
         form = ap (λ (r : RowsValue). r.form) drawn.is ∙ form;
-        placed = drawn.logged.placed;
+        shows = drawn.logged.shows;
         seen =
             ap (λ (r : RowsValue). r.log.seen) drawn.is ∙ ap (λ (g : LogValue). g.seen) drawn.logged.is;
       },
@@ -135,14 +135,13 @@ next_seen : (m n : MachineValue) (old new : RowsValue) → n.layout ≡ m.layout
     → HasSeen n new × (new.log.events ≡ old.log.events ++ step_log m.layout m.state n.state)
 next_seen m n old new same has drawn =
     let shows : Shows n.layout m.state (snapshot_of m.layout m.state) =
-    subst (λ (l : LayoutParts). Shows l m.state (snapshot_of m.layout m.state)) (sym same)
-    (record { placed = has.placed; is = refl }) in
+    subst (λ (l : LayoutParts). Shows l m.state (snapshot_of m.layout m.state)) (sym same) has.shows in
     let step : drawn.logged.events ≡ step_log n.layout m.state n.state =
     (subst (λ (seen : Option SnapshotValue). IsStepFrom n seen drawn.logged.events) has.seen
     drawn.logged.step) m.state shows in (
       record {
         form = ap (λ (r : RowsValue). r.form) drawn.is ∙ has.form;
-        placed = drawn.logged.placed;
+        shows = drawn.logged.shows;
         seen =
             ap (λ (r : RowsValue). r.log.seen) drawn.is ∙ ap (λ (g : LogValue). g.seen) drawn.logged.is;
       },
@@ -172,7 +171,7 @@ rows_logged m after (drawing asked answer moved n ∷ rows) old new reached turn
     let next = next_seen m n old drawn.0 taken.layout has row in
     rows_logged n after rows drawn.0 new taken.reached turns.1 next.0 drawn.2
     ∙ (ap (λ (es : List LogEvent). es ++ rows_log n rows) next.1
-    ∙ append_assoc {xs = old.log.events})
+    ∙ append_assoc old.log.events (step_log m.layout m.state n.state) (rows_log n rows))
 
 -- ---- a scenario
 
@@ -185,7 +184,7 @@ run_from_boot l v lines old new after begun d =
     let log : old.log ≡ begun.first.log = ap (λ (r : RowsValue). r.log) begun.is in
     let has : HasSeen (booted l) old = record {
       form = ap (λ (r : RowsValue). r.form) begun.is ∙ first.0.form;
-      placed = first.0.placed;
+      shows = first.0.shows;
       seen = ap (λ (g : LogValue). g.seen) log ∙ first.0.seen;
     } in
     let turns = lines_turns (booted l) lines d.rows after d.run in
@@ -232,7 +231,7 @@ runs_joined m n after line (first ∷ lines) rows more run made = (
   run.1,
   run.2 ++ more,
   run.3,
-  ap (λ (rs : List Row). rs ++ more) run.4 ∙ append_assoc {xs = run.1},
+  ap (λ (rs : List Row). rs ++ more) run.4 ∙ append_assoc run.1 run.2 more,
   runs_joined run.0 n after line lines run.2 more run.5 made,
 )
 
@@ -249,3 +248,13 @@ line_drawn m n after line lines longer old mid new is d a =
       run = runs_joined m n after line lines d.rows a.rows d.run a.is;
       drawn = drawn_joined d.rows a.rows old mid new d.drawn a.drawn;
     })
+
+pub lines_more : (lines : List Line) (at : ℕ) (line : Line) (m n after : MachineValue)
+    (old mid new : RowsValue)
+    → at < length lines → line ≡ get_or lines at line → AreLinesDrawn m (take at lines) old mid n
+    → Adds mid new (λ more. MakesWork n line.cpu (asked_by line.work) [] more after)
+    → AreLinesDrawn m (take (at + 1) lines) old new after
+lines_more lines at line m n after old mid new inside is d a =
+    line_drawn m n after line (take at lines) (take (at + 1) lines) old mid new
+    (take_more lines at line inside
+    ∙ ap (λ (l : Line). take at lines ++ l ∷ []) (sym is)) d a

@@ -1,7 +1,6 @@
 -- The log of a memory whose states are seen one after another.
 use Rattle.std.specs.Prelude.{◌≡◌, List, [], ◌++◌, Option, Some, None}
 use Rattle.hp_units.specs.Memory.{Memory}
-use Rattle.hp_units.specs.Placement.{IsWellPlaced}
 use Rattle.hp_judge.specs.declared.events.LogEvent.{LogEvent}
 use Rattle.hp_lawful.specs.Logs.{step_log}
 use Rattle.hp_machine.specs.Machine.{MachineValue}
@@ -23,7 +22,7 @@ IsStepFrom m (Some seen) events =
 
 -- the machine's state was seen
 pub record IsLogged (m : MachineValue) (old new : LogValue) : Type 0 where
-  pub placed : IsWellPlaced m.layout m.state
+  pub shows : Shows m.layout m.state (snapshot_of m.layout m.state)
   pub events : List LogEvent
   pub step : IsStepFrom m old.seen events
   pub is : new ≡ record { seen = Some (snapshot_of m.layout m.state); events = old.events ++ events }

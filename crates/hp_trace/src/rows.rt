@@ -1,7 +1,7 @@
 //! The rows of a trace.
 ghost use Rattle.std.specs.Prelude.{◌≡◌, ◌++◌, IfOk, OnOk, string_bytes};
 ghost use Rattle.std.specs.Str.Lines.{lines};
-ghost use Rattle.hp_trace.specs.Rows.{AreDrawn, DrawsIf, IsKept, IsRow, fitted, line_rows, no_rows, noted, row_text, said};
+ghost use Rattle.hp_trace.specs.Rows.{AreDrawn, DrawsIf, IsKept, IsRow, IsRowLogged, fitted, line_rows, no_rows, noted, row_text, said};
 ghost use Rattle.hp_pictures.specs.Rows.{row_with};
 
 use crate::columns::write_label;
@@ -110,7 +110,7 @@ impl Rows {
             Form::Unseen => Ok(()),
             Form::Written => self.draw_row(alloc, machine, asked, answer),
             Form::Kept => self.keep_row(alloc, machine, asked, answer, moved),
-            Form::Logged => self.log.observe(alloc, machine),
+            Form::Logged => self.log_row(alloc, machine),
         }
     }
 
@@ -146,6 +146,14 @@ impl Rows {
         let blocks = picture_of(alloc, machine, self.paper.orders)?;
         let row = kept_row(alloc, asked, answer, moved, blocks)?;
         self.kept.push(row)?;
+        Ok(())
+    }
+
+    /// Adds the events to the memory of a row.
+    fn log_row(&mut self, alloc: Global, machine: &Machine) -> Result<(), AllocError>
+        ensures { OnOk result (IsRowLogged machine.now self.old self.new) }
+    {
+        self.log.observe(alloc, machine)?;
         Ok(())
     }
 
