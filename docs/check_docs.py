@@ -332,10 +332,17 @@ def check_item(checks, where, item, crates):
                 checks.holds(where, has, f"{function} of {names} has no clause {clause}")
 
 
+def is_for_tests(crate):
+    """Whether a crate stands in the sections of crates.txt for tests and for measuring."""
+    sections = re.split(r"(?m)^# ", (ROOT / "crates.txt").read_text())
+    ours = "".join(it for it in sections if it.startswith(("tests\n", "measuring\n")))
+    return re.search(rf"(?m)^{crate}\b", ours) is not None
+
+
 def has_contracts(crate):
-    """Whether a crate is a library of which others call functions, and so none of tests or of lemmas alone."""
+    """Whether a crate is a library of which others call functions, and so none for tests or of lemmas alone."""
     src = ROOT / "crates" / crate / "src"
-    is_library = (src / "lib.rt").exists() and not crate.endswith("_tests")
+    is_library = (src / "lib.rt").exists() and not is_for_tests(crate)
     return is_library and any(re.search(r"(?m)^\s*pub fn ", it.read_text()) for it in src.rglob("*.rt"))
 
 

@@ -85,10 +85,11 @@ impl Blocks {
         self.rows[at]
     }
 
-    /// Makes an operation hold a memory block of the layout; with wish Off the block is going
-    /// (Linux guide: offlining; own rule). One delta.
+    /// Makes an operation hold a memory block of the layout that no other one holds; with wish Off
+    /// the block is going (Linux guide: offlining; own rule). One delta.
     pub fn claim(&mut self, block: Block, op: Serial, wish: Wish, tape: &mut Tape)
         requires block { block < self.old.layout.blocks }
+        requires one { IfSome (row_of self.old.blocks block).claim (λ claim. claim.op ≡ op) }
         requires room { HasRoom tape.old 1 }
         ensures claimed { self.new.blocks
             ≡ with_row self.old.blocks block (claimed_row (row_of self.old.blocks block) op wish) }
@@ -99,9 +100,12 @@ impl Blocks {
         self.set(block, row.claimed(op, wish), tape);
     }
 
-    /// Gives a memory block of the layout another row. One delta.
+    /// Gives a memory block of the layout another row. Where an operation holds the block before
+    /// and after, it is the same one. One delta.
     pub fn set(&mut self, block: Block, row: Row, tape: &mut Tape)
         requires block { block < self.old.layout.blocks }
+        requires one { IfSome row.claim
+            (λ after. IfSome (row_of self.old.blocks block).claim (λ before. before.op ≡ after.op)) }
         requires room { HasRoom tape.old 1 }
         ensures set { self.new.blocks ≡ with_row self.old.blocks block row }
         ensures layout { self.new.layout ≡ self.old.layout }

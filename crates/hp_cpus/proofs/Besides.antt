@@ -5,7 +5,7 @@ use Rattle.std.proofs.lemmas.List.{length-append}
 use Rattle.hp_units.specs.LayoutParts.{LayoutParts}
 use Rattle.hp_units.specs.Memory.{FreeAreas, FreeFrames}
 use Rattle.hp_tape.specs.declared.deltas.Delta.{Delta}
-use Rattle.hp_tape.specs.declared.deltas.Delta.TheVariants.{Link, Unlink, Kind as KindDelta, Kernel as KernelDelta, Map as MapDelta, Swap, Word as WordDelta, Filled, Emptied, Row as RowDelta, Auto as AutoDelta}
+use Rattle.hp_tape.specs.declared.deltas.Delta.TheVariants.{Link, Unlink, Kind as KindDelta, Kernel as KernelDelta, Map as MapDelta, Swap, Word as WordDelta, LargeWord, Filled, Emptied, Row as RowDelta, Auto as AutoDelta}
 use Rattle.hp_tape.specs.declared.deltas.ListId.TheVariants.{Area, Cpu}
 use Rattle.hp_tape.specs.Deltas.{AllFit, FitsAreas, FitsFree, IsOfAreas, IsOfFree, areas_undo, free_undo, undo_all}
 use Rattle.hp_tape.specs.Tapes.{TapeValue, HasRoom, NotesAreas, NotesFree}
@@ -28,6 +28,7 @@ undo-beside (KernelDelta frame was now) cached a own = absurd own
 undo-beside (MapDelta owner page change) cached a own = absurd own
 undo-beside (Swap one other) cached a own = absurd own
 undo-beside (WordDelta index frame was now) cached a own = absurd own
+undo-beside (LargeWord index frame change) cached a own = absurd own
 undo-beside (Filled index frame now) cached a own = absurd own
 undo-beside (Emptied frame words) cached a own = absurd own
 undo-beside (RowDelta change) cached a own = absurd own
@@ -44,6 +45,7 @@ fits-beside (KernelDelta frame was now) cached a own h = absurd own
 fits-beside (MapDelta owner page change) cached a own h = absurd own
 fits-beside (Swap one other) cached a own h = absurd own
 fits-beside (WordDelta index frame was now) cached a own h = absurd own
+fits-beside (LargeWord index frame change) cached a own h = absurd own
 fits-beside (Filled index frame now) cached a own h = absurd own
 fits-beside (Emptied frame words) cached a own h = absurd own
 fits-beside (RowDelta change) cached a own h = absurd own
@@ -57,6 +59,7 @@ own-beside (KernelDelta frame was now) own = own
 own-beside (MapDelta owner page change) own = own
 own-beside (Swap one other) own = own
 own-beside (WordDelta index frame was now) own = own
+own-beside (LargeWord index frame change) own = own
 own-beside (Filled index frame now) own = own
 own-beside (Emptied frame words) own = own
 own-beside (RowDelta change) own = own

@@ -24,3 +24,4 @@ mod FreeRuns
 mod Removed
 mod Plans
 mod Begun
+mod Unclaimed

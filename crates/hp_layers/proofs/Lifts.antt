@@ -5,7 +5,7 @@ use Rattle.std.specs.List.{AllByRecursion}
 use Rattle.hp_units.specs.LayoutParts.{LayoutParts}
 use Rattle.hp_units.specs.Memory.{Blocks, FreeFrames}
 use Rattle.hp_tape.specs.declared.deltas.Delta.{Delta}
-use Rattle.hp_tape.specs.declared.deltas.Delta.TheVariants.{Link, Unlink, Kind as KindDelta, Kernel as KernelDelta, Map as MapDelta, Swap, Word as WordDelta, Filled, Emptied, Row as RowDelta, Auto as AutoDelta}
+use Rattle.hp_tape.specs.declared.deltas.Delta.TheVariants.{Link, Unlink, Kind as KindDelta, Kernel as KernelDelta, Map as MapDelta, Swap, Word as WordDelta, LargeWord, Filled, Emptied, Row as RowDelta, Auto as AutoDelta}
 use Rattle.hp_tape.specs.Deltas.{AllFit, Fits, FitsBlocks, FitsFree, FitsKernel, FitsPages, FrameView, IsOfBlocks, IsOfFree, IsOfPages, PageFrames, blocks_undo, free_undo, kernel_undo, pages_undo, undo, undo_all}
 use Rattle.hp_tape.specs.Tapes.{Notes, NotesBlocks, NotesFree, NotesPages, TapeValue}
 use Rattle.hp_kernel.specs.Kernel.{IsOfKernel, NotesKernel}
@@ -72,6 +72,7 @@ free-undone v (KernelDelta frame was now) fs own = absurd own
 free-undone v (MapDelta owner page change) fs own = absurd own
 free-undone v (Swap a b) fs own = absurd own
 free-undone v (WordDelta index frame was now) fs own = absurd own
+free-undone v (LargeWord index frame change) fs own = absurd own
 free-undone v (Filled index frame now) fs own = absurd own
 free-undone v (Emptied frame words) fs own = absurd own
 free-undone v (RowDelta change) fs own = absurd own
@@ -89,6 +90,7 @@ free-fits v (KernelDelta frame was now) fs own h = absurd own
 free-fits v (MapDelta owner page change) fs own h = absurd own
 free-fits v (Swap a b) fs own h = absurd own
 free-fits v (WordDelta index frame was now) fs own h = absurd own
+free-fits v (LargeWord index frame change) fs own h = absurd own
 free-fits v (Filled index frame now) fs own h = absurd own
 free-fits v (Emptied frame words) fs own h = absurd own
 free-fits v (RowDelta change) fs own h = absurd own
@@ -116,6 +118,7 @@ pages-undone v (KernelDelta frame was now) ps own = absurd own
 pages-undone v (MapDelta owner page change) ps own = refl
 pages-undone v (Swap a b) ps own = refl
 pages-undone v (WordDelta index frame was now) ps own = refl
+pages-undone v (LargeWord index frame change) ps own = refl
 pages-undone v (Filled index frame now) ps own = refl
 pages-undone v (Emptied frame words) ps own = refl
 pages-undone v (RowDelta change) ps own = absurd own
@@ -131,6 +134,8 @@ pages-fits v (MapDelta owner page change) ps own h =
     record { areas = tt; cached = tt; pages = h; kernel = tt; blocks = tt }
 pages-fits v (Swap a b) ps own h = record { areas = tt; cached = tt; pages = h; kernel = tt; blocks = tt }
 pages-fits v (WordDelta index frame was now) ps own h =
+    record { areas = tt; cached = tt; pages = h; kernel = tt; blocks = tt }
+pages-fits v (LargeWord index frame change) ps own h =
     record { areas = tt; cached = tt; pages = h; kernel = tt; blocks = tt }
 pages-fits v (Filled index frame now) ps own h =
     record { areas = tt; cached = tt; pages = h; kernel = tt; blocks = tt }
@@ -161,6 +166,7 @@ blocks-undone v (KernelDelta frame was now) bs own = absurd own
 blocks-undone v (MapDelta owner page change) bs own = absurd own
 blocks-undone v (Swap a b) bs own = absurd own
 blocks-undone v (WordDelta index frame was now) bs own = absurd own
+blocks-undone v (LargeWord index frame change) bs own = absurd own
 blocks-undone v (Filled index frame now) bs own = absurd own
 blocks-undone v (Emptied frame words) bs own = absurd own
 blocks-undone v (RowDelta change) bs own = refl
@@ -175,6 +181,7 @@ blocks-fits v (KernelDelta frame was now) bs own h = absurd own
 blocks-fits v (MapDelta owner page change) bs own h = absurd own
 blocks-fits v (Swap a b) bs own h = absurd own
 blocks-fits v (WordDelta index frame was now) bs own h = absurd own
+blocks-fits v (LargeWord index frame change) bs own h = absurd own
 blocks-fits v (Filled index frame now) bs own h = absurd own
 blocks-fits v (Emptied frame words) bs own h = absurd own
 blocks-fits v (RowDelta change) bs own h =
@@ -203,6 +210,7 @@ kernel-undone v (KernelDelta frame was now) kernel own = refl
 kernel-undone v (MapDelta owner page change) kernel own = absurd own
 kernel-undone v (Swap a b) kernel own = absurd own
 kernel-undone v (WordDelta index frame was now) kernel own = absurd own
+kernel-undone v (LargeWord index frame change) kernel own = absurd own
 kernel-undone v (Filled index frame now) kernel own = absurd own
 kernel-undone v (Emptied frame words) kernel own = absurd own
 kernel-undone v (RowDelta change) kernel own = absurd own
@@ -218,6 +226,7 @@ kernel-fits v (KernelDelta frame was now) kernel own h =
 kernel-fits v (MapDelta owner page change) kernel own h = absurd own
 kernel-fits v (Swap a b) kernel own h = absurd own
 kernel-fits v (WordDelta index frame was now) kernel own h = absurd own
+kernel-fits v (LargeWord index frame change) kernel own h = absurd own
 kernel-fits v (Filled index frame now) kernel own h = absurd own
 kernel-fits v (Emptied frame words) kernel own h = absurd own
 kernel-fits v (RowDelta change) kernel own h = absurd own

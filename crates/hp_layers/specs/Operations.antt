@@ -1,7 +1,7 @@
 -- What operations on memory blocks do to the layers, and how much of it a plan asks for.
-use Rattle.std.specs.Prelude.{ℕ, zero, suc, ◌≡◌, ◌+◌, List, is_some, if◌then◌else◌}
+use Rattle.std.specs.Prelude.{ℕ, zero, suc, ◌≡◌, ◌+◌, List, IfSome, None, is_some, if◌then◌else◌}
 use Rattle.hp_units.specs.declared.plans.Item.{Item}
-use Rattle.hp_units.specs.Memory.{Memory}
+use Rattle.hp_units.specs.Memory.{Blocks, Memory, row_of}
 use Rattle.hp_units.specs.Rows.{wish_of}
 use Rattle.hp_tape.specs.Tapes.{TapeValue}
 use Rattle.hp_layers.specs.declared.layers.Layers.{Layers}
@@ -17,6 +17,14 @@ pub record IsReworked (m : Layers) (s : Memory) (most : ℕ) (new : Layers) (was
   pub tidy : IsTidy new.frames
   pub state : state_of new ≡ s
   pub notes : NotesView m.layout most was now (view_of new) (view_of m)
+
+-- no operation holds a block, if a plan has a wish for it
+abbrev pub IsHeldByNone : List Item → Blocks → ℕ → Type 0
+IsHeldByNone plan bs block = IfSome (wish_of plan block) (λ wish. (row_of bs block).claim ≡ None)
+
+-- no operation holds a block that a plan has a wish for
+abbrev pub AreHeldByNone : List Item → Blocks → Type 0
+AreHeldByNone plan bs = (block : ℕ) → IsHeldByNone plan bs block
 
 -- 1 if a plan has a wish for a block, and how many of the blocks below one it has a wish for
 abbrev pub claimed_at : List Item → ℕ → ℕ

@@ -1,6 +1,6 @@
 -- Which layer a delta is of, and its opposite on that layer alone.
 use Rattle.hp_tape.specs.declared.deltas.Delta.{Delta}
-use Rattle.hp_tape.specs.declared.deltas.Delta.TheVariants.{Link, Unlink, Kind as KindDelta, Kernel as KernelDelta, Map as MapDelta, Swap, Word as WordDelta, Filled, Emptied, Row as RowDelta, Auto as AutoDelta}
+use Rattle.hp_tape.specs.declared.deltas.Delta.TheVariants.{Link, Unlink, Kind as KindDelta, Kernel as KernelDelta, Map as MapDelta, Swap, Word as WordDelta, LargeWord, Filled, Emptied, Row as RowDelta, Auto as AutoDelta}
 use Rattle.hp_tape.specs.declared.deltas.ListId.TheVariants.{Area, Cpu}
 use Rattle.hp_layers.specs.declared.parts.Part.{Part}
 use Rattle.hp_layers.specs.declared.parts.Part.TheVariants.{Areas, Lists, Pages, Kernel, Blocks}
@@ -16,6 +16,7 @@ part_of (KernelDelta frame was now) = Kernel
 part_of (MapDelta owner page change) = Pages
 part_of (Swap a b) = Pages
 part_of (WordDelta index frame was now) = Pages
+part_of (LargeWord index frame change) = Pages
 part_of (Filled index frame now) = Pages
 part_of (Emptied frame words) = Pages
 part_of (RowDelta change) = Blocks

@@ -33,6 +33,7 @@ pub(crate) fn part_of(delta: &Delta) -> Part
         Delta::Map { .. }
         | Delta::Swap { .. }
         | Delta::Word { .. }
+        | Delta::LargeWord { .. }
         | Delta::Filled { .. }
         | Delta::Emptied { .. } => Part::Pages,
         Delta::Row(_) | Delta::Auto { .. } => Part::Blocks,

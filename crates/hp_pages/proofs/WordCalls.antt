@@ -1,16 +1,17 @@
 -- A write of a word: what the call changes and notes is what the rule says.
-use Rattle.std.proofs.Common.{◌≡◌, ◌≢◌, cond, ℕ, ◌<◌, Bool, false, List, [], ◌∷◌, ◌++◌, length, get_or, set, replicate, Option, Some, None, refl, sym, ap, ◌∙◌, subst, inl, inr, arith}
-use Rattle.std.specs.Prelude.{IfSome, option_map, slice_get, slice_index, unwrap_or}
+use Rattle.std.proofs.Common.{◌≡◌, ◌≢◌, cond, ℕ, ◌<◌, ◌^◌, ◌&&◌, Bool, true, false, not, nat_lt, List, [], ◌∷◌, ◌++◌, length, get_or, set, replicate, Option, Some, None, refl, sym, ap, ◌∙◌, subst, inl, inr, arith}
+use Rattle.std.specs.Prelude.{IfSome, IsSome, option_map, slice_get, slice_index, unwrap_or}
 use Rattle.std.proofs.lemmas.Bool.{cases_eq, eq-eqb, ne_eqb}
 use Rattle.std.proofs.lemmas.List.{get_or-set_same, length-replicate, length-set, set-set, set-get_or}
-use Rattle.std.proofs.lemmas.Option.{same_Some, slice_get-get_or}
 use Rattle.hp_units.specs.LayoutParts.{LayoutParts}
 use Rattle.hp_units.specs.Arithmetic.{IsFrame}
 use Rattle.hp_units.specs.Pages.{fresh_words}
-use Rattle.hp_tape.specs.declared.deltas.Delta.TheVariants.{Word as WordDelta, Filled}
-use Rattle.hp_tape.specs.Deltas.{HasOneWord, PageFrames, buffer_for, buffer_of, is_blank, with_buffer}
+use Rattle.hp_tape.specs.declared.deltas.Delta.{Delta}
+use Rattle.hp_tape.specs.declared.deltas.Delta.TheVariants.{Word as WordDelta, LargeWord, Filled}
+use Rattle.hp_tape.specs.Deltas.{FitsPages, HasOneWord, IsDeltaOf, IsOfPages, PageFrames, buffer_for, buffer_of, is_blank, pages_undo, with_buffer, word_delta}
 use Rattle.hp_tape.specs.Tapes.{TapeValue, NotesPages}
-use Rattle.hp_pages.specs.Pages.{spare_for, write_at}
+use Rattle.hp_pages.specs.declared.pages.PreparedWrite.TheVariants.{Change, Fill}
+use Rattle.hp_pages.specs.Pages.{change_at, needs_buffer, prepared_at, words_in, write_at}
 use Rattle.hp_pages.proofs.Blanks.{none-needed, some-needed, set-some, set-zero, zeros-blank}
 use Rattle.hp_lemmas.proofs.Tables.{get_set}
 use Rattle.hp_pages.proofs.PageParts.{AreSized, noted_one, same_frames}
@@ -18,29 +19,51 @@ use Rattle.hp_pages.proofs.PageCalls.{kept-none}
 
 -- ---- write
 
--- what a write asks for: zeros, where there is no buffer and the value isn't 0
-pub spare-some : (l : LayoutParts) (b : Option (List ℕ)) (value : ℕ) (words : List ℕ)
-    → spare_for l b value ≡ Some words → (b ≡ None) × (words ≡ fresh_words l) × (value ≢ 0)
-spare-some l None value words h =
-    let asked = λ (is_zero : Bool). cond is_zero None (Some (fresh_words l)) in
+-- a write gets zeros where there is no buffer and the value isn't 0
+filled : (l : LayoutParts) (b : Option (List ℕ)) (value : ℕ) (d : Delta) (words : List ℕ)
+    → cond (needs_buffer b value) (Fill (fresh_words l)) (Change d) ≡ Fill words
+    → (b ≡ None) × (words ≡ fresh_words l) × (value ≢ 0)
+filled l None value d words h =
+    let asked = λ (is_zero : Bool). cond (not is_zero) (Fill (fresh_words l)) (Change d) in
     elim (cases_eq value 0) [
-      | inl same ↦ absurd (let e : None ≡ Some words = sym (ap asked (eq-eqb value 0 same)) ∙ h in cc)
+      | inl same ↦ absurd (let e : Change d ≡ Fill words = sym (ap asked (eq-eqb value 0 same)) ∙ h in cc)
       | inr other ↦
-          (refl, same_Some words (fresh_words l) (sym h ∙ ap asked (ne_eqb value 0 other)), other)
+          let e : Fill (fresh_words l) ≡ Fill words = sym (ap asked (ne_eqb value 0 other)) ∙ h in
+          let same : words ≡ fresh_words l = cc in
+          (refl, same, other)
     ]
-spare-some l (Some buffer) value words h = absurd (let e = h in cc)
+filled l (Some buffer) value d words h = absurd (let e = h in cc)
 
--- where it asks for nothing, there is a buffer, or the value is 0
-pub spare-none : (l : LayoutParts) (b : Option (List ℕ)) (value : ℕ) → spare_for l b value ≡ None → b ≡ None
-    → value ≡ 0
-spare-none l None value h none =
-    let asked = λ (is_zero : Bool). cond is_zero None (Some (fresh_words l)) in
+pub prepared-fill : (l : LayoutParts) (v : PageFrames) (index value frame : ℕ) (words : List ℕ)
+    → prepared_at l v index value frame ≡ Fill words
+    → (buffer_of v frame ≡ None) × (words ≡ fresh_words l) × (value ≢ 0)
+prepared-fill l v index value frame words h =
+    filled l (buffer_of v frame) value (change_at l v frame index value) words h
+
+-- and else the delta, where there is a buffer, or the value is 0
+changed : (l : LayoutParts) (b : Option (List ℕ)) (value : ℕ) (d change : Delta)
+    → cond (needs_buffer b value) (Fill (fresh_words l)) (Change d) ≡ Change change
+    → (b ≡ None → value ≡ 0) × (change ≡ d)
+changed l None value d change h =
+    let asked = λ (is_zero : Bool). cond (not is_zero) (Fill (fresh_words l)) (Change d) in
     elim (cases_eq value 0) [
-      | inl same ↦ same
+      | inl same ↦
+          let e : Change d ≡ Change change = sym (ap asked (eq-eqb value 0 same)) ∙ h in
+          let is : change ≡ d = cc in
+          ((λ none. same), is)
       | inr other ↦
-          absurd (let e : Some (fresh_words l) ≡ None = sym (ap asked (ne_eqb value 0 other)) ∙ h in cc)
+          absurd (let e : Fill (fresh_words l) ≡ Change change =
+          sym (ap asked (ne_eqb value 0 other)) ∙ h in cc)
     ]
-spare-none l (Some buffer) value h none = absurd (let e = none in cc)
+changed l (Some buffer) value d change h =
+    let is : change ≡ d = let e = h in cc in
+    ((λ none. absurd (let e = none in cc)), is)
+
+pub prepared-change : (l : LayoutParts) (v : PageFrames) (index value frame : ℕ) (change : Delta)
+    → prepared_at l v index value frame ≡ Change change
+    → (buffer_of v frame ≡ None → value ≡ 0) × (change ≡ change_at l v frame index value)
+prepared-change l v index value frame change h =
+    changed l (buffer_of v frame) value (change_at l v frame index value) change h
 
 -- what the first word that is not 0 does, and notes
 pub written-fill : (l : LayoutParts) (v : PageFrames) (frame index value : ℕ) → index < l.words
@@ -115,15 +138,48 @@ left-some words index value beside within is other = elim (cases_eq value 0) [
   | inr some ↦ set-some words index value within some
 ]
 
+-- the delta of a word is of the pages and of the layout; it fits where the word is what came, and its
+-- opposite is the word that was
+record IsWordDelta (frame index was now : ℕ) (d : Delta) : Type 0 where
+  own : IsOfPages d
+  numbers : (l : LayoutParts) → IsFrame l frame → index < l.words → IsDeltaOf l d
+  fit : (v : PageFrames) → slice_get (unwrap_or (buffer_of v frame) []) index ≡ Some now → FitsPages d v
+  back : (v : PageFrames)
+      → pages_undo d v ≡ with_buffer v frame (option_map (λ words. set words index was) (buffer_of v frame))
+
+by_size : (frame index was now : ℕ) (small : Bool) → IsWordDelta frame index was now
+    (cond small (WordDelta index frame was now) (LargeWord index frame (record { was = was; now = now })))
+by_size frame index was now true =
+    record {
+      own = tt;
+      numbers = λ l in_frames in_words. (in_frames, in_words);
+      fit = λ v h. h;
+      back = λ v. refl;
+    }
+by_size frame index was now false =
+    record {
+      own = tt;
+      numbers = λ l in_frames in_words. (in_frames, in_words);
+      fit = λ v h. h;
+      back = λ v. refl;
+    }
+
+is-word_delta : (frame index was now : ℕ) → IsWordDelta frame index was now (word_delta frame index was now)
+is-word_delta frame index was now = by_size frame index was now (nat_lt was (2 ^ 32) && nat_lt now (2 ^ 32))
+
 -- what changing a word in a buffer notes
-pub notes-word : (l : LayoutParts) (v : PageFrames) (frame index before value : ℕ) (words : List ℕ)
+pub notes-word : (l : LayoutParts) (v : PageFrames) (frame index value : ℕ) (words : List ℕ)
     (was now : TapeValue)
     → AreSized l v
-    → IsFrame l frame → index < l.words → buffer_of v frame ≡ Some words → before ≡ slice_index words index
-    → now.room ≡ was.room → now.deltas ≡ was.deltas ++ WordDelta index frame before value ∷ []
+    → IsFrame l frame → index < l.words → buffer_of v frame ≡ Some words
+    → now.room ≡ was.room → now.deltas ≡ was.deltas ++ change_at l v frame index value ∷ []
     → NotesPages l 1 was now (with_buffer v frame (option_map (λ ws. set ws index value) (buffer_of v frame)))
     v
-notes-word l v frame index before value words was now are in_frames in_words there read room noted =
+notes-word l v frame index value words was now are in_frames in_words there room noted =
+    let before = slice_index (words_in l v frame) index in
+    let read : before ≡ slice_index words index =
+    ap (λ (b : Option (List ℕ)). slice_index (unwrap_or b (fresh_words l)) index) there in
+    let delta = is-word_delta frame index before value in
     let len : length words ≡ l.words =
     subst (λ (b : Option (List ℕ)). IfSome b (λ ws. length ws ≡ l.words)) there (are.words frame) in
     let within : frame < length v.buffers = omega (arith, are.frames, in_frames) in
@@ -133,18 +189,18 @@ notes-word l v frame index before value words was now are in_frames in_words the
     get_or-set_same v.buffers frame (option_map (λ ws. set ws index value) (buffer_of v frame)) None within
     ∙ ap (option_map (λ ws. set ws index value)) there in
     record {
-      deltas = WordDelta index frame before value ∷ [];
+      deltas = change_at l v frame index value ∷ [];
       tape = noted_one was now _ room noted;
       few = omega arith;
-      own = (tt, tt);
-      numbers = ((in_frames, in_words), tt);
+      own = (delta.own, tt);
+      numbers = (delta.numbers l in_frames in_words, tt);
       lead = record {
         fit = (
           tt,
-          ap (λ (b : Option (List ℕ)). slice_get (unwrap_or b []) index) new
-              ∙ get_set words index value index_in,
+          delta.fit _ (ap (λ (b : Option (List ℕ)). slice_get (unwrap_or b []) index) new
+              ∙ get_set words index value index_in),
         );
-        back = same_frames _ _ _ _ refl
+        back = delta.back _ ∙ same_frames _ _ _ _ refl
             (ap (λ (b : Option (List ℕ)). set
             (set v.buffers frame (option_map (λ ws. set ws index value) (buffer_of v frame))) frame
             (option_map (λ ws. set ws index before) b)) new
@@ -156,20 +212,15 @@ notes-word l v frame index before value words was now are in_frames in_words the
       };
     }
 
--- by what is read
-pub notes-changed : (l : LayoutParts) (v : PageFrames) (frame index before value : ℕ) (b : Option (List ℕ))
+-- by the buffer that is there
+pub notes-changed : (l : LayoutParts) (v : PageFrames) (frame index value : ℕ) (b : Option (List ℕ))
     (was now : TapeValue)
     → AreSized l v
-    → IsFrame l frame → index < l.words → buffer_of v frame ≡ b
-    → slice_get (unwrap_or b []) index ≡ Some before
-    → now.room ≡ was.room → now.deltas ≡ was.deltas ++ WordDelta index frame before value ∷ []
+    → IsFrame l frame → index < l.words → buffer_of v frame ≡ b → IsSome b
+    → now.room ≡ was.room → now.deltas ≡ was.deltas ++ change_at l v frame index value ∷ []
     → NotesPages l 1 was now (with_buffer v frame (option_map (λ ws. set ws index value) (buffer_of v frame)))
     v
-notes-changed l v frame index before value None was now are in_frames in_words there read room noted =
-    absurd cc
-notes-changed l v frame index before value (Some words) was now are in_frames in_words there read room noted =
-    let len : length words ≡ l.words =
-    subst (λ (b : Option (List ℕ)). IfSome b (λ ws. length ws ≡ l.words)) there (are.words frame) in
-    notes-word l v frame index before value words was now are in_frames in_words there
-    (same_Some before (slice_index words index)
-    (sym read ∙ slice_get-get_or words index 0 (omega (arith, len, in_words)))) room noted
+notes-changed l v frame index value None was now are in_frames in_words there some room noted =
+    absurd (let e = some in cc)
+notes-changed l v frame index value (Some words) was now are in_frames in_words there some room noted =
+    notes-word l v frame index value words was now are in_frames in_words there room noted

@@ -1,5 +1,5 @@
 -- What a contract sees of the layer of pages, and what its calls do to it.
-use Rattle.std.specs.Prelude.{◌≡◌, ℕ, ◌≤◌, ◌==◌, false, List, [], Option, Some, None, IfSome, length, map, option_map, slice_index_or, slice_set, unwrap_or, if◌then◌else◌}
+use Rattle.std.specs.Prelude.{◌≡◌, ℕ, ◌≤◌, ◌==◌, ◌&&◌, Bool, false, not, List, [], Option, Some, None, IfSome, is_some, length, map, option_map, slice_index, slice_index_or, slice_set, unwrap_or, if◌then◌else◌}
 use Rattle.std.specs.List.{AllByRecursion}
 use Rattle.std.specs.Option.{option_and_then, option_map_or}
 use Rattle.hp_units.specs.LayoutParts.{LayoutParts}
@@ -8,7 +8,9 @@ use Rattle.hp_units.specs.Memory.{Pages, entry_of, with_entry}
 use Rattle.hp_units.specs.Pages.{fresh_words, page_from}
 use Rattle.hp_tape.specs.declared.deltas.Delta.{Delta}
 use Rattle.hp_tape.specs.declared.deltas.Delta.TheVariants.{Emptied}
-use Rattle.hp_tape.specs.Deltas.{PageFrames, buffer_for, buffer_of, is_blank, with_buffer}
+use Rattle.hp_tape.specs.Deltas.{PageFrames, buffer_for, buffer_of, is_blank, with_buffer, word_delta}
+use Rattle.hp_pages.specs.declared.pages.PreparedWrite.{PreparedWrite}
+use Rattle.hp_pages.specs.declared.pages.PreparedWrite.TheVariants.{Change, Fill}
 use Rattle.hp_pages.specs.Places.{TableValue, holders}
 
 -- the layout, and the pages with their words by frame
@@ -83,14 +85,25 @@ abbrev pub write_frame : LayoutParts → PageFrames → (owner page index value 
 write_frame l v owner page index value =
     option_map_or (λ frame. write_at l v frame index value) (entry_of v.table owner page) v
 
--- the buffer of a page's frame, and the one that a write of a value asks for: zeros, where the
--- frame has none and the value is not 0
-abbrev pub buffer_at : PageFrames → (owner page : ℕ) → Option (List ℕ)
-buffer_at v owner page = option_and_then (buffer_of v) (entry_of v.table owner page)
+-- the delta of a word that changes in a frame
+abbrev pub change_at : LayoutParts → PageFrames → (frame index value : ℕ) → Delta
+change_at l v frame index value =
+    word_delta frame index (slice_index (words_in l v frame) index) value
 
-abbrev pub spare_for : LayoutParts → Option (List ℕ) → (value : ℕ) → Option (List ℕ)
-spare_for l None value = if value == 0 then None else Some (fresh_words l)
-spare_for l (Some words) value = None
+-- a frame without a buffer needs one for a word that is not 0
+abbrev pub needs_buffer : Option (List ℕ) → (value : ℕ) → Bool
+needs_buffer buffer value = not (is_some buffer) && not (value == 0)
+
+-- what a write of a word in a frame, and in a page's frame, needs
+abbrev pub prepared_at : LayoutParts → PageFrames → (index value frame : ℕ) → PreparedWrite
+prepared_at l v index value frame =
+    if needs_buffer (buffer_of v frame) value
+    then Fill (fresh_words l)
+    else Change (change_at l v frame index value)
+
+abbrev pub prepared_for : LayoutParts → PageFrames → (owner page index value : ℕ) → PreparedWrite
+prepared_for l v owner page index value =
+    prepared_at l v index value (unwrap_or (entry_of v.table owner page) 0)
 
 -- the buffers of two frames change places, and a page moves from one frame to another (Linux,
 -- memory hotplug: migration)

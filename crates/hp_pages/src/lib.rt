@@ -12,4 +12,4 @@ mod table;
 pub use buffers::is_blank;
 pub use frame_set::FrameSet;
 pub use laws::well_placed_pages_are_settled;
-pub use pages::Pages;
+pub use pages::{Pages, PreparedWrite};

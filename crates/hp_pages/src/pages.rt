@@ -1,5 +1,5 @@
 //! Owners' pages and their words.
-ghost use Rattle.std.specs.Prelude.{◌≡◌, ◌≢◌, ◌+◌, ◌<◌, ◌≤◌, [], IfOk, IfSome, IsSome, None, Some, find, is_some, length, option_map, slice_get, slice_index, slice_set, unwrap_or};
+ghost use Rattle.std.specs.Prelude.{◌≡◌, ◌≢◌, ◌+◌, ◌<◌, ◌≤◌, [], IfOk, IfSome, IsSome, None, Some, find, is_some, length, option_map, slice_index, slice_set, unwrap_or};
 ghost use Rattle.std.specs.List.{range_with_len};
 ghost use Rattle.hp_units.specs.Arithmetic.{IsFrame, frame_count};
 ghost use Rattle.hp_units.specs.Boot.{empty_pages};
@@ -7,7 +7,7 @@ ghost use Rattle.hp_units.specs.Memory.{entry_of, with_entry};
 ghost use Rattle.hp_units.specs.Pages.{fresh_words, page_from};
 ghost use Rattle.hp_tape.specs.Deltas.{buffer_of, page_frames_of, with_buffer};
 ghost use Rattle.hp_tape.specs.Tapes.{HasRoom, NotesPages};
-ghost use Rattle.hp_pages.specs.Pages.{ArePageFramesOf, AreSettled, buffer_at, map_frame, move_frame, spare_for, unmap_frame, words_in, words_of, write_at, write_frame};
+ghost use Rattle.hp_pages.specs.Pages.{ArePageFramesOf, AreSettled, change_at, map_frame, move_frame, prepared_for, unmap_frame, words_in, words_of, write_at, write_frame};
 ghost use Rattle.hp_pages.specs.Places.{holders};
 
 use crate::buffers::{Buffers, is_blank_beside, zeros};
@@ -21,7 +21,7 @@ mod back;
 
 /// The owners' pages of a layout: the frame of each page, and the words of each mapped frame. A
 /// page whose words are all 0 has no buffer: one page of zeros serves all of them. No call but
-/// `new`, `copy` and `spare_for` takes memory.
+/// `new`, `copy` and `prepare` takes memory.
 pub struct Pages {
     layout: Layout,
     table: Table,
@@ -50,6 +50,15 @@ impl Model for Pages {
         record { layout = p.layout; pages = record { table = p.table.rows; buffers = p.buffers } } };
 
     ghost invariant = { λ p. AreLayerOf p.layout p.table p.buffers p.zeros };
+}
+
+/// What a write of a word needs, made before anything changes.
+#[derive(Drop)]
+pub enum PreparedWrite {
+    /// A buffer of zeros for a frame without one.
+    Fill(Words),
+    /// The delta of the word.
+    Change(Delta),
 }
 
 impl Pages {
@@ -221,55 +230,50 @@ impl Pages {
         tape.note(Delta::of_page(owner, page, change));
     }
 
-    /// The buffer that a write to a page of the layout asks for: zeros, where its frame has no buffer and the
-    /// value is not 0. Takes memory for it; an error is out of memory.
-    pub fn spare_for(
+    /// What a write of a word to a mapped page of the layout needs: a buffer of zeros, where its frame
+    /// has none and the value is not 0, and else the delta of the word. Takes memory for it; an
+    /// error is out of memory.
+    pub fn prepare(
         &self,
         alloc: Global,
         owner: Owner,
         page: Page,
+        index: u32,
         value: u64,
-    ) -> Result<Option<Words>, AllocError>
+    ) -> Result<PreparedWrite, AllocError>
         requires owner { owner < self.now.layout.owners }
         requires page { page < self.now.layout.pages }
-        ensures { IfOk result (λ spare. spare
-            ≡ spare_for self.now.layout (buffer_at self.now.pages owner page) value) }
+        requires index { index < self.now.layout.words }
+        requires mapped { IsSome (entry_of self.now.pages.table owner page) }
+        ensures { IfOk result (λ prepared.
+            prepared ≡ prepared_for self.now.layout self.now.pages owner page index value) }
     {
-        if value == 0 || self.has_buffer(owner, page) {
-            return Ok(None);
+        let frame = self.frame_at(owner, page).unwrap();
+        if value != 0 && self.buffers.words(frame).is_none() {
+            return Ok(PreparedWrite::Fill(zeros(alloc, &self.layout)?));
         }
-        let words = zeros(alloc, &self.layout)?;
-        Ok(Some(words))
+        let was = self.words_in(frame)[index as usize];
+        let change = Delta::of_word(alloc, frame, index, was, value)?;
+        Ok(PreparedWrite::Change(change))
     }
 
-    /// Whether the frame of a page of the layout has a buffer.
-    fn has_buffer(&self, owner: Owner, page: Page) -> bool
-        requires owner { owner < self.now.layout.owners }
-        requires page { page < self.now.layout.pages }
-        ensures { result ≡ is_some (buffer_at self.now.pages owner page) }
-    {
-        match self.frame_at(owner, page) {
-            Some(frame) => self.buffers.words(frame).is_some(),
-            None => false,
-        }
-    }
-
-    /// Changes one word of a mapped page of the layout; words are counted from 0. It takes no memory, but the
-    /// buffer that it asks for. One delta, and none where the word of a frame without a buffer stays 0.
+    /// Changes one word of a mapped page of the layout; words are counted from 0. It takes no memory, but
+    /// what was prepared for it. One delta, and none where the word of a frame without a buffer stays 0.
     pub fn write(
         &mut self,
         owner: Owner,
         page: Page,
         index: u32,
         value: u64,
-        spare: Option<Words>,
+        prepared: PreparedWrite,
         tape: &mut Tape,
     )
         requires owner { owner < self.old.layout.owners }
         requires page { page < self.old.layout.pages }
         requires index { index < self.old.layout.words }
         requires mapped { IsSome (entry_of self.old.pages.table owner page) }
-        requires spare { spare ≡ spare_for self.old.layout (buffer_at self.old.pages owner page) value }
+        requires prepared { prepared
+            ≡ prepared_for self.old.layout self.old.pages owner page index value }
         requires settled { AreSettled self.old.pages }
         requires room { HasRoom tape.old 1 }
         ensures written { self.new.pages ≡ write_frame self.old.layout self.old.pages owner page index value }
@@ -278,9 +282,9 @@ impl Pages {
         ensures notes { NotesPages self.old.layout 1 tape.old tape.new self.new.pages self.old.pages }
     {
         let frame = self.frame_at(owner, page).unwrap();
-        match spare {
-            Some(words) => self.fill(frame, words, index, value, tape),
-            None => self.overwrite(frame, index, value, tape),
+        match prepared {
+            PreparedWrite::Fill(words) => self.fill(frame, words, index, value, tape),
+            PreparedWrite::Change(change) => self.overwrite(frame, index, value, change, tape),
         }
     }
 
@@ -306,9 +310,10 @@ impl Pages {
 
     /// A word changes in a frame of the layout, which has a buffer unless the word stays 0. A
     /// buffer whose words are all 0 then moves into the tape, as it was.
-    fn overwrite(&mut self, frame: Frame, index: u32, value: u64, tape: &mut Tape)
+    fn overwrite(&mut self, frame: Frame, index: u32, value: u64, change: Delta, tape: &mut Tape)
         requires frame { IsFrame self.old.layout frame }
         requires index { index < self.old.layout.words }
+        requires change { change ≡ change_at self.old.layout self.old.pages frame index value }
         requires none { buffer_of self.old.pages frame ≡ None → value ≡ 0 }
         requires room { HasRoom tape.old 1 }
         ensures written { self.new.pages ≡ write_at self.old.layout self.old.pages frame index value }
@@ -321,30 +326,24 @@ impl Pages {
         if value == 0 && is_blank_beside(words, index) {
             self.empty(frame, tape);
         } else {
-            let was = words[index as usize];
-            self.set_word(frame, index, was, value, tape);
+            self.set_word(frame, index, value, change, tape);
         }
     }
 
     /// A word changes in the buffer of a frame of the layout.
-    fn set_word(&mut self, frame: Frame, index: u32, was: u64, now: u64, tape: &mut Tape)
+    fn set_word(&mut self, frame: Frame, index: u32, value: u64, change: Delta, tape: &mut Tape)
         requires frame { IsFrame self.old.layout frame }
         requires index { index < self.old.layout.words }
-        requires was { slice_get (unwrap_or (buffer_of self.old.pages frame) []) index ≡ Some was }
+        requires some { IsSome (buffer_of self.old.pages frame) }
+        requires change { change ≡ change_at self.old.layout self.old.pages frame index value }
         requires room { HasRoom tape.old 1 }
         ensures set { self.new.pages ≡ with_buffer self.old.pages frame
-            (option_map (λ words. slice_set words index now) (buffer_of self.old.pages frame)) }
+            (option_map (λ words. slice_set words index value) (buffer_of self.old.pages frame)) }
         ensures layout { self.new.layout ≡ self.old.layout }
         ensures notes { NotesPages self.old.layout 1 tape.old tape.new self.new.pages self.old.pages }
     {
-        self.buffers.set_word(frame, index, now);
-        let index = index as u16;
-        tape.note(Delta::Word {
-            index,
-            frame,
-            was,
-            now,
-        });
+        self.buffers.set_word(frame, index, value);
+        tape.note(change);
     }
 
     /// Moves the page at one frame of the layout to another that holds none; the buffers change

@@ -1,17 +1,14 @@
 pub mod Begins
 pub mod Claims
 pub mod Commits
-pub mod Counting
 pub mod EmptyFrames
 pub mod EmptyState
 pub mod EqualLists
 pub mod Filters
 pub mod FramesInLayout
 pub mod ListWalks
-pub mod PlacedHeads
 pub mod PlacedLists
 pub mod PlacedPages
-pub mod PlacedRows
 pub mod Ranges
 pub mod Scans
 mod Values

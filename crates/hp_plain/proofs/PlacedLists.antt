@@ -11,8 +11,9 @@ use Rattle.hp_lemmas.proofs.Lists.{class_numbered-index}
 use Rattle.hp_lemmas.proofs.Places.{class_index-lt}
 use Rattle.hp_lemmas.proofs.Pools.{pool_index-lt}
 use Rattle.hp_plain.specs.Names.{Class, Pool, NuPool, NmPool, MmPool, Row}
-use Rattle.hp_plain.specs.Placing.{AreListsPlaced, AreMarked, ArePoolsPlaced, IsListPlaced, IsPoolPlaced, IsTwice, pool_numbered}
-use Rattle.hp_plain.proofs.Counting.{SoFar, marked_as, so_far_all, so_far_more, so_far_twice, total-lists, total-sum, twice_as}
+use Rattle.hp_units.specs.declared.rows.Kind.{Kind}
+use Rattle.hp_placement.specs.Placing.{AreListsPlaced, AreMarked, ArePoolsPlaced, IsListPlaced, IsPoolPlaced, IsTwice, pool_numbered}
+use Rattle.hp_placement.proofs.Counting.{SoFar, marked_as, so_far_all, so_far_more, so_far_twice, total-lists, total-sum, twice_as}
 
 -- ---- the lists of classes and orders, by number
 
@@ -78,13 +79,13 @@ pub free_more : (l : LayoutParts) (a : FreeAreas) (rows : List Row) (number orde
     (old mid new : List ℕ)
     → FreeSoFar l a rows number old mid → number < length a.lists → class ≡ class_numbered (number % 5)
     → order ≡ number / 5
-    → IsListPlaced l a rows class order
+    → IsListPlaced l a.kinds rows class order (free_list a class order)
     × AreMarked mid new (λ frame. list_places frame order (free_list a class order))
     → FreeSoFar l a rows (number + 1) old new
 free_more l a rows number order class old mid new h low class_is order_is placed =
-    let here = subst (λ (c : Class). IsListPlaced l a rows c (number / 5)
+    let here = subst (λ (c : Class). IsListPlaced l a.kinds rows c (number / 5) (free_list a c (number / 5))
     × AreMarked mid new (λ frame. list_places frame (number / 5) (free_list a c (number / 5)))) class_is
-    (subst (λ (o : ℕ). IsListPlaced l a rows class o
+    (subst (λ (o : ℕ). IsListPlaced l a.kinds rows class o (free_list a class o)
     × AreMarked mid new (λ frame. list_places frame o (free_list a class o))) order_is placed) in
     so_far_more h (free_list a (class_numbered (number % 5)) (number / 5)) low (list_numbered a number) here.0
     here.1
@@ -93,7 +94,7 @@ pub free_twice : (l : LayoutParts) (a : FreeAreas) (rows : List Row) (number ord
     (old mid : List ℕ)
     → FreeSoFar l a rows number old mid → number < length a.lists → class ≡ class_numbered (number % 5)
     → order ≡ number / 5
-    → (IsListPlaced l a rows class order
+    → (IsListPlaced l a.kinds rows class order (free_list a class order)
     → IsTwice mid (λ frame. list_places frame order (free_list a class order)))
     → AreListsPlaced l a rows → IsTwice old (free_places a)
 free_twice l a rows number order class old mid h low class_is order_is twice placed =
@@ -140,35 +141,35 @@ cached_numbered fs number =
 abbrev pub CachedSoFar : LayoutParts → FreeFrames → List Row → (number : ℕ) → (old new : List ℕ) → Type 0
 CachedSoFar l fs rows number old new =
     SoFar (λ frame n frames. count_by (λ other. other == frame) frames)
-    (λ n frames. IsPoolPlaced l fs.areas rows (pool_numbered (n % 3)) frames) fs.cached [] number old new
+    (λ n frames. IsPoolPlaced l fs.areas.kinds rows (pool_numbered (n % 3)) frames) fs.cached [] number old new
 
 pub cached_more : (l : LayoutParts) (fs : FreeFrames) (rows : List Row) (number : ℕ) (pool : Pool)
-    (areas : FreeAreas) (frames : List ℕ) (old mid new : List ℕ)
+    (kinds : List Kind) (frames : List ℕ) (old mid new : List ℕ)
     → CachedSoFar l fs rows number old mid → number < length fs.cached → pool ≡ pool_numbered (number % 3)
-    → areas ≡ fs.areas → frames ≡ cached_list fs (number / 3) pool
-    → IsPoolPlaced l areas rows pool frames
+    → kinds ≡ fs.areas.kinds → frames ≡ cached_list fs (number / 3) pool
+    → IsPoolPlaced l kinds rows pool frames
     × AreMarked mid new (λ frame. count_by (λ other. other == frame) frames)
     → CachedSoFar l fs rows (number + 1) old new
-cached_more l fs rows number pool areas frames old mid new h low pool_is areas_is frames_is placed =
+cached_more l fs rows number pool kinds frames old mid new h low pool_is kinds_is frames_is placed =
     let list : get_or fs.cached number [] ≡ frames =
     cached_numbered fs number ∙ ap (cached_list fs (number / 3)) (sym pool_is) ∙ sym frames_is in
     so_far_more h frames low list
-    (subst (λ (p : Pool). IsPoolPlaced l fs.areas rows p frames) pool_is
-    (subst (λ (a : FreeAreas). IsPoolPlaced l a rows pool frames) areas_is placed.0)) placed.1
+    (subst (λ (p : Pool). IsPoolPlaced l fs.areas.kinds rows p frames) pool_is
+    (subst (λ (ks : List Kind). IsPoolPlaced l ks rows pool frames) kinds_is placed.0)) placed.1
 
 pub cached_twice : (l : LayoutParts) (fs : FreeFrames) (rows : List Row) (number : ℕ) (pool : Pool)
-    (areas : FreeAreas) (frames : List ℕ) (old mid : List ℕ)
+    (kinds : List Kind) (frames : List ℕ) (old mid : List ℕ)
     → CachedSoFar l fs rows number old mid → number < length fs.cached → pool ≡ pool_numbered (number % 3)
-    → areas ≡ fs.areas → frames ≡ cached_list fs (number / 3) pool
-    → (IsPoolPlaced l areas rows pool frames
+    → kinds ≡ fs.areas.kinds → frames ≡ cached_list fs (number / 3) pool
+    → (IsPoolPlaced l kinds rows pool frames
     → IsTwice mid (λ frame. count_by (λ other. other == frame) frames))
     → ArePoolsPlaced l fs rows → IsTwice old (cached_places fs)
-cached_twice l fs rows number pool areas frames old mid h low pool_is areas_is frames_is twice placed =
+cached_twice l fs rows number pool kinds frames old mid h low pool_is kinds_is frames_is twice placed =
     let list : get_or fs.cached number [] ≡ frames =
     cached_numbered fs number ∙ ap (cached_list fs (number / 3)) (sym pool_is) ∙ sym frames_is in
-    let here : IsPoolPlaced l areas rows pool frames =
-    subst (λ (a : FreeAreas). IsPoolPlaced l a rows pool frames) (sym areas_is)
-    (subst (λ (xs : List ℕ). IsPoolPlaced l fs.areas rows pool xs) (sym frames_is)
+    let here : IsPoolPlaced l kinds rows pool frames =
+    subst (λ (ks : List Kind). IsPoolPlaced l ks rows pool frames) (sym kinds_is)
+    (subst (λ (xs : List ℕ). IsPoolPlaced l fs.areas.kinds rows pool xs) (sym frames_is)
     (placed (number / 3) pool)) in
     twice_as (cached_places fs)
     (λ frame. total-sum (λ (xs : List ℕ). count_by (λ other. other == frame) xs) 0 fs.cached)
@@ -182,11 +183,11 @@ cached_all l fs rows number old new h all = (
     | inl low ↦
         let lower : pool_index pool < 3 = pool_index-lt pool in
         let rest : (3 * cpu + pool_index pool) % 3 ≡ pool_index pool = omega arith in
-        subst (λ (p : Pool). IsPoolPlaced l fs.areas rows p (cached_list fs cpu pool))
+        subst (λ (p : Pool). IsPoolPlaced l fs.areas.kinds rows p (cached_list fs cpu pool))
         (ap pool_numbered rest ∙ pool_numbered-index pool)
         (h.each (3 * cpu + pool_index pool) (omega arith))
     | inr past ↦
-        subst (IsPoolPlaced l fs.areas rows pool)
+        subst (IsPoolPlaced l fs.areas.kinds rows pool)
         (sym (get_or_past fs.cached (3 * cpu + pool_index pool) [] past)) (λ frame on. absurd (false≢true on))
   ],
   marked_as (cached_places fs)

@@ -4,13 +4,13 @@ use Rattle.hp_units.specs.LayoutParts.{LayoutParts}
 use Rattle.hp_units.specs.InLayout.{IsMemoryOf}
 use Rattle.hp_units.specs.Memory.{FreeAreas, Memory}
 use Rattle.hp_units.specs.Placement.{IsWellPlaced, cached_places, free_places, mapped_places, places_of}
-use Rattle.hp_plain.specs.Placing.{AreKinds, AreListsJoined, AreListsPlaced, AreMarked, ArePages, ArePlacedOnce, ArePoolsPlaced, AreRows, IsKernelPlaced, IsTwice, kernel_counts, mark_of, unplugged}
+use Rattle.hp_placement.specs.Placing.{AreKinds, AreListsJoined, AreListsPlaced, AreMarked, ArePages, ArePlacedOnce, ArePoolsPlaced, AreRows, IsKernelPlaced, IsTwice, kernel_counts, mark_of, unplugged}
 
 -- ---- the places of a state, marked one after another
 
 -- marks of the frames of offline and absent blocks
 abbrev pub IsStart : LayoutParts → Memory → List ℕ → Type 0
-IsStart l s marks = (frame : ℕ) → mark_of marks frame ≡ unplugged l s.blocks frame
+IsStart l s marks = (frame : ℕ) → mark_of marks frame ≡ unplugged l s.blocks.rows frame
 
 -- a frame is in two places: of a free block
 pub twice_free : (l : LayoutParts) (s : Memory) (a : FreeAreas) (m : List ℕ) → IsStart l s m
@@ -100,7 +100,7 @@ placed_once l s start m n o marks false h cached kernel pages not_all = λ p.
 -- ---- well placed states
 
 -- by its parts
-pub well_placed : (l : LayoutParts) (s : Memory) → IsMemoryOf l s → AreRows s.blocks
+pub well_placed : (l : LayoutParts) (s : Memory) → IsMemoryOf l s → AreRows s.blocks.rows
     → AreKinds l s.free.areas.kinds s.blocks.rows → AreListsJoined l s.free.areas → ArePlacedOnce l s
     → IsWellPlaced l s
 well_placed l s of rows kinds joined p = record {
@@ -130,7 +130,7 @@ well_placed l s of rows kinds joined p = record {
 
 -- and its parts
 pub record ArePartsPlaced (l : LayoutParts) (s : Memory) : Type 0 where
-  pub rows : AreRows s.blocks
+  pub rows : AreRows s.blocks.rows
   pub kinds : AreKinds l s.free.areas.kinds s.blocks.rows
   pub joined : AreListsJoined l s.free.areas
   pub once : ArePlacedOnce l s
@@ -154,7 +154,7 @@ parts_placed l s p = record {
 }
 
 -- the last test decides
-pub decided : (l : LayoutParts) (s : Memory) (once : Bool) → IsMemoryOf l s → AreRows s.blocks
+pub decided : (l : LayoutParts) (s : Memory) (once : Bool) → IsMemoryOf l s → AreRows s.blocks.rows
     → AreKinds l s.free.areas.kinds s.blocks.rows → AreListsJoined l s.free.areas
     → MatchBool once (ArePlacedOnce l s) (ArePlacedOnce l s → ⊥)
     → MatchBool once (IsWellPlaced l s) (IsWellPlaced l s → ⊥)

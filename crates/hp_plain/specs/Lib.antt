@@ -1,5 +1,4 @@
 pub mod Asked
 pub mod Image
 pub mod Names
-pub mod Placing
 pub mod Plans

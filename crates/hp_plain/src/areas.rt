@@ -3,7 +3,7 @@ ghost use Rattle.std.specs.Prelude.{◌≡◌, ◌≢◌, ◌+◌, ◌*◌, ◌<
 ghost use Rattle.hp_units.specs.Boot.{empty_areas};
 ghost use Rattle.hp_units.specs.FreeAreas.{with_back};
 ghost use Rattle.hp_units.specs.InLayout.{AreFreeAreasOf};
-ghost use Rattle.hp_units.specs.Memory.{class_index, free_list, kind_of, with_kind};
+ghost use Rattle.hp_units.specs.Memory.{class_index, free_list, with_kind};
 
 use crate::lists::FrameList;
 use crate::lists::many::{copy_of_lists, empty_lists, same_lists};
@@ -61,16 +61,6 @@ impl Areas {
         ensures { result.now ≡ self.now.kinds }
     {
         self.kinds.as_slice()
-    }
-
-    /// The kind of a pageblock; movable and not isolated for one past the last one.
-    pub(crate) fn kind_or_plain(&self, pageblock: Pageblock) -> Kind
-        ensures { result ≡ kind_of self.now pageblock }
-    {
-        match self.kinds.get(pageblock.0 as usize) {
-            Some(kind) => *kind,
-            None => Kind::plain(),
-        }
     }
 
     /// A pageblock gets a kind.

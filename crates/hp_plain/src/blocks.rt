@@ -1,7 +1,7 @@
 //! The row of each memory block, and what a block that is added becomes.
 ghost use Rattle.std.specs.Prelude.{◌≡◌, ◌≢◌, MatchBool, ◌<◌, IfOk, length, slice_get};
 ghost use Rattle.hp_units.specs.Boot.{empty_blocks};
-ghost use Rattle.hp_units.specs.Memory.{row_of, with_row};
+ghost use Rattle.hp_units.specs.Memory.{with_row};
 
 pub(crate) mod plans;
 
@@ -72,16 +72,6 @@ impl Blocks {
         ensures { result.now ≡ self.now.rows }
     {
         self.rows.as_slice()
-    }
-
-    /// The row of a memory block; an offline one for a block past the last one.
-    pub(crate) fn row_or_offline(&self, block: Block) -> Row
-        ensures { result ≡ row_of self.now block }
-    {
-        match self.rows.get(block.0 as usize) {
-            Some(row) => *row,
-            None => Row::bare(State::Offline),
-        }
     }
 
     /// Sets the row of a memory block, whose number is below the count of rows (own rule).

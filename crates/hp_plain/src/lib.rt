@@ -3,7 +3,8 @@
 //!
 //! `frames` owns the free areas and the processors' lists, with `areas` and `lists` below it, `blocks`
 //! the rows of memory blocks, `pages` the owners' pages and their words, and `image` puts them and the
-//! kernel's blocks together. Nothing here is a step of a machine. Read `image` first.
+//! kernel's blocks together. `placement` tests whether a state is well placed. Nothing here is a step
+//! of a machine. Read `image` first.
 #![tactic(auto)]
 
 mod areas;

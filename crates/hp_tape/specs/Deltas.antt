@@ -1,10 +1,10 @@
 -- What a delta undoes, and the state as the journal sees it: with the words of a page in a buffer
 -- of its frame.
-use Rattle.std.specs.Prelude.{◌≡◌, ◌<◌, ◌≤◌, ℕ, length, IfSome, Bool, true, false, not, ◌&&◌, List, [], ◌∷◌, Option, Some, None, ◌==◌, map, replicate, slice_get, slice_index_or, slice_set, unwrap_or, if◌then◌else◌}
+use Rattle.std.specs.Prelude.{◌≡◌, ◌<◌, ◌≤◌, ℕ, ◌^◌, length, IfSome, Bool, true, false, not, ◌&&◌, List, [], ◌∷◌, Option, Some, None, ◌==◌, map, nat_lt, replicate, slice_get, slice_index_or, slice_set, unwrap_or, if◌then◌else◌}
 use Rattle.std.specs.List.{list_all}
 use Rattle.std.specs.Option.{option_map, option_map_or, option_and_then}
 use Rattle.hp_tape.specs.declared.deltas.Delta.{Delta}
-use Rattle.hp_tape.specs.declared.deltas.Delta.TheVariants.{Link, Unlink, Kind as KindDelta, Kernel as KernelDelta, Map as MapDelta, Swap, Word as WordDelta, Filled, Emptied, Row as RowDelta, Auto as AutoDelta}
+use Rattle.hp_tape.specs.declared.deltas.Delta.TheVariants.{Link, Unlink, Kind as KindDelta, Kernel as KernelDelta, Map as MapDelta, Swap, Word as WordDelta, LargeWord, Filled, Emptied, Row as RowDelta, Auto as AutoDelta}
 use Rattle.hp_tape.specs.declared.deltas.ListId.{ListId}
 use Rattle.hp_tape.specs.declared.deltas.ListId.TheVariants.{Area, Cpu}
 use Rattle.hp_tape.specs.declared.frame_changes.FrameChange.{FrameChange}
@@ -55,6 +55,15 @@ abbrev pub frame_view_of : LayoutParts → Memory → FrameView
 frame_view_of l s =
     record { free = s.free; pages = page_frames_of l s.pages; kernel = s.kernel; blocks = s.blocks }
 
+-- ---- the delta of a word
+
+-- a word in a frame that was and is below 2^32, or any other
+abbrev pub word_delta : (frame index was now : ℕ) → Delta
+word_delta frame index was now =
+    if nat_lt was (2 ^ 32) && nat_lt now (2 ^ 32)
+    then WordDelta index frame was now
+    else LargeWord index frame (record { was = was; now = now })
+
 -- ---- the opposite of a delta, on each part of the state (own rule)
 
 -- a list with a frame put after another, or at the front
@@ -88,6 +97,8 @@ pages_undo (MapDelta owner page change) v =
 pages_undo (Swap a b) v = with_buffer (with_buffer v a (buffer_of v b)) b (buffer_of v a)
 pages_undo (WordDelta index frame was now) v =
     with_buffer v frame (option_map (λ words. slice_set words index was) (buffer_of v frame))
+pages_undo (LargeWord index frame change) v =
+    with_buffer v frame (option_map (λ words. slice_set words index change.was) (buffer_of v frame))
 pages_undo (Filled index frame now) v = with_buffer v frame None
 pages_undo (Emptied frame words) v = with_buffer v frame (Some words)
 pages_undo delta v = v
@@ -164,6 +175,8 @@ FitsPages (MapDelta owner page change) v =
     (entry_of v.table owner page ≡ frame_after change) × IsFresh change v
 FitsPages (WordDelta index frame was now) v =
     slice_get (unwrap_or (buffer_of v frame) []) index ≡ Some now
+FitsPages (LargeWord index frame change) v =
+    slice_get (unwrap_or (buffer_of v frame) []) index ≡ Some change.now
 FitsPages (Filled index frame now) v = HasOneWord index now (buffer_of v frame)
 FitsPages (Emptied frame words) v = buffer_of v frame ≡ None
 FitsPages delta v = Unit {0}
@@ -204,6 +217,7 @@ IsDeltaOf l (MapDelta owner page change) =
     × IfSome (frame_after change) (IsFrame l)
 IsDeltaOf l (Swap a b) = IsFrame l a × IsFrame l b
 IsDeltaOf l (WordDelta index frame was now) = IsFrame l frame × (index < l.words)
+IsDeltaOf l (LargeWord index frame change) = IsFrame l frame × (index < l.words)
 IsDeltaOf l (Filled index frame now) = IsFrame l frame × (index < l.words)
 IsDeltaOf l (Emptied frame words) = IsFrame l frame × (length words ≡ l.words)
 IsDeltaOf l (RowDelta change) = change.block < l.blocks
@@ -230,6 +244,7 @@ abbrev pub IsOfPages : Delta → Type 0
 IsOfPages (MapDelta owner page change) = Unit {0}
 IsOfPages (Swap a b) = Unit {0}
 IsOfPages (WordDelta index frame was now) = Unit {0}
+IsOfPages (LargeWord index frame change) = Unit {0}
 IsOfPages (Filled index frame now) = Unit {0}
 IsOfPages (Emptied frame words) = Unit {0}
 IsOfPages delta = ⊥

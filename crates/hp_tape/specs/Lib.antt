@@ -3,3 +3,4 @@ pub mod Deltas
 pub mod FrameChanges
 pub mod RowChanges
 pub mod Tapes
+pub mod WordChanges

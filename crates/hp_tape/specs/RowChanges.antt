@@ -1,6 +1,5 @@
 -- The rows that a packed change of a row stands for (own rule).
-use Rattle.std.specs.Prelude.{ℕ, Option, None, Some}
-use Rattle.std.specs.Int.{w64, from_le_bytes}
+use Rattle.std.specs.Prelude.{◌≡◌, ℕ, Option, None, Some}
 use Rattle.hp_units.specs.declared.rows.Row.{Row}
 use Rattle.hp_units.specs.declared.rows.Claim.{Claim}
 use Rattle.hp_units.specs.declared.rows.Wish.TheVariants.{Off, Normal, Movable}
@@ -29,16 +28,11 @@ claim_in OffPart op = Some (record { op = op; wish = Off })
 claim_in NormalWish op = Some (record { op = op; wish = Normal })
 claim_in MovableWish op = Some (record { op = op; wish = Movable })
 
--- the operation of a claim, and 0 where there is none
-abbrev pub op_in : Option Claim → ℕ
-op_in None = 0
-op_in (Some claim) = claim.op
+-- two claims are not of different operations
+abbrev pub AreOfOneOperation : Option Claim → Option Claim → Type 0
+AreOfOneOperation (Some before) (Some after) = before.op ≡ after.op
+AreOfOneOperation before after = Unit {0}
 
--- the operation's number stands as bytes, lowest first
-abbrev pub row_in : PackedRow → Row
-row_in packed =
-    record {
-      state = packed.state;
-      zone = zone_in packed.zone;
-      claim = claim_in packed.wish (from_le_bytes w64 packed.op);
-    }
+abbrev pub row_in : PackedRow → (op : ℕ) → Row
+row_in packed op =
+    record { state = packed.state; zone = zone_in packed.zone; claim = claim_in packed.wish op }

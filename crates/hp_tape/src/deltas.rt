@@ -1,10 +1,12 @@
 //! What was done to the state, so that it can be undone.
-ghost use Rattle.std.specs.Prelude.{◌≡◌, ◌<◌, IfOk};
+ghost use Rattle.std.specs.Prelude.{◌≡◌, ◌<◌, ◌^◌, IfOk, IsOk};
+ghost use Rattle.hp_tape.specs.Deltas.{word_delta};
 ghost use Rattle.hp_tape.specs.declared.deltas.Delta.TheVariants.{Map as MapDelta};
 ghost use Rattle.hp_tape.specs.declared.deltas.ListId.TheVariants.{Area, Cpu as CpuList};
 
 use crate::frame_changes::FrameChange;
 use crate::row_changes::RowChange;
+use crate::word_changes::WordChange;
 use hp_units::{Auto, Class, Cpu, Frame, Kind, Order, Owner, Page, Pageblock, Pool, Words};
 use std::alloc::{AllocError, Global};
 use std::mem::size_of;
@@ -78,13 +80,19 @@ pub enum Delta {
         a: Frame,
         b: Frame,
     },
-    /// One word in the buffer of a frame changed; words are counted from 0, and a frame has at most
-    /// 512.
+    /// One word in the buffer of a frame changed, and was and is below 2^32; words are counted from
+    /// 0, and a frame has at most 512.
     Word {
         index: u16,
         frame: Frame,
-        was: u64,
-        now: u64,
+        was: u32,
+        now: u32,
+    },
+    /// One word in the buffer of a frame changed, and was or is 2^32 or more.
+    LargeWord {
+        index: u16,
+        frame: Frame,
+        change: WordChange,
     },
     /// A frame without a buffer got one, with the first word of its page that is not 0 in it; words
     /// are counted from 0.
@@ -108,9 +116,11 @@ pub enum Delta {
     },
 }
 
-/// Bytes of a delta decide what a journal costs (own rule). A word and a row have what was and what
-/// came, so that whether a delta fits a state can be told of each.
-const _: () = prove!(size_of::<Delta>() <= 24);
+/// Bytes of a delta decide what a journal costs (own rule).
+const _: () = prove!(size_of::<Delta>() <= 16);
+
+/// The least value of a word that takes more than four bytes.
+const LARGE: u64 = 1 << 32;
 
 impl Delta {
     /// What became of an owner's page.
@@ -126,6 +136,37 @@ impl Delta {
             page,
             change,
         }
+    }
+
+    /// The change of a word, counted from 0, in the buffer of a frame. Takes memory only where one of
+    /// its values is 2^32 or more; an error is out of memory.
+    pub fn of_word(
+        alloc: Global,
+        frame: Frame,
+        index: u32,
+        was: u64,
+        now: u64,
+    ) -> Result<Delta, AllocError>
+        requires { index < 65536 }
+        ensures ok { IfOk result (λ delta. delta ≡ word_delta frame index was now) }
+        ensures small { was < 2 ^ 32 → now < 2 ^ 32 → IsOk result }
+    {
+        let index = index as u16;
+        if was < LARGE && now < LARGE {
+            let (was, now) = (was as u32, now as u32);
+            return Ok(Delta::Word {
+                index,
+                frame,
+                was,
+                now,
+            });
+        }
+        let change = WordChange::new(alloc, was, now)?;
+        Ok(Delta::LargeWord {
+            index,
+            frame,
+            change,
+        })
     }
 
     /// An equal delta. Takes memory for the words that it holds, if it holds any; an error is out of memory.
@@ -177,6 +218,15 @@ impl Delta {
                 frame: *frame,
                 was: *was,
                 now: *now,
+            },
+            Delta::LargeWord {
+                index,
+                frame,
+                change,
+            } => Delta::LargeWord {
+                index: *index,
+                frame: *frame,
+                change: change.copy(alloc)?,
             },
             Delta::Filled { index, frame, now } => Delta::Filled {
                 index: *index,

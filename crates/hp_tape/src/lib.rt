@@ -5,8 +5,10 @@ mod deltas;
 mod frame_changes;
 mod row_changes;
 mod tapes;
+mod word_changes;
 
 pub use deltas::{Delta, ListId};
 pub use frame_changes::FrameChange;
 pub use row_changes::RowChange;
 pub use tapes::Tape;
+pub use word_changes::WordChange;

@@ -1,38 +1,47 @@
 //! The rows of a memory block before and after a change, in a form short enough for a delta.
-ghost use Rattle.std.specs.Prelude.{◌≡◌, ◌<◌};
-ghost use Rattle.hp_tape.specs.RowChanges.{claim_in, op_in, row_in, zone_in};
+ghost use Rattle.std.specs.Prelude.{◌≡◌, ◌<◌, ℕ, IfSome};
+ghost use Rattle.std.specs.Int.{w64, from_le_bytes};
+ghost use Rattle.hp_tape.specs.RowChanges.{AreOfOneOperation, claim_in, row_in, zone_in};
 
 use hp_units::{Block, Claim, Row, Serial, State, Wish, Zone};
 use std::marker::Model;
 
-/// A change of a memory block's row, with the rows before and after it, in 23 bytes (own rule). A
+/// A change of a memory block's row, with the rows before and after it, in 15 bytes (own rule). A
 /// contract sees the rows themselves.
 #[derive(Drop)]
 pub struct RowChange {
     block: u8,
     before: PackedRow,
     after: PackedRow,
+    op: [u8; 8],
 }
 
 impl Model for RowChange {
+    ghost use Rattle.std.specs.Int.{w64, from_le_bytes};
     ghost use Rattle.hp_tape.specs.RowChanges.{RowChangeValue, row_in};
 
     ghost Value = { RowChangeValue };
 
-    ghost view = { λ c.
-        record { block = c.block; before = row_in c.before; after = row_in c.after } };
+    ghost view = { λ c. record {
+      block = c.block;
+      before = row_in c.before (from_le_bytes w64 c.op);
+      after = row_in c.after (from_le_bytes w64 c.op);
+    } };
 }
 
 impl RowChange {
-    /// A change of a memory block, of which there are at most 256, from a row to another.
+    /// A change of a memory block, of which there are at most 256, from a row to another. Where an
+    /// operation holds the block in both, it is the same one.
     pub fn new(block: Block, before: &Row, after: &Row) -> RowChange
-        requires { block < 256 }
+        requires block { block < 256 }
+        requires one { AreOfOneOperation before.now.claim after.now.claim }
         ensures { result ≡ record { block = block; before = before.now; after = after.now } }
     {
         RowChange {
             block: block.0 as u8,
             before: PackedRow::new(before),
             after: PackedRow::new(after),
+            op: one_op(before.claim, after.claim).to_le_bytes(),
         }
     }
 
@@ -44,6 +53,7 @@ impl RowChange {
             block: self.block,
             before: self.before,
             after: self.after,
+            op: self.op,
         }
     }
 
@@ -58,43 +68,39 @@ impl RowChange {
     pub fn before(&self) -> Row
         ensures { result ≡ self.now.before }
     {
-        self.before.row()
+        self.before.row(op_in(self.op))
     }
 
     /// The row after the change.
     pub fn after(&self) -> Row
         ensures { result ≡ self.now.after }
     {
-        self.after.row()
+        self.after.row(op_in(self.op))
     }
 }
 
-/// A memory block's row in 11 bytes, with the operation's number as bytes, lowest first, so that it
-/// may lie anywhere.
+/// A memory block's row in 3 bytes, without the number of the operation that holds the block.
 #[derive(Clone, Copy, Drop)]
 struct PackedRow {
     state: State,
     zone: ZonePart,
     wish: WishPart,
-    op: [u8; 8],
 }
 
 impl PackedRow {
     fn new(row: &Row) -> PackedRow
-        ensures { row_in result ≡ row.now }
+        ensures { (op : ℕ) → IfSome row.now.claim (λ claim. claim.op ≡ op) → row_in result op ≡ row.now }
     {
         PackedRow {
             state: row.state,
             zone: ZonePart::of(row.zone),
             wish: WishPart::of(row.claim),
-            op: op_of(row.claim).to_le_bytes(),
         }
     }
 
-    fn row(&self) -> Row
-        ensures { result ≡ row_in self.now }
+    fn row(self, op: Serial) -> Row
+        ensures { result ≡ row_in self op }
     {
-        let op = Serial(u64::from_le_bytes(self.op));
         Row {
             state: self.state,
             zone: self.zone.zone(),
@@ -144,7 +150,7 @@ enum WishPart {
 
 impl WishPart {
     fn of(claim: Option<Claim>) -> WishPart
-        ensures { claim_in result (op_in claim) ≡ claim }
+        ensures { (op : ℕ) → IfSome claim (λ c. c.op ≡ op) → claim_in result op ≡ claim }
     {
         match claim {
             None => WishPart::None,
@@ -177,12 +183,21 @@ impl WishPart {
     }
 }
 
-/// The number of the operation that a claim is of, and 0 where there is none.
-fn op_of(claim: Option<Claim>) -> u64
-    ensures { result ≡ op_in claim }
+/// The operation's number that bytes are, lowest first.
+fn op_in(bytes: [u8; 8]) -> Serial
+    ensures { result ≡ from_le_bytes w64 bytes }
 {
-    match claim {
-        None => 0,
-        Some(claim) => claim.op.0,
+    Serial(u64::from_le_bytes(bytes))
+}
+
+/// The number of the operation that one of two claims is of, and 0 where there is none.
+fn one_op(before: Option<Claim>, after: Option<Claim>) -> u64
+    requires { AreOfOneOperation before after }
+    ensures before { IfSome before (λ claim. claim.op ≡ result) }
+    ensures after { IfSome after (λ claim. claim.op ≡ result) }
+{
+    match (before, after) {
+        (Some(claim), _) | (None, Some(claim)) => claim.op.0,
+        (None, None) => 0,
     }
 }

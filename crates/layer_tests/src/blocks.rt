@@ -1,4 +1,5 @@
 ghost use Rattle.std.specs.Prelude.{◌≡◌, IfOk};
+ghost use Rattle.hp_units.specs.Boot.{empty_blocks};
 ghost use Rattle.hp_tape.specs.Tapes.{HasRoom};
 ghost use Rattle.layer_tests.specs.SmallLayouts.{two_blocks};
 
@@ -11,7 +12,8 @@ use std::test::Fail;
 
 /// The rows of two memory blocks, as a layout begins.
 fn small_blocks(alloc: Global) -> Result<Blocks, Fail>
-    ensures { IfOk result (λ b. b.layout ≡ two_blocks) }
+    ensures { IfOk result
+        (λ b. b ≡ record { layout = two_blocks; blocks = empty_blocks two_blocks }) }
 {
     let layout = two_blocks(alloc)?;
     let blocks = Blocks::new(alloc, &layout)?;
@@ -21,7 +23,7 @@ fn small_blocks(alloc: Global) -> Result<Blocks, Fail>
 
 /// Whether the second memory block is claimed, and what added ones become is set and taken back.
 fn is_claimed_and_set(blocks: &mut Blocks, tape: &mut Tape) -> bool
-    requires layout { blocks.old.layout ≡ two_blocks }
+    requires blocks { blocks.old ≡ record { layout = two_blocks; blocks = empty_blocks two_blocks } }
     requires room { HasRoom tape.old 3 }
 {
     blocks.set(Block(1), Row::online(Zone::Movable), tape);

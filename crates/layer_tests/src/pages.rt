@@ -1,4 +1,4 @@
-ghost use Rattle.std.specs.Prelude.{◌≡◌, [], ◌∷◌, IfOk, None, Some};
+ghost use Rattle.std.specs.Prelude.{◌≡◌, [], ◌∷◌, IfOk, None, OnOk, Some};
 ghost use Rattle.hp_tape.specs.Tapes.{HasRoom, NotesPages};
 ghost use Rattle.hp_pages.specs.Pages.{AreSettled};
 ghost use Rattle.layer_tests.specs.SmallLayouts.{two_blocks};
@@ -7,8 +7,8 @@ ghost use Rattle.layer_tests.specs.SmallPages.{no_pages, second_page};
 use crate::layouts::two_blocks;
 use hp_pages::Pages;
 use hp_tape::{Delta, Tape};
-use hp_units::{Frame, Owner, Page, Words};
-use std::alloc::Global;
+use hp_units::{Frame, Owner, Page};
+use std::alloc::{AllocError, Global};
 use std::test::Fail;
 
 /// The pages of four frames, none mapped.
@@ -50,20 +50,52 @@ fn is_found(pages: &Pages) -> bool
 }
 
 /// Whether the page is found where it was mapped, and has the words that were written.
-fn is_mapped_and_written(pages: &mut Pages, spare: Option<Words>, tape: &mut Tape) -> bool
+fn is_mapped_and_written(
+    alloc: Global,
+    pages: &mut Pages,
+    tape: &mut Tape,
+) -> Result<bool, AllocError>
     requires layout { pages.old.layout ≡ two_blocks }
     requires pages { pages.old.pages ≡ no_pages }
     requires settled { AreSettled pages.old.pages }
-    requires spare { spare ≡ Some (0 ∷ 0 ∷ []) }
     requires room { HasRoom tape.old 2 }
     ensures layout { pages.new.layout ≡ two_blocks }
-    ensures pages { pages.new.pages ≡ second_page (Some (0 ∷ 7 ∷ [])) }
+    ensures pages { OnOk result (pages.new.pages ≡ second_page (Some (0 ∷ 7 ∷ []))) }
     ensures settled { AreSettled pages.new.pages }
 {
     map_page(pages, tape);
     let is_found = is_found(pages);
-    pages.write(Owner(0), Page(1), 1, 7, spare, tape);
-    is_found && matches!(pages.words(Owner(0), Page(1)), Some([0, 7]))
+    let prepared = pages.prepare(alloc, Owner(0), Page(1), 1, 7)?;
+    pages.write(Owner(0), Page(1), 1, 7, prepared, tape);
+    Ok(is_found && matches!(pages.words(Owner(0), Page(1)), Some([0, 7])))
+}
+
+/// Whether a word of 2^40 is noted with the word before it, in the page and in an equal delta.
+fn is_large_word_noted(
+    alloc: Global,
+    pages: &mut Pages,
+    tape: &mut Tape,
+) -> Result<bool, AllocError>
+    requires layout { pages.old.layout ≡ two_blocks }
+    requires pages { pages.old.pages ≡ second_page (Some (0 ∷ 7 ∷ [])) }
+    requires settled { AreSettled pages.old.pages }
+    requires room { HasRoom tape.old 1 }
+{
+    let large = 1 << 40;
+    let prepared = pages.prepare(alloc, Owner(0), Page(1), 1, large)?;
+    pages.write(Owner(0), Page(1), 1, large, prepared, tape);
+    let copy = tape.copy(alloc)?;
+    let is_noted = match copy.as_slice() {
+        [
+            Delta::LargeWord {
+                index: 1,
+                change,
+                ..
+            },
+        ] => change.was() == 7 && change.now() == large,
+        _ => false,
+    };
+    Ok(is_noted && pages.read(Owner(0), Page(1), 1) == large)
 }
 
 /// Moves the page to the last frame and unmaps it there, and takes back that the buffers of both
@@ -86,10 +118,19 @@ fn is_moved_and_unmapped(pages: &mut Pages, tape: &mut Tape) -> bool
 #[test]
 fn maps_writes_and_moves(rt: HostRuntime) -> Result<(), Fail> {
     let mut pages = small_pages(rt.alloc())?;
-    let spare = pages.spare_for(rt.alloc(), Owner(0), Page(1), 7)?;
     let mut first = Tape::with_room(rt.alloc(), 2)?;
     let mut second = Tape::with_room(rt.alloc(), 4)?;
-    let is_written = is_mapped_and_written(&mut pages, spare, &mut first);
+    let is_written = is_mapped_and_written(rt.alloc(), &mut pages, &mut first)?;
     assert!(rt; is_written && is_moved_and_unmapped(&mut pages, &mut second));
+    Ok(())
+}
+
+#[test]
+fn notes_a_large_word(rt: HostRuntime) -> Result<(), Fail> {
+    let mut pages = small_pages(rt.alloc())?;
+    let mut first = Tape::with_room(rt.alloc(), 2)?;
+    let mut second = Tape::with_room(rt.alloc(), 1)?;
+    let is_written = is_mapped_and_written(rt.alloc(), &mut pages, &mut first)?;
+    assert!(rt; is_written && is_large_word_noted(rt.alloc(), &mut pages, &mut second)?);
     Ok(())
 }

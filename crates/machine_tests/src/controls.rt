@@ -1,10 +1,10 @@
 //! What each control file shows, and paths and bytes that no line of a scenario can have. Those that
 //! a line can have are refused in runs/paths.txt.
-use crate::layouts::LAST_ABSENT;
 use crate::looks::{Look, finds_in_four_blocks};
 use hp_control::{buddyinfo, read_file, read_text};
 use hp_machine::Machine;
 use hp_requests::{ControlFault, parse_write};
+use layouts_for_tests::LAST_ABSENT;
 use std::alloc::{AllocError, Global};
 
 /// What a test looks for: the files at boot, and paths and bytes that ask for nothing.

@@ -1,7 +1,7 @@
 //! The one owner of a machine: every test of one looks at it through a `Look`.
-use crate::layouts::four_blocks;
 use hp_machine::Machine;
 use hp_units::{Boot, Layout};
+use layouts_for_tests::four_blocks;
 use std::alloc::{AllocError, Global};
 
 /// What a test looks for in a machine.

@@ -1,9 +1,9 @@
 //! The memory of a machine at boot, drawn.
-use crate::layouts::LAST_ABSENT;
 use crate::looks::{Look, finds_in_four_blocks};
 use hp_machine::Machine;
 use hp_map::{Place, picture_of, places_of};
 use hp_pictures::{BlockPicture, frames_in};
+use layouts_for_tests::LAST_ABSENT;
 use std::alloc::{AllocError, Global};
 
 /// What a test looks for: the picture of four memory blocks, and a place for each frame.

@@ -1,9 +1,9 @@
 //! A step of a memory in layers that is taken back, and the numbers of the states.
-use crate::layouts::{LAST_OFFLINE, four_blocks};
 use hp_codes::Codes;
 use hp_memory::Memory;
 use hp_tape::Tape;
 use hp_units::{Cpu, Event, Frame, Order, Reply, Serial};
+use layouts_for_tests::{LAST_OFFLINE, four_blocks};
 use std::alloc::{AllocError, Global};
 use std::test::Fail;
 

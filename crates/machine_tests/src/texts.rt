@@ -1,5 +1,4 @@
 //! Each writer once, and a state with a page.
-use crate::layouts::LAST_OFFLINE;
 use crate::looks::{Look, finds_in_four_blocks};
 use hp_machine::Machine;
 use hp_plain::Image;
@@ -12,6 +11,7 @@ use hp_units::{
     Block, CallFault, Cpu, Event, Frame, OpEnd, Owner, Page, Refusal, Reply, Serial, Text,
 };
 use indexmap::IndexSet;
+use layouts_for_tests::LAST_OFFLINE;
 use std::alloc::{AllocError, Global};
 use std::test::Fail;
 

@@ -1,13 +1,13 @@
 //! Records that are replayed, and sealed records that follow one another.
 use crate::calls::make_call;
 use crate::same::expect_same_machines;
-use crate::trouble::{Case, Outcome, Trouble, expect};
 use hp_history::{Course, Volume};
 use hp_machine::Machine;
 use hp_plain::Image;
 use hp_replays::{audit_chain, replay, replay_from};
 use hp_scenario::{Line, Scenario, Work};
 use hp_units::Layout;
+use refused_values::{Case, Outcome, Trouble, expect};
 use std::alloc::Global;
 
 /// Lines whose records are sealed, and more lines.

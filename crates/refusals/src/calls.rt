@@ -2,11 +2,11 @@
 //! made the call yet, and the call is made again. Its answer, and the machine after it, have to be
 //! those of the copy that makes the same call.
 use crate::same::{expect_same_machines, expect_same_states, same_receipts, same_records};
-use crate::trouble::{Case, Outcome, Trouble, expect};
 use hp_history::Volume;
 use hp_machine::Machine;
 use hp_scenario::{Line, Work};
 use hp_units::{CallFault, Cpu, Event, OpEnd, Plan, Receipt, Reply};
+use refused_values::{Case, Outcome, Trouble, expect};
 use std::alloc::Global;
 
 /// Makes a call, and wants what a copy of the machine makes of it.

@@ -3,8 +3,6 @@
 ghost use Rattle.std.specs.Prelude.{◌<◌, length};
 
 use crate::calls::{is_full, make_call};
-use crate::trouble::{Case, Outcome, expect};
-use crate::values::{begin, machine_of, note, two_words};
 use hp_machine::{Machine, MachinePort};
 use hp_ops::Port;
 use hp_plain::Image;
@@ -13,6 +11,8 @@ use hp_units::{
     Auto, Block, Class, Cpu, Event, Frame, Layout, Order, Owner, Page, Pageblock, Pool, Serial,
     block_of, buddy, pageblock_of,
 };
+use refused_values::values::{begin, machine_of, note, two_words};
+use refused_values::{Case, Outcome, expect};
 use std::alloc::Global;
 
 /// Makes a machine that two owners have a page of, after which its history is full, and goes on.

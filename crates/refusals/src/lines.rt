@@ -1,11 +1,11 @@
 //! The lines of a situation, each of them a call that may be out of memory.
 use crate::calls::{call, plan, seal};
-use crate::trouble::{Case, Outcome, Trouble, expect};
 use hp_control::{buddyinfo, read_file, read_text};
 use hp_machine::Machine;
 use hp_requests::{CONTROL_TURNS, Request, echo_answer, parse_write};
 use hp_scenario::{Echo, Line, Scenario, Work};
 use hp_units::{Cpu, Event, Serial};
+use refused_values::{Case, Outcome, Trouble, expect};
 use std::alloc::Global;
 
 /// Runs the lines of a scenario on a machine, and goes back.

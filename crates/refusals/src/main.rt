@@ -7,29 +7,23 @@
 //! many calls were out of memory.
 #![tactic(auto)]
 
-mod additions;
 mod audits;
 mod calls;
-mod counts;
 mod fixed;
 mod lines;
-mod maps;
-mod memories;
 mod rooms;
 mod same;
 mod seats;
 mod situations;
-mod trouble;
-mod values;
 mod workers;
 
 use hp_scenario::Scenario;
+use refused_values::{Case, Outcome, Trouble, additions, counts, maps, memories, values};
 use situations::{calls_of, cases, scenario_of};
 use std::env;
 use std::process::ExitCode;
 use std::sync::Wait;
 use std::thread::Threads;
-use trouble::{Case, Outcome, Trouble};
 
 /// How often a case is run again that was out of memory.
 const TURNS: u32 = 5;

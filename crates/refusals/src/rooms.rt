@@ -3,11 +3,11 @@
 //! record. What they need is made before; then a line is written, after which requests for memory
 //! may be refused.
 use crate::calls::call_all;
-use crate::memories::Noted;
-use crate::trouble::{Case, Outcome, Trouble, expect};
 use hp_machine::Machine;
 use hp_scenario::{Line, Scenario, Work};
 use hp_units::{Class, Cpu, Event, Frame, Layout, Order, Reply, Serial};
+use refused_values::memories::Noted;
+use refused_values::{Case, Outcome, Trouble, expect};
 use std::alloc::Global;
 
 /// Lines of three steps, which may take memory, since the words of pages are made in them; and of

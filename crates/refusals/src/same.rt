@@ -1,8 +1,8 @@
 //! Whether two machines, records or volumes are the same.
-use crate::trouble::{Outcome, expect};
 use hp_history::Volume;
 use hp_machine::Machine;
 use hp_units::{Receipt, Record};
+use refused_values::{Outcome, expect};
 use std::alloc::Global;
 
 /// Wrong, unless two machines have the same state, base, records and number of steps that may be

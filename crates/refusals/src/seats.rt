@@ -5,12 +5,12 @@ ghost use Rattle.hp_shared.specs.Shared.{IsFresh};
 
 use crate::calls::expect_receipt;
 use crate::same::{expect_same_machines, same_volumes};
-use crate::trouble::{Case, Outcome, Trouble, expect};
 use hp_history::Volume;
 use hp_machine::Machine;
 use hp_scenario::{Line, Scenario, Work};
 use hp_shared::{CloseFault, CloseRefused, Closed, Job, Seat, Shared, close};
 use hp_units::{Event, Reply};
+use refused_values::{Case, Outcome, Trouble, expect};
 use std::alloc::Global;
 use std::marker::Brand;
 use std::sync::Wait;

@@ -1,8 +1,8 @@
 //! The cases by name, and the scenarios that they run. In a situation of a call the last of the
 //! lines is the one that counts.
-use crate::trouble::Outcome;
-use crate::{audits, memories, rooms, seats};
+use crate::{audits, rooms, seats};
 use hp_scenario::Scenario;
+use refused_values::{Outcome, memories};
 use std::alloc::Global;
 
 /// Five memory blocks of one pageblock of four frames, and two processors.

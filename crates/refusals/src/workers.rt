@@ -5,7 +5,6 @@ ghost use Rattle.hp_scenario.specs.Scripts.{AreForRun};
 ghost use Rattle.hp_shared.specs.Shared.{IsFresh};
 
 use crate::situations::scenario_of;
-use crate::trouble::{Outcome, Trouble, expect};
 use hp_history::Volume;
 use hp_machine::Machine;
 use hp_requests::ControlFault;
@@ -13,6 +12,7 @@ use hp_scenario::Script;
 use hp_shared::{CloseFault, Job, Seat, Shared, close};
 use hp_units::{CallFault, OpEnd, Reply};
 use hp_workers::{Ends, LineEnd, OpenGate, RunEnd, run_workers};
+use refused_values::{Outcome, Trouble, expect};
 use std::alloc::Global;
 use std::marker::Brand;
 use std::sync::Wait;

@@ -1,5 +1,5 @@
 //! The rows of the memory blocks of an Image.
-ghost use Rattle.std.specs.Prelude.{◌≡◌, ◌<◌, IfOk};
+ghost use Rattle.std.specs.Prelude.{◌≡◌, ◌<◌, IfOk, None};
 ghost use Rattle.hp_units.specs.InLayout.{AreBlocksOf};
 ghost use Rattle.hp_units.specs.Memory.{offline_row, row_of, with_row};
 ghost use Rattle.hp_images.specs.Tables.{AreCopied};
@@ -37,10 +37,11 @@ fn load_rows(blocks: &mut Blocks, image: &Image)
     }
 }
 
-/// The row of one memory block comes in.
+/// The row of one memory block, which no operation holds before, comes in.
 fn load_row(blocks: &mut Blocks, image: &Image, block: Block)
     requires block { block < blocks.old.layout.blocks }
     requires few { block < 256 }
+    requires none { (row_of blocks.old.blocks block).claim ≡ None }
     ensures row { blocks.new.blocks
         ≡ with_row blocks.old.blocks block (row_of image.now.memory.blocks block) }
     ensures layout { blocks.new.layout ≡ blocks.old.layout }

@@ -1,12 +1,19 @@
 //! Operations on memory blocks.
-ghost use Rattle.std.specs.Prelude.{◌≡◌, ◌*◌, ◌<◌};
+ghost use Rattle.std.specs.Prelude.{◌≡◌, ◌*◌, ◌<◌, None};
+ghost use Rattle.hp_units.specs.Memory.{row_of};
 ghost use Rattle.hp_units.specs.Rows.{begin_block, begin_plan, claim_block, zone_of_block};
 ghost use Rattle.hp_units.specs.declared.rows.Wish.TheVariants.{Off as OffWish};
 ghost use Rattle.hp_tape.specs.Bounds.{moved_block_bound};
 ghost use Rattle.hp_tape.specs.Tapes.{HasRoom};
 ghost use Rattle.hp_layers.specs.Frames.{IsTidy};
 ghost use Rattle.hp_layers.specs.Layers.{AreOfOneLayout, state_of};
-ghost use Rattle.hp_layers.specs.Operations.{IsReworked, claimed_at, claimed_below};
+ghost use Rattle.hp_layers.specs.Operations.{
+  AreHeldByNone,
+  IsReworked,
+  IsHeldByNone,
+  claimed_at,
+  claimed_below,
+};
 
 use super::Layers;
 use hp_plain::wish_of;
@@ -14,11 +21,12 @@ use hp_tape::Tape;
 use hp_units::{Block, Item, Serial, Wish, Zone};
 
 impl Layers {
-    /// An operation claims the blocks of its plan, by rising number (own rule).
+    /// An operation claims the blocks of its plan, which none holds, by rising number (own rule).
     #[tactic(auto, unfolding(hp_units::specs::Rows::begin_plan))]
     pub(crate) fn begin_plan(&mut self, op: Serial, plan: &[Item], tape: &mut Tape)
         requires one { AreOfOneLayout self.old }
         requires tidy { IsTidy self.old.frames }
+        requires free { AreHeldByNone plan.now self.old.blocks.blocks }
         requires room { HasRoom tape.old
             (claimed_below plan.now self.old.layout.blocks * moved_block_bound self.old.layout) }
         ensures { IsReworked self.old (begin_plan self.old.layout (state_of self.old) op plan.now)
@@ -30,11 +38,12 @@ impl Layers {
         }
     }
 
-    /// An operation claims a block if its plan has a wish for it.
+    /// An operation claims a block if its plan has a wish for it; none holds it then.
     fn begin_block(&mut self, op: Serial, plan: &[Item], block: Block, tape: &mut Tape)
         requires one { AreOfOneLayout self.old }
         requires tidy { IsTidy self.old.frames }
         requires block { block < self.old.layout.blocks }
+        requires free { IsHeldByNone plan.now self.old.blocks.blocks block }
         requires room { HasRoom tape.old (claimed_at plan.now block * moved_block_bound self.old.layout) }
         ensures { IsReworked self.old (begin_block self.old.layout op plan.now (state_of self.old) block)
             (claimed_at plan.now block * moved_block_bound self.old.layout) self.new tape.old tape.new }
@@ -44,12 +53,13 @@ impl Layers {
         }
     }
 
-    /// An operation claims a block for a wish, and isolates one that is going (Linux, memory
-    /// hotplug: offlining; own rule).
+    /// An operation claims a block that none holds for a wish, and isolates one that is going
+    /// (Linux, memory hotplug: offlining; own rule).
     fn claim_block(&mut self, op: Serial, block: Block, wish: Wish, tape: &mut Tape)
         requires one { AreOfOneLayout self.old }
         requires tidy { IsTidy self.old.frames }
         requires block { block < self.old.layout.blocks }
+        requires free { (row_of self.old.blocks.blocks block).claim ≡ None }
         requires room { HasRoom tape.old (moved_block_bound self.old.layout) }
         ensures { IsReworked self.old (claim_block self.old.layout op (state_of self.old) block wish)
             (moved_block_bound self.old.layout) self.new tape.old tape.new }
@@ -60,11 +70,12 @@ impl Layers {
         }
     }
 
-    /// An operation claims a block that is to go offline, and isolates it.
+    /// An operation claims a block that none holds and that is to go offline, and isolates it.
     fn isolate_block(&mut self, op: Serial, block: Block, tape: &mut Tape)
         requires one { AreOfOneLayout self.old }
         requires tidy { IsTidy self.old.frames }
         requires block { block < self.old.layout.blocks }
+        requires free { (row_of self.old.blocks.blocks block).claim ≡ None }
         requires room { HasRoom tape.old (moved_block_bound self.old.layout) }
         ensures { IsReworked self.old (claim_block self.old.layout op (state_of self.old) block OffWish)
             (moved_block_bound self.old.layout) self.new tape.old tape.new }

@@ -87,7 +87,8 @@ impl Layers {
         Ok(Reply::Done)
     }
 
-    /// One word of a mapped page changes. The first that is not 0 takes memory for all words of the page.
+    /// One word of a mapped page changes. The first that is not 0 takes memory for all words of the
+    /// page, and a word of 2^32 or more for its delta.
     pub(crate) fn write(
         &mut self,
         alloc: Global,
@@ -107,9 +108,9 @@ impl Layers {
         if let Some(refusal) = self.word_refusal(owner, page, index) {
             return Ok(Reply::Refused(refusal));
         }
-        let spare = self.pages.spare_for(alloc, owner, page, value)?;
+        let prepared = self.pages.prepare(alloc, owner, page, index, value)?;
         tape.reserve(1)?;
-        self.pages.write(owner, page, index, value, spare, tape);
+        self.pages.write(owner, page, index, value, prepared, tape);
         Ok(Reply::Done)
     }
 

@@ -47,7 +47,16 @@ impl Pages {
                 frame,
                 was,
                 ..
-            } => self.buffers.set_word(*frame, u32::from(*index), *was),
+            } => self
+                .buffers
+                .set_word(*frame, u32::from(*index), u64::from(*was)),
+            Delta::LargeWord {
+                index,
+                frame,
+                change,
+            } => self
+                .buffers
+                .set_word(*frame, u32::from(*index), change.was()),
             Delta::Filled { frame, .. } => self.buffers.clear(*frame),
             _ => {}
         }

@@ -1,5 +1,6 @@
-use Rattle.std.proofs.Common.{◌*◌}
+use Rattle.std.proofs.Common.{ℕ, ◌≡◌, ◌≤◌, ◌*◌}
 use Rattle.std.specs.List.{fold, range_with_len}
+use Rattle.hp_units.specs.Memory.{row_of}
 use Rattle.hp_units.specs.Rows.{begin_block}
 use Rattle.hp_tape.specs.Bounds.{moved_block_bound}
 use Rattle.hp_layers.specs.Layers.{state_of}
@@ -13,4 +14,7 @@ invariant-loop-number l = record {
       (state_of l.initial.self) (range_with_len 0 l.number))
       (claimed_below l.fn.plan l.number * moved_block_bound l.initial.self.layout) l.self l.initial.tape
       l.tape;
+  later :
+      (block : ℕ) → l.number ≤ block
+      → row_of l.self.blocks.blocks block ≡ row_of l.initial.self.blocks.blocks block;
 }

@@ -11,12 +11,17 @@ returns-in-Some-clause-ok c =
     c.args.page c.args.index c.args.tape.now.deltas c.in-Some.refusal c.word_refusal.result
     c.requires.placed refl c.in-Some.is c.word_refusal.ensures
 
-pub spare_for-requires : goal.spare_for-requires
-spare_for-requires c =
+pub prepare-requires : goal.prepare-requires
+prepare-requires c =
     let word =
     word-there_in_pages c.args.self.now c.args.owner c.args.page c.args.index c.word_refusal.result
     c.requires.placed.one c.in_default.is c.word_refusal.ensures in
-    record { owner = word.owner_low; page = word.page_low }
+    record {
+      owner = word.owner_low;
+      page = word.page_low;
+      index = word.index_low;
+      mapped = subst IsSome (sym word.mapped) refl;
+    }
 
 pub write-requires : goal.write-requires
 write-requires c =
@@ -28,7 +33,7 @@ write-requires c =
       page = word.page_low;
       index = word.index_low;
       mapped = subst IsSome (sym word.mapped) refl;
-      spare = c.in_ok-spare.ensures;
+      prepared = c.in_ok-prepared.ensures;
       settled = settled c.args.self.now c.requires.placed;
       room = c.in_ok-reserve.ensures.room;
     }

@@ -23,6 +23,17 @@ invariant_of-self-in-Word c =
     c.self.inside.zeros _ _ c.self.invariant numbers.0 (same-size _ _ _ _ (c.self.invariant.words _))
     c.set_word.ensures
 
+pub invariant_of-self-in-LargeWord : goal.invariant_of-self-in-LargeWord
+invariant_of-self-in-LargeWord c =
+    let same : c.args.self.now.layout ≡ c.self.inside.layout =
+    sym (ap (λ (p : PagesValue). p.layout) c.self.view_is) in
+    let numbers =
+    subst (λ (d : Delta). IsDeltaOf c.self.inside.layout d) c.in-LargeWord.is
+    (subst (λ (l : LayoutParts). IsDeltaOf l c.args.delta.now) same c.requires.numbers) in
+    layer-buffer c.self.inside.layout c.self.inside.table c.self.inside.buffers c.set_word-in-LargeWord.new.self
+    c.self.inside.zeros _ _ c.self.invariant numbers.0 (same-size _ _ _ _ (c.self.invariant.words _))
+    c.set_word-in-LargeWord.ensures
+
 pub invariant_of-self-in-Swap : goal.invariant_of-self-in-Swap
 invariant_of-self-in-Swap c =
     let same : c.args.self.now.layout ≡ c.self.inside.layout =

@@ -1,6 +1,5 @@
-use Rattle.std.proofs.Common.{◌≡◌, ◌<◌, ℕ, List, [], Option, None, Some, length, set, ap, subst, sym, ◌∙◌, Bor, false, arith}
-use Rattle.std.specs.Prelude.{IfSome, option_map, slice_get, unwrap_or}
-use Rattle.std.proofs.lemmas.Option.{slice_get-get_or}
+use Rattle.std.proofs.Common.{◌≡◌, ◌<◌, ℕ, List, [], Option, None, Some, length, set, refl, ap, subst, sym, ◌∙◌, Bor, false, arith}
+use Rattle.std.specs.Prelude.{IfSome, IsSome, option_map}
 use Rattle.hp_tape.specs.Deltas.{buffer_of, is_blank}
 use Rattle.hp_pages.specs.Pages.{PagesValue}
 use Rattle.hp_pages.proofs.Blanks.{set-some}
@@ -16,20 +15,12 @@ returns-in_default-clause-written c =
     written-none c.args.self.now.layout c.args.self.now.pages c.args.frame c.args.index c.args.value none
     (c.requires.none none)
 
-pub set_word-requires-clause-was : goal.set_word-requires-clause-was
-set_word-requires-clause-was c =
-    let l = c.args.self.now.layout in
-    let words = c.in-Some.words.now in
-    let there = subst (λ (p : PagesValue). buffer_of p.pages c.args.frame ≡ Some words) c.self.view_is
+pub set_word-requires-clause-some : goal.set_word-requires-clause-some
+set_word-requires-clause-some c =
+    let there = subst (λ (p : PagesValue). buffer_of p.pages c.args.frame ≡ Some c.in-Some.words.now)
+    c.self.view_is
     (sym c.words.ensures ∙ ap (λ (o : Option (Bor (List ℕ))). option_map (λ w. w.now) o) c.in-Some.is) in
-    let sized =
-    subst (λ (p : PagesValue). AreSized p.layout p.pages) c.self.view_is (sized_of c.self.inside.layout
-    c.self.inside.table c.self.inside.buffers c.self.inside.zeros c.self.invariant) in
-    let len : length words ≡ l.words =
-    subst (λ (b : Option (List ℕ)). IfSome b (λ ws. length ws ≡ l.words)) there
-    (sized.words c.args.frame) in
-    ap (λ (b : Option (List ℕ)). slice_get (unwrap_or b []) c.args.index) there
-    ∙ slice_get-get_or words c.args.index 0 (let inside = c.requires.index in omega (arith, len, inside))
+    subst IsSome (sym there) refl
 
 pub returns-else-value-eq0-clause-written : goal.returns-else-value-eq0-clause-written
 returns-else-value-eq0-clause-written c =

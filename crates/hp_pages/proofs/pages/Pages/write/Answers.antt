@@ -1,10 +1,9 @@
-use Rattle.std.proofs.Common.{Option, ℕ, sym, ◌∙◌, ap, subst}
-use Rattle.std.specs.Prelude.{IfSome}
-use Rattle.std.specs.Option.{option_and_then, option_map_or}
+use Rattle.std.proofs.Common.{◌≡◌, Option, ℕ, sym, ◌∙◌, ap, subst}
+use Rattle.std.specs.Prelude.{IfSome, unwrap_or}
+use Rattle.std.specs.Option.{option_map_or}
 use Rattle.hp_units.specs.Arithmetic.{IsFrame}
-use Rattle.hp_tape.specs.Deltas.{buffer_of}
-use Rattle.hp_pages.specs.Pages.{spare_for, write_at}
-use Rattle.hp_pages.proofs.WordCalls.{spare-none, spare-some}
+use Rattle.hp_pages.specs.Pages.{prepared_at, write_at}
+use Rattle.hp_pages.proofs.WordCalls.{prepared-change, prepared-fill}
 use Rattle.hp_pages.proofs.pages.Pages.write.Goals as goal
 
 pub fill-requires : goal.fill-requires
@@ -12,17 +11,17 @@ fill-requires c =
     let l = c.args.self.now.layout in
     let v = c.args.self.now.pages in
     let at = sym c.frame_at.ensures.frame ∙ c.unwrap-frame.ensures in
-    let spare =
-    spare-some l (buffer_of v c.unwrap-frame.result) c.args.value c.in-Some.words
-    (ap (λ (o : Option ℕ). spare_for l (option_and_then (buffer_of v) o) c.args.value) (sym at)
-    ∙ (sym c.requires.spare ∙ c.in-Some.is)) in
+    let fill =
+    prepared-fill l v c.args.index c.args.value c.unwrap-frame.result c.in-Fill.words
+    (ap (λ (o : Option ℕ). prepared_at l v c.args.index c.args.value (unwrap_or o 0)) (sym at)
+    ∙ (sym c.requires.prepared ∙ c.in-Fill.is)) in
     record {
       frame = subst (λ (o : Option ℕ). IfSome o (IsFrame l)) at (c.frame_at.ensures.pages.mapped c.args.owner
           c.args.page);
       index = c.requires.index;
-      none = spare.0;
-      words = spare.1;
-      some = spare.2;
+      none = fill.0;
+      words = fill.1;
+      some = fill.2;
       room = c.requires.room;
     }
 
@@ -31,35 +30,37 @@ overwrite-requires c =
     let l = c.args.self.now.layout in
     let v = c.args.self.now.pages in
     let at = sym c.frame_at.ensures.frame ∙ c.unwrap-frame.ensures in
+    let change =
+    prepared-change l v c.args.index c.args.value c.unwrap-frame.result c.in-Change.change
+    (ap (λ (o : Option ℕ). prepared_at l v c.args.index c.args.value (unwrap_or o 0)) (sym at)
+    ∙ (sym c.requires.prepared ∙ c.in-Change.is)) in
     record {
       frame = subst (λ (o : Option ℕ). IfSome o (IsFrame l)) at (c.frame_at.ensures.pages.mapped c.args.owner
           c.args.page);
       index = c.requires.index;
-      none =
-          spare-none l (buffer_of v c.unwrap-frame.result) c.args.value
-          (ap (λ (o : Option ℕ). spare_for l (option_and_then (buffer_of v) o) c.args.value) (sym at)
-          ∙ (sym c.requires.spare ∙ c.in-None.is));
+      change = change.1;
+      none = change.0;
       room = c.requires.room;
     }
 
-pub returns-in-Some-clause-written : goal.returns-in-Some-clause-written
-returns-in-Some-clause-written c =
+pub returns-in-Fill-clause-written : goal.returns-in-Fill-clause-written
+returns-in-Fill-clause-written c =
     let l = c.args.self.now.layout in
     let v = c.args.self.now.pages in
     c.fill.ensures.written
     ∙ ap (λ (o : Option ℕ). option_map_or (λ n. write_at l v n c.args.index c.args.value) o v)
     (sym (sym c.frame_at.ensures.frame ∙ c.unwrap-frame.ensures))
 
-pub returns-in-None-clause-written : goal.returns-in-None-clause-written
-returns-in-None-clause-written c =
+pub returns-in-Change-clause-written : goal.returns-in-Change-clause-written
+returns-in-Change-clause-written c =
     let l = c.args.self.now.layout in
     let v = c.args.self.now.pages in
     c.overwrite.ensures.written
     ∙ ap (λ (o : Option ℕ). option_map_or (λ n. write_at l v n c.args.index c.args.value) o v)
     (sym (sym c.frame_at.ensures.frame ∙ c.unwrap-frame.ensures))
 
-pub returns-in-Some-clause-notes : goal.returns-in-Some-clause-notes
-returns-in-Some-clause-notes c = c.fill.ensures.notes
+pub returns-in-Fill-clause-notes : goal.returns-in-Fill-clause-notes
+returns-in-Fill-clause-notes c = c.fill.ensures.notes
 
-pub returns-in-None-clause-notes : goal.returns-in-None-clause-notes
-returns-in-None-clause-notes c = c.overwrite.ensures.notes
+pub returns-in-Change-clause-notes : goal.returns-in-Change-clause-notes
+returns-in-Change-clause-notes c = c.overwrite.ensures.notes

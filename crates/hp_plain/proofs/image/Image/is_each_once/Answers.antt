@@ -1,7 +1,7 @@
 use Rattle.std.proofs.Common.{MatchBool, subst, sym}
 use Rattle.hp_units.specs.Memory.{Memory}
 use Rattle.hp_plain.specs.Image.{Pictured}
-use Rattle.hp_plain.specs.Placing.{ArePlacedOnce}
+use Rattle.hp_placement.specs.Placing.{ArePlacedOnce}
 use Rattle.hp_plain.proofs.Values.{memory_value}
 use Rattle.hp_plain.proofs.WellPlaced.{IsStart, has_free, placed_once, twice_cached, twice_free, twice_kernel, twice_pages}
 use Rattle.hp_plain.proofs.image.Image.is_each_once.Goals as goal
@@ -37,7 +37,7 @@ returns-then-not-place_kernel c =
     let free =
     has_free in_.layout s c.areas.result.now c.args.marks.now c.place_free.new.marks start c.areas.ensures
     c.if-not-place_free.ensures in
-    let twice = rw c.as_slice.ensures.value at c.if-not-place_kernel.ensures in
+    let twice = rw (c.as_slice.ensures.value, c.rows.ensures) at c.if-not-place_kernel.ensures in
     subst (λ (i : Pictured). ArePlacedOnce i.layout i.memory → ⊥) c.self.view_is
     (twice_kernel in_.layout s c.args.marks.now c.place_free.new.marks c.place_cached.new.marks free
     c.if-not-place_cached.ensures.1 twice)
@@ -51,7 +51,7 @@ returns-then-not-place_pages c =
     let free =
     has_free in_.layout s c.areas.result.now c.args.marks.now c.place_free.new.marks start c.areas.ensures
     c.if-not-place_free.ensures in
-    let kernel = rw c.as_slice.ensures.value at c.if-not-place_kernel.ensures in
+    let kernel = rw (c.as_slice.ensures.value, c.rows.ensures) at c.if-not-place_kernel.ensures in
     subst (λ (i : Pictured). ArePlacedOnce i.layout i.memory → ⊥) c.self.view_is
     (twice_pages in_.layout s c.args.marks.now c.place_free.new.marks c.place_cached.new.marks
     c.place_kernel.new.marks free c.if-not-place_cached.ensures.1 kernel.1 c.if-not-place_pages.ensures)
@@ -65,7 +65,7 @@ returns c =
     let free =
     has_free in_.layout s c.areas.result.now c.args.marks.now c.place_free.new.marks start c.areas.ensures
     c.if-not-place_free.ensures in
-    let kernel = rw c.as_slice.ensures.value at c.if-not-place_kernel.ensures in
+    let kernel = rw (c.as_slice.ensures.value, c.rows.ensures) at c.if-not-place_kernel.ensures in
     subst (λ (i : Pictured). MatchBool c.are_all_set.result (ArePlacedOnce i.layout i.memory)
     (ArePlacedOnce i.layout i.memory → ⊥)) c.self.view_is
     (placed_once in_.layout s c.args.marks.now c.place_free.new.marks c.place_cached.new.marks

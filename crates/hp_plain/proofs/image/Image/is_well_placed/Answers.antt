@@ -1,8 +1,8 @@
 use Rattle.std.proofs.Common.{MatchBool, subst, sym}
-use Rattle.hp_units.specs.Memory.{FreeAreas, Memory}
+use Rattle.hp_units.specs.Memory.{Memory}
 use Rattle.hp_units.specs.Placement.{IsWellPlaced}
 use Rattle.hp_plain.specs.Image.{Pictured}
-use Rattle.hp_plain.specs.Placing.{AreKinds, AreListsJoined, ArePlacedOnce}
+use Rattle.hp_placement.specs.Placing.{AreListsJoined, ArePlacedOnce}
 use Rattle.hp_plain.proofs.Values.{memory_value}
 use Rattle.hp_plain.proofs.WellPlaced.{decided}
 use Rattle.hp_plain.proofs.image.Image.is_well_placed.Goals as goal
@@ -11,9 +11,9 @@ pub returns : goal.returns
 returns c =
     let in_ = c.self.inside in
     let s : Memory = memory_value in_.free in_.pages in_.kernel.items in_.blocks in
+    let rows = rw c.rows-rows.ensures at c.if-not-are_rows.ensures in
     let kinds =
-    subst (λ (a : FreeAreas). AreKinds in_.layout a.kinds in_.blocks.rows) c.areas.ensures
-    c.if-not-are_kinds.ensures in
+    rw (c.kinds.ensures, c.areas.ensures, c.rows-rows.ensures) at c.if-not-are_kinds.ensures in
     let said = rw c.if-not-joined.false at c.in_ok-joined.ensures in
     let joined = subst (AreListsJoined in_.layout) c.areas-2.ensures said in
     let once =
@@ -21,4 +21,4 @@ returns c =
     (ArePlacedOnce i.layout i.memory → ⊥)) (sym c.self.view_is) c.is_each_once.ensures in
     subst (λ (i : Pictured). MatchBool c.is_each_once.result (IsWellPlaced i.layout i.memory)
     (IsWellPlaced i.layout i.memory → ⊥)) c.self.view_is
-    (decided in_.layout s c.is_each_once.result c.self.invariant c.if-not-are_rows.ensures kinds joined once)
+    (decided in_.layout s c.is_each_once.result c.self.invariant rows kinds joined once)

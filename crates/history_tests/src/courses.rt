@@ -1,0 +1,110 @@
+//! A course of a few records, and worked records that lead back to the state at boot.
+use hp_history::{Course, Records, Volume};
+use hp_plain::Image;
+use hp_replays::audit_chain;
+use hp_units::{Cpu, Event, Frame, Layout, Order, Record, Reply, Serial};
+use layouts_for_tests::{LAST_OFFLINE, four_blocks};
+use std::alloc::{AllocError, Global};
+use std::test::Fail;
+
+/// A block of the kernel is taken.
+const TAKE: Event = Event::KernelAlloc { order: Order(1) };
+
+/// It is given back.
+const GIVE: Event = Event::KernelFree { frame: Frame(0) };
+
+/// A record of the first processor.
+fn record_of(serial: u64, event: Event, reply: Reply) -> Record {
+    Record {
+        serial: Serial(serial),
+        cpu: Cpu(0),
+        event,
+        reply,
+    }
+}
+
+/// A block is taken and given back, and both steps are undone.
+fn worked(alloc: Global) -> Result<Vec<Record>, AllocError> {
+    let mut records = Vec::with_capacity(alloc, 3)?;
+    let undo = Event::UndoAfter { serial: Serial(0) };
+    records.push(record_of(1, TAKE, Reply::Frame(Frame(0))))?;
+    records.push(record_of(2, GIVE, Reply::Done))?;
+    records.push(record_of(3, undo, Reply::Undone { count: 2 }))?;
+    Ok(records)
+}
+
+/// Whether an audit of these records leads back to the state at boot.
+fn leads_back(alloc: Global, layout: &Layout) -> Result<bool, Fail> {
+    let records = Records::new(worked(alloc)?);
+    let boot = Image::boot(alloc, layout)?;
+    let base = boot.copy(alloc)?;
+    let volume = Volume {
+        before: 0,
+        base,
+        records,
+    };
+    let end = audit_chain(alloc, layout, &[volume])?;
+    Ok(end.same(&boot))
+}
+
+#[test]
+fn a_history_leads_back_to_boot(rt: HostRuntime) -> Result<(), Fail> {
+    let layout = four_blocks(rt.alloc(), LAST_OFFLINE, 9)?;
+    assert!(rt; leads_back(rt.alloc(), &layout)?);
+    Ok(())
+}
+
+/// Answers an event of processor 0, where there is a further serial.
+fn act(alloc: Global, course: &mut Course, event: &Event) -> Result<(), AllocError> {
+    if course.is_spent() {
+        return Ok(());
+    }
+    match course.answer(alloc, Cpu(0), event) {
+        Ok(_) => Ok(()),
+        Err(AllocError) => Err(AllocError),
+    }
+}
+
+/// Whether a course shows two steps, and the deltas of each.
+fn shows_two_steps(course: &Course) -> bool {
+    course.journal_len() == 2
+        && course.entry(1).is_some()
+        && course.way_back(0).is_some()
+        && course.history().len() == 2
+        && course.memory().layout().cpus() == 2
+}
+
+/// Takes a block and gives it back: whether the course shows both steps, and a seal hands them out.
+fn seals_two(alloc: Global, course: &mut Course) -> Result<bool, AllocError> {
+    act(alloc, course, &TAKE)?;
+    act(alloc, course, &GIVE)?;
+    let shown = shows_two_steps(course);
+    let volume = course.seal(alloc)?;
+    let records = volume.records.into_vec();
+    Ok(shown && records.len() == 2 && course.before() == 2 && course.last_serial() == 2)
+}
+
+/// Whether a copy of a course is at its base.
+fn is_at_its_base(alloc: Global, course: &Course) -> Result<bool, AllocError> {
+    let image = course.image(alloc)?;
+    let copy = course.copy(alloc)?;
+    Ok(course.base().same(&image) && copy.base().same(&image))
+}
+
+/// Whether both hold.
+fn goes_on(alloc: Global, course: &mut Course) -> Result<bool, AllocError> {
+    Ok(seals_two(alloc, course)? && is_at_its_base(alloc, course)?)
+}
+
+/// A course of the four blocks.
+fn booted(alloc: Global) -> Result<Course, Fail> {
+    let layout = four_blocks(alloc, LAST_OFFLINE, 9)?;
+    Ok(Course::boot(alloc, &layout)?)
+}
+
+#[test]
+fn a_sealed_course_goes_on_from_its_state(rt: HostRuntime) -> Result<(), Fail> {
+    let mut course = booted(rt.alloc())?;
+    assert!(rt; goes_on(rt.alloc(), &mut course)?);
+    Ok(())
+}

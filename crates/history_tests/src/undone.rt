@@ -1,0 +1,177 @@
+//! Records undone one at a time: the machine goes back through every earlier state.
+use hp_machine::Machine;
+use hp_plain::Image;
+use hp_units::{
+    Auto, Block, Cpu, Event, Frame, Item, Order, Owner, Page, Plan, Reply, Serial, Wish, Zone,
+};
+use layouts_for_tests::{LAST_ABSENT, four_blocks};
+use std::alloc::{AllocError, Global};
+use std::test::Fail;
+
+/// The number of events.
+const COUNT: u64 = 15;
+
+/// The record that is no step.
+const READ: u64 = 4;
+
+/// The operation that the plan opens.
+const OP: Serial = Serial(9);
+
+const OWNER: Owner = Owner(0);
+
+const PAGE: Page = Page(0);
+
+/// The plan that takes block 2 offline.
+fn offline(alloc: Global) -> Result<Plan, AllocError> {
+    let mut items = Vec::new(alloc);
+    items.push(Item {
+        block: Block(2),
+        wish: Wish::Off,
+    })?;
+    Plan::new(alloc, items)
+}
+
+/// The first events: a block of the kernel, and a page that is written and read.
+fn first_event(nth: u64) -> Event {
+    match nth {
+        1 => Event::KernelAlloc { order: Order(1) },
+        2 => Event::Map {
+            owner: OWNER,
+            page: PAGE,
+        },
+        3 => Event::Write {
+            owner: OWNER,
+            page: PAGE,
+            index: 1,
+            value: 7,
+        },
+        READ => Event::Read {
+            owner: OWNER,
+            page: PAGE,
+            index: 1,
+        },
+        5 => Event::KernelFree { frame: Frame(0) },
+        6 => Event::Drain { cpu: Cpu(0) },
+        7 => Event::Probe { address: 0xc0 },
+        _ => Event::Online {
+            block: Block(3),
+            zone: Zone::Movable,
+        },
+    }
+}
+
+/// The last events: the operation's work, and what may come after it.
+fn last_event(nth: u64) -> Event {
+    match nth {
+        10 => Event::DrainFor {
+            op: OP,
+            cpu: Cpu(0),
+        },
+        11 => Event::Migrate { op: OP },
+        12 => Event::Commit { op: OP },
+        13 => Event::SetAuto { auto: Auto::Online },
+        14 => Event::Remove { block: Block(2) },
+        _ => Event::Unmap {
+            owner: OWNER,
+            page: PAGE,
+        },
+    }
+}
+
+/// The event of the nth record: every kind but Cancel and UndoAfter comes once.
+fn event_at(alloc: Global, nth: u64) -> Result<Event, AllocError> {
+    if nth < OP.0 {
+        return Ok(first_event(nth));
+    }
+    if nth > OP.0 {
+        return Ok(last_event(nth));
+    }
+    Ok(Event::Begin {
+        plan: offline(alloc)?,
+    })
+}
+
+/// Returns whether a reply is no refusal.
+fn is_granted(reply: &Reply) -> bool {
+    !matches!(reply, Reply::Refused(_))
+}
+
+/// Returns whether the nth event is granted as the nth record.
+fn grants(alloc: Global, machine: &mut Machine, nth: u64) -> Result<bool, AllocError> {
+    let event = event_at(alloc, nth)?;
+    match machine.answer(alloc, Cpu(0), &event) {
+        Ok((serial, reply)) => Ok(serial == Serial(nth) && is_granted(&reply)),
+        Err(_fault) => Ok(false),
+    }
+}
+
+/// Makes the calls, and keeps the state before the first and after each.
+fn plays(
+    alloc: Global,
+    machine: &mut Machine,
+    states: &mut Vec<Image>,
+) -> Result<bool, AllocError> {
+    states.push(machine.image(alloc)?)?;
+    for nth in 1..COUNT + 1 {
+        if !grants(alloc, machine, nth)? {
+            return Ok(false);
+        }
+        states.push(machine.image(alloc)?)?;
+    }
+    Ok(true)
+}
+
+/// Returns whether an undo to a serial takes back this many steps.
+fn undoes(alloc: Global, machine: &mut Machine, serial: u64, count: u64) -> bool {
+    let undo = Event::UndoAfter {
+        serial: Serial(serial),
+    };
+    match machine.answer(alloc, Cpu(1), &undo) {
+        Ok((_, reply)) => reply.same(&Reply::Undone { count }),
+        Err(_fault) => false,
+    }
+}
+
+/// Returns whether a machine is in a state that was kept.
+fn is_at(alloc: Global, machine: &Machine, kept: Option<&Image>) -> Result<bool, AllocError> {
+    let now = machine.image(alloc)?;
+    match kept {
+        Some(state) => Ok(now.same(state)),
+        None => Ok(false),
+    }
+}
+
+/// Returns whether undoing one record at a time gives each earlier state again.
+fn goes_back(alloc: Global, machine: &mut Machine, states: &[Image]) -> Result<bool, AllocError> {
+    for back in 0..COUNT {
+        let serial = COUNT - 1 - back;
+        let count = if serial + 1 == READ { 0 } else { 1 };
+        let undone = undoes(alloc, machine, serial, count);
+        if !undone || !is_at(alloc, machine, states.get(serial as usize))? {
+            return Ok(false);
+        }
+    }
+    Ok(true)
+}
+
+/// Returns whether all events are granted, and undone one by one.
+fn plays_and_goes_back(alloc: Global, machine: &mut Machine) -> Result<bool, AllocError> {
+    let mut states = Vec::new(alloc);
+    let played = plays(alloc, machine, &mut states)?;
+    Ok(played && goes_back(alloc, machine, states.as_slice())?)
+}
+
+/// A machine whose last block is absent.
+fn booted(alloc: Global) -> Result<Machine, Fail> {
+    let layout = four_blocks(alloc, LAST_ABSENT, 100)?;
+    Ok(Machine::boot(alloc, &layout)?)
+}
+
+#[test]
+fn each_record_is_undone(rt: HostRuntime) -> Result<(), Fail> {
+    let mut machine = booted(rt.alloc())?;
+    let was_back = plays_and_goes_back(rt.alloc(), &mut machine);
+    drop(machine);
+    assert!(rt; was_back?);
+    Ok(())
+}

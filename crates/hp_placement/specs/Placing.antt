@@ -1,0 +1,113 @@
+-- Marks that count in how many places each frame is, and what each part of a well placed state is asked.
+use Rattle.std.specs.Prelude.{◌≡◌, ℕ, zero, suc, ◌+◌, ◌<◌, ◌≤◌, true, false, List, Option, None, Some, slice_index_or, if◌then◌else◌, IfSome, count_by}
+use Rattle.std.specs.List.{enumerate_from}
+use Rattle.std.specs.Option.{option_map_or}
+use Rattle.hp_numbers.specs.Numbers.{Frame, Order, Pageblock, Block, Cpu, Owner, Page}
+use Rattle.hp_placement.specs.Names.{NormalZone, Unmovable, Class, Pool, NuPool, NmPool, MmPool, Kind, Row}
+use Rattle.hp_units.specs.LayoutParts.{LayoutParts}
+use Rattle.hp_units.specs.Arithmetic.{block_of, buddy, pageblock_of}
+use Rattle.hp_units.specs.Memory.{FreeAreas, FreeFrames, Memory, Pages, cached_list, free_list, offline_row}
+use Rattle.hp_units.specs.FreeAreas.{is_on}
+use Rattle.hp_units.specs.Pages.{frame_at, words_at}
+use Rattle.hp_units.specs.Rows.{is_going}
+use Rattle.hp_units.specs.Placement.{IsBlockOf, IsKernelAt, IsPage, IsRow, class_at, covers, is_unplugged, kind_at, places_of, pool_at, row_at}
+
+-- ---- marks
+
+-- the mark of a frame: in how many places it is; a number beyond the layout is in one, as if offline
+abbrev pub mark_of : List ℕ → Frame → ℕ
+mark_of marks frame = slice_index_or marks frame 1
+
+-- each frame is in some more places
+pub record AreMarked (old new : List ℕ) (places : Frame → ℕ) : Type 0 where
+  pub adds : (frame : Frame) → mark_of new frame ≡ mark_of old frame + places frame
+
+-- some frame would be in two places
+pub record IsTwice (old : List ℕ) (places : Frame → ℕ) : Type 0 where
+  pub frame : Frame
+  pub twice : 2 ≤ mark_of old frame + places frame
+
+-- the row of a block, an offline one past the last
+abbrev pub row_in : List Row → Block → Row
+row_in rows block = slice_index_or rows block offline_row
+
+-- 1 for a frame of an offline or absent block, and 0 otherwise
+abbrev pub unplugged : LayoutParts → List Row → Frame → ℕ
+unplugged l rows frame = if is_unplugged (row_in rows (block_of l frame)) then 1 else 0
+
+-- ---- what each part is asked
+
+-- the free blocks of a class and an order, and those of all
+abbrev pub IsListPlaced : LayoutParts → List Kind → List Row → Class → Order → List Frame → Type 0
+IsListPlaced l kinds rows class order frames = (first : Frame) → is_on first frames ≡ true
+    → IsBlockOf l (class_at l kinds rows) class order first
+
+abbrev pub AreListsPlaced : LayoutParts → FreeAreas → List Row → Type 0
+AreListsPlaced l a rows = (class : Class) (order : Order)
+    → IsListPlaced l a.kinds rows class order (free_list a class order)
+
+-- no free block's buddy is free too
+abbrev pub IsListJoined : List Frame → Order → Type 0
+IsListJoined frames order = (first : Frame) → is_on first frames ≡ true
+    → is_on (buddy first order) frames ≡ false
+
+abbrev pub AreListsJoined : LayoutParts → FreeAreas → Type 0
+AreListsJoined l a = (class : Class) (order : Order) → order < l.order
+    → IsListJoined (free_list a class order) order
+
+-- the frames on a processor's list of a pool, and those on all
+abbrev pub IsPoolPlaced : LayoutParts → List Kind → List Row → Pool → List Frame → Type 0
+IsPoolPlaced l kinds rows pool frames = (frame : Frame) → is_on frame frames ≡ true
+    → pool_at l kinds rows (pageblock_of l frame) ≡ Some pool
+
+abbrev pub ArePoolsPlaced : LayoutParts → FreeFrames → List Row → Type 0
+ArePoolsPlaced l fs rows = (cpu : Cpu) (pool : Pool)
+    → IsPoolPlaced l fs.areas.kinds rows pool (cached_list fs cpu pool)
+
+-- the kernel's blocks
+abbrev pub IsKernelPlaced : LayoutParts → List Row → List (Option Order) → Type 0
+IsKernelPlaced l rows kernel = (first : Frame)
+    → IfSome (slice_index_or kernel first None) (IsKernelAt l rows first)
+
+-- a pageblock's kind, and all kinds
+pub record IsKind (kind : Kind) (row : Row) : Type 0 where
+  pub mobility : kind.mobility ≡ Unmovable → row.zone ≡ Some NormalZone
+  pub isolated : kind.isolated ≡ is_going row
+
+abbrev pub AreKinds : LayoutParts → List Kind → List Row → Type 0
+AreKinds l kinds rows = (pageblock : Pageblock) → IsKind (kind_at kinds pageblock) (row_at l rows pageblock)
+
+-- all rows
+abbrev pub AreRows : List Row → Type 0
+AreRows rows = (block : Block) → IsRow (row_in rows block)
+
+-- the pages of an owner, and all pages
+abbrev pub AreOwnersPages : LayoutParts → Pages → Owner → Type 0
+AreOwnersPages l ps owner = (page : Page) → IsPage l (frame_at ps owner page) (words_at ps owner page)
+
+abbrev pub ArePages : LayoutParts → Pages → Type 0
+ArePages l ps = (owner : Owner) → AreOwnersPages l ps owner
+
+-- the pool of a number, the last one past it
+abbrev pub pool_numbered : ℕ → Pool
+pool_numbered zero = NuPool
+pool_numbered (suc zero) = NmPool
+pool_numbered (suc (suc n)) = MmPool
+
+-- in how many of the kernel's blocks a frame is: of the one that starts at a frame, and of all
+abbrev pub kernel_covered : (frame first : Frame) → Option Order → ℕ
+kernel_covered frame first entry =
+    if option_map_or (λ order. covers frame order first) entry false then 1 else 0
+
+abbrev pub kernel_counts : List (Option Order) → Frame → ℕ
+kernel_counts kernel frame =
+    count_by (λ entry. option_map_or (λ order. covers frame order entry.0) entry.1 false)
+    (enumerate_from 0 kernel)
+
+-- the lists, the kernel's blocks and the pages are where they may be, and each number is in one place
+pub record ArePlacedOnce (l : LayoutParts) (s : Memory) : Type 0 where
+  pub free : AreListsPlaced l s.free.areas s.blocks.rows
+  pub cached : ArePoolsPlaced l s.free s.blocks.rows
+  pub kernel : IsKernelPlaced l s.blocks.rows s.kernel
+  pub pages : ArePages l s.pages
+  pub once : (frame : Frame) → places_of l s frame ≡ 1

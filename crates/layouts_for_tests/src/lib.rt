@@ -1,0 +1,45 @@
+//! A small layout for the tests of several crates, and what its memory blocks are at boot.
+//!
+//! It has four memory blocks of four frames: two of zone Normal, one of zone Movable, and one that is
+//! offline or absent at boot. The clauses of `four_blocks` say what the tests need of it.
+#![tactic(auto)]
+
+ghost use Rattle.std.specs.Prelude.{◌≡◌, IfOk};
+ghost use Rattle.hp_units.specs.Arithmetic.{frame_count, pageblock_count};
+
+use hp_units::{Boot, Layout, LayoutFault, Parts};
+use std::alloc::Global;
+
+/// Four memory blocks of which the third is movable, and the last offline at boot.
+pub const LAST_OFFLINE: &[Boot] = &[Boot::Normal, Boot::Normal, Boot::Movable, Boot::Offline];
+
+/// The same, and the last absent at boot.
+pub const LAST_ABSENT: &[Boot] = &[Boot::Normal, Boot::Normal, Boot::Movable, Boot::Absent];
+
+/// Four memory blocks of one pageblock of four frames, two processors, two owners of eight pages of
+/// two words, and a limit of records.
+pub fn four_blocks(alloc: Global, boot: &[Boot], history: u64) -> Result<Layout, LayoutFault>
+    ensures order { IfOk result (λ layout. layout.order ≡ 2) }
+    ensures frames { IfOk result (λ layout. frame_count layout ≡ 16) }
+    ensures pageblocks { IfOk result (λ layout. pageblock_count layout ≡ 4) }
+    ensures blocks { IfOk result (λ layout. layout.blocks ≡ 4) }
+    ensures cpus { IfOk result (λ layout. layout.cpus ≡ 2) }
+    ensures owners { IfOk result (λ layout. layout.owners ≡ 2) }
+    ensures pages { IfOk result (λ layout. layout.pages ≡ 8) }
+    ensures words { IfOk result (λ layout. layout.words ≡ 2) }
+{
+    let parts = Parts {
+        order: 2,
+        pageblocks: 1,
+        blocks: 4,
+        cpus: 2,
+        batch: 2,
+        high: 2,
+        owners: 2,
+        pages: 8,
+        words: 2,
+        history,
+        boot,
+    };
+    Layout::new(alloc, &parts)
+}
