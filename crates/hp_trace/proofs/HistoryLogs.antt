@@ -11,7 +11,7 @@ use Rattle.hp_units.specs.declared.replies.Record.{Record}
 use Rattle.hp_judge.specs.declared.events.LogEvent.{LogEvent}
 use Rattle.hp_lawful.specs.Logs.{log_of, log_of_all, step_log}
 use Rattle.hp_lawful.proofs.Histories.{log-push}
-use Rattle.hp_lawful.proofs.Unchanged.{unchanged}
+use Rattle.hp_lawful.proofs.Unchanged.{step_none}
 use Rattle.hp_machine.specs.Machine.{IsCalled, MachineValue, booted, record_of, sealed}
 use Rattle.hp_pictures.specs.declared.row_picture.Move.{Move}
 use Rattle.hp_trace.specs.Logs.{histories}
@@ -54,7 +54,7 @@ empty [] none = refl
 empty (r ∷ h) none = absurd (omega arith)
 
 of_nothing : (l : LayoutParts) (s : Memory) → value_of l s [] ≡ s
-unfolding value_of, run, net_of
+unfolding value_of run net_of
 of_nothing l s = refl
 
 pub boot_reached : (l : LayoutParts) → IsReached (booted l)
@@ -83,7 +83,7 @@ same_turn m reached = record {
   layout = refl;
   reached = reached;
   whole = λ rows asked answer moved ih.
-      ap (λ (xs : List LogEvent). own_log m ++ (xs ++ rows_log m rows)) (unchanged m.layout m.state)
+      ap (λ (xs : List LogEvent). own_log m ++ (xs ++ rows_log m rows)) (step_none m.layout m.state)
       ∙ (ih ∙ ap (λ (hs : List (List Record)). log_of_all m.layout m.base hs)
       (sym (goes_on m m rows refl)));
 }
@@ -131,13 +131,13 @@ sealed_turn m reached = record {
         let none : m.history ≡ [] = empty m.history (omega (arith, eqb-true (sealed m).before m.before is)) in
         let state : m.state ≡ m.base =
         reached ∙ (ap (λ (h : List Record). value_of m.layout m.base h) none ∙ of_nothing m.layout m.base) in
-        ap (λ (xs : List LogEvent). own_log m ++ (xs ++ rows_log (sealed m) rows)) (unchanged m.layout m.state)
+        ap (λ (xs : List LogEvent). own_log m ++ (xs ++ rows_log (sealed m) rows)) (step_none m.layout m.state)
         ∙ (ap (λ (h : List Record). log_of m.layout m.base h ++ rows_log (sealed m) rows) none
         ∙ (ih ∙ (ap (λ (s : Memory). log_of_all m.layout s later) state
         ∙ ap (λ (b : Bool). log_of_all m.layout m.base (if b then later else m.history ∷ later)) (sym is))))
     by_number rows ih false is =
         let later = histories (sealed m) rows in
-        ap (λ (xs : List LogEvent). own_log m ++ (xs ++ rows_log (sealed m) rows)) (unchanged m.layout m.state)
+        ap (λ (xs : List LogEvent). own_log m ++ (xs ++ rows_log (sealed m) rows)) (step_none m.layout m.state)
         ∙ (ap (λ (xs : List LogEvent). own_log m ++ xs)
         (ih ∙ ap (λ (s : Memory). log_of_all m.layout s later) reached)
         ∙ ap (λ (b : Bool). log_of_all m.layout m.base (if b then later else m.history ∷ later)) (sym is))

@@ -21,16 +21,15 @@ pub(crate) fn snapshot_of(alloc: Global, machine: &Machine) -> Result<Snapshot, 
 }
 
 /// What has the memory that starts at each frame.
+#[tactic(auto, using(crate::proofs::Snapshots::one_more))]
 fn holders_of(alloc: Global, machine: &Machine) -> Result<Vec<FrameHolder>, AllocError>
     requires { IsWellPlaced machine.now.layout machine.now.state }
     ensures { IfOk result
         (λ holders. holders.items ≡ map (holder_of machine.now.state) (all_frames machine.now.layout)) }
 {
-    let frames = machine.layout().frames();
-    let mut holders = Vec::with_capacity(alloc, frames as usize)?;
-    for number in 0..frames {
-        let holder = holder_of(machine, Frame(number));
-        holders.push(holder)?;
+    let mut holders = Vec::new(alloc);
+    for number in 0..machine.layout().frames() {
+        holders.push(holder_of(machine, Frame(number)))?;
     }
     Ok(holders)
 }
@@ -45,15 +44,17 @@ fn holder_of(machine: &Machine, frame: Frame) -> FrameHolder
 }
 
 /// The row of each memory block.
+#[tactic(auto, using(crate::proofs::Snapshots::take_none, crate::proofs::Snapshots::take_one))]
 fn rows_of(alloc: Global, machine: &Machine) -> Result<Vec<Row>, AllocError>
     requires { IsWellPlaced machine.now.layout machine.now.state }
     ensures { IfOk result (λ rows. rows.items ≡ machine.now.state.blocks.rows) }
 {
     let mut rows = Vec::new(alloc);
     for number in 0..machine.layout().blocks() {
-        if let Some(row) = machine.row(Block(number)) {
-            rows.push(row)?;
-        }
+        let Some(row) = machine.row(Block(number)) else {
+            continue;
+        };
+        rows.push(row)?;
     }
     Ok(rows)
 }
