@@ -3,5 +3,5 @@ mod HistoryLogs
 mod LinesTraced
 mod PlansTraced
 mod RunsLogged
-mod Snapshots
+mod SnapshotsTaken
 mod WorkAdded

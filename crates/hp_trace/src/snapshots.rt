@@ -21,7 +21,7 @@ pub(crate) fn snapshot_of(alloc: Global, machine: &Machine) -> Result<Snapshot, 
 }
 
 /// What has the memory that starts at each frame.
-#[tactic(auto, using(crate::proofs::Snapshots::one_more))]
+#[tactic(auto, using(crate::proofs::SnapshotsTaken::one_more))]
 fn holders_of(alloc: Global, machine: &Machine) -> Result<Vec<FrameHolder>, AllocError>
     requires { IsWellPlaced machine.now.layout machine.now.state }
     ensures { IfOk result
@@ -44,7 +44,7 @@ fn holder_of(machine: &Machine, frame: Frame) -> FrameHolder
 }
 
 /// The row of each memory block.
-#[tactic(auto, using(crate::proofs::Snapshots::take_none, crate::proofs::Snapshots::take_one))]
+#[tactic(auto, using(crate::proofs::SnapshotsTaken::take_none, crate::proofs::SnapshotsTaken::take_one))]
 fn rows_of(alloc: Global, machine: &Machine) -> Result<Vec<Row>, AllocError>
     requires { IsWellPlaced machine.now.layout machine.now.state }
     ensures { IfOk result (λ rows. rows.items ≡ machine.now.state.blocks.rows) }

@@ -1,4 +1,4 @@
-use Rattle.hp_trace.proofs.Snapshots.{frame_inside, held_once, holder_is}
+use Rattle.hp_trace.proofs.SnapshotsTaken.{frame_inside, held_once, holder_is}
 use Rattle.hp_trace.proofs.snapshots.holder_of.Goals as goal
 
 pub page_at-requires-clause-frame : goal.page_at-requires-clause-frame
