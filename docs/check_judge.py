@@ -17,6 +17,10 @@ What is tried:
   and where they are going online or offline and where that ended;
 - a picture of a longer log, and of the log of Linux;
 - logs that say on their first line how many frames a memory block has;
+- the logs of 2,000 random scenarios of our own machine, with events of all kinds, undos, cancels and
+  seals, as `hotplug_lab trace --log` writes them: each is lawful, and has the frames in use that the
+  last row of `hotplug_lab trace` draws; with one event taken out, doubled or changed its faults are
+  those of the slow judge;
 - logs and command lines that cannot be read.
 The last line is 'judge: N passed, M failed'; the exit status is 0 where nothing failed, else 1.
 """
@@ -27,11 +31,17 @@ import re
 import subprocess
 import sys
 import xml.etree.ElementTree as xml
+from collections import Counter
 from pathlib import Path
+
+from check_find import drawn_call
+from check_lab import numbered
+from lab_traces import BLOCK
 
 ROOT = Path(__file__).resolve().parent.parent
 SECONDS = 60
 LOGS = 300
+SCENARIOS = 2000
 BLOCK_FRAMES = 32768
 KNOWN = [26187, 26188, 26189, 26190, 29819, 29820, 29821, 29822]
 
@@ -60,6 +70,12 @@ class Judge:
         text = log if isinstance(log, bytes) else log.encode()
         ran = subprocess.run([self.lab, "judge", *words], input=text, capture_output=True,
                              timeout=SECONDS)
+        return ran.returncode, ran.stdout.decode(), ran.stderr.decode()
+
+    def trace(self, scenario, *words):
+        """The status, and what `trace` writes to standard output and to standard error."""
+        ran = subprocess.run([self.lab, "trace", *words], input=json.dumps(scenario).encode(),
+                             capture_output=True, timeout=SECONDS)
         return ran.returncode, ran.stdout.decode(), ran.stderr.decode()
 
     def report(self, log, *words):
@@ -609,6 +625,128 @@ def check_random(checks, judge):
     checks.holds("random", LOGS // 3 < unlawful < LOGS, str(unlawful))
 
 
+# ---- logs of our own machine
+
+MORE = ("online {block} normal", "begin normal {block}", "begin movable {block}", "undo {late}", "undo {late}",
+        "echo 0x{address:x} probe", "echo online_movable auto_online_blocks", "kalloc 1", "kfree {frame}")
+
+
+def own_call(draw, cpu, cpus, at):
+    """A call of a processor, or a plan, drawn at random, after so many others."""
+    if draw.random() < 0.7:
+        return drawn_call(draw, cpu, cpus)
+    block, late = draw.randrange(BLOCKS), max(0, at - draw.randrange(5))
+    text = draw.choice(MORE).format(block=block, late=late, address=block * SIZE * 8, frame=draw.randrange(SIZE))
+    return f"{cpu} {text}"
+
+
+def has_plan(call):
+    return call.split()[1] in ("plan", "echo")
+
+
+def own_scenario(draw):
+    """A scenario whose calls name operations by their numbers, unless a plan's calls come before."""
+    cpus, order = draw.choice((1, 2)), draw.randrange(3)
+    layout = {"order": order, "pageblocks": SIZE >> order, "blocks": BLOCKS, "cpus": cpus,
+              "batch": draw.choice((1, 2)), "high": 2, "owners": 2, "pages": 2, "words": 1, "history": 1000,
+              "boot": ["normal", draw.choice(("normal", "movable")), draw.choice(("movable", "offline", "absent"))]}
+    drawn = [own_call(draw, draw.randrange(cpus), cpus, at) for at in range(draw.choice((5, 15, 40)))]
+    if draw.random() < 0.6:
+        drawn = [call for call in drawn if not has_plan(call)]
+    calls = numbered([(int(cpu), text) for cpu, text in (call.split(" ", 1) for call in drawn)], 0)
+    for _seal in range(draw.randrange(3)):
+        calls.insert(draw.randrange(len(calls) + 1), "0 seal")
+    return {"layout": layout, "calls": calls}
+
+
+def event_of(line):
+    """The event of a line of a log."""
+    said = json.loads(line)
+    if "alloc" in said:
+        return ("alloc", said["alloc"], said["order"], said["movable"])
+    if "free" in said:
+        return ("free", said["free"], said["order"])
+    if "move" in said:
+        return ("move", said["move"], said["to"])
+    kind = "online" if "online" in said else "offline"
+    if "end" in said:
+        return (f"{kind}_end", said[kind], said["end"] == "ok")
+    return (kind, said[kind], said["zone"]) if kind == "online" else (kind, said[kind])
+
+
+def altered(draw, event):
+    """The event with its frame, block, order, zone or end changed."""
+    kind, place, *more = event
+    at = draw.randrange(len(event) - 1)
+    if at == 0:
+        last = BLOCKS * SIZE if kind in ("alloc", "free", "move") else BLOCKS
+        return (kind, draw.randrange(last + 1), *more)
+    changed = {bool: lambda old: not old, int: lambda old: draw.randrange(ORDER + 2) if kind != "move"
+               else draw.randrange(BLOCKS * SIZE), str: lambda old: "normal" if old == "movable" else "movable"}
+    more[at - 1] = changed[type(more[at - 1])](more[at - 1])
+    return (kind, place, *more)
+
+
+def one_changed(draw, log):
+    """The log with one event taken out, doubled or changed."""
+    log, at, how = list(log), draw.randrange(len(log)), draw.randrange(4)
+    if how == 0:
+        del log[at]
+    elif how == 1:
+        log.insert(at, log[at])
+    else:
+        log[at] = altered(draw, log[at])
+    return log
+
+
+def used_by(log):
+    """The frames that are in use after a log."""
+    used = set()
+    for event in log:
+        used.difference_update(freed(event))
+        used.update(allocated(event))
+    return used
+
+
+def used_in(row):
+    """The frames that a row of a trace draws as the kernel's or an owner's."""
+    cells = "".join(drawn.replace("|", "") for _head, drawn in BLOCK.findall(row))
+    return {frame for frame, cell in enumerate(cells) if cell == "K" or cell.islower()}
+
+
+def check_own(checks, judge):
+    draw, kinds, unlawful = random.Random(61), Counter(), 0
+    for number in range(SCENARIOS):
+        scenario = own_scenario(draw)
+        where = f"scenario {number}: {json.dumps(scenario)}"
+        status, text, said = judge.trace(scenario, "--log")
+        checks.holds(where, status == 0 and said == "", f"{status} {said}")
+        first, *lines = text.splitlines()
+        log = [event_of(line) for line in lines]
+        kinds.update(event[0] for event in log)
+        checks.holds(where, [first, *lines] == [json.dumps({"block_frames": SIZE}), *map(line_of, log)], text)
+        status, out, said = judge.call(text)
+        checks.holds(where, status == 0 and out.endswith("lawful: 0 faults, 0 allowed\n"), f"{out} {said}\n{text}")
+        if number % 10 == 0:
+            row = judge.trace(scenario, "--width", "1000000")[1].splitlines()
+            drawn = [line for line in row if BLOCK.search(line)][-1]
+            checks.holds(where, used_by(log) == used_in(drawn), f"{drawn}\n{text}")
+        if log:
+            unlawful += check_changed(checks, judge, where, one_changed(draw, log))
+    checks.holds("scenarios", SCENARIOS // 3 < unlawful < SCENARIOS, str(unlawful))
+    wanted = {"alloc", "free", "move", "online", "online_end", "offline", "offline_end"}
+    checks.holds("scenarios", set(kinds) == wanted, str(kinds))
+
+
+def check_changed(checks, judge, where, log):
+    """Compares the faults of a log with those of the slow judge. Returns whether there are any."""
+    text, wanted = "\n".join(map(line_of, log)), faults_by_laws(log)
+    status, report, said = judge.report(text, "--block-frames", str(SIZE), "--most", "1000")
+    is_right = status == (3 if wanted else 0) and told_faults(report) == wanted
+    checks.holds(where, is_right, f"{status} {told_faults(report)} {wanted} {said}\n{text}")
+    return bool(wanted)
+
+
 # ---- odd inputs
 
 def check_odd(checks, judge):
@@ -684,6 +822,7 @@ def main():
     check_random(checks, judge)
     check_pictures(checks, judge)
     check_first_lines(checks, judge)
+    check_own(checks, judge)
     check_odd(checks, judge)
     for failure in checks.failures:
         print(f"failed: {failure}")

@@ -7,7 +7,7 @@ use Rattle.hp_lab_faults.specs.declared.program_fault.ProgramFault.{ProgramFault
 use Rattle.hp_lab_faults.specs.declared.program_fault.ProgramFault.TheVariants.{Lab, NotOpened, Parts, PastEnd, ReadFailed, Scenario, TooLong, WriteFailed}
 use Rattle.hp_lab_shell.specs.declared.words.Drawing.{Drawing}
 use Rattle.hp_lab_shell.specs.declared.words.Word.{Word}
-use Rattle.hp_lab_shell.specs.declared.words.Word.TheVariants.{Check, Explore, Find, Never, Part, Picture, Sum, Trace}
+use Rattle.hp_lab_shell.specs.declared.words.Word.TheVariants.{Check, Explore, Find, Log, Never, Part, Picture, Sum, Trace}
 use Rattle.hotplug_lab.specs.Words.{IsUnanswered}
 
 -- out of memory is a fault of each word
@@ -20,6 +20,7 @@ no_memory (Find asked wanted form) input = tt
 no_memory (Never asked wanted form) input = tt
 no_memory (Trace view) input = refl
 no_memory (Picture drawing) input = refl
+no_memory Log input = refl
 
 -- the bytes are no scenario
 unread : (view : View) (input : List ℕ) (fault : ProgramFault) → IsUnread input fault
@@ -53,3 +54,18 @@ pub not_drawn : (word : Word) (drawing : Drawing) (input : List ℕ) (fault : Pr
     → word ≡ Picture drawing → IsUnread input fault → IsUnanswered word input fault
 not_drawn word drawing input fault is h =
     subst (λ (w : Word). IsUnanswered w input fault) (sym is) (undrawn drawing input fault h)
+
+unlogged : (input : List ℕ) (fault : ProgramFault) → IsUnread input fault → IsUnanswered Log input fault
+unlogged input NotOpened h = absurd h
+unlogged input ReadFailed h = absurd h
+unlogged input TooLong h = absurd h
+unlogged input (Lab fault) h = h
+unlogged input (Parts fault) h = absurd h
+unlogged input (Scenario fault) h = h
+unlogged input (PastEnd asked lines) h = absurd h
+unlogged input WriteFailed h = absurd h
+
+pub not_logged : (word : Word) (input : List ℕ) (fault : ProgramFault) → word ≡ Log → IsUnread input fault
+    → IsUnanswered word input fault
+not_logged word input fault is h =
+    subst (λ (w : Word). IsUnanswered w input fault) (sym is) (unlogged input fault h)

@@ -16,6 +16,7 @@ use Rattle.hp_part_files.specs.Faults.{IsSumFault}
 use Rattle.hp_part_files.specs.Parts.{IsFullPart, IsPartOf}
 use Rattle.hp_part_files.specs.Sums.{IsSumOf}
 use Rattle.hp_lab_shell.specs.Checks.{IsCheckOf}
+use Rattle.hp_lab_shell.specs.Logs.{HasLog}
 use Rattle.hp_lab_shell.specs.Pictures.{IsPictureOf}
 use Rattle.hp_trace.specs.Traces.{IsTraceOf}
 use Rattle.hp_lab_faults.specs.declared.fault.LabFault.{LabFault}
@@ -25,7 +26,7 @@ use Rattle.hp_lab_faults.specs.declared.program_fault.ProgramFault.{ProgramFault
 use Rattle.hp_lab_faults.specs.declared.program_fault.ProgramFault.TheVariants.{Lab, NotOpened, Parts, PastEnd, ReadFailed, Scenario, TooLong, WriteFailed}
 use Rattle.hp_lab_shell.specs.declared.words.Exploration.{Exploration}
 use Rattle.hp_lab_shell.specs.declared.words.Word.{Word}
-use Rattle.hp_lab_shell.specs.declared.words.Word.TheVariants.{Check, Explore, Find, Never, Part, Picture, Sum, Trace}
+use Rattle.hp_lab_shell.specs.declared.words.Word.TheVariants.{Check, Explore, Find, Log, Never, Part, Picture, Sum, Trace}
 use Rattle.hp_lab_shell.specs.Needs.{HasLines, IsPastEnd}
 
 -- the text of an exploration; the status is 0 where what is asked for is found, and 3 where it is not
@@ -62,6 +63,7 @@ IsAnswerOf (Never asked wanted form) input text status =
 IsAnswerOf (Trace view) input text status = IsTraceOf view input text × (status ≡ 0)
 IsAnswerOf (Picture drawing) input text status =
     IsPictureOf drawing.view drawing.cell input text × (status ≡ 0)
+IsAnswerOf Log input text status = HasLog input × (status ≡ 0)
 
 -- the answer of a word to a scenario that has the lines that the word names
 abbrev pub Answers : Word → (input text : List ℕ) → (status : ℕ) → Type 0
@@ -80,6 +82,7 @@ IsLabCause (Never asked wanted form) input fault =
     IsFindFaultOf input asked.setup asked.limit wanted.now fault
 IsLabCause (Trace view) input fault = fault ≡ OutOfMemory
 IsLabCause (Picture drawing) input fault = fault ≡ OutOfMemory
+IsLabCause Log input fault = fault ≡ OutOfMemory
 
 abbrev pub IsScenarioCause : Word → (input : List ℕ) → ScenarioFault → Type 0
 IsScenarioCause (Check setup) input fault = ⊥
@@ -90,6 +93,7 @@ IsScenarioCause (Find asked wanted form) input fault = ⊥
 IsScenarioCause (Never asked wanted form) input fault = ⊥
 IsScenarioCause (Trace view) input fault = Fails fault (scenario_in input)
 IsScenarioCause (Picture drawing) input fault = Fails fault (scenario_in input)
+IsScenarioCause Log input fault = Fails fault (scenario_in input)
 
 -- why parts have no sum
 abbrev pub IsPartCause : Word → (input : List ℕ) → PartFault → Type 0

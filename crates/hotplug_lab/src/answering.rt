@@ -7,7 +7,7 @@ ghost use Rattle.hp_lab_shell.specs.declared.words.Word.TheVariants.{Explore, Fi
 use hp_ends::{EndsForm, ScheduleForm};
 use hp_lab::{explore_text_with_jobs, find_text};
 use hp_lab_faults::ProgramFault;
-use hp_lab_shell::{Answer, Exploration, Word, checked, drawn, traced};
+use hp_lab_shell::{Answer, Exploration, Word, checked, drawn, logged, traced};
 use hp_part_files::{part_text, sum_text};
 use hp_places::Watch;
 use hp_prepared::Finding;
@@ -47,6 +47,7 @@ pub(crate) fn answer_to<W: Watch>(
         } => never(alloc, input, asked, wanted, form, watch),
         Word::Trace(view) => traced(alloc, input, view),
         Word::Picture(drawing) => drawn(alloc, input, drawing.view, drawing.cell),
+        Word::Log => logged(alloc, input),
     }
 }
 

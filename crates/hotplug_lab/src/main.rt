@@ -2,8 +2,8 @@
 //! standard output.
 //!
 //! What a word writes stands in a library of its own: `check` in hp_check, `explore` in hp_lab, its
-//! parts and their `sum` in hp_part_files, `trace` in hp_trace, its picture in hp_svg, and `judge`,
-//! which reads no scenario, in hp_verdicts. The command line, and all that is around the answers,
+//! parts and their `sum` in hp_part_files, `trace` and its log in hp_trace, its picture in hp_svg, and
+//! `judge`, which reads no scenario, in hp_verdicts. The command line, and all that is around the answers,
 //! stands in hp_lab_shell; here the other words are answered. The exit status is 0; or 1 after a
 //! fault, which standard error names, and after a check that finds faults; or 2 where the command
 //! line is wrong; or 3 where a search finds nothing, or what is never to be, where an end that is

@@ -24,6 +24,9 @@ pub const PART: &str = "part";
 /// The option that searches in threads.
 pub const JOBS: &str = "jobs";
 
+/// The option that writes the log of a scenario.
+pub const LOG: &str = "log";
+
 /// The option that reads the text of ftrace.
 pub const FTRACE: &str = "ftrace";
 
@@ -179,7 +182,7 @@ const SUM: [Argument; 3] = [
 ];
 
 /// What `trace` takes.
-const TRACE: [Argument; 8] = [
+const TRACE: [Argument; 9] = [
     Argument {
         name: "from",
         takes: Takes::Number,
@@ -221,6 +224,12 @@ const TRACE: [Argument; 8] = [
         takes: Takes::Nothing,
         help: "Writes one SVG picture, with all memory blocks in each row",
         against: &[],
+    },
+    Argument {
+        name: LOG,
+        takes: Takes::Nothing,
+        help: "Writes what happens to frames and memory blocks, as a log that judge reads",
+        against: &["from", "to", "every", "width", "cell", "orders", "svg"],
     },
     SCENARIO_FILE,
 ];

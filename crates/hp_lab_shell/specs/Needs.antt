@@ -9,7 +9,7 @@ use Rattle.hp_lab_faults.specs.declared.fault.LabFault.TheVariants.{OutOfMemory}
 use Rattle.hp_lab_faults.specs.declared.program_fault.ProgramFault.{ProgramFault}
 use Rattle.hp_lab_faults.specs.declared.program_fault.ProgramFault.TheVariants.{Lab, PastEnd}
 use Rattle.hp_lab_shell.specs.declared.words.Word.{Word}
-use Rattle.hp_lab_shell.specs.declared.words.Word.TheVariants.{Check, Explore, Find, Never, Part, Picture, Sum, Trace}
+use Rattle.hp_lab_shell.specs.declared.words.Word.TheVariants.{Check, Explore, Find, Log, Never, Part, Picture, Sum, Trace}
 
 -- the lines that work on operation 0 where their processor has begun none, of the scripts that a word
 -- searches
@@ -22,6 +22,7 @@ unbegun_of (Find asked wanted form) read = unbegun_in asked.setup read
 unbegun_of (Never asked wanted form) read = unbegun_in asked.setup read
 unbegun_of (Trace view) read = []
 unbegun_of (Picture drawing) read = []
+unbegun_of Log read = []
 
 -- the first line that is shown, where one is asked for by its number
 abbrev pub first_shown : View → ℕ
@@ -41,6 +42,7 @@ last_named (Find asked wanted form) = asked.setup
 last_named (Never asked wanted form) = asked.setup
 last_named (Trace view) = first_shown view
 last_named (Picture drawing) = first_shown drawing.view
+last_named Log = 0
 
 -- there is a line of this number, where it is known how many there are
 abbrev pub has_line : (asked : ℕ) → (count : Option ℕ) → Bool

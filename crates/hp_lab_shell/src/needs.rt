@@ -25,6 +25,7 @@ pub fn unbegun_of(alloc: Global, input: &[u8], word: Word<'_>) -> Result<Vec<Unb
         Word::Sum(_) => Ok(Vec::new(alloc)),
         Word::Trace(_) => Ok(Vec::new(alloc)),
         Word::Picture(_) => Ok(Vec::new(alloc)),
+        Word::Log => Ok(Vec::new(alloc)),
     }
 }
 
@@ -72,6 +73,7 @@ fn last_named(word: Word<'_>) -> u64
         Word::Sum(_) => 0,
         Word::Trace(view) => first_shown(view),
         Word::Picture(drawing) => first_shown(drawing.view),
+        Word::Log => 0,
     }
 }
 

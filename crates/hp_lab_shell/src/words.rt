@@ -3,7 +3,7 @@
 use crate::checks::{ALL, LIMIT};
 use clap::ArgMatches;
 use hp_ends::{EndsForm, ScheduleForm};
-use hp_lab_command::{FILE, FIND, JOBS, JSON, NEVER, PART, PROGRESS, SCENARIO};
+use hp_lab_command::{FILE, FIND, JOBS, JSON, LOG, NEVER, PART, PROGRESS, SCENARIO};
 use hp_numbers::number64;
 use hp_schedules::PartNumber;
 use hp_trace::View;
@@ -76,6 +76,8 @@ pub enum Word<'a> {
     Trace(View),
     /// The same as one picture, with all memory blocks in each row.
     Picture(Drawing),
+    /// What happens to frames and memory blocks, as a log that `judge` reads.
+    Log,
 }
 
 /// What the program is asked for, and the files that are named.
@@ -205,6 +207,9 @@ fn whole_word<'a>(asked: Exploration, words: &ArgMatches<'_>) -> Result<Word<'a>
 
 /// What the words of `trace` ask for.
 fn tracing_word<'a>(words: &ArgMatches<'_>) -> Result<Word<'a>, &'static str> {
+    if words.get_flag(LOG) {
+        return Ok(Word::Log);
+    }
     let view = view_from(words);
     let cell = words.get_one::<u64>("cell");
     let is_picture = words.get_flag("svg");

@@ -1,4 +1,7 @@
 mod Folded
+mod HistoryLogs
 mod LinesTraced
 mod PlansTraced
+mod RunsLogged
+mod SnapshotsTaken
 mod WorkAdded

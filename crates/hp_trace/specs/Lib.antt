@@ -1,7 +1,9 @@
 pub mod Calls
 pub mod Columns
 pub mod Folds
+pub mod Logs
 pub mod Ports
 pub mod Rows
+pub mod StateLogs
 pub mod Traces
 pub mod Views

@@ -10,22 +10,31 @@ use Rattle.hp_pictures.specs.declared.row_picture.Move.{Move}
 use Rattle.hp_text.specs.State.{newline}
 use Rattle.hp_trace.specs.Columns.{label_text}
 use Rattle.hp_trace.specs.Folds.{is_past, memory_text, paper_of, widened}
+use Rattle.hp_trace.specs.StateLogs.{IsLogged, LogValue, no_log}
 use Rattle.hp_trace.specs.declared.folds.Paper.{Paper}
 use Rattle.hp_trace.specs.declared.rows.Form.{Form}
-use Rattle.hp_trace.specs.declared.rows.Form.TheVariants.{Kept, Unseen, Written}
+use Rattle.hp_trace.specs.declared.rows.Form.TheVariants.{Kept, Logged, Unseen, Written}
 use Rattle.hp_trace.specs.declared.view.View.{View}
 
 -- what becomes of rows; the text so far, the memory blocks as its last row shows them, and how rows are
--- written; and the rows that are kept
+-- written; the rows that are kept; and the log
 pub record RowsValue : Type 0 where
   pub form : Form
   pub text : List ℕ
   pub shown : List BlockValue
   pub paper : Paper
   pub kept : List RowValue
+  pub log : LogValue
 
 abbrev pub no_rows : Form → View → RowsValue
-no_rows form v = record { form = form; text = []; shown = []; paper = paper_of v; kept = [] }
+no_rows form v = record {
+  form = form;
+  text = [];
+  shown = [];
+  paper = paper_of v;
+  kept = [];
+  log = no_log;
+}
 
 -- from now on in part, where the memory blocks that the last row shows have no room in one line
 abbrev pub fitted : RowsValue → RowsValue
@@ -40,6 +49,7 @@ abbrev pub said_as : Form → RowsValue → List ℕ → RowsValue
 said_as Unseen r text = r
 said_as Written r text = record r { text = r.text ++ text }
 said_as Kept r text = record r { kept = r.kept ++ line_rows (lines text) }
+said_as Logged r text = r
 
 abbrev pub said : RowsValue → List ℕ → RowsValue
 said r text = said_as r.form r text
@@ -66,12 +76,19 @@ pub record IsKept (m : MachineValue) (asked answer : List ℕ) (moved : Option M
   pub picture : IsPicture m.layout m.state old.paper.orders blocks
   pub is : new ≡ record old { kept = old.kept ++ row_with asked answer moved blocks ∷ [] }
 
+-- the events to the machine's state more
+pub record IsRowLogged (m : MachineValue) (old new : RowsValue) : Type 0 where
+  pub log : LogValue
+  pub logged : IsLogged m old.log log
+  pub is : new ≡ record old { log = log }
+
 -- a row more in its form, and none where it is not seen
 abbrev pub DrawsIf : Form → MachineValue → (asked answer : List ℕ) → (moved : Option Move)
     → (old new : RowsValue) → Type 0
 DrawsIf Unseen m asked answer moved old new = new ≡ old
 DrawsIf Written m asked answer moved old new = IsRow m asked answer old new
 DrawsIf Kept m asked answer moved old new = IsKept m asked answer moved old new
+DrawsIf Logged m asked answer moved old new = IsRowLogged m old new
 
 -- ---- rows one under another
 

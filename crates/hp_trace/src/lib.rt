@@ -1,19 +1,23 @@
 //! Scenarios traced: what each line answers, and a picture of the memory after each call.
 //!
 //! The crate owns the rows of a trace, which of them are shown, and the port that draws one for
-//! each call of a plan. It gives them as text, or as values to draw. It runs a scenario's lines on a
-//! machine as `hotplug serial` does, but gives nothing at all once it is out of memory. It knows
-//! nothing of streams or command lines. Read specs/Traces first, then specs/Calls, specs/Rows and
-//! specs/Folds.
+//! each call of a plan. It gives them as text, or as values to draw, or as the log of what happened
+//! to the memory between them. It runs a scenario's lines on a machine as `hotplug serial` does, but
+//! gives nothing at all once it is out of memory. It knows nothing of streams or command lines. Read
+//! specs/Traces first, then specs/Calls, specs/Rows and specs/Folds, and for the log specs/Logs.
 #![tactic(auto)]
 
 mod calls;
 mod columns;
 mod folds;
 mod lines;
+mod logs;
 mod plans;
 mod rows;
+mod snapshots;
+mod state_logs;
 mod view;
 
 pub use lines::{trace, trace_rows};
+pub use logs::{ScenarioLog, trace_log};
 pub use view::View;

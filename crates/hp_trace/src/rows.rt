@@ -1,12 +1,14 @@
 //! The rows of a trace.
 ghost use Rattle.std.specs.Prelude.{◌≡◌, ◌++◌, IfOk, OnOk, string_bytes};
 ghost use Rattle.std.specs.Str.Lines.{lines};
-ghost use Rattle.hp_trace.specs.Rows.{AreDrawn, DrawsIf, IsKept, IsRow, fitted, line_rows, no_rows, noted, row_text, said};
+ghost use Rattle.hp_trace.specs.Rows.{AreDrawn, DrawsIf, IsKept, IsRow, IsRowLogged, fitted, line_rows, no_rows, noted, row_text, said};
 ghost use Rattle.hp_pictures.specs.Rows.{row_with};
 
 use crate::columns::write_label;
 use crate::folds::{Paper, is_past, memory_text};
+use crate::state_logs::StateLog;
 use crate::view::View;
+use hp_judge::LogEvent;
 use hp_machine::Machine;
 use hp_map::picture_of;
 use hp_pictures::{BlockPicture, Move, RowPicture};
@@ -23,9 +25,12 @@ pub(crate) enum Form {
     Written,
     /// Values, each with all memory blocks.
     Kept,
+    /// The events between the states of the memory that they show.
+    Logged,
 }
 
-/// The rows so far, in one form: as text, with the memory blocks as the last row shows them; or as values.
+/// The rows so far, in one form: as text, with the memory blocks as the last row shows them; as values;
+/// or as the events of a log.
 #[derive(Drop)]
 pub(crate) struct Rows {
     form: Form,
@@ -33,6 +38,7 @@ pub(crate) struct Rows {
     shown: Vec<BlockPicture>,
     paper: Paper,
     kept: Vec<RowPicture>,
+    log: StateLog,
 }
 
 impl Model for Rows {
@@ -47,6 +53,7 @@ impl Model for Rows {
       shown = r.shown.items;
       paper = r.paper;
       kept = r.kept.items;
+      log = r.log;
     } };
 }
 
@@ -61,6 +68,7 @@ impl Rows {
             shown: Vec::new(alloc),
             paper: Paper::new(view),
             kept: Vec::new(alloc),
+            log: StateLog::new(alloc),
         }
     }
 
@@ -81,6 +89,7 @@ impl Rows {
             Form::Unseen => Ok(()),
             Form::Written => self.text.push_str(text),
             Form::Kept => keep_lines(&mut self.kept, alloc, text),
+            Form::Logged => Ok(()),
         }
     }
 
@@ -101,6 +110,7 @@ impl Rows {
             Form::Unseen => Ok(()),
             Form::Written => self.draw_row(alloc, machine, asked, answer),
             Form::Kept => self.keep_row(alloc, machine, asked, answer, moved),
+            Form::Logged => self.log_row(alloc, machine),
         }
     }
 
@@ -139,6 +149,14 @@ impl Rows {
         Ok(())
     }
 
+    /// Adds the events to the memory of a row.
+    fn log_row(&mut self, alloc: Global, machine: &Machine) -> Result<(), AllocError>
+        ensures { OnOk result (IsRowLogged machine.now self.old self.new) }
+    {
+        self.log.observe(alloc, machine)?;
+        Ok(())
+    }
+
     /// Adds a row without an answer, and below it a text of lines. An error is out of memory.
     pub(crate) fn note(
         &mut self,
@@ -163,6 +181,7 @@ impl Rows {
             shown: _,
             paper: _,
             kept: _,
+            log: _,
         } = self;
         all
     }
@@ -177,8 +196,24 @@ impl Rows {
             shown: _,
             paper: _,
             kept: all,
+            log: _,
         } = self;
         all
+    }
+
+    /// The events of the log.
+    pub(crate) fn into_events(self) -> Vec<LogEvent>
+        ensures { result.items ≡ self.log.events }
+    {
+        let Rows {
+            form: _,
+            text: _,
+            shown: _,
+            paper: _,
+            kept: _,
+            log,
+        } = self;
+        log.into_events()
     }
 }
 

@@ -1,7 +1,7 @@
 use Rattle.std.proofs.Common.{sym, subst}
 use Rattle.std.proofs.lemmas.Result.{IfErr-weaker}
 use Rattle.hotplug_lab.specs.Words.{IsUnanswered}
-use Rattle.hotplug_lab.proofs.Answered.{no_memory, not_drawn, not_traced}
+use Rattle.hotplug_lab.proofs.Answered.{no_memory, not_drawn, not_logged, not_traced}
 use Rattle.hotplug_lab.proofs.answering.answer_to.Goals as goal
 
 pub returns-in-Check-clause-err : goal.returns-in-Check-clause-err
@@ -21,3 +21,8 @@ returns-in-Picture-clause-err g c =
     IfErr-weaker c.drawn.result _ _
     (λ fault h. not_drawn c.args.word c.in-Picture.drawing c.args.input.now fault c.in-Picture.is h)
     c.drawn.ensures.err
+
+pub returns-in-Log-clause-err : goal.returns-in-Log-clause-err
+returns-in-Log-clause-err g c =
+    IfErr-weaker c.logged.result _ _
+    (λ fault h. not_logged c.args.word c.args.input.now fault c.in-Log.is h) c.logged.ensures.err

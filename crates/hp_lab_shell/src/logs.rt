@@ -1,0 +1,31 @@
+//! The log of a scenario, as the word `judge` reads it.
+ghost use Rattle.std.specs.Prelude.{◌≡◌, IfErr, IfOk};
+ghost use Rattle.hp_lab_shell.specs.Faults.{IsUnread};
+ghost use Rattle.hp_lab_shell.specs.Logs.{HasLog};
+
+use crate::answer::Answer;
+use hp_lab_faults::ProgramFault;
+use hp_step_logs::{write_event, write_size};
+use hp_trace::{ScenarioLog, trace_log};
+use std::alloc::{AllocError, Global};
+
+/// Writes the log of the run of the scenario that the bytes are. The status is 0. An error is the
+/// first fault of the scenario, or out of memory.
+pub fn logged(alloc: Global, input: &[u8]) -> Result<Answer, ProgramFault>
+    ensures ok { IfOk result (λ answer. HasLog input.now × (answer.status ≡ 0)) }
+    ensures err { IfErr result (IsUnread input.now) }
+{
+    let log = trace_log(alloc, input)?;
+    let text = log_text(alloc, &log)?;
+    Ok(Answer { text, status: 0 })
+}
+
+/// Writes a log: a line for the size of memory blocks, and one for each event.
+fn log_text(alloc: Global, log: &ScenarioLog) -> Result<String, AllocError> {
+    let mut out = String::new(alloc);
+    write_size(&mut out, log.block_frames)?;
+    for event in &log.events {
+        write_event(&mut out, event)?;
+    }
+    Ok(out)
+}

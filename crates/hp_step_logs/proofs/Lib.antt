@@ -1,0 +1,3 @@
+mod Moves
+mod Shown
+mod Walks

@@ -1,0 +1,4 @@
+pub mod Names
+pub mod Snapshots
+pub mod Steps
+pub mod Turns

@@ -1,0 +1,27 @@
+-- The phases of a memory block as the code has them, and how a block gets from one to another.
+use Rattle.std.specs.Prelude.{Bool, true, false, List, [], ◌∷◌, Option, Some, None}
+use Rattle.hp_numbers.specs.Numbers.{Block}
+use Rattle.hp_lawful.specs.Names.{LogEvent, OnlineEnds, OfflineBegins, OfflineEnds}
+use Rattle.hp_lawful.specs.Phases.{BlockPhase, Offline, GoingOnline, Online, GoingOffline}
+use Rattle.hp_step_logs.specs.Names.{Phase, PhaseOffline, PhaseGoingOnline, PhaseOnline, PhaseGoingOffline, Turn, Stays, ComesOnline, BeginsOffline, StaysOnline, ThroughOffline}
+
+abbrev pub phase_seen : Phase → BlockPhase
+phase_seen PhaseOffline = Offline
+phase_seen (PhaseGoingOnline zone) = GoingOnline zone
+phase_seen (PhaseOnline zone) = Online zone
+phase_seen (PhaseGoingOffline zone) = GoingOffline zone
+
+-- the events of a turn; none that is told here where it goes through offline
+abbrev pub turn_events : Block → Turn → Option (List LogEvent)
+turn_events block Stays = Some []
+turn_events block ComesOnline = Some (OnlineEnds block true ∷ [])
+turn_events block BeginsOffline = Some (OfflineBegins block ∷ [])
+turn_events block StaysOnline = Some (OfflineEnds block false ∷ [])
+turn_events block ThroughOffline = None
+
+-- whether a block in this phase goes offline on its way to offline
+abbrev pub goes_offline : BlockPhase → Bool
+goes_offline Offline = false
+goes_offline (GoingOnline zone) = true
+goes_offline (Online zone) = true
+goes_offline (GoingOffline zone) = true

@@ -1,0 +1,13 @@
+//! A log that grows.
+ghost use Rattle.std.specs.Prelude.{◌≡◌, ◌++◌, ◌∷◌, [], OnOk};
+
+use hp_judge::LogEvent;
+use std::alloc::AllocError;
+
+/// Adds an event.
+pub(crate) fn add(log: &mut Vec<LogEvent>, event: LogEvent) -> Result<(), AllocError>
+    ensures { OnOk result (log.new.items ≡ log.old.items ++ event ∷ []) }
+{
+    log.push(event)?;
+    Ok(())
+}

@@ -1,0 +1,19 @@
+//! The log of a step of the machine, from what the states before and after it show.
+//!
+//! The crate owns `Snapshot`, which holds what a log depends on in one state, the function that
+//! makes the events between two of them, and the lines of JSON that the judge of logs reads. What
+//! the log of a step is, hp_lawful's specs/Logs says. It knows nothing of machines or scenarios.
+//! Read specs/Snapshots first.
+#![tactic(auto)]
+
+mod events;
+mod holders;
+mod lines;
+mod phases;
+mod snapshots;
+mod steps;
+
+pub use holders::FrameHolder;
+pub use lines::{write_event, write_size};
+pub use snapshots::Snapshot;
+pub use steps::step_log;

@@ -1,0 +1,77 @@
+//! The log of a scenario.
+ghost use Rattle.std.specs.Prelude.{IfErr, IfOk, ◌≡◌, OnOk};
+ghost use Rattle.hp_scenario.specs.Gives.{Fails};
+ghost use Rattle.hp_scenario.specs.Scenario.{scenario_in};
+ghost use Rattle.hp_scenario.specs.Seen.{scenario_seen};
+ghost use Rattle.hp_trace.specs.Logs.{AreLinesDrawn, IsLogOf, IsLogOfScenario};
+
+use crate::calls::trace_work;
+use crate::lines::start;
+use crate::rows::{Form, Rows};
+use crate::view::View;
+use hp_judge::LogEvent;
+use hp_machine::Machine;
+use hp_scenario::{Line, Scenario, ScenarioFault};
+use std::alloc::{AllocError, Global};
+
+/// The log of a scenario's run, as the judge of logs reads it.
+#[derive(Drop)]
+pub struct ScenarioLog {
+    /// How many frames a memory block has.
+    pub block_frames: u32,
+    /// What happened to the memory, from boot on.
+    pub events: Vec<LogEvent>,
+}
+
+/// Returns the log of the run of the scenario that the bytes are: what happened to frames and memory
+/// blocks, call by call. A seal changes no state, so it has no events.
+///
+/// An error is the first fault of the scenario, or out of memory, wherever that was.
+pub fn trace_log(alloc: Global, input: &[u8]) -> Result<ScenarioLog, ScenarioFault>
+    ensures ok { IfOk result (λ log. IsLogOf input.now log.block_frames log.events.items) }
+    ensures err { IfErr result (λ fault. Fails fault (scenario_in input.now)) }
+{
+    let scenario = Scenario::read(alloc, input)?;
+    log_scenario(alloc, &scenario)
+}
+
+/// Returns the log of a scenario's run. An error is out of memory.
+fn log_scenario(alloc: Global, scenario: &Scenario) -> Result<ScenarioLog, ScenarioFault>
+    ensures ok { IfOk result
+        (λ log. IsLogOfScenario (scenario_seen scenario.now) log.block_frames log.events.items) }
+    ensures err { IfErr result (λ fault. fault ≡ ScenarioFault.OutOfMemory) }
+{
+    let mut machine = Machine::boot(alloc, &scenario.layout)?;
+    let mut rows = start(alloc, &machine, whole_view(), Form::Logged)?;
+    draw_lines(&mut rows, alloc, &mut machine, scenario.lines.as_slice())?;
+    Ok(ScenarioLog {
+        block_frames: scenario.layout.block_size(),
+        events: rows.into_events(),
+    })
+}
+
+/// A view of all lines. A log has no columns.
+fn whole_view() -> View {
+    View {
+        from: 0,
+        to: u64::MAX,
+        every: 1,
+        width: 0,
+        orders: false,
+    }
+}
+
+/// Does lines one after another, and draws all their rows.
+fn draw_lines(
+    rows: &mut Rows,
+    alloc: Global,
+    machine: &mut Machine,
+    lines: &[Line],
+) -> Result<(), AllocError>
+    ensures { OnOk result (AreLinesDrawn machine.old lines.now rows.old rows.new machine.new) }
+{
+    for line in lines {
+        trace_work(rows, alloc, machine, line.cpu, &line.work, "")?;
+    }
+    Ok(())
+}

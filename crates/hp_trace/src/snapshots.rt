@@ -1,0 +1,60 @@
+//! What the log of a step depends on in a machine's memory.
+ghost use Rattle.std.specs.Prelude.{◌≡◌, ◌≤◌, ◌<◌, IfOk, map};
+ghost use Rattle.hp_units.specs.Arithmetic.{all_frames, frame_count};
+ghost use Rattle.hp_units.specs.LayoutParts.{IsLayout};
+ghost use Rattle.hp_units.specs.Placement.{IsWellPlaced};
+ghost use Rattle.hp_step_logs.specs.Snapshots.{holder_of, snapshot_of};
+
+use hp_machine::Machine;
+use hp_step_logs::{FrameHolder, Snapshot};
+use hp_units::{Block, Frame, Row};
+use std::alloc::{AllocError, Global};
+
+/// Takes a snapshot of a machine's memory.
+pub(crate) fn snapshot_of(alloc: Global, machine: &Machine) -> Result<Snapshot, AllocError>
+    ensures { IfOk result (λ snapshot. snapshot ≡ snapshot_of machine.now.layout machine.now.state) }
+{
+    machine.stays_sound();
+    let holders = holders_of(alloc, machine)?;
+    let rows = rows_of(alloc, machine)?;
+    Ok(Snapshot::new(holders, rows))
+}
+
+/// What has the memory that starts at each frame.
+#[tactic(auto, using(crate::proofs::SnapshotsTaken::one_more))]
+fn holders_of(alloc: Global, machine: &Machine) -> Result<Vec<FrameHolder>, AllocError>
+    requires { IsWellPlaced machine.now.layout machine.now.state }
+    ensures { IfOk result
+        (λ holders. holders.items ≡ map (holder_of machine.now.state) (all_frames machine.now.layout)) }
+{
+    let mut holders = Vec::new(alloc);
+    for number in 0..machine.layout().frames() {
+        holders.push(holder_of(machine, Frame(number)))?;
+    }
+    Ok(holders)
+}
+
+/// What has the memory that starts at a frame.
+fn holder_of(machine: &Machine, frame: Frame) -> FrameHolder
+    requires placed { IsWellPlaced machine.now.layout machine.now.state }
+    requires inside { frame < frame_count machine.now.layout }
+    ensures { result ≡ holder_of machine.now.state frame }
+{
+    FrameHolder::new(machine.kernel_at(frame), machine.pages().page_at(frame))
+}
+
+/// The row of each memory block.
+#[tactic(auto, using(crate::proofs::SnapshotsTaken::take_none, crate::proofs::SnapshotsTaken::take_one))]
+fn rows_of(alloc: Global, machine: &Machine) -> Result<Vec<Row>, AllocError>
+    requires { IsWellPlaced machine.now.layout machine.now.state }
+    ensures { IfOk result (λ rows. rows.items ≡ machine.now.state.blocks.rows) }
+{
+    let mut rows = Vec::new(alloc);
+    for number in 0..machine.layout().blocks() {
+        let Some(row) = machine.row(Block(number)) else {
+            continue;
+        };
+        rows.push(row)?;
+    }
+    Ok(rows)
+}

@@ -1,0 +1,96 @@
+//! Events as lines of JSON, written and read back.
+
+use hp_judge::LogEvent;
+use hp_logs::json_event;
+use hp_numbers::{Block, Frame, Order};
+use hp_step_logs::{write_event, write_size};
+use hp_units::Zone;
+use json::Scratch;
+use std::alloc::{AllocError, Global};
+use std::test::Fail;
+
+/// Whether an event has this line, and the line is read back as an event with the same line.
+fn has_line(alloc: Global, event: &LogEvent, line: &str) -> Result<bool, AllocError> {
+    let mut text = String::new(alloc);
+    write_event(&mut text, event)?;
+    let again = line_of_read(alloc, line)?;
+    Ok(text.as_str().strip_suffix("\n") == Some(line) && again == text)
+}
+
+/// The line of the event that a line is read as; nothing where it is read as none.
+fn line_of_read(alloc: Global, line: &str) -> Result<String, AllocError> {
+    let mut scratch = Scratch::new(alloc);
+    let mut out = String::new(alloc);
+    if let Ok(event) = json_event(line.as_bytes(), &mut scratch) {
+        write_event(&mut out, &event)?;
+    }
+    Ok(out)
+}
+
+/// Whether the events of frames have their lines.
+fn frames_have_lines(alloc: Global) -> Result<bool, AllocError> {
+    let (frame, order) = (Frame(512), Order(3));
+    let alloced = LogEvent::Alloc {
+        frame,
+        order,
+        movable: true,
+    };
+    let freed = LogEvent::Free { frame, order };
+    let moved = LogEvent::Move {
+        from: frame,
+        to: Frame(u32::MAX),
+    };
+    Ok(has_line(
+        alloc,
+        &alloced,
+        "{\"alloc\": 512, \"order\": 3, \"movable\": true}",
+    )? && has_line(alloc, &freed, "{\"free\": 512, \"order\": 3}")?
+        && has_line(alloc, &moved, "{\"move\": 512, \"to\": 4294967295}")?)
+}
+
+/// Whether the begins of memory blocks have their lines.
+fn begins_have_lines(alloc: Global) -> Result<bool, AllocError> {
+    let block = Block(2);
+    let normal = LogEvent::OnlineBegins {
+        block,
+        zone: Zone::Normal,
+    };
+    let movable = LogEvent::OnlineBegins {
+        block,
+        zone: Zone::Movable,
+    };
+    let offline = LogEvent::OfflineBegins { block };
+    Ok(
+        has_line(alloc, &normal, "{\"online\": 2, \"zone\": \"normal\"}")?
+            && has_line(alloc, &movable, "{\"online\": 2, \"zone\": \"movable\"}")?
+            && has_line(alloc, &offline, "{\"offline\": 2}")?,
+    )
+}
+
+/// Whether the ends of memory blocks have their lines.
+fn ends_have_lines(alloc: Global) -> Result<bool, AllocError> {
+    let block = Block(0);
+    let online = LogEvent::OnlineEnds { block, ok: true };
+    let offline = LogEvent::OfflineEnds { block, ok: false };
+    Ok(
+        has_line(alloc, &online, "{\"online\": 0, \"end\": \"ok\"}")?
+            && has_line(alloc, &offline, "{\"offline\": 0, \"end\": \"failed\"}")?
+            && has_line(alloc, &LogEvent::Other, "{}")?,
+    )
+}
+
+/// Whether the size of memory blocks has its line.
+fn size_has_line(alloc: Global) -> Result<bool, AllocError> {
+    let mut text = String::new(alloc);
+    write_size(&mut text, 1024)?;
+    Ok(text.as_str() == "{\"block_frames\": 1024}\n")
+}
+
+#[test]
+fn each_event_has_its_line(rt: HostRuntime) -> Result<(), Fail> {
+    assert!(rt; frames_have_lines(rt.alloc())?);
+    assert!(rt; begins_have_lines(rt.alloc())?);
+    assert!(rt; ends_have_lines(rt.alloc())?);
+    assert!(rt; size_has_line(rt.alloc())?);
+    Ok(())
+}
