@@ -12,7 +12,7 @@ use Rattle.hp_units.specs.declared.rows.Row.{Row}
 use Rattle.hp_pages.specs.Pages.{PagesValue}
 use Rattle.hp_pages.specs.Places.{holders}
 use Rattle.hp_tape.specs.Deltas.{page_frames_of}
-use Rattle.hp_step_logs.specs.Names.{FrameHolder}
+use Rattle.hp_step_logs.specs.declared.holders.FrameHolder.{FrameHolder}
 use Rattle.hp_step_logs.specs.Snapshots.{holder_by, holder_of}
 
 -- ---- frames

@@ -7,7 +7,7 @@ ghost use Rattle.hp_step_logs.specs.Snapshots.{holder_of, snapshot_of};
 
 use hp_machine::Machine;
 use hp_step_logs::{FrameHolder, Snapshot};
-use hp_units::{Block, Frame, Row};
+use hp_units::{Block, Claim, Frame, Row};
 use std::alloc::{AllocError, Global};
 
 /// Takes a snapshot of a machine's memory.
@@ -54,7 +54,9 @@ fn rows_of(alloc: Global, machine: &Machine) -> Result<Vec<Row>, AllocError>
         let Some(row) = machine.row(Block(number)) else {
             continue;
         };
-        rows.push(row)?;
+        // No effect at run time: the proof has to be told of the type of a claim.
+        let claim: Option<Claim> = row.claim;
+        rows.push(Row { claim, ..row })?;
     }
     Ok(rows)
 }
