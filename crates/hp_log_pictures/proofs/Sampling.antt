@@ -30,7 +30,7 @@ pub set_raises : (xs : List ℕ) (i v k : ℕ) → i < length xs → get_or xs i
     → get_or xs k 0 ≤ get_or (set xs i v) k 0
 set_raises xs i v k low h =
     elim (cases_eq k i) [
-      inl same ↦ subst (λ (k : ℕ). get_or xs k 0 ≤ get_or (set xs i v) k 0) (sym same)
+      | inl same ↦ subst (λ (k : ℕ). get_or xs k 0 ≤ get_or (set xs i v) k 0) (sym same)
           (rw get_or-set_same h)
       | inr other ↦ let apart : k ≢ i = other in rw get_or-set_other (omega arith)
     ]
@@ -79,7 +79,7 @@ last_pair xs out pair v k is low high first second =
     subst (λ (n : ℕ). get_or xs k 0 ≤ get_or (out ++ v ∷ []) n 0) seam
     (rw (get_or-append_seam out v [] 0)
     (elim (cases_eq k (2 * pair)) [
-      inl same ↦ subst (λ (k : ℕ). get_or xs k 0 ≤ v) (sym same) first
+      | inl same ↦ subst (λ (k : ℕ). get_or xs k 0 ≤ v) (sym same) first
       | inr other ↦
           let apart : k ≢ 2 * pair = other in
           let same : 2 * pair + 1 ≡ k = omega arith in
@@ -92,7 +92,7 @@ pub pair_more : (xs out : List ℕ) (pair v : ℕ) → length out ≡ pair
     → (k : ℕ) → k < 2 * (pair + 1) → get_or xs k 0 ≤ get_or (out ++ v ∷ []) (k / 2) 0
 pair_more xs out pair v is kept first second k low =
     elim (cases_lt k (2 * pair)) [
-      inl before ↦
+      | inl before ↦
           let within : k / 2 < length out = omega arith in
           rw (get_or-append out (v ∷ []) 0 (k / 2) within) (kept k before)
       | inr after ↦ last_pair xs out pair v k is after low first second
@@ -116,7 +116,7 @@ pub more_held : (s t u : Sampled) → t.count ≡ s.count
     → (e : ℕ) → s.events ≤ e → e < u.events → s.count ≤ peak_at u e
 more_held s t u same held kept more e low high =
     elim (cases_lt e t.events) [
-      inl before ↦
+      | inl before ↦
           let a : s.count ≤ peak_at t e = held e low before in
           let b : peak_at t e ≤ peak_at u e = kept e before in
           omega arith

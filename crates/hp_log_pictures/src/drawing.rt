@@ -12,6 +12,7 @@ use std::alloc::{AllocError, Global};
 
 /// Where the first band lies, and how far the next one is from it.
 const TOP: u64 = 92;
+
 const PITCH: u64 = 24;
 
 /// The width of the picture.
@@ -117,7 +118,11 @@ fn write_title(out: &mut String, log: &JudgedLog) -> Result<(), AllocError> {
     let verdict = log.verdict();
     let events = verdict.event_count();
     let (faults, allowed) = (verdict.report().count(), verdict.report().allowed_count());
-    let word = if verdict.is_lawful() { "lawful" } else { "unlawful" };
+    let word = if verdict.is_lawful() {
+        "lawful"
+    } else {
+        "unlawful"
+    };
     writeln!(
         out,
         "<text x='{LEFT}' y='20' font-size='14'>{events} events, {word}: {faults} faults, \
@@ -146,24 +151,14 @@ fn write_legend(
 }
 
 /// Writes a colour of the legend and its meaning.
-fn write_colour(
-    out: &mut String,
-    place: u32,
-    fill: &str,
-    meaning: &str,
-) -> Result<(), AllocError> {
+fn write_colour(out: &mut String, place: u32, fill: &str, meaning: &str) -> Result<(), AllocError> {
     let x = LEFT + place as u64;
     write_box(out, x, 31, 12, 10, fill)?;
     write_text(out, x + 18, 40, meaning)
 }
 
 /// Writes a sign of the legend and its meaning.
-fn write_meaning(
-    out: &mut String,
-    place: u32,
-    end: End,
-    meaning: &str,
-) -> Result<(), AllocError> {
+fn write_meaning(out: &mut String, place: u32, end: End, meaning: &str) -> Result<(), AllocError> {
     let x = LEFT + place as u64;
     write_end(out, x + 6, 49, end)?;
     write_text(out, x + 18, 58, meaning)
@@ -251,5 +246,8 @@ fn write_rest(
     if rest == 0 {
         return Ok(());
     }
-    writeln!(out, "<text x='{LEFT}' y='{y}'>and {rest} more memory blocks</text>")
+    writeln!(
+        out,
+        "<text x='{LEFT}' y='{y}'>and {rest} more memory blocks</text>"
+    )
 }

@@ -8,6 +8,7 @@ use std::alloc::AllocError;
 
 /// Where the first event lies, and how many pixels all events take.
 pub(crate) const LEFT: u64 = 80;
+
 pub(crate) const PLOT: u64 = 1024;
 
 /// The height of a band.
@@ -135,7 +136,10 @@ fn write_peaks(
     for (column, peak) in columns.peaks().iter().enumerate() {
         let height = scale.height_of(*peak);
         if height != drawn {
-            let (x, y) = (scale.column_at(columns, column), base.saturating_sub(height));
+            let (x, y) = (
+                scale.column_at(columns, column),
+                base.saturating_sub(height),
+            );
             write!(out, "H{x}V{y}")?;
             drawn = height;
         }
@@ -168,12 +172,10 @@ fn write_ends_at(out: &mut String, x: u64, top: u64, marks: &Marks) -> Result<()
 }
 
 /// Writes the sign of an end, if there is one.
-fn write_end_if(
-    out: &mut String,
-    has: bool,
-    x: u64,
-    y: u64,
-    end: End,
-) -> Result<(), AllocError> {
-    if has { write_end(out, x, y, end) } else { Ok(()) }
+fn write_end_if(out: &mut String, has: bool, x: u64, y: u64, end: End) -> Result<(), AllocError> {
+    if has {
+        write_end(out, x, y, end)
+    } else {
+        Ok(())
+    }
 }

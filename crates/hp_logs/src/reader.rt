@@ -91,7 +91,11 @@ impl LogReader {
     fn event(&mut self) -> Result<LogEvent, LineFault> {
         match self.form {
             LogForm::Json => {
-                json_event(self.lines.line(), self.lines.number() == 1, &mut self.scratch)
+                json_event(
+                    self.lines.line(),
+                    self.lines.number() == 1,
+                    &mut self.scratch,
+                )
             }
             LogForm::Ftrace => ftrace_event(self.lines.line()),
         }

@@ -2,8 +2,8 @@
 ghost use Rattle.std.specs.Prelude.{◌≡◌, ◌<◌, ◌≤◌, ◌↔◌, ◌^◌, IsTrue};
 ghost use Rattle.hp_judge.specs.Events.{frame_count};
 
-use crate::options::JudgeOptions;
 use crate::counts::{BlockTallies, EventCounts, Usage, frames_of};
+use crate::options::JudgeOptions;
 use crate::selection::BlockRange;
 use crate::verdict::Verdict;
 use hp_judge::{LogEvent, MachineSize, Phase};

@@ -41,7 +41,10 @@ fn a_picture_has_a_band_for_each_block_and_its_ends(rt: HostRuntime) {
 fn an_unlawful_log_is_drawn_too(rt: HostRuntime) {
     let mut picture = Report::new(rt.alloc());
     let log = "{\"alloc\": 1}\n{\"alloc\": 1}\n";
-    assert_eq!(rt; answer_of(drawn(rt.alloc(), log, &mut picture)), Some(false));
+    assert_eq!(rt;
+        answer_of(drawn(rt.alloc(), log, &mut picture)),
+        Some(false)
+    );
     assert!(rt; picture.has("2 events, unlawful: 1 faults, 0 allowed"));
 }
 

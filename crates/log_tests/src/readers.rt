@@ -88,9 +88,15 @@ fn is_lost(line: &str) -> bool {
 /// The lines of a log of all kinds.
 const JSON_LINES: &[(&str, [u32; 4])] = &[
     ("{\"block_frames\": 8}", [8, 0, 0, 0]),
-    ("{\"alloc\": 16, \"order\": 3, \"movable\": true}", [1, 16, 3, 1]),
+    (
+        "{\"alloc\": 16, \"order\": 3, \"movable\": true}",
+        [1, 16, 3, 1],
+    ),
     ("{\"alloc\": 3, \"note\": [1, {\"a\": null}]}", [1, 3, 0, 0]),
-    ("{\"order\": 2, \"free\": 4294967295}", [2, 4294967295, 2, 0]),
+    (
+        "{\"order\": 2, \"free\": 4294967295}",
+        [2, 4294967295, 2, 0],
+    ),
     ("{\"move\": 5, \"to\": 7}", [3, 5, 7, 0]),
     ("{\"online\": 2, \"zone\": \"movable\"}", [4, 2, 1, 0]),
     ("{\"online\": 2}", [4, 2, 0, 0]),
@@ -114,7 +120,10 @@ fn json_lines_have_their_faults(rt: HostRuntime) {
         ("{\"allok\": 1}", LineFault::UnknownKey),
         ("{\"free\": 1, \"free\": 1}", LineFault::RepeatedKey),
         ("{\"alloc\": 4294967296}", LineFault::WrongValue),
-        ("{\"online\": 1, \"end\": \"perhaps\"}", LineFault::WrongValue),
+        (
+            "{\"online\": 1, \"end\": \"perhaps\"}",
+            LineFault::WrongValue,
+        ),
         ("{\"alloc\": 1, \"free\": 1}", LineFault::NotAnEvent),
         ("{\"block_frames\": 8, \"free\": 1}", LineFault::NotAnEvent),
     ];
@@ -177,7 +186,10 @@ fn the_first_line_alone_says_how_many_frames_a_block_has(rt: HostRuntime) {
     let mut scratch = Scratch::new(rt.alloc());
     let line = b"{\"block_frames\": 32768, \"note\": \"x86\"}";
     assert_eq!(rt; json_block_frames(line, &mut scratch), Ok(Some(32768)));
-    assert_eq!(rt; json_block_frames(b"{\"alloc\": 1}", &mut scratch), Ok(None));
+    assert_eq!(rt;
+        json_block_frames(b"{\"alloc\": 1}", &mut scratch),
+        Ok(None)
+    );
     assert!(rt; is_late(rt.alloc(), line));
     assert!(rt; !is_late(rt.alloc(), b"{}"));
 }

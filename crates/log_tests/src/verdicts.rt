@@ -36,12 +36,7 @@ fn plain() -> Case {
 }
 
 /// Judges a log of JSON, and returns whether it is lawful.
-fn judged(
-    alloc: Global,
-    case: Case,
-    log: &str,
-    report: &mut Report,
-) -> Result<bool, JudgeFault>
+fn judged(alloc: Global, case: Case, log: &str, report: &mut Report) -> Result<bool, JudgeFault>
     requires { report.old.failures ≡ 0 }
 {
     let mut allowed = AllowedKinds::none();
@@ -50,7 +45,14 @@ fn judged(
         return Err(JudgeFault::Size(SizeFault::Wrong));
     };
     let mut source = LogBytes::new(log);
-    judge_log(alloc, LogForm::Json, &options, ReportForm::Text, &mut source, report)
+    judge_log(
+        alloc,
+        LogForm::Json,
+        &options,
+        ReportForm::Text,
+        &mut source,
+        report,
+    )
 }
 
 /// Whether a log is judged so, and its report ends so.
@@ -95,7 +97,15 @@ fn an_unlawful_log_has_its_faults_in_order(rt: HostRuntime) {
 fn allowed_faults_are_counted_apart(rt: HostRuntime) {
     let mut case = plain();
     case.allow = "once";
-    assert!(rt; ends_with(rt.alloc(), case, UNLAWFUL, false, "unlawful: 1 faults, 2 allowed\n"));
+    assert!(rt;
+        ends_with(
+            rt.alloc(),
+            case,
+            UNLAWFUL,
+            false,
+            "unlawful: 1 faults, 2 allowed\n"
+        )
+    );
 }
 
 #[test]
@@ -110,16 +120,40 @@ fn the_most_faults_are_the_first_ones(rt: HostRuntime) {
 fn some_blocks_are_judged_alone(rt: HostRuntime) {
     let mut case = plain();
     case.range = Some(BlockRange { first: 1, end: 2 });
-    assert!(rt; ends_with(rt.alloc(), case, UNLAWFUL, false, "unlawful: 1 faults, 0 allowed\n"));
+    assert!(rt;
+        ends_with(
+            rt.alloc(),
+            case,
+            UNLAWFUL,
+            false,
+            "unlawful: 1 faults, 0 allowed\n"
+        )
+    );
     case.range = Some(BlockRange { first: 2, end: 9 });
-    assert!(rt; ends_with(rt.alloc(), case, UNLAWFUL, true, "lawful: 0 faults, 0 allowed\n"));
+    assert!(rt;
+        ends_with(
+            rt.alloc(),
+            case,
+            UNLAWFUL,
+            true,
+            "lawful: 0 faults, 0 allowed\n"
+        )
+    );
 }
 
 #[test]
 fn the_first_line_says_how_many_frames_a_block_has(rt: HostRuntime) {
     let mut case = plain();
     case.block_frames = None;
-    assert!(rt; ends_with(rt.alloc(), case, LAWFUL, true, "lawful: 0 faults, 0 allowed\n"));
+    assert!(rt;
+        ends_with(
+            rt.alloc(),
+            case,
+            LAWFUL,
+            true,
+            "lawful: 0 faults, 0 allowed\n"
+        )
+    );
     assert!(rt; fails_for_size(rt.alloc(), case, UNLAWFUL, SizeFault::Missing));
     assert!(rt; fails_for_size(rt.alloc(), case, "{\"block_frames\": 7}", SizeFault::Wrong));
     case.block_frames = Some(16);

@@ -10,7 +10,7 @@ returns-clause-kept c =
     let whole : length c.self.inside.peaks.items * c.self.inside.width ≡ 1024 * c.self.inside.width =
     ap (λ (n : ℕ). n * c.self.inside.width) many in
     let kept : (k : ℕ) → k < 1024
-        → get_or c.self.inside.peaks.items k 0 ≤ get_or c.in_ok-peaks.peaks.items (k / 2) 0 =
+    → get_or c.self.inside.peaks.items k 0 ≤ get_or c.in_ok-peaks.peaks.items (k / 2) 0 =
     subst
     (λ (xs : List ℕ). (k : ℕ) → k < 1024 → get_or xs k 0 ≤ get_or c.in_ok-peaks.peaks.items (k / 2) 0)
     c.as_slice-2.ensures.value c.in_ok-peaks.ensures.kept in
