@@ -70,9 +70,11 @@ steps_turns cpu m (r ∷ receipts) rows after made =
 plan_turns : (m : MachineValue) (cpu turns : ℕ) (plan : List Item) (rows : List Row) (after : MachineValue)
     → MakesPlan m cpu turns plan [] rows after → Turns m rows after
 plan_turns m cpu turns plan rows after made =
-    subst (λ (rs : List Row). Turns m rs after) (sym made.is)
-    (inl refl, turns_joined made.steps (words (plan_line made.end) ∷ []) m after after
-    (steps_turns cpu m made.driven.receipts made.steps after made.driven.steps) refl)
+    subst (λ (rs : List Row). Turns m rs after) (sym made.is) (
+      inl refl,
+      turns_joined made.steps (words (plan_line made.end) ∷ []) m after after
+          (steps_turns cpu m made.driven.receipts made.steps after made.driven.steps) refl,
+    )
 
 file_turns : (m after : MachineValue) (file : Result (List ℕ) ControlFault) (rows : List Row) → after ≡ m
     → rows ≡ file_rows m file [] → Turns m rows after

@@ -70,7 +70,12 @@ fn trace_scenario(
 }
 
 /// The row of the memory at boot, in a form.
-pub(crate) fn start(alloc: Global, machine: &Machine, view: View, form: Form) -> Result<Rows, AllocError>
+pub(crate) fn start(
+    alloc: Global,
+    machine: &Machine,
+    view: View,
+    form: Form,
+) -> Result<Rows, AllocError>
     ensures { IfOk result (IsStart form view machine.now) }
 {
     let mut rows = Rows::new(alloc, form, view);

@@ -40,12 +40,14 @@ fn frames_have_lines(alloc: Global) -> Result<bool, AllocError> {
         from: frame,
         to: Frame(u32::MAX),
     };
-    Ok(has_line(
-        alloc,
-        &alloced,
-        "{\"alloc\": 512, \"order\": 3, \"movable\": true}",
-    )? && has_line(alloc, &freed, "{\"free\": 512, \"order\": 3}")?
-        && has_line(alloc, &moved, "{\"move\": 512, \"to\": 4294967295}")?)
+    Ok(
+        has_line(
+            alloc,
+            &alloced,
+            "{\"alloc\": 512, \"order\": 3, \"movable\": true}",
+        )? && has_line(alloc, &freed, "{\"free\": 512, \"order\": 3}")?
+            && has_line(alloc, &moved, "{\"move\": 512, \"to\": 4294967295}")?,
+    )
 }
 
 /// Whether the begins of memory blocks have their lines.
