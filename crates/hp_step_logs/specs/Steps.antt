@@ -11,7 +11,8 @@ single_free event = None
 
 -- the frame of an alloc of one frame whose page can move
 abbrev pub movable_alloc : LogEvent → Option Frame
-movable_alloc (Alloc frame order movable) = if movable then (if order == 0 then Some frame else None) else None
+movable_alloc (Alloc frame order movable) =
+    if movable then (if order == 0 then Some frame else None) else None
 movable_alloc event = None
 
 -- the move of a page from one frame to another

@@ -67,7 +67,8 @@ impl FrameHolder {
 
     /// Returns whether the frame holds a page.
     fn is_owner(self) -> bool
-        ensures { (owner page : ℕ) → result ≡ same_piece (piece_in (FrameHolder.Owner owner page)) (piece_in self) }
+        ensures { (owner page : ℕ) → result
+            ≡ same_piece (piece_in (FrameHolder.Owner owner page)) (piece_in self) }
     {
         match self {
             FrameHolder::Owner { .. } => true,

@@ -160,7 +160,8 @@ fn found_move(before: &Snapshot, after: &Snapshot, log: &[LogEvent]) -> Option<L
 
 /// Returns the move of a page from one frame to another, if it is one.
 fn move_of_page(before: &Snapshot, after: &Snapshot, from: Frame, to: Frame) -> Option<LogEvent>
-    ensures { result ≡ page_move (page_in (holder_at before.now from)) (page_in (holder_at after.now to)) from to }
+    ensures { result
+        ≡ page_move (page_in (holder_at before.now from)) (page_in (holder_at after.now to)) from to }
 {
     if is_same_page(before.holder(from).page(), after.holder(to).page()) && from.0 != to.0 {
         Some(LogEvent::Move { from, to })

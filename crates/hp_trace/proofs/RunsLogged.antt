@@ -24,7 +24,7 @@ use Rattle.hp_text.specs.Plans.{plan_line}
 use Rattle.hp_trace.specs.Calls.{MakesEvent, MakesPlan, MakesSeal, MakesSteps, MakesWork, file_rows}
 use Rattle.hp_trace.specs.Logs.{AreLinesDrawn, IsLogOfScenario, RunsLines, histories}
 use Rattle.hp_trace.specs.Rows.{Adds, AreDrawn, DrawsIf, IsRowLogged, Row, RowsValue, drawing, drawn_joined, no_rows, noted, said_as, words}
-use Rattle.hp_trace.specs.StateLogs.{IsStepFrom, LogValue, no_log}
+use Rattle.hp_trace.specs.StateLogs.{IsLogged, IsStepFrom, LogValue, no_log}
 use Rattle.hp_trace.specs.Traces.{IsStart}
 use Rattle.hp_trace.specs.declared.rows.Form.{Form}
 use Rattle.hp_trace.specs.declared.rows.Form.TheVariants.{Logged}
@@ -260,3 +260,11 @@ lines_more lines at line m n after old mid new inside is d a =
     line_drawn m n after line (take at lines) (take (at + 1) lines) old mid new
     (take_more lines at line inside
     ∙ ap (λ (l : Line). take at lines ++ l ∷ []) (sym is)) d a
+
+-- ---- a row of a log
+
+pub row_logged : (m : MachineValue) (old inside new : RowsValue) (log : LogValue) → old ≡ inside
+    → IsLogged m inside.log log → new ≡ record inside { log = log } → IsRowLogged m old new
+row_logged m old inside new log same logged is =
+    subst (λ (r : RowsValue). IsRowLogged m r new) (sym same)
+    (record { log = log; logged = logged; is = is })

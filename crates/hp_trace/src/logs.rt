@@ -23,8 +23,8 @@ pub struct ScenarioLog {
     pub events: Vec<LogEvent>,
 }
 
-/// Returns the log of the run of the scenario that the bytes are: what happened to frames and memory
-/// blocks, call by call. A seal changes no state, so it has no events.
+/// Returns the log of the run of the scenario that the bytes are: what happened to frames and
+/// memory blocks, call by call. A seal changes no state, so it has no events.
 ///
 /// An error is the first fault of the scenario, or out of memory, wherever that was.
 pub fn trace_log(alloc: Global, input: &[u8]) -> Result<ScenarioLog, ScenarioFault>

@@ -29,8 +29,8 @@ pub(crate) enum Form {
     Logged,
 }
 
-/// The rows so far, in one form: as text, with the memory blocks as the last row shows them; as values;
-/// or as the events of a log.
+/// The rows so far, in one form: as text, with the memory blocks as the last row shows them; as
+/// values; or as the events of a log.
 #[derive(Drop)]
 pub(crate) struct Rows {
     form: Form,
