@@ -2,8 +2,8 @@ use Rattle.hp_scenario.specs.Seen.{scenario_seen}
 use Rattle.hp_trace.proofs.RunsLogged.{run_logged}
 use Rattle.hp_trace.proofs.logs.log_scenario.Goals as goal
 
-pub returns-in_ok-draw_lines-clause-ok : goal.returns-in_ok-draw_lines-clause-ok
-returns-in_ok-draw_lines-clause-ok c =
+pub returns-clause-ok : goal.returns-clause-ok
+returns-clause-ok c =
     run_logged (scenario_seen c.args.scenario.now) c.whole_view.result c.as_slice.result.now
     c.in_ok-rows.rows c.draw_lines.new.rows c.in_ok-machine.machine c.draw_lines.new.machine
     c.block_size.result c.into_events.result.items c.in_ok-machine.ensures c.as_slice.ensures
