@@ -21,7 +21,7 @@ fn has_line(alloc: Global, event: &LogEvent, line: &str) -> Result<bool, AllocEr
 fn line_of_read(alloc: Global, line: &str) -> Result<String, AllocError> {
     let mut scratch = Scratch::new(alloc);
     let mut out = String::new(alloc);
-    if let Ok(event) = json_event(line.as_bytes(), &mut scratch) {
+    if let Ok(event) = json_event(line.as_bytes(), false, &mut scratch) {
         write_event(&mut out, &event)?;
     }
     Ok(out)
