@@ -1,5 +1,7 @@
 //! Pictures of small logs.
 
+ghost use Rattle.std.specs.Prelude.{◌≡◌};
+
 use crate::streams::{LogBytes, Report, answer_of};
 use hp_log_pictures::{Columns, Marks, draw_log};
 use hp_logs::LogForm;

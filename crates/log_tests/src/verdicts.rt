@@ -1,5 +1,7 @@
 //! Verdicts on small logs, of memory blocks of eight frames.
 
+ghost use Rattle.std.specs.Prelude.{◌≡◌};
+
 use crate::streams::{LogBytes, Report, answer_of};
 use hp_logs::LogForm;
 use hp_verdicts::{
