@@ -1,9 +1,9 @@
 //! Runs scenarios of the memory machine: `hotplug serial`, `hotplug run` or `hotplug audit`,
 //! standard input to standard output.
 //!
-//! What the commands write stands in hp_commands. The exit status is 0; or 1 after a fault, which
-//! standard error names; or 2 where the command line names no command. It is the same where
-//! standard error takes no text.
+//! hp_commands defines what each command writes. The exit status is 0; or 1 after a fault, which
+//! standard error names; or 2 if the command line names no command. It is the same if standard
+//! error takes no text.
 #![tactic(auto)]
 
 mod words;
@@ -14,11 +14,11 @@ use std::alloc::{AllocError, Global};
 use std::io::{Read, Write};
 use std::process::ExitCode;
 use std::sync::Wait;
-use std::thread::Threads;
+use std::thread::{self, Threads};
 use std::{env, io};
 use words::command_from;
 
-/// The command that the program was called with, where there is one.
+/// Returns the command that the program was called with, if it names one.
 fn command(rt: &HostRuntime) -> Result<Option<Command>, AllocError> {
     let alloc = rt.alloc();
     let arguments = match env::args(rt) {
@@ -46,9 +46,25 @@ fn run<T: Threads + Wait + Sync, R: Read + Drop, W: Write + Drop>(
     }
 }
 
+/// Runs a command on standard input and output.
+fn run_here(rt: &HostRuntime, command: Command) -> Outcome {
+    run(rt, command, rt.alloc(), rt.stdin(), rt.stdout())
+}
+
+/// Runs a command that starts threads on a thread of its own, whose stack is mapped at once.
+///
+/// The kernel grows the main thread's stack as it is used, and ends the process if the address
+/// space is full by then, as it may be once there are many threads. If no thread can be made, the
+/// command runs on this one.
+fn run_beside(rt: &HostRuntime, command: Command) -> Outcome {
+    let (outcome, ()) = thread::join(rt, || run_here(rt, command), || ());
+    outcome
+}
+
 fn main(rt: HostRuntime) -> ExitCode {
     let outcome = match command(&rt) {
-        Ok(Some(command)) => run(&rt, command, rt.alloc(), rt.stdin(), rt.stdout()),
+        Ok(Some(Command::Serial)) => run_here(&rt, Command::Serial),
+        Ok(Some(command)) => run_beside(&rt, command),
         Ok(None) => Outcome::NoCommand,
         Err(AllocError) => Outcome::Failed(ProgramFault::OutOfMemory),
     };

@@ -149,6 +149,22 @@ fn two_workers_meet(rt: HostRuntime) -> Result<(), Fail> {
     Ok(())
 }
 
+#[test]
+fn a_gate_opens_after_the_call_was_made(rt: HostRuntime) -> Result<(), Fail> {
+    // The second worker reads while the first waits at the gate after its map.
+    let points = [
+        Point::After(0, 1),
+        Point::Before(1, 1),
+        Point::After(1, 1),
+        Point::After(0, 1),
+    ];
+    let gate = InOrder::new(points.as_slice());
+    let outcome = run_lines(&rt, rt.alloc(), r#""0 map db 0","1 read db 0 0""#, &gate)?;
+    assert!(rt; outcome.is(&[DONE], &[LineEnd::Reply(Reply::Word(0))], 2));
+    assert!(rt; gate.was_met());
+    Ok(())
+}
+
 /// Returns whether the first owner's first page is at a frame.
 fn stands_at(state: &Image, frame: Frame) -> bool {
     state.frame_at(Owner(0), Page(0)) == Some(frame)
