@@ -18,7 +18,7 @@ pub fn write_line(out: &mut String, names: &IndexSet<Text>, line: &Line) -> Resu
     write_shown_line(out, names, line, Brackets::Kept)
 }
 
-/// Writes a line like [`write_line`], and keeps or escapes the brackets in the line's own texts.
+/// Writes a line like `write_line`, and keeps or escapes the brackets in the line's own texts.
 pub fn write_shown_line(
     out: &mut String,
     names: &IndexSet<Text>,
