@@ -11,7 +11,8 @@ use Rattle.hp_lab_faults.specs.declared.fault.LabFault.TheVariants.{NotJson, Bad
 use Rattle.hp_lab_faults.specs.declared.program_fault.ProgramFault.{ProgramFault}
 use Rattle.hp_lab_faults.specs.declared.program_fault.ProgramFault.TheVariants.{Lab, NotOpened, ReadFailed, Scenario, TooLong}
 
--- a scenario cannot be read; the laboratory never asks for workers, so `NotForRun` does not come
+-- a scenario cannot be read; `NotForRun` comes only from making workers' scripts, never from
+-- reading
 abbrev pub fault_from : ScenarioFault → LabFault
 fault_from scenario.NotJson = NotJson
 fault_from scenario.BadShape = BadShape
