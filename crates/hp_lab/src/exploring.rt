@@ -26,8 +26,8 @@ use std::alloc::Global;
 /// While the search runs, `watch` gets the number of interleavings counted so far.
 ///
 /// Errors: those of reading the scenario; `NotForScript` with the first line after the setup that
-/// may not be in a script; `HistoryFull` if the search comes to a call for which the history has no
-/// room before it has counted more interleavings than the limit; `OutOfMemory`, which may come in
+/// may not be in a script; `HistoryFull` if the history has no room for a call that the search
+/// makes before it has counted more interleavings than the limit; `OutOfMemory`, which may come in
 /// place of any other result.
 pub fn explore_text<W: Watch>(
     alloc: Global,

@@ -23,15 +23,15 @@ use std::alloc::{AllocError, Global};
 /// changes and its calls, or as a scenario. If there is none, the text has the number of
 /// interleavings, which is at most `limit`.
 ///
-/// First the search tries schedules with few changes; after these, `watch` gets the number of
+/// The search tries schedules with few changes first; after these, `watch` gets the number of
 /// interleavings counted so far.
 ///
 /// Errors: those of reading the scenario; `NotForScript` with the first line after the setup that
 /// may not be in a script; `PastLayout` with the first wanted line that names something past the
 /// layout; `TooMany` if there are more interleavings than `limit`, and neither one with fewer than
-/// three changes nor one of the first `limit` ends as wanted; `HistoryFull` if the search comes to
-/// a call for which the history has no room, as for `find` of hp_find; `OutOfMemory`, which may
-/// come in place of any other result.
+/// three changes nor one of the first `limit` ends as wanted; `HistoryFull` if the history has no
+/// room for a call that the search makes, as for `find` of hp_find; `OutOfMemory`, which may come
+/// in place of any other result.
 pub fn find_text<W: Watch>(
     alloc: Global,
     input: &[u8],

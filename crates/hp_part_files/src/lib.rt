@@ -1,4 +1,4 @@
-//! Searches one part of a scenario's interleavings, and adds up the parts, which may run anywhere.
+//! Searches one part of a scenario's interleavings, and adds up parts that ran on any machines.
 //!
 //! A part's file is JSON, one object per line: a head, which names the search and the part, then
 //! each end that the part's interleavings lead to, as `explore --json` writes it, with the first of

@@ -27,8 +27,8 @@ use std::alloc::Global;
 ///
 /// While the search runs, `watch` gets the number of interleavings counted so far.
 ///
-/// Errors: those of `explore_text`, with `HistoryFull` only if this part's search comes to a call
-/// for which the history has no room before it has counted more interleavings than the limit.
+/// Errors: those of `explore_text`, but `HistoryFull` only if the history has no room for a call
+/// that this part's search makes before it has counted more interleavings than the limit.
 pub fn part_text<W: Watch>(
     alloc: Global,
     input: &[u8],

@@ -31,8 +31,8 @@ use std::alloc::Global;
 /// another in any order; the scenario is the one that the heads name.
 ///
 /// Takes the count and the schedule of each end, and plays the schedule again on the scenario. So
-/// it finds a line that does not match its own schedule, but not a count that was changed. The text
-/// is the same as that of `explore_text` with a limit that all interleavings are within. That it
+/// it finds a line that does not match its own schedule, but not a count that was changed.
+/// `explore_text` returns the same text if its limit allows for all interleavings. That `sum_text`
 /// accepts whatever `part_text` writes is tested, not proved.
 ///
 /// Errors: that of the first line that belongs to no part, was changed, begins a part of another

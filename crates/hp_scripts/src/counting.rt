@@ -9,12 +9,11 @@ use hp_scenario::Line;
 use hp_schedules::{HowMany, interleavings_of};
 use std::alloc::{AllocError, Global};
 
-/// Returns the line that reports how many interleavings there are of the lines after the first
-/// `setup`.
+/// Returns a line that reports the number of interleavings of the lines after the first `setup`, or
+/// that there are more than `limit`.
 ///
-/// It counts at most `limit` of them, and otherwise reports that there are more. If a script holds
-/// a plan the count is not known, since only a search can count a plan's calls. The text is empty
-/// if a line after the setup may not be in a script.
+/// If a script holds a plan, the line reports that the number is not known: only a search can count
+/// a plan's calls. The text is empty if a line after the setup may not be in a script.
 pub fn interleavings_line(
     alloc: Global,
     cpus: u32,

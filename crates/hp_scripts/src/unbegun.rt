@@ -22,7 +22,7 @@ pub struct Unbegun {
 /// Returns the first such line of each processor, in the order of the processors. The first `setup`
 /// lines are the setup; the later ones are in scripts.
 ///
-/// Such a line works on no operation, which is seldom what was meant: use it to warn.
+/// Meant for warnings: such a line works on no operation.
 pub fn unbegun_lines(
     alloc: Global,
     cpus: u32,
