@@ -2,12 +2,12 @@
 use Rattle.std.specs.Prelude.{◌≡◌, ◌⊎◌, ℕ, ◌<◌, ◌≤◌, Bool, List, length, Option, IfSome, if◌then◌else◌}
 use Rattle.std.specs.Io.KnownBytes.{Appends}
 use Rattle.hp_wanted.specs.declared.wanted.Wanted.{Wanted}
-use Rattle.hp_lab.specs.Explorations.{IsExplorationOf, IsFaultWithin}
-use Rattle.hp_lab.specs.Findings.{IsFindFaultOf, IsFindingOf}
-use Rattle.hp_prepared.specs.Faults.{IsFaultOf}
+use Rattle.hp_search.specs.Explorations.{IsExplorationOf, IsFaultWithin}
+use Rattle.hp_search.specs.Findings.{IsFindFaultOf, IsFindingOf}
+use Rattle.hp_search.specs.Faults.{IsFaultOf}
 use Rattle.hp_schedules.specs.PartNumbers.{NumberValue}
-use Rattle.hp_ends.specs.declared.forms.EndsForm.{EndsForm}
-use Rattle.hp_ends.specs.declared.forms.ScheduleForm.{ScheduleForm}
+use Rattle.hp_search.specs.declared.forms.EndsForm.{EndsForm}
+use Rattle.hp_search.specs.declared.forms.ScheduleForm.{ScheduleForm}
 use Rattle.hp_scenario.specs.Gives.{Fails}
 use Rattle.hp_scenario.specs.Scenario.{scenario_in}
 use Rattle.hp_scenario.specs.declared.fault.ScenarioFault.{ScenarioFault}

@@ -4,13 +4,13 @@ ghost use Rattle.std.specs.Prelude.{◌≡◌, if◌then◌else◌, IfErr, IfOk,
 ghost use Rattle.hotplug_lab.specs.Words.{IsAddedOf, IsAnswerOf, IsExploringOf, IsPartialOf, IsSearchOf, IsUnanswered};
 ghost use Rattle.hp_lab_shell.specs.declared.words.Word.TheVariants.{Explore, Find, Never, Part, Sum};
 
-use hp_ends::{EndsForm, ScheduleForm};
-use hp_lab::{explore_text_with_jobs, find_text};
+use hp_search::{EndsForm, ScheduleForm};
+use hp_search::{explore_text_with_jobs, find_text};
 use hp_lab_faults::ProgramFault;
 use hp_lab_shell::{Answer, Exploration, Word, checked, drawn, logged, traced};
 use hp_part_files::{part_text, sum_text};
-use hp_places::Watch;
-use hp_prepared::Finding;
+use hp_states::Watch;
+use hp_search::Finding;
 use hp_schedules::PartNumber;
 use hp_wanted::Wanted;
 use std::alloc::Global;

@@ -1,7 +1,7 @@
 //! Looks into scenarios of the memory machine: `hotplug_lab WORD` reads a file or standard input,
 //! and writes to standard output.
 //!
-//! The libraries write the texts: hp_check that of `check`; hp_lab that of `explore`, and
+//! The libraries write the texts: hp_check that of `check`; hp_search that of `explore`, and
 //! hp_part_files that of its parts and their `sum`; hp_trace that of `trace` and its log, and
 //! hp_svg its picture; hp_verdicts that of `judge`, which reads no scenario. hp_lab_shell has the
 //! command line, the files and the messages; this program serves the other words.
@@ -18,7 +18,7 @@ mod serving;
 
 use hp_lab_faults::ProgramFault;
 use hp_lab_shell::{Laboratory, Served, Word, run_program};
-use hp_places::Watch;
+use hp_states::Watch;
 use hp_streams::{Sink, Source};
 use serving::serve_word;
 use std::alloc::Global;

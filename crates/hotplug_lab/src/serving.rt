@@ -10,7 +10,7 @@ ghost use Rattle.hp_scenario.specs.Scenario.{scenario_in};
 use crate::answering::answer_to;
 use hp_lab_faults::ProgramFault;
 use hp_lab_shell::{Answer, Served, Word, look_for_line, unbegun_of};
-use hp_places::Watch;
+use hp_states::Watch;
 use hp_streams::{Failed, Sink, Source, read_all, write_all};
 use std::alloc::Global;
 use std::thread::Threads;

@@ -3,20 +3,20 @@ use Rattle.std.proofs.Common.{◌≡◌, ℕ, ◌+◌, ◌<◌, ◌≤◌, Bool,
 use Rattle.std.proofs.lemmas.List.{append-nil, length_push, map-append, reverse-append, same_from_push}
 use Rattle.hp_units.specs.declared.events.Event.{Event}
 use Rattle.hp_units.specs.declared.replies.Record.{Record}
-use Rattle.hp_places.specs.Rooms.{is_full_after}
+use Rattle.hp_states.specs.Rooms.{is_full_after}
 use Rattle.hp_explore.specs.Frames.{AreBelow, AreWalked}
-use Rattle.hp_places.specs.Frames.{IsFrame}
+use Rattle.hp_states.specs.Frames.{IsFrame}
 use Rattle.hp_schedules.specs.Parts.{IsOn, PartValue}
 use Rattle.hp_explore.specs.Paths.{IsBack, PathValue}
 use Rattle.hp_schedules.specs.Schedules.{Setting, next_call, plays, record_of_call, schedule_of}
-use Rattle.hp_places.specs.Seen.{Grow}
-use Rattle.hp_places.specs.Walks.{IsOverBelow, IsPartWalkedBefore, IsPartWalkedThrough}
-use Rattle.hp_places.specs.declared.frames.Frame.{Frame}
+use Rattle.hp_states.specs.Seen.{Grow}
+use Rattle.hp_states.specs.Walks.{IsOverBelow, IsPartWalkedBefore, IsPartWalkedThrough}
+use Rattle.hp_states.specs.declared.frames.Frame.{Frame}
 use Rattle.hp_schedules.specs.declared.tally.Ending.{Ending}
-use Rattle.hp_places.proofs.OfPart.{comes_on}
-use Rattle.hp_places.proofs.Entered.{frame_grows}
-use Rattle.hp_places.proofs.Rooms.{done_begins, done_down, done_over, done_past}
-use Rattle.hp_places.proofs.Noting.{over_next}
+use Rattle.hp_states.proofs.OfPart.{comes_on}
+use Rattle.hp_states.proofs.Entered.{frame_grows}
+use Rattle.hp_states.proofs.Rooms.{done_begins, done_down, done_over, done_past}
+use Rattle.hp_states.proofs.Noting.{over_next}
 use Rattle.hp_explore.proofs.Paths.{path_of}
 
 -- ---- as the ends grow

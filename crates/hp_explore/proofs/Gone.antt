@@ -18,7 +18,7 @@ use Rattle.hp_machine.specs.Machine.{MachineValue}
 use Rattle.hp_steps.specs.Steps.{StepsValue}
 use Rattle.hp_schedules.specs.Schedules.{Setting, next_call, plays, record_of_call, schedule_of}
 use Rattle.hp_explore.specs.Settings.{setting}
-use Rattle.hp_places.specs.Walks.{IsAt}
+use Rattle.hp_states.specs.Walks.{IsAt}
 use Rattle.hp_explore.specs.Walks.{IsGone, IsNextSerial, LeadsTo, with_record}
 use Rattle.hp_schedules.specs.declared.scripts.Line.{Line}
 use Rattle.hp_schedules.proofs.Plays.{plays_push}

@@ -17,11 +17,11 @@ use Rattle.hp_steps.specs.Steps.{StepsValue}
 use Rattle.hp_explore.specs.declared.exploring.ExploreFault.TheVariants.{HistoryFull}
 use Rattle.hp_schedules.specs.declared.scripts.Line.{Line}
 use Rattle.hp_explore.specs.Faults.{IsCause, fault_of}
-use Rattle.hp_places.specs.Rooms.{is_full_after}
+use Rattle.hp_states.specs.Rooms.{is_full_after}
 use Rattle.hp_schedules.specs.Schedules.{Setting, next_call, plays, record_of_call, schedule_of}
 use Rattle.hp_explore.specs.Settings.{setting}
 use Rattle.hp_explore.specs.Walks.{FillsAt, IsFurther, IsReached, news_in, place_of}
-use Rattle.hp_places.specs.Walks.{IsAt}
+use Rattle.hp_states.specs.Walks.{IsAt}
 use Rattle.hp_schedules.proofs.Plays.{plays_push, recorded}
 
 -- what stands after the start

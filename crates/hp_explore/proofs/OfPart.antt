@@ -8,14 +8,14 @@ use Rattle.hp_explore.specs.Fronts.{AreFirst, AreFirstInPart}
 use Rattle.hp_schedules.specs.Outcomes.{OutcomeValue}
 use Rattle.hp_schedules.specs.Parts.{ComesTo, EndsInPart, IsCompleteInPart, PartValue}
 use Rattle.hp_schedules.specs.Schedules.{EndsWith, IsComplete, Setting, plays, schedule_of}
-use Rattle.hp_places.specs.Walks.{Before, BeforeInPart, IsPartWalkedBefore, IsPartWalkedThrough}
+use Rattle.hp_states.specs.Walks.{Before, BeforeInPart, IsPartWalkedBefore, IsPartWalkedThrough}
 use Rattle.hp_explore.specs.declared.exploring.ExploreFault.{ExploreFault}
 use Rattle.hp_explore.specs.declared.exploring.ExploreFault.TheVariants.{HistoryFull, OutOfMemory}
 use Rattle.hp_schedules.specs.declared.tally.Ending.{Ending}
 use Rattle.hp_schedules.proofs.Counts.{same_counted}
 use Rattle.hp_schedules.proofs.Uniqueness.{no_more}
 use Rattle.hp_units.specs.declared.replies.Record.{Record}
-use Rattle.hp_places.proofs.OfPart.{whole}
+use Rattle.hp_states.proofs.OfPart.{whole}
 
 -- the cause of a fault of a call that the search makes, where all before it was walked
 pub cause_within : (g : Setting) (part : PartValue) (news : List Record) (cpu : ℕ) (ends : List Ending)

@@ -7,7 +7,7 @@ use Rattle.hp_steps.specs.Steps.{StepsValue}
 use Rattle.hp_schedules.specs.Cursors.{AreCursors}
 use Rattle.hp_explore.specs.Paths.{IsAdvanced, IsBack, IsForth, IsPath, IsTakenBack, IsTurned, IsWayBack, PathValue}
 use Rattle.hp_schedules.specs.Schedules.{Setting, next_call, record_of_call}
-use Rattle.hp_places.specs.Walks.{IsAt}
+use Rattle.hp_states.specs.Walks.{IsAt}
 use Rattle.hp_schedules.specs.declared.cursors.Cursor.{Cursor}
 use Rattle.hp_explore.specs.declared.exploring.ExploreFault.{ExploreFault}
 use Rattle.hp_explore.specs.declared.ways.Turn.{Turn}

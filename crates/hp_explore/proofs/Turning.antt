@@ -5,10 +5,10 @@ use Rattle.hp_units.specs.History.{effect_of}
 use Rattle.hp_units.specs.declared.events.Event.{Event}
 use Rattle.hp_units.specs.declared.replies.Record.{Record}
 use Rattle.hp_steps.specs.Steps.{IsLater, IsStepped, StepsValue, record_of_step}
-use Rattle.hp_places.specs.Rooms.{is_full_after}
+use Rattle.hp_states.specs.Rooms.{is_full_after}
 use Rattle.hp_explore.specs.Paths.{IsTurned, IsWayOver}
 use Rattle.hp_schedules.specs.Schedules.{Setting, next_call, plays, record_of_call, schedule_of}
-use Rattle.hp_places.specs.Walks.{IsAt}
+use Rattle.hp_states.specs.Walks.{IsAt}
 use Rattle.hp_explore.specs.Walks.{LeadsTo, may_go_back}
 use Rattle.hp_explore.specs.declared.ways.Way.{Way}
 use Rattle.hp_explore.specs.declared.ways.Way.TheVariants.{Mark}

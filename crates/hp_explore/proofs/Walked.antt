@@ -6,19 +6,19 @@ use Rattle.hp_units.specs.declared.replies.Record.{Record}
 use Rattle.hp_units.specs.History.{effect_of}
 use Rattle.hp_units.specs.declared.events.Event.{Event}
 use Rattle.hp_schedules.specs.Alike.{leaves_steps}
-use Rattle.hp_places.specs.Rooms.{is_full_after}
+use Rattle.hp_states.specs.Rooms.{is_full_after}
 use Rattle.hp_explore.specs.Frames.{AreBelow, AreWalked}
 use Rattle.hp_memory.specs.Memory.{MemoryValue}
-use Rattle.hp_places.specs.Frames.{IsArrival, IsFrame, IsLeaving}
-use Rattle.hp_places.specs.Places.{memory_at}
+use Rattle.hp_states.specs.Frames.{IsArrival, IsFrame, IsLeaving}
+use Rattle.hp_states.specs.Places.{memory_at}
 use Rattle.hp_schedules.specs.Cursors.{AreCursors}
 use Rattle.hp_schedules.specs.declared.cursors.Cursor.{Cursor}
 use Rattle.hp_schedules.specs.Parts.{IsOn, PartValue}
 use Rattle.hp_explore.specs.Paths.{IsBack, IsForth, PathValue}
 use Rattle.hp_schedules.specs.Schedules.{Setting, plays, record_of_call, schedule_of}
-use Rattle.hp_places.specs.Seen.{Grow, IsMemo, IsOnWay, MemoValue}
-use Rattle.hp_places.specs.Walks.{IsPartWalkedBefore, IsPartWalkedThrough}
-use Rattle.hp_places.specs.declared.frames.Frame.{Frame}
+use Rattle.hp_states.specs.Seen.{Grow, IsMemo, IsOnWay, MemoValue}
+use Rattle.hp_states.specs.Walks.{IsPartWalkedBefore, IsPartWalkedThrough}
+use Rattle.hp_states.specs.declared.frames.Frame.{Frame}
 use Rattle.hp_schedules.proofs.Alike.{call_leaves, event_kept}
 use Rattle.hp_schedules.specs.declared.tally.Ending.{Ending}
 use Rattle.hp_explore.proofs.Framing.{back_setting, back_shorter, walk_back, walk_leads, walk_passes}

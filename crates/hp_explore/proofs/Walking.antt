@@ -14,11 +14,11 @@ use Rattle.hp_schedules.specs.Parts.{IsCompleteInPart, PartValue}
 use Rattle.hp_schedules.specs.Schedules.{Setting, next_call, outcome_after, plays, schedule_of}
 use Rattle.hp_explore.specs.Settings.{setting}
 use Rattle.hp_explore.specs.Walks.{FillsAt, IsFurther, IsPlayed, IsReached, news_in, place_of}
-use Rattle.hp_places.specs.Walks.{IsEndHere, IsPartWalkedBefore}
+use Rattle.hp_states.specs.Walks.{IsEndHere, IsPartWalkedBefore}
 use Rattle.hp_laws.proofs.Replays.{take_one}
 use Rattle.hp_explore.proofs.Machines.{reached_start, start_place}
 use Rattle.hp_schedules.proofs.Plays.{complete, stops}
-use Rattle.hp_places.proofs.Walks.{over_all, walk_exceeds, walk_here}
+use Rattle.hp_states.proofs.Walks.{over_all, walk_exceeds, walk_here}
 use Rattle.hp_schedules.proofs.Regions.{before_longer}
 
 -- which are as many as the limit

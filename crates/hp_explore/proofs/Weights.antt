@@ -3,7 +3,7 @@ use Rattle.std.proofs.Common.{◌≡◌, ℕ, suc, ◌+◌, ◌-◌, ◌*◌, �
 use Rattle.std.proofs.Math.Nat.{mul-lt-mul_of_pos_right, one-le-pow, pow-suc}
 use Rattle.hp_explore.specs.Frames.{digits, left_of}
 use Rattle.hp_schedules.specs.Schedules.{Setting}
-use Rattle.hp_places.specs.declared.frames.Frame.{Frame}
+use Rattle.hp_states.specs.declared.frames.Frame.{Frame}
 
 scaled : (a b e : ℕ) → a < b → 0 < e → a * e < b * e
 scaled a b e less some = mul-lt-mul_of_pos_right {m = a} {n = b} {k = e} less some

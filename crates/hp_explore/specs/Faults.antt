@@ -4,8 +4,8 @@ use Rattle.hp_units.specs.declared.events.Event.{Event}
 use Rattle.hp_units.specs.declared.replies.Record.{Record}
 use Rattle.hp_explore.specs.declared.exploring.ExploreFault.{ExploreFault}
 use Rattle.hp_explore.specs.declared.exploring.ExploreFault.TheVariants.{HistoryFull, OutOfMemory}
-use Rattle.hp_places.specs.Rooms.{HasNoRoom, is_full_after}
-use Rattle.hp_places.specs.Walks.{Before, BeforeInPart, HasPartRoomBefore, HasRoomBefore}
+use Rattle.hp_states.specs.Rooms.{HasNoRoom, is_full_after}
+use Rattle.hp_states.specs.Walks.{Before, BeforeInPart, HasPartRoomBefore, HasRoomBefore}
 use Rattle.hp_schedules.specs.Orders.{Extends, HasMoreThan}
 use Rattle.hp_schedules.specs.Outcomes.{OutcomeValue}
 use Rattle.hp_schedules.specs.Schedules.{Setting, next_call}

@@ -3,14 +3,14 @@
 use Rattle.std.specs.Prelude.{◌≡◌, ℕ, ◌+◌, ◌-◌, ◌*◌, ◌^◌, ◌<◌, ◌≤◌, Bool, true, false, List, [], ◌∷◌, ◌++◌, Some, length, reverse}
 use Rattle.hp_units.specs.declared.events.Event.{Event}
 use Rattle.hp_units.specs.declared.replies.Record.{Record}
-use Rattle.hp_places.specs.Rooms.{is_full_after}
-use Rattle.hp_places.specs.Frames.{IsFrame}
+use Rattle.hp_states.specs.Rooms.{is_full_after}
+use Rattle.hp_states.specs.Frames.{IsFrame}
 use Rattle.hp_schedules.specs.Parts.{IsOn, PartValue}
 use Rattle.hp_schedules.specs.Schedules.{Setting, next_call, plays, schedule_of}
 use Rattle.hp_explore.specs.Fronts.{AreFirstInPart}
-use Rattle.hp_places.specs.Seen.{IsMemo, IsOnWay}
-use Rattle.hp_places.specs.Walks.{IsOverBelow, IsPartWalkedBefore, IsPartWalkedThrough}
-use Rattle.hp_places.specs.declared.frames.Frame.{Frame}
+use Rattle.hp_states.specs.Seen.{IsMemo, IsOnWay}
+use Rattle.hp_states.specs.Walks.{IsOverBelow, IsPartWalkedBefore, IsPartWalkedThrough}
+use Rattle.hp_states.specs.declared.frames.Frame.{Frame}
 use Rattle.hp_schedules.specs.declared.tally.Ending.{Ending}
 use Rattle.hp_explore.specs.declared.walk.Turned.{Turned}
 use Rattle.hp_explore.specs.declared.walk.Turned.TheVariants.{On, Over, Full}

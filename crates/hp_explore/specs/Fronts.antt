@@ -2,7 +2,7 @@
 use Rattle.std.specs.Prelude.{◌≡◌, ℕ, true, false, List, sum_by}
 use Rattle.hp_schedules.specs.Parts.{IsCompleteInPart, PartValue}
 use Rattle.hp_schedules.specs.Schedules.{IsComplete, Setting}
-use Rattle.hp_places.specs.Walks.{IsPartWalkedBefore, IsWalkedBefore}
+use Rattle.hp_states.specs.Walks.{IsPartWalkedBefore, IsWalkedBefore}
 use Rattle.hp_explore.specs.declared.exploring.Exploration.{Exploration}
 use Rattle.hp_schedules.specs.declared.tally.Ending.{Ending}
 

@@ -1,6 +1,12 @@
+pub mod Adding
+pub mod Changes
 pub mod Faults
+pub mod FindFaults
 pub mod Frames
 pub mod Fronts
 pub mod Paths
+pub mod Reaching
+pub mod Searches
 pub mod Settings
+pub mod Sums
 pub mod Walks

@@ -6,9 +6,9 @@ use Rattle.hp_units.specs.declared.events.Event.{Event}
 use Rattle.hp_units.specs.declared.replies.Record.{Record}
 use Rattle.hp_steps.specs.Steps.{IsLater, StepsValue}
 use Rattle.hp_schedules.specs.Cursors.{AreCursors}
-use Rattle.hp_places.specs.Rooms.{is_full_after}
+use Rattle.hp_states.specs.Rooms.{is_full_after}
 use Rattle.hp_schedules.specs.Schedules.{Setting, next_call, record_of_call}
-use Rattle.hp_places.specs.Walks.{IsAt}
+use Rattle.hp_states.specs.Walks.{IsAt}
 use Rattle.hp_schedules.specs.declared.cursors.Cursor.{Cursor}
 use Rattle.hp_explore.specs.declared.ways.Turn.{Turn}
 use Rattle.hp_explore.specs.declared.ways.Way.{Way}

@@ -11,8 +11,8 @@ ghost use Rattle.hp_explore.specs.Settings.{setting};
 
 use crate::walk::Walk;
 use hp_machine::Machine;
-use hp_places::Watch;
 use hp_schedules::{Ending, Part, Script, call_count};
+use hp_states::Watch;
 use hp_units::CallFault;
 use std::alloc::{AllocError, Global};
 use thiserror::Error;

@@ -1,24 +1,41 @@
-//! Explores every interleaving of short scripts on a machine and counts how they end.
+//! Explores every interleaving of short scripts on a machine: counts how they end, in one thread or
+//! in parts side by side, or finds one that ends as wanted.
 //!
-//! hp_schedules defines scripts, schedules and ends; hp_places decides which places are alike
-//! and keeps their counts. This crate owns the walk over all schedules. It makes its calls on
-//! a memory of its own and takes each back, so that the caller's machine never changes. It
-//! knows nothing of scenarios or texts. Schedules can be counted in parts, side by side
-//! (specs/Parts of hp_schedules).
+//! hp_schedules defines scripts, schedules and ends; hp_states decides which places are alike and
+//! keeps their counts. This crate owns the walk over all schedules (`exploring`), the search by rising
+//! number of changes of processor, as in CHESS (Musuvathi and Qadeer, PLDI 2007; `finding`), and the
+//! merging of parts (`summing`, `jobs`). It makes its calls on a memory of its own and takes each
+//! back, so that the caller's machine never changes. It knows nothing of scenarios or texts.
 //!
-//! Read specs/Settings first, then specs/Faults and specs/Walks, and `explore` in `exploring`.
+//! Read specs/Settings, specs/Faults and specs/Walks first, then specs/Reaching and specs/Sums.
 #![tactic(auto)]
 
+mod calls;
+mod changes;
+mod earlier;
 mod exploring;
+mod fault;
+mod finding;
+mod jobs;
 mod over;
 mod path;
 mod playing;
+mod rooms;
+mod searching;
+mod summing;
+mod sums;
 mod turns;
 mod walk;
 mod ways;
 
+pub use calls::calls_for;
+pub use changes::changes_of;
 pub use exploring::{Exploration, ExploreFault, explore, explore_part, room_needed};
-pub use hp_places::{Silent, Watch, kept_counts_are_added};
+pub use fault::FindFault;
+pub use finding::{Found, find};
+pub use hp_states::{Silent, Watch, kept_counts_are_added};
+pub use jobs::explore_with_jobs;
 pub use over::is_over;
 pub use path::Path;
 pub use playing::play;
+pub use summing::{SumFault, sum};

@@ -6,11 +6,11 @@ ghost use Rattle.hp_machine.specs.Machine.{IsHistory};
 ghost use Rattle.hp_steps.specs.Steps.{StepsValue};
 ghost use Rattle.hp_schedules.specs.Cursors.{AreCursors};
 ghost use Rattle.hp_explore.specs.Faults.{FillsAlong, IsCauseHere};
-ghost use Rattle.hp_places.specs.Rooms.{is_full_after};
+ghost use Rattle.hp_states.specs.Rooms.{is_full_after};
 ghost use Rattle.hp_explore.specs.Paths.{IsAdvanced, IsPath, IsTakenBack, IsTurned};
 ghost use Rattle.hp_schedules.specs.Schedules.{Setting, next_call, schedule_of};
 ghost use Rattle.hp_explore.specs.Settings.{setting};
-ghost use Rattle.hp_places.specs.Walks.{IsAt};
+ghost use Rattle.hp_states.specs.Walks.{IsAt};
 ghost use Rattle.hp_explore.specs.Walks.{IsGone, IsNextSerial, LeadsTo, may_go_back, news_since, with_record};
 ghost use Rattle.hp_explore.specs.declared.exploring.ExploreFault.TheVariants.{HistoryFull};
 

@@ -8,17 +8,17 @@ ghost use Rattle.hp_explore.specs.Faults.{IsCausePartWithin};
 ghost use Rattle.hp_explore.specs.Paths.{IsBack};
 ghost use Rattle.hp_schedules.specs.Schedules.{schedule_of};
 ghost use Rattle.hp_explore.specs.Settings.{setting};
-ghost use Rattle.hp_places.specs.Seen.{AreSamePlaces, IsMemo, IsOnWay};
-ghost use Rattle.hp_places.specs.Standing.{AreSameNumbers};
-ghost use Rattle.hp_places.specs.Walks.{IsEndHere, IsPartWalkedBefore};
+ghost use Rattle.hp_states.specs.Seen.{AreSamePlaces, IsMemo, IsOnWay};
+ghost use Rattle.hp_states.specs.Standing.{AreSameNumbers};
+ghost use Rattle.hp_states.specs.Walks.{IsEndHere, IsPartWalkedBefore};
 ghost use Rattle.hp_schedules.specs.declared.tally.Ending.{Ending};
 
 use crate::exploring::ExploreFault;
 use crate::path::Path;
 use crate::turns::latest;
 use hp_machine::Machine;
-use hp_places::{Entry, Frame, Memo, Watch, arrive, leave, note};
 use hp_schedules::{Ending, Part, Script, Tally, is_closed, undo_nothing};
+use hp_states::{Entry, Frame, Memo, Watch, arrive, leave, note};
 use std::alloc::{AllocError, Global};
 
 /// The result of one turn of a walk.

@@ -1,6 +1,6 @@
 //! How far a search has come, on standard error.
 
-use hp_places::Watch;
+use hp_states::Watch;
 use std::io::Write;
 
 /// A search tells some hundred thousand times a second how far it has come. After one that is shown

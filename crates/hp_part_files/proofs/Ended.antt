@@ -5,7 +5,7 @@ use Rattle.std.proofs.lemmas.Option.{same_Some}
 use Rattle.hp_units.specs.declared.replies.Record.{Record}
 use Rattle.hp_schedules.specs.Outcomes.{OutcomeValue, outcome}
 use Rattle.hp_explore.specs.Faults.{FillsAlong, FillsHere}
-use Rattle.hp_places.specs.Rooms.{is_full_after}
+use Rattle.hp_states.specs.Rooms.{is_full_after}
 use Rattle.hp_explore.specs.Paths.{IsForth, IsOver, PathValue, state_at}
 use Rattle.hp_schedules.specs.Schedules.{Setting, next_call, outcome_after, plays, record_of_call, schedule_of}
 use Rattle.hp_explore.proofs.Framing.{longer_schedule}

@@ -11,9 +11,9 @@ use Rattle.hp_explore.specs.Fronts.{AreFirstInPart, IfFirst, IfWhole}
 use Rattle.hp_schedules.specs.Schedules.{Setting}
 use Rattle.hp_units.specs.LayoutParts.{LayoutParts}
 use Rattle.hp_explore.specs.Faults.{FillsPart, IsCause, IsCausePartWithin}
-use Rattle.hp_prepared.specs.Ends.{IsMore}
-use Rattle.hp_prepared.specs.Faults.{IsFaultOf, IsFaultWith, IsFull}
-use Rattle.hp_prepared.specs.Holding.{HoldsAfter, InScenario, IsStoppedAfter}
+use Rattle.hp_search.specs.Ends.{IsMore}
+use Rattle.hp_search.specs.Faults.{IsFaultOf, IsFaultWith, IsFull}
+use Rattle.hp_search.specs.Holding.{HoldsAfter, InScenario, IsStoppedAfter}
 use Rattle.hp_lab_faults.specs.declared.fault.LabFault.{LabFault}
 use Rattle.hp_scenario.specs.declared.lines.Line.{Line}
 use Rattle.hp_lab_faults.specs.declared.fault.LabFault.TheVariants as lab

@@ -10,22 +10,22 @@ use Rattle.hp_schedules.specs.Schedules.{Setting}
 use Rattle.hp_schedules.specs.Parts.{EndsInPart}
 use Rattle.hp_text.specs.State.{newline}
 use Rattle.hp_schedules.specs.Outcomes.{OutcomeValue}
-use Rattle.hp_part_lines.specs.Cuts.{IsLineAt, line_number}
+use Rattle.hp_part_files.specs.Cuts.{IsLineAt, line_number}
 use Rattle.hp_part_files.specs.Ends.{IsEndOf}
-use Rattle.hp_part_lines.specs.Gathering.{GatheringValue, PartEndsValue}
-use Rattle.hp_part_lines.specs.Heads.{HeadValue, IsHead, IsNumber, SearchValue, head_from, head_line, part_in}
-use Rattle.hp_part_lines.specs.Ordering.{AreAll, lists_of}
-use Rattle.hp_part_lines.specs.Reading.{IsLine}
+use Rattle.hp_part_files.specs.Gathering.{GatheringValue, PartEndsValue}
+use Rattle.hp_part_files.specs.Heads.{HeadValue, IsHead, IsNumber, SearchValue, head_from, head_line, part_in}
+use Rattle.hp_part_files.specs.Ordering.{AreAll, lists_of}
+use Rattle.hp_part_files.specs.Reading.{IsLine}
 use Rattle.hp_scenario.specs.Scenario.{json_of}
-use Rattle.hp_part_lines.specs.declared.reading.PartLine.TheVariants.{End}
+use Rattle.hp_part_files.specs.declared.reading.PartLine.TheVariants.{End}
 use Rattle.hp_part_files.specs.Gathered.{IsGathered, IsGathering, IsOwn, lines_of}
 use Rattle.std.specs.Global.{Vec}
-use Rattle.hp_prepared.specs.Faults.{IsUntold}
-use Rattle.hp_prepared.specs.Prepared.{IsPrepared, names_of, setting_of}
+use Rattle.hp_search.specs.Faults.{IsUntold}
+use Rattle.hp_search.specs.Prepared.{IsPrepared, names_of, setting_of}
 use Rattle.hp_lab_faults.specs.declared.fault.LabFault.{LabFault}
 use Rattle.hp_lab_faults.specs.declared.fault.LabFault.TheVariants as lab
-use Rattle.hp_prepared.specs.declared.prepared.Prepared.{Prepared}
-use Rattle.hp_prepared.proofs.Known.{held_in}
+use Rattle.hp_search.specs.declared.prepared.Prepared.{Prepared}
+use Rattle.hp_search.proofs.Known.{held_in}
 use Rattle.hp_part_files.specs.Faults.{IsCauseAlong, IsCauseIn, IsLineFault, IsMisplaced, IsTooMany, IsUnplayed, IsUnpushed, IsUnsummedIn, IsUntoldSum, fault_of_line}
 use Rattle.hp_lab_faults.specs.declared.part_fault.PartFault.{PartFault}
 use Rattle.hp_lab_faults.specs.declared.part_fault.PartFault.TheVariants as part
@@ -33,7 +33,7 @@ use Rattle.hp_part_files.specs.declared.line_fault.LineFault.{LineFault}
 use Rattle.hp_part_files.specs.declared.line_fault.LineFault.TheVariants.{NotPart, OtherSearch, NotOfPart, Changed, Stopped, OtherCount, Lab}
 use Rattle.hp_part_files.specs.Taking.{HasRead, IsPushed, IsTaken}
 use Rattle.hp_part_files.specs.Texts.{begun_lines, part_lines}
-use Rattle.hp_part_files.proofs.Written.{begun_lines_push}
+use Rattle.hp_part_files.proofs.PartsWritten.{begun_lines_push}
 
 -- a part more
 pub lines_more : (names : List (List ℕ)) (g : Setting) (s : SearchValue) (done : List PartEndsValue)

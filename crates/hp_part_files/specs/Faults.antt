@@ -6,21 +6,21 @@ use Rattle.hp_schedules.specs.Schedules.{Setting}
 use Rattle.hp_explore.specs.Faults.{FillsAlong}
 use Rattle.hp_explore.specs.declared.exploring.ExploreFault.{ExploreFault}
 use Rattle.hp_explore.specs.declared.exploring.ExploreFault.TheVariants as explore
-use Rattle.hp_prepared.specs.Faults.{IsUntold}
-use Rattle.hp_prepared.specs.Holding.{HoldsIn}
-use Rattle.hp_prepared.specs.Prepared.{IsUnprepared}
+use Rattle.hp_search.specs.Faults.{IsUntold}
+use Rattle.hp_search.specs.Holding.{HoldsIn}
+use Rattle.hp_search.specs.Prepared.{IsUnprepared}
 use Rattle.hp_lab_faults.specs.declared.fault.LabFault.{LabFault}
 use Rattle.hp_lab_faults.specs.declared.fault.LabFault.TheVariants.{OutOfMemory}
 use Rattle.hp_schedules.specs.Parts.{EndsInPart}
-use Rattle.hp_parts.specs.Adding.{counted_by}
-use Rattle.hp_part_lines.specs.Cuts.{HasNoNewline, IsLineAt, line_number}
-use Rattle.hp_part_lines.specs.Gathering.{GatheringValue, PartEndsValue}
-use Rattle.hp_part_lines.specs.Heads.{HeadValue, IsHead, IsNumber, SearchValue, head_line, part_in}
-use Rattle.hp_part_lines.specs.Ordering.{AreAll, IsOrderFault}
-use Rattle.hp_part_lines.specs.Reading.{IsLine}
-use Rattle.hp_part_lines.specs.declared.ordering.OrderFault.{OrderFault}
-use Rattle.hp_part_lines.specs.declared.ordering.OrderFault.TheVariants as order
-use Rattle.hp_part_lines.specs.declared.reading.PartLine.TheVariants.{Head, End, Stop, Other}
+use Rattle.hp_explore.specs.Adding.{counted_by}
+use Rattle.hp_part_files.specs.Cuts.{HasNoNewline, IsLineAt, line_number}
+use Rattle.hp_part_files.specs.Gathering.{GatheringValue, PartEndsValue}
+use Rattle.hp_part_files.specs.Heads.{HeadValue, IsHead, IsNumber, SearchValue, head_line, part_in}
+use Rattle.hp_part_files.specs.Ordering.{AreAll, IsOrderFault}
+use Rattle.hp_part_files.specs.Reading.{IsLine}
+use Rattle.hp_part_files.specs.declared.ordering.OrderFault.{OrderFault}
+use Rattle.hp_part_files.specs.declared.ordering.OrderFault.TheVariants as order
+use Rattle.hp_part_files.specs.declared.reading.PartLine.TheVariants.{Head, End, Stop, Other}
 use Rattle.hp_part_files.specs.Gathered.{IsGathered, IsGathering, IsLastOther}
 use Rattle.hp_part_files.specs.Texts.{end_line}
 use Rattle.hp_lab_faults.specs.declared.part_fault.PartFault.{PartFault}

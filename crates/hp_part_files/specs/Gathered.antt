@@ -3,8 +3,8 @@ use Rattle.std.specs.Prelude.{◌≡◌, ℕ, ◌≤◌, List, ◌++◌, length}
 use Rattle.std.specs.List.{All, flat_map}
 use Rattle.hp_schedules.specs.Schedules.{Setting}
 use Rattle.hp_schedules.specs.Parts.{EndsInPart}
-use Rattle.hp_part_lines.specs.Gathering.{GatheringValue, PartEndsValue}
-use Rattle.hp_part_lines.specs.Heads.{SearchValue, part_in}
+use Rattle.hp_part_files.specs.Gathering.{GatheringValue, PartEndsValue}
+use Rattle.hp_part_files.specs.Heads.{SearchValue, part_in}
 use Rattle.hp_part_files.specs.Texts.{begun_lines, part_lines}
 
 -- the search has the part, and each of its ends is that of its first schedule, which is complete

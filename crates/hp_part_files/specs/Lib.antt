@@ -1,7 +1,13 @@
+pub mod Cuts
 pub mod Ends
 pub mod Faults
 pub mod Gathered
+pub mod Gathering
+pub mod Heads
+pub mod Ordering
 pub mod Parts
+pub mod Processors
+pub mod Reading
 pub mod Sums
 pub mod Taking
 pub mod Texts

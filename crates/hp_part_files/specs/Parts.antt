@@ -10,15 +10,15 @@ use Rattle.hp_schedules.specs.Interleavings.{IsKnown}
 use Rattle.hp_schedules.specs.Schedules.{Setting}
 use Rattle.hp_explore.specs.declared.exploring.ExploreFault.{ExploreFault}
 use Rattle.hp_explore.specs.declared.exploring.ExploreFault.TheVariants as explore
-use Rattle.hp_prepared.specs.Ends.{IsMore}
-use Rattle.hp_prepared.specs.Holding.{HoldsIn, InScenario, IsStoppedAfter}
+use Rattle.hp_search.specs.Ends.{IsMore}
+use Rattle.hp_search.specs.Holding.{HoldsIn, InScenario, IsStoppedAfter}
 use Rattle.hp_lab_faults.specs.declared.fault.LabFault.{LabFault}
 use Rattle.hp_lab_faults.specs.declared.fault.LabFault.TheVariants.{HistoryFull}
 use Rattle.hp_explore.specs.Fronts.{AreFirstInPart}
 use Rattle.hp_schedules.specs.Parts.{EndsInPart, IsCompleteInPart, PartValue}
 use Rattle.hp_explore.specs.Faults.{FillsPart, FillsPartWithin}
 use Rattle.hp_schedules.specs.PartNumbers.{NumberValue, part_by}
-use Rattle.hp_part_lines.specs.Heads.{SearchValue}
+use Rattle.hp_part_files.specs.Heads.{SearchValue}
 use Rattle.hp_part_files.specs.Texts.{part_text}
 
 -- the ends are those of all complete schedules of the part, at most `limit`, and none fills the
@@ -31,7 +31,7 @@ ArePartEnds g part limit ends (Some known) =
     AreFirstInPart g part limit ends × HasMoreThan (IsCompleteInPart g part) limit
     × IsKnown g.scripts (2 ^ 64 - 1) known
 
--- how many first calls decide a part (hp_parts): the fewest with at least 64 schedules per part, if
+-- how many first calls decide a part (hp_explore): the fewest with at least 64 schedules per part, if
 -- no script ends before them
 pub record IsCallsFor (processors parts calls : ℕ) : Type 0 where
   pub one : parts < 2 → calls ≡ 0

@@ -3,21 +3,21 @@ use Rattle.std.specs.Prelude.{◌≡◌, ℕ, ◌<◌, Bool, List, None, length,
 use Rattle.hp_schedules.specs.declared.tally.Ending.{Ending}
 use Rattle.hp_schedules.specs.Ends.{AreEnds, AreInOrder}
 use Rattle.hp_schedules.specs.Schedules.{Setting}
-use Rattle.hp_prepared.specs.Ends.{AreEndsTold}
-use Rattle.hp_prepared.specs.Holding.{HoldsIn}
-use Rattle.hp_ends.specs.declared.forms.EndsForm.{EndsForm}
-use Rattle.hp_parts.specs.Adding.{AreAdded, counted_by}
-use Rattle.hp_parts.specs.Sums.{AreApart, AreParts}
+use Rattle.hp_search.specs.Ends.{AreEndsTold}
+use Rattle.hp_search.specs.Holding.{HoldsIn}
+use Rattle.hp_search.specs.declared.forms.EndsForm.{EndsForm}
+use Rattle.hp_explore.specs.Adding.{AreAdded, counted_by}
+use Rattle.hp_explore.specs.Sums.{AreApart, AreParts}
 use Rattle.hp_scenario.specs.declared.lines.Line.{Line}
-use Rattle.hp_part_lines.specs.Ordering.{AreAll}
-use Rattle.hp_part_lines.specs.Gathering.{PartEndsValue}
-use Rattle.hp_part_lines.specs.Heads.{HeadValue, SearchValue}
+use Rattle.hp_part_files.specs.Ordering.{AreAll}
+use Rattle.hp_part_files.specs.Gathering.{PartEndsValue}
+use Rattle.hp_part_files.specs.Heads.{HeadValue, SearchValue}
 use Rattle.hp_part_files.specs.Faults.{BeginsWith}
 use Rattle.hp_part_files.specs.Gathered.{IsGathered}
 
 -- the ends are sorted, with the lists' counts added up and no outcome twice; if the lists are all
 -- parts of a search, the ends are those of the whole, in the order of their first schedules
--- (hp_parts)
+-- (see Adding)
 pub record IsSum (lists : List (List Ending)) (ends : List Ending) : Type 0 where
   pub are : (g : Setting) (calls : ℕ) → 0 < length lists → AreParts g calls lists → AreEnds g ends
   pub ordered : (g : Setting) (calls : ℕ) → 0 < length lists → AreParts g calls lists → AreInOrder ends

@@ -3,8 +3,8 @@ use Rattle.std.specs.Prelude.{◌≡◌, ℕ, ◌+◌, ◌≤◌, List, [], ◌�
 use Rattle.hp_schedules.specs.declared.tally.Ending.{Ending}
 use Rattle.hp_schedules.specs.Schedules.{Setting}
 use Rattle.hp_text.specs.State.{newline}
-use Rattle.hp_part_lines.specs.Gathering.{GatheringValue}
-use Rattle.hp_part_lines.specs.Heads.{HeadValue, SearchValue}
+use Rattle.hp_part_files.specs.Gathering.{GatheringValue}
+use Rattle.hp_part_files.specs.Heads.{HeadValue, SearchValue}
 use Rattle.hp_part_files.specs.Gathered.{IsGathering}
 use Rattle.hp_part_files.specs.Texts.{end_line}
 

@@ -4,10 +4,10 @@ use Rattle.hp_text.specs.State.{newline}
 use Rattle.hp_schedules.specs.declared.multinomials.HowMany.{HowMany}
 use Rattle.hp_schedules.specs.declared.tally.Ending.{Ending}
 use Rattle.hp_schedules.specs.Schedules.{Setting}
-use Rattle.hp_ends.specs.Objects.{more_object}
-use Rattle.hp_prepared.specs.Texts.{end_keys}
-use Rattle.hp_part_lines.specs.Heads.{SearchValue, head_line}
-use Rattle.hp_part_lines.specs.Processors.{processor_list}
+use Rattle.hp_search.specs.Objects.{more_object}
+use Rattle.hp_search.specs.Texts.{end_keys}
+use Rattle.hp_part_files.specs.Heads.{SearchValue, head_line}
+use Rattle.hp_part_files.specs.Processors.{processor_list}
 
 -- ---- an end
 

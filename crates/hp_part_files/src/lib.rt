@@ -6,15 +6,28 @@
 //! finds a line that does not match its own schedule; it reports the whole as `explore` does. The
 //! crate owns that form, and when each fault comes; it opens no file and no stream.
 //!
-//! Read specs/Texts first, then specs/Parts and specs/Sums: what the two functions promise.
+//! Read specs/Heads, specs/Reading and specs/Ordering first, then specs/Texts, specs/Parts and
+//! specs/Sums: what the two functions promise.
 #![tactic(auto)]
 
+mod cuts;
 mod ends;
+mod gathering;
+mod heads;
 mod line_fault;
+mod ordering;
 mod parts;
+mod processors;
+mod reading;
 mod summing;
 mod taking;
 mod writing;
 
+pub use cuts::{line_at, line_number};
+pub use gathering::{Gathering, PartEnds};
+pub use heads::{Head, Search, head_from, is_head, write_head};
+pub use ordering::{OrderFault, ends_by_number};
 pub use parts::part_text;
+pub use processors::write_schedule;
+pub use reading::{PartLine, json_in, line_in};
 pub use summing::sum_text;

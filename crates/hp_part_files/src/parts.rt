@@ -1,18 +1,16 @@
 //! Searches one part of a scenario.
 ghost use Rattle.std.specs.Prelude.{◌≡◌, ◌^◌, ◌<◌, IfErr, IfOk, length, string_bytes};
 ghost use Rattle.hp_explore.specs.Faults.{IsCause};
-ghost use Rattle.hp_prepared.specs.Faults.{IsFaultOf};
-ghost use Rattle.hp_prepared.specs.Prepared.{names_of, setting_of};
+ghost use Rattle.hp_search.specs.Faults.{IsFaultOf};
+ghost use Rattle.hp_search.specs.Prepared.{names_of, setting_of};
 ghost use Rattle.hp_part_files.specs.Parts.{IsFullPart, IsPartCause, IsPartOf, IsPartOn, IsToldPart};
 
+use crate::Search;
 use crate::writing::write_part;
-use hp_ends::write_more;
-use hp_explore::{Exploration, ExploreFault, Watch, explore_part};
+use hp_explore::{Exploration, ExploreFault, Watch, calls_for, explore_part};
 use hp_lab_faults::LabFault;
-use hp_part_lines::Search;
-use hp_parts::calls_for;
-use hp_prepared::{Finding, Prepared, prepare};
 use hp_schedules::{PartNumber, total_of};
+use hp_search::{Finding, Prepared, prepare, write_more};
 use simdutf8::basic::from_utf8;
 use std::alloc::Global;
 

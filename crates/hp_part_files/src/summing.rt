@@ -2,12 +2,12 @@
 ghost use Rattle.std.specs.Prelude.{◌≡◌, ◌+◌, ◌^◌, ◌<◌, IfErr, IfOk, Some, length, string_bytes};
 ghost use Rattle.serde_json.specs.View.{view};
 ghost use Rattle.hp_scenario.specs.Scenario.{json_of};
-ghost use Rattle.hp_prepared.specs.Ends.{AreEndsTold};
-ghost use Rattle.hp_prepared.specs.Holding.{HoldsIn};
-ghost use Rattle.hp_prepared.specs.Prepared.{before_of, names_of, setting_of};
-ghost use Rattle.hp_part_lines.specs.Cuts.{IsLineAt};
-ghost use Rattle.hp_part_lines.specs.Heads.{IsNumber, head_line};
-ghost use Rattle.hp_part_lines.specs.Ordering.{AreAll, AreWithin, lists_of};
+ghost use Rattle.hp_search.specs.Ends.{AreEndsTold};
+ghost use Rattle.hp_search.specs.Holding.{HoldsIn};
+ghost use Rattle.hp_search.specs.Prepared.{before_of, names_of, setting_of};
+ghost use Rattle.hp_part_files.specs.Cuts.{IsLineAt};
+ghost use Rattle.hp_part_files.specs.Heads.{IsNumber, head_line};
+ghost use Rattle.hp_part_files.specs.Ordering.{AreAll, AreWithin, lists_of};
 ghost use Rattle.hp_lab_faults.specs.declared.fault.LabFault.TheVariants.{OutOfMemory};
 ghost use Rattle.hp_lab_faults.specs.declared.part_fault.PartFault.TheVariants as part;
 ghost use Rattle.hp_part_files.specs.Faults.{IsMisplaced, IsSumFault, IsTooMany, IsUnsummedIn, IsUntoldSum, fault_of_order};
@@ -15,14 +15,11 @@ ghost use Rattle.hp_part_files.specs.Sums.{IsSum, IsSumOf, IsSumOn};
 ghost use Rattle.hp_part_files.specs.Taking.{HasRead};
 
 use crate::taking::gather;
-use hp_ends::EndsForm;
+use crate::{Head, OrderFault, PartEnds, ends_by_number, head_from, is_head, json_in, line_at};
+use hp_explore::{SumFault, sum};
 use hp_lab_faults::{LabFault, PartFault};
-use hp_part_lines::{
-    Head, OrderFault, PartEnds, ends_by_number, head_from, is_head, json_in, line_at,
-};
-use hp_parts::{SumFault, sum};
-use hp_prepared::{Finding, Prepared, prepare};
 use hp_schedules::Ending;
+use hp_search::{EndsForm, Finding, Prepared, prepare};
 use serde_json::Value;
 use std::alloc::Global;
 

@@ -1,11 +1,11 @@
 //! Takes the lines of parts, one after another.
 ghost use Rattle.std.specs.Prelude.{◌≡◌, ◌↔◌, ℕ, ◌^◌, ◌<◌, IfErr, IfOk, IsTrue, List, OnOk, length};
 ghost use Rattle.hp_schedules.specs.Schedules.{Setting};
-ghost use Rattle.hp_prepared.specs.Prepared.{names_of, setting_of};
+ghost use Rattle.hp_search.specs.Prepared.{names_of, setting_of};
 ghost use Rattle.hp_part_files.specs.Ends.{IsEndOf};
-ghost use Rattle.hp_part_lines.specs.Heads.{IsNumber, part_in};
-ghost use Rattle.hp_part_lines.specs.Reading.{IsLine};
-ghost use Rattle.hp_part_lines.specs.declared.reading.PartLine.TheVariants as line;
+ghost use Rattle.hp_part_files.specs.Heads.{IsNumber, part_in};
+ghost use Rattle.hp_part_files.specs.Reading.{IsLine};
+ghost use Rattle.hp_part_files.specs.declared.reading.PartLine.TheVariants as line;
 ghost use Rattle.hp_part_files.specs.Faults.{IsLineFault, IsUnplayed, IsUnpushed, IsUntoldSum};
 ghost use Rattle.hp_part_files.specs.Gathered.{IsGathered, IsGathering};
 ghost use Rattle.hp_part_files.specs.Taking.{HasRead, IsPushed, IsTaken};
@@ -14,12 +14,10 @@ ghost use Rattle.hp_part_files.specs.Texts.{end_line};
 use crate::ends::end_of;
 use crate::line_fault::LineFault;
 use crate::writing::write_end;
+use crate::{Gathering, Head, PartEnds, PartLine, Search, is_head, line_at, line_in, line_number};
 use hp_lab_faults::PartFault;
-use hp_part_lines::{
-    Gathering, Head, PartEnds, PartLine, Search, is_head, line_at, line_in, line_number,
-};
-use hp_prepared::Prepared;
 use hp_schedules::{Ending, Outcome};
+use hp_search::Prepared;
 use hp_units::Cpu;
 use std::alloc::{AllocError, Global};
 

@@ -1,16 +1,16 @@
 //! The text of a part.
 ghost use Rattle.std.specs.Prelude.{◌≡◌, ◌++◌, IfErr, OnOk, string_bytes};
 ghost use Rattle.hp_explore.specs.Faults.{IsCause};
-ghost use Rattle.hp_prepared.specs.Prepared.{names_of, setting_of};
+ghost use Rattle.hp_search.specs.Prepared.{names_of, setting_of};
 ghost use Rattle.hp_text.specs.State.{newline};
-ghost use Rattle.hp_part_lines.specs.Heads.{head_line};
-ghost use Rattle.hp_part_lines.specs.Processors.{processor_list};
+ghost use Rattle.hp_part_files.specs.Heads.{head_line};
+ghost use Rattle.hp_part_files.specs.Processors.{processor_list};
 ghost use Rattle.hp_part_files.specs.Texts.{end_line, end_lines, part_lines};
 
+use crate::{Search, write_head, write_schedule};
 use hp_explore::ExploreFault;
-use hp_part_lines::{Search, write_head, write_schedule};
-use hp_prepared::Prepared;
 use hp_schedules::Ending;
+use hp_search::Prepared;
 use std::alloc::{AllocError, Global};
 
 /// Writes the head and the ends of part `number`, counted from 1. Plays the first schedule of each

@@ -3,7 +3,7 @@
 //! The first lines of a scenario are its setup, run in order on one machine as `hotplug serial`
 //! does; each later line goes to the script of its processor. The crate owns which lines may be in
 //! a script, what step each becomes, and which operation the number 0 names. It searches nothing:
-//! hp_explore and hp_find do, and hp_lab writes what they find.
+//! hp_explore does, and hp_search writes what it finds.
 //!
 //! Read specs/Scripts first, then specs/Setup, specs/Begins and specs/Starts.
 #![tactic(auto)]

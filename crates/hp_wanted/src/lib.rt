@@ -2,7 +2,7 @@
 //! checking them against a layout.
 //!
 //! A line is a reply to a processor, or what became of a memory block, in the words in which an end
-//! is printed. hp_find searches for an end with such lines. This crate searches nothing, prints
+//! is printed. hp_explore searches for an end with such lines. This crate searches nothing, prints
 //! nothing and knows no machine, so it is proved beside hp_explore. Read specs/Wanted first, then
 //! specs/Ends, specs/Limits and specs/WantedLines.
 #![tactic(auto)]

@@ -2,7 +2,7 @@
 //! refused, calls as lines, scenarios with the report on each, traces as pictures.
 //!
 //! They stand in a crate of their own, as integration tests do, so that the gate does not prove
-//! hp_lab and hp_check once more with them. `rt test` in this folder runs them.
+//! hp_search and hp_check once more with them. `rt test` in this folder runs them.
 #![tactic(auto)]
 
 #[cfg(test)]

@@ -1,8 +1,8 @@
 //! Parts of explorations, and their sums.
 use crate::explorations::scenario;
-use hp_ends::EndsForm;
+use hp_search::EndsForm;
 use hp_explore::Silent;
-use hp_lab::explore_text;
+use hp_search::explore_text;
 use hp_lab_faults::PartFault;
 use hp_part_files::{part_text, sum_text};
 use hp_schedules::PartNumber;

@@ -1,8 +1,8 @@
 //! Scenarios that are not explored, and why.
 use super::explorations::scenario;
-use hp_ends::EndsForm;
+use hp_search::EndsForm;
 use hp_explore::Silent;
-use hp_lab::explore_text;
+use hp_search::explore_text;
 use hp_lab_faults::LabFault;
 use hp_requests::ControlFault;
 use hp_scenario::Unfit;

@@ -1,8 +1,8 @@
 //! Interleavings as scenarios.
 use super::explorations::scenario;
-use hp_ends::EndsForm;
+use hp_search::EndsForm;
 use hp_explore::Silent;
-use hp_lab::explore_text;
+use hp_search::explore_text;
 use std::alloc::Global;
 use std::test::Fail;
 

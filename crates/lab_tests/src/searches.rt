@@ -1,8 +1,8 @@
 //! Searches for an end, and their text.
 use super::explorations::scenario;
-use hp_ends::ScheduleForm;
+use hp_search::ScheduleForm;
 use hp_explore::Silent;
-use hp_lab::find_text;
+use hp_search::find_text;
 use hp_lab_faults::LabFault;
 use hp_wanted::{Wanted, wanted_line};
 use std::alloc::{AllocError, Global};

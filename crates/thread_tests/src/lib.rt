@@ -3,7 +3,7 @@
 //!
 //! Each module tests a crate or two from outside: `seats`, `closes` and `locks` hp_shared;
 //! `workers` hp_workers, with a gate of its own; `explorations` hp_schedules, hp_explore and
-//! hp_parts; `runs`, `pieces` and `ends` hp_commands, on the streams of `streams`.
+//! hp_explore; `runs`, `pieces` and `ends` hp_commands, on the streams of `streams`.
 //! runs/check_runs.py compares what the commands write for many scenarios.
 //!
 //! Run them by `rt test` in this folder. They are one crate: linking a crate of tests with all

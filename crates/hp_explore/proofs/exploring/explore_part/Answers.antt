@@ -9,10 +9,10 @@ use Rattle.hp_explore.specs.Frames.{IsDone}
 use Rattle.hp_explore.specs.Fronts.{AreFirstInPart}
 use Rattle.hp_schedules.specs.Schedules.{Setting}
 use Rattle.hp_explore.specs.Settings.{setting}
-use Rattle.hp_places.specs.Walks.{IsPartWalkedThrough}
+use Rattle.hp_states.specs.Walks.{IsPartWalkedThrough}
 use Rattle.hp_schedules.specs.declared.tally.Ending.{Ending}
 use Rattle.hp_explore.specs.declared.walk.Walk.{Walk}
-use Rattle.hp_places.proofs.Walks.{walk_ends}
+use Rattle.hp_states.proofs.Walks.{walk_ends}
 use Rattle.hp_explore.proofs.OfPart.{cause_here, cause_part, none_fills}
 use Rattle.hp_schedules.proofs.Uniqueness.{no_more}
 use Rattle.hp_explore.proofs.Walking.{first_exceed}

@@ -5,8 +5,8 @@ use Rattle.std.proofs.lemmas.Bool.{false≢true, ltb-false, ltb-true, true≢fal
 use Rattle.hp_units.specs.declared.events.Event.{Event}
 use Rattle.hp_units.specs.declared.replies.Record.{Record}
 use Rattle.hp_schedules.specs.Schedules.{Setting, next_call}
-use Rattle.hp_places.specs.Walks.{IsOverBelow}
-use Rattle.hp_places.proofs.Walks.{over_all}
+use Rattle.hp_states.specs.Walks.{IsOverBelow}
+use Rattle.hp_states.proofs.Walks.{over_all}
 use Rattle.hp_explore.proofs.over.is_over.Goals as goal
 
 -- one script more asks for nothing

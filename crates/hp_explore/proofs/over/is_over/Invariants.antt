@@ -1,6 +1,6 @@
 -- The scripts so far are over.
 use Rattle.std.proofs.Common.{true}
-use Rattle.hp_places.specs.Walks.{IsOverBelow}
+use Rattle.hp_states.specs.Walks.{IsOverBelow}
 use Rattle.hp_explore.proofs.over.is_over.Given as goal
 
 abbrev pub invariant-loop-cpu : goal.invariant-loop-cpu

@@ -3,7 +3,7 @@ use Rattle.std.proofs.Common.{◌≡◌, false, true, ◌++◌, ◌∷◌, [], L
 use Rattle.hp_units.specs.declared.replies.Record.{Record}
 use Rattle.std.proofs.lemmas.Result.{err_from_is_err_and}
 use Rattle.hp_explore.specs.Faults.{IsCauseHere}
-use Rattle.hp_places.specs.Rooms.{is_full_after}
+use Rattle.hp_states.specs.Rooms.{is_full_after}
 use Rattle.hp_schedules.specs.Schedules.{schedule_of}
 use Rattle.hp_explore.specs.Settings.{setting}
 use Rattle.hp_explore.specs.Walks.{IsNextSerial, LeadsTo}

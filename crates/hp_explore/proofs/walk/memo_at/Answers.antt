@@ -2,8 +2,8 @@
 use Rattle.std.proofs.Common.{ap, length, refl, sym, ◌∙◌}
 use Rattle.hp_schedules.specs.Alike.{is_closed}
 use Rattle.hp_explore.specs.Settings.{setting}
-use Rattle.hp_places.proofs.Keeping.{memo_begun}
-use Rattle.hp_places.proofs.Stood.{stood_begun}
+use Rattle.hp_states.proofs.Keeping.{memo_begun}
+use Rattle.hp_states.proofs.Stood.{stood_begun}
 use Rattle.hp_explore.proofs.walk.memo_at.Goals as goal
 
 pub returns-clause-way : goal.returns-clause-way

@@ -3,8 +3,8 @@ use Rattle.hp_schedules.specs.declared.scripts.Line.{Line as Step}
 use Rattle.std.proofs.lemmas.Result.{err_from_is_err_and}
 use Rattle.hp_explore.specs.Faults.{IsCausePartWithin}
 use Rattle.hp_explore.specs.Settings.{setting}
-use Rattle.hp_prepared.specs.Ends.{IsMore}
-use Rattle.hp_prepared.specs.Prepared.{names_of, setting_of}
+use Rattle.hp_search.specs.Ends.{IsMore}
+use Rattle.hp_search.specs.Prepared.{names_of, setting_of}
 use Rattle.hp_schedules.specs.Parts.{PartValue}
 use Rattle.hp_part_files.specs.Parts.{ArePartEnds, IsCallsFor, search_of}
 use Rattle.hp_part_files.specs.Texts.{part_text}

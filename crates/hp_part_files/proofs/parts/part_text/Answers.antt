@@ -3,8 +3,8 @@ use Rattle.std.proofs.Common.{List, string_bytes, subst, ℕ}
 use Rattle.std.proofs.lemmas.Result.{err_from_is_err_and}
 use Rattle.hp_explore.specs.Faults.{IsCause}
 use Rattle.hp_schedules.specs.Schedules.{Setting}
-use Rattle.hp_prepared.specs.Prepared.{names_of, setting_of}
-use Rattle.hp_prepared.proofs.Known.{held_in, unprepared_known, untold, untold_in}
+use Rattle.hp_search.specs.Prepared.{names_of, setting_of}
+use Rattle.hp_search.proofs.Known.{held_in, unprepared_known, untold, untold_in}
 use Rattle.hp_part_files.specs.Parts.{IsPartCause, IsPartOn}
 use Rattle.hp_part_files.proofs.Parted.{full_part, no_text, part_fault}
 use Rattle.hp_part_files.proofs.parts.part_text.Goals as goal

@@ -1,8 +1,8 @@
 use Rattle.std.proofs.Common.{ℕ, List, ap, arith, inl, refl, subst, string_bytes, ◌∙◌}
 use Rattle.std.proofs.lemmas.Result.{IfErr-weaker, IfOk-weaker, err_from_is_err_and}
-use Rattle.hp_prepared.specs.Prepared.{IsPrepared, IsUnprepared, names_of, setting_of}
-use Rattle.hp_prepared.proofs.Known.{held_in}
-use Rattle.hp_part_lines.specs.Heads.{HeadValue, SearchValue, head_line}
+use Rattle.hp_search.specs.Prepared.{IsPrepared, IsUnprepared, names_of, setting_of}
+use Rattle.hp_search.proofs.Known.{held_in}
+use Rattle.hp_part_files.specs.Heads.{HeadValue, SearchValue, head_line}
 use Rattle.hp_part_files.specs.Sums.{IsSumOn}
 use Rattle.hp_part_files.proofs.Read.{head_read, line_within, unsummed_in}
 use Rattle.hp_part_files.proofs.summing.sum_after.Goals as goal

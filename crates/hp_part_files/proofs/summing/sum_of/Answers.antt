@@ -1,8 +1,8 @@
 use Rattle.std.proofs.Common.{◌≡◌, ◌+◌, ℕ, List, false, true, length, ap, inl, inr, refl, subst, sym, ◌∙◌}
 use Rattle.std.proofs.lemmas.Result.{IfErr-weaker, IfOk-weaker}
-use Rattle.hp_part_lines.specs.Cuts.{IsLineAt}
-use Rattle.hp_part_lines.specs.Heads.{HeadValue, head_line}
-use Rattle.hp_part_lines.proofs.Values.{head_known}
+use Rattle.hp_part_files.specs.Cuts.{IsLineAt}
+use Rattle.hp_part_files.specs.Heads.{HeadValue, head_line}
+use Rattle.hp_part_files.proofs.Values.{head_known}
 use Rattle.hp_part_files.proofs.Read.{not_head}
 use Rattle.hp_part_files.proofs.summing.sum_of.Goals as goal
 

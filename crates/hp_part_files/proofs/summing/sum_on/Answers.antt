@@ -2,10 +2,10 @@ use Rattle.std.proofs.Common.{ℕ, List, None, ap, inl, string_bytes, subst, ◌
 use Rattle.std.proofs.lemmas.Result.{IfErr-weaker, IfOk-weaker, err_from_is_err_and}
 use Rattle.std.specs.Global.{Vec}
 use Rattle.hp_schedules.specs.declared.tally.Ending.{Ending}
-use Rattle.hp_prepared.specs.Ends.{AreEndsTold}
-use Rattle.hp_prepared.specs.Prepared.{before_of, names_of, setting_of}
-use Rattle.hp_part_lines.specs.Ordering.{AreAll, lists_of}
-use Rattle.hp_part_lines.specs.Heads.{HeadValue, SearchValue}
+use Rattle.hp_search.specs.Ends.{AreEndsTold}
+use Rattle.hp_search.specs.Prepared.{before_of, names_of, setting_of}
+use Rattle.hp_part_files.specs.Ordering.{AreAll, lists_of}
+use Rattle.hp_part_files.specs.Heads.{HeadValue, SearchValue}
 use Rattle.hp_part_files.specs.Faults.{IsMisplaced, IsTooMany}
 use Rattle.hp_part_files.specs.Sums.{IsSum}
 use Rattle.hp_part_files.proofs.Read.{misplaced, too_many}

@@ -1,6 +1,6 @@
 use Rattle.std.proofs.Common.{◌≡◌, List, false, true, ℕ, take, ap, arith, inl, inr, subst, sym, ◌∙◌}
-use Rattle.hp_prepared.specs.Prepared.{names_of, setting_of}
-use Rattle.hp_part_lines.specs.Heads.{HeadValue, SearchValue}
+use Rattle.hp_search.specs.Prepared.{names_of, setting_of}
+use Rattle.hp_part_files.specs.Heads.{HeadValue, SearchValue}
 use Rattle.hp_part_files.specs.Gathered.{IsGathering}
 use Rattle.hp_part_files.specs.Taking.{IsTaken}
 use Rattle.hp_part_files.specs.Faults.{IsLineFault}

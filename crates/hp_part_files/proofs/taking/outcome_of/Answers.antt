@@ -7,8 +7,8 @@ use Rattle.hp_explore.specs.Faults.{FillsAlong}
 use Rattle.hp_explore.specs.Settings.{setting}
 use Rattle.hp_explore.specs.declared.exploring.ExploreFault.{ExploreFault}
 use Rattle.hp_explore.specs.declared.exploring.ExploreFault.TheVariants as explore
-use Rattle.hp_prepared.specs.Prepared.{setting_of}
-use Rattle.hp_prepared.proofs.Known.{untold}
+use Rattle.hp_search.specs.Prepared.{setting_of}
+use Rattle.hp_search.proofs.Known.{untold}
 use Rattle.hp_part_files.specs.Ends.{IsEndOf}
 use Rattle.hp_part_files.specs.Faults.{IsCauseAlong}
 use Rattle.hp_part_files.proofs.taking.outcome_of.Goals as goal

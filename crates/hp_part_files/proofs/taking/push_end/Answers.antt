@@ -1,5 +1,5 @@
 use Rattle.std.proofs.Common.{◌≡◌, ℕ, ◌+◌, subst, sym, ◌∙◌}
-use Rattle.hp_prepared.specs.Prepared.{names_of, setting_of}
+use Rattle.hp_search.specs.Prepared.{names_of, setting_of}
 use Rattle.hp_part_files.specs.Texts.{end_line}
 use Rattle.hp_part_files.proofs.Ended.{not_both}
 use Rattle.hp_part_files.proofs.taking.push_end.Goals as goal

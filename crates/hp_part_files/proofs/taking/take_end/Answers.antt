@@ -1,6 +1,6 @@
 use Rattle.std.proofs.Common.{ℕ, List, subst}
 use Rattle.std.proofs.lemmas.Result.{IfErr-weaker, err_from_is_err_and, on_ok_weaker}
-use Rattle.hp_prepared.specs.Prepared.{names_of, setting_of}
+use Rattle.hp_search.specs.Prepared.{names_of, setting_of}
 use Rattle.hp_part_files.specs.Faults.{IsUnplayed}
 use Rattle.hp_part_files.proofs.Read.{end_taken, no_end, not_played, not_pushed, own_end}
 use Rattle.hp_part_files.proofs.taking.take_end.Goals as goal

@@ -1,5 +1,5 @@
 use Rattle.std.proofs.Common.{◌≡◌, false, true, ap, sym, ◌∙◌, arith}
-use Rattle.hp_part_lines.specs.Heads.{SearchValue}
+use Rattle.hp_part_files.specs.Heads.{SearchValue}
 use Rattle.hp_part_files.proofs.Read.{head_taken}
 use Rattle.hp_part_files.proofs.taking.take_head.Goals as goal
 

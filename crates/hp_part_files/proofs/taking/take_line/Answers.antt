@@ -1,5 +1,5 @@
 use Rattle.std.proofs.lemmas.Result.{IfErr-weaker, on_ok_weaker}
-use Rattle.hp_prepared.specs.Prepared.{names_of, setting_of}
+use Rattle.hp_search.specs.Prepared.{names_of, setting_of}
 use Rattle.hp_part_files.proofs.taking.take_line.Goals as goal
 
 pub returns-in-Head-clause-ok : goal.returns-in-Head-clause-ok

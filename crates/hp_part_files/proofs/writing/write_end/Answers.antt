@@ -1,8 +1,8 @@
 -- The schedule stands after the keys.
 use Rattle.std.proofs.Common.{◌≡◌, ℕ, List, ◌++◌, append_assoc, ap, string_bytes, ◌∙◌}
-use Rattle.hp_prepared.specs.Prepared.{names_of, setting_of}
-use Rattle.hp_prepared.specs.Texts.{end_keys}
-use Rattle.hp_part_lines.specs.Processors.{processor_list}
+use Rattle.hp_search.specs.Prepared.{names_of, setting_of}
+use Rattle.hp_search.specs.Texts.{end_keys}
+use Rattle.hp_part_files.specs.Processors.{processor_list}
 use Rattle.hp_part_files.proofs.writing.write_end.Goals as goal
 
 after : (old keys shown schedule one two : List ℕ) → one ≡ old ++ keys → two ≡ one ++ processor_list shown

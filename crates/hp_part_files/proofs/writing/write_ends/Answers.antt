@@ -1,9 +1,9 @@
 use Rattle.std.proofs.Common.{◌≡◌, ◌+◌, ◌++◌, List, [], drop, ap, sym, arith, ◌∙◌, string_bytes, append-nil}
 use Rattle.std.proofs.lemmas.List.{drop_all}
 use Rattle.hp_schedules.specs.declared.tally.Ending.{Ending}
-use Rattle.hp_prepared.specs.Prepared.{names_of, setting_of}
+use Rattle.hp_search.specs.Prepared.{names_of, setting_of}
 use Rattle.hp_part_files.specs.Texts.{end_lines}
-use Rattle.hp_part_files.proofs.Written.{end_written}
+use Rattle.hp_part_files.proofs.PartsWritten.{end_written}
 use Rattle.hp_part_files.proofs.writing.write_ends.Goals as goal
 
 pub loop-index-preserved : goal.loop-index-preserved

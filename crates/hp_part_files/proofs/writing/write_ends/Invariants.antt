@@ -1,5 +1,5 @@
 use Rattle.std.proofs.Common.{◌≡◌, ◌+◌, ◌++◌, drop, string_bytes}
-use Rattle.hp_prepared.specs.Prepared.{names_of, setting_of}
+use Rattle.hp_search.specs.Prepared.{names_of, setting_of}
 use Rattle.hp_part_files.specs.Texts.{end_lines}
 use Rattle.hp_part_files.proofs.writing.write_ends.Given as goal
 

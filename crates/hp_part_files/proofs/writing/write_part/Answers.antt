@@ -1,8 +1,8 @@
 use Rattle.std.proofs.Common.{ℕ, List, ◌++◌, ap, ◌∙◌, append_assoc, length, string_bytes}
 use Rattle.std.proofs.lemmas.Result.{on_ok_weaker}
-use Rattle.hp_prepared.specs.Prepared.{names_of, setting_of}
+use Rattle.hp_search.specs.Prepared.{names_of, setting_of}
 use Rattle.hp_text.specs.State.{newline}
-use Rattle.hp_part_lines.specs.Heads.{head_line}
+use Rattle.hp_part_files.specs.Heads.{head_line}
 use Rattle.hp_part_files.specs.Texts.{end_lines}
 use Rattle.hp_part_files.proofs.writing.write_part.Goals as goal
 

@@ -1,16 +1,16 @@
 -- The place is left at once, or gets its frame.
 use Rattle.std.proofs.Common.{◌+◌, ◌*◌, ◌-◌, ◌^◌, ◌<◌, List, length, reverse, ap, refl, sym, subst, ◌∙◌, arith}
 use Rattle.hp_explore.specs.Frames.{AreBelow, AreWalked, digits, frames_of, left_of}
-use Rattle.hp_places.specs.Frames.{IsEntered}
+use Rattle.hp_states.specs.Frames.{IsEntered}
 use Rattle.hp_schedules.specs.Schedules.{Setting, schedule_of}
-use Rattle.hp_places.specs.Places.{memory_at}
-use Rattle.hp_places.specs.Seen.{IsMemo, IsOnWay}
+use Rattle.hp_states.specs.Places.{memory_at}
+use Rattle.hp_states.specs.Seen.{IsMemo, IsOnWay}
 use Rattle.hp_units.specs.declared.replies.Record.{Record}
-use Rattle.hp_places.specs.Walks.{IsPartWalkedBefore}
-use Rattle.hp_places.specs.declared.frames.Frame.{Frame}
+use Rattle.hp_states.specs.Walks.{IsPartWalkedBefore}
+use Rattle.hp_states.specs.declared.frames.Frame.{Frame}
 use Rattle.hp_schedules.specs.declared.tally.Ending.{Ending}
 use Rattle.hp_explore.proofs.Framing.{back_setting, below_many, frames_pushed, walk_opens}
-use Rattle.hp_places.proofs.Keeping.{memo_added, memo_same}
+use Rattle.hp_states.proofs.Keeping.{memo_added, memo_same}
 use Rattle.hp_explore.proofs.Walked.{arrival, gone_back}
 use Rattle.hp_explore.proofs.Weights.{left_counted, left_opened}
 use Rattle.hp_explore.proofs.walk.Walk.come_to.Given.{Over}

@@ -5,15 +5,15 @@ use Rattle.hp_schedules.specs.Schedules.{Setting, schedule_of}
 use Rattle.hp_units.specs.declared.replies.Record.{Record}
 use Rattle.hp_schedules.specs.Cursors.{AreCursors}
 use Rattle.hp_schedules.specs.declared.cursors.Cursor.{Cursor}
-use Rattle.hp_places.specs.Frames.{IsLeaving}
-use Rattle.hp_places.specs.Places.{memory_at, standing}
-use Rattle.hp_places.specs.Seen.{Grow}
-use Rattle.hp_places.specs.Walks.{IsNotedAtEnd, IsPartWalkedBefore, IsPartWalkedThrough}
+use Rattle.hp_states.specs.Frames.{IsLeaving}
+use Rattle.hp_states.specs.Places.{memory_at, standing}
+use Rattle.hp_states.specs.Seen.{Grow}
+use Rattle.hp_states.specs.Walks.{IsNotedAtEnd, IsPartWalkedBefore, IsPartWalkedThrough}
 use Rattle.hp_explore.proofs.Framing.{back_setting, below_many}
-use Rattle.hp_places.proofs.Entered.{frame_grows}
-use Rattle.hp_places.proofs.Keeping.{memo_added, memo_same, way_same}
+use Rattle.hp_states.proofs.Entered.{frame_grows}
+use Rattle.hp_states.proofs.Keeping.{memo_added, memo_same, way_same}
 use Rattle.hp_explore.proofs.Walked.{gone_back, leaving}
-use Rattle.hp_places.proofs.Noting.{noted_grows, walked_on}
+use Rattle.hp_states.proofs.Noting.{noted_grows, walked_on}
 use Rattle.hp_explore.proofs.Weights.{left_back}
 use Rattle.hp_explore.proofs.walk.Walk.go_back.Given.{Over}
 use Rattle.hp_explore.proofs.walk.Walk.go_back.Goals as goal

@@ -3,10 +3,10 @@ use Rattle.std.proofs.Common.{◌<◌, ◌≤◌, ◌∷◌, Bool, true, false, 
 use Rattle.hp_explore.specs.Frames.{frames_of, left_of}
 use Rattle.hp_explore.specs.Paths.{IsForth, PathValue}
 use Rattle.hp_schedules.specs.Schedules.{Setting}
-use Rattle.hp_places.specs.Seen.{IsMemo, IsOnWay}
-use Rattle.hp_places.specs.declared.frames.Frame.{Frame}
+use Rattle.hp_states.specs.Seen.{IsMemo, IsOnWay}
+use Rattle.hp_states.specs.declared.frames.Frame.{Frame}
 use Rattle.hp_explore.proofs.Framing.{frames_pushed}
-use Rattle.hp_places.proofs.Keeping.{memo_extended}
+use Rattle.hp_states.proofs.Keeping.{memo_extended}
 use Rattle.std.proofs.lemmas.Result.{err_from_is_err_and}
 use Rattle.hp_explore.proofs.OfPart.{cause_within}
 use Rattle.hp_explore.proofs.Walked.{forth_setting, led_on, passed_on, short_on, some_news, way_on}

@@ -4,7 +4,7 @@ use Rattle.std.specs.Prelude.{◌↔◌}
 use Rattle.hp_units.specs.declared.replies.Record.{Record}
 use Rattle.hp_schedules.specs.Parts.{IsOfPart}
 use Rattle.hp_schedules.specs.Schedules.{schedule_of}
-use Rattle.hp_places.proofs.Noting.{end_here, no_end_here}
+use Rattle.hp_states.proofs.Noting.{end_here, no_end_here}
 use Rattle.hp_explore.proofs.walk.Walk.is_end.Goals as goal
 
 pub returns-then-not-frame : goal.returns-then-not-frame

@@ -3,8 +3,8 @@ use Rattle.std.proofs.Common.{List, length, reverse, ap, refl, sym, subst, arith
 use Rattle.hp_explore.specs.Frames.{AreBelow}
 use Rattle.hp_schedules.specs.Notes.{TallyValue}
 use Rattle.hp_explore.specs.Paths.{PathValue}
-use Rattle.hp_places.specs.Seen.{IsMemo, IsOnWay}
-use Rattle.hp_places.specs.declared.frames.Frame.{Frame}
+use Rattle.hp_states.specs.Seen.{IsMemo, IsOnWay}
+use Rattle.hp_states.specs.declared.frames.Frame.{Frame}
 use Rattle.hp_explore.proofs.Framing.{on_begun, walk_begun}
 use Rattle.hp_explore.proofs.walk.Walk.start.Goals as goal
 

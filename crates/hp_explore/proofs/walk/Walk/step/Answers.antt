@@ -2,8 +2,8 @@
 use Rattle.std.proofs.Common.{◌≡◌, ◌+◌, ◌<◌, ◌∷◌, ◌++◌, [], Global, List, MatchOption, Option, Some, Vec, arith, option_to_list, reverse, ℕ, sym, subst, vec_len, ◌∙◌}
 use Rattle.hp_explore.specs.Frames.{AreWalked, IsWalking, frames_of, left, left_of}
 use Rattle.hp_schedules.specs.Schedules.{schedule_of}
-use Rattle.hp_places.specs.Walks.{IsPartWalkedBefore}
-use Rattle.hp_places.specs.declared.frames.Frame.{Frame}
+use Rattle.hp_states.specs.Walks.{IsPartWalkedBefore}
+use Rattle.hp_states.specs.declared.frames.Frame.{Frame}
 use Rattle.hp_explore.specs.declared.walk.Walk.{Walk}
 use Rattle.hp_explore.proofs.Framing.{frames_popped, no_frames, none_left}
 use Rattle.hp_explore.proofs.walk.Walk.step.Goals as goal

@@ -1,8 +1,0 @@
-use Rattle.std.proofs.Common.{◌≡◌, ◌*◌, ◌++◌, take}
-use Rattle.std.specs.List.{flat_map}
-use Rattle.hp_codes.specs.Parts.{counted_code}
-use Rattle.hp_codes.proofs.memories.put_cached.Given as goal
-
-abbrev pub invariant-loop-number : goal.invariant-loop-number
-invariant-loop-number l =
-    l.code ≡ (l.initial.code ++ flat_map counted_code (take (3 * l.number) l.memory.state.free.cached))

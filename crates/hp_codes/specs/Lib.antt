@@ -1,4 +1,0 @@
-pub mod Codes
-pub mod Numbers
-pub mod Parts
-pub mod Texts

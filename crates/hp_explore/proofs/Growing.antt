@@ -1,0 +1,68 @@
+-- The changes of a schedule that grows.
+use Rattle.std.proofs.Common.{◌≡◌, ℕ, ◌+◌, ◌-◌, ◌<◌, ◌≤◌, List, [], ◌∷◌, ◌++◌, length, get_or, take, refl, ap, sym, subst, ◌∙◌, arith}
+use Rattle.std.proofs.lemmas.List.{append_assoc, take_all, take_more}
+use Rattle.hp_explore.specs.Changes.{change, changes, changes_after}
+
+-- one call more
+after_push : (b : ℕ) (p : List ℕ) (c d : ℕ)
+    → changes_after b (p ++ c ∷ d ∷ []) ≡ changes_after b (p ++ c ∷ []) + change c d
+after_push b [] c d = omega arith
+after_push b (a ∷ p) c d =
+    let rest : changes_after a (p ++ c ∷ d ∷ []) ≡ changes_after a (p ++ c ∷ []) + change c d =
+    after_push a p c d in
+    omega (arith, rest)
+
+changes_push : (p : List ℕ) (c d : ℕ)
+    → changes (p ++ c ∷ d ∷ []) ≡ changes (p ++ c ∷ []) + change c d
+changes_push [] c d = omega arith
+changes_push (b ∷ p) c d = after_push b p c d
+
+-- one call alone is no change
+pub changes_none : (s : List ℕ) (cpu : ℕ) → length s ≡ 0 → 0 ≡ changes (s ++ cpu ∷ [])
+changes_none [] cpu none = refl
+changes_none (c ∷ s) cpu none = absurd (omega (arith, none))
+
+-- the calls up to a place, and the one there
+parted : (s : List ℕ) (i a : ℕ) → 1 ≤ i → i ≤ length s → a ≡ get_or s (i - 1) a
+    → take i s ≡ take (i - 1) s ++ a ∷ []
+parted s i a some within is =
+    let next : i - 1 + 1 ≡ i = omega (arith, some) in
+    subst (λ (n : ℕ). take n s ≡ take (i - 1) s ++ a ∷ []) next
+    (take_more s (i - 1) a (omega (arith, some, within))
+    ∙ ap (λ (x : ℕ). take (i - 1) s ++ x ∷ []) (sym is))
+
+-- one call more after some
+pub changes_last : (s : List ℕ) (last next count one : ℕ) → 1 ≤ length s → last ≡ get_or s (length s - 1) last
+    → count ≡ changes s → one ≡ change last next → count + one ≡ changes (s ++ next ∷ [])
+changes_last s last next count one some last_is count_is one_is =
+    let p : List ℕ = take (length s - 1) s in
+    let is : s ≡ p ++ last ∷ [] =
+    sym (take_all (length s) s (omega arith)) ∙ parted s (length s) last some (omega arith) last_is in
+    let more : changes (s ++ next ∷ []) ≡ changes s + change last next =
+    ap (λ (t : List ℕ). changes (t ++ next ∷ [])) is
+    ∙ (ap changes (append_assoc p (last ∷ []) (next ∷ []))
+    ∙ (changes_push p last next ∙ ap (λ (t : List ℕ). changes t + change last next) (sym is))) in
+    omega (arith, more, count_is, one_is)
+
+pub changes_more : (s : List ℕ) (i count one a b : ℕ) → 1 ≤ i → i < length s → count ≡ changes (take i s)
+    → a ≡ get_or s (i - 1) a → b ≡ get_or s i b → one ≡ change a b → count + one ≡ changes (take (i + 1) s)
+changes_more s i count one a b some less so_far a_is b_is is =
+    let p : List ℕ = take (i - 1) s in
+    let before : take i s ≡ p ++ a ∷ [] = parted s i a some (omega (arith, less)) a_is in
+    let more : changes (take (i + 1) s) ≡ changes (p ++ a ∷ []) + change a b =
+    ap changes (take_more s i b less ∙ ap (λ (x : ℕ). take i s ++ x ∷ []) (sym b_is))
+    ∙ (ap (λ (t : List ℕ). changes (t ++ b ∷ [])) before
+    ∙ (ap changes (append_assoc p (a ∷ []) (b ∷ [])) ∙ changes_push p a b)) in
+    let first : count ≡ changes (p ++ a ∷ []) = so_far ∙ ap changes before in
+    omega (arith, more, first, is)
+
+-- a schedule has at least the changes of what it begins with
+after_longer : (b : ℕ) (p q : List ℕ) → changes_after b p ≤ changes_after b (p ++ q)
+after_longer b [] q = omega arith
+after_longer b (a ∷ p) q =
+    let rest : changes_after a p ≤ changes_after a (p ++ q) = after_longer a p q in
+    omega (arith, rest)
+
+pub changes_longer : (p q : List ℕ) → changes p ≤ changes (p ++ q)
+changes_longer [] q = omega arith
+changes_longer (b ∷ p) q = after_longer b p q

@@ -1,0 +1,171 @@
+-- The ends of all parts together are those of all complete schedules.
+use Rattle.std.proofs.Common.{◌≡◌, ℕ, suc, ◌+◌, ◌*◌, ◌%◌, ◌<◌, ◌≤◌, List, [], ◌∷◌, length, false, take, Some, slice_get, get_or, refl, ap, sym, subst, arith, inl, inr}
+use Rattle.std.specs.Prelude.{◌⊎◌, fold}
+use Rattle.std.specs.Cmp.Lexicographic.{slice_cmp, nat_list_cmp_total}
+use Rattle.std.specs.Ordering.{is_lt, nat_cmp}
+use Rattle.std.proofs.lemmas.Bool.{cases_lt}
+use Rattle.std.proofs.lemmas.List.Sorted.{ranks_by, sorted_far}
+use Rattle.std.proofs.lemmas.Option.{get_or_from_slice_get, slice_get_within}
+use Rattle.hp_schedules.specs.declared.tally.Ending.{Ending}
+use Rattle.hp_schedules.specs.Ends.{AreCounted, AreInOrder}
+use Rattle.hp_schedules.specs.Orders.{IsBefore}
+use Rattle.hp_schedules.specs.Outcomes.{OutcomeValue}
+use Rattle.hp_schedules.specs.Parts.{EndsInPart, part_number}
+use Rattle.hp_schedules.specs.Schedules.{EndsWith, Setting}
+use Rattle.hp_schedules.proofs.Counts.{none_counted, same_counted}
+use Rattle.hp_explore.specs.Adding.{AddsEnds, AddsLists, AreSorted}
+use Rattle.hp_explore.specs.Sums.{AreParts}
+use Rattle.hp_explore.proofs.Complete.{compared}
+use Rattle.hp_explore.proofs.Orders.{before_less}
+use Rattle.hp_explore.proofs.Joining.{joined}
+use Rattle.hp_explore.proofs.Moved.{counted_moved}
+
+-- ---- each schedule is of one part
+
+number_from : (processors of n : ℕ) (s : List ℕ) → n < of
+    → fold (λ m cpu. (m * processors + cpu) % of) n s < of
+number_from processors of n [] less = less
+number_from processors of n (cpu ∷ s) less =
+    number_from processors of ((n * processors + cpu) % of) s
+    (let some : 0 < of = omega arith in omega arith)
+
+pub number_below : (processors of : ℕ) (s : List ℕ) → 0 < of → part_number processors of s < of
+number_below processors of s some = number_from processors of 0 s some
+
+-- ---- one part after another
+
+-- a schedule of a part below a number is complete, with this outcome
+abbrev pub EndsBelow : Setting → (of calls below : ℕ) → List ℕ → OutcomeValue → Type 0
+EndsBelow g of calls below s x =
+    EndsWith g s x × (part_number (length g.scripts) of (take calls s) < below)
+
+-- no schedule is of a part below the first
+pub none_below : (g : Setting) (of calls : ℕ) → AreCounted (EndsBelow g of calls 0) []
+none_below g of calls = none_counted (EndsBelow g of calls 0) (λ s x h. let below = h.1 in omega arith)
+
+-- those of one part more
+pub part_added : (g : Setting) (of calls k : ℕ) (old ends new : List Ending)
+    → AreCounted (EndsBelow g of calls k) old
+    → AreCounted (EndsInPart g (record { index = k; of = of; calls = calls })) ends → AddsEnds old ends new
+    → AreCounted (EndsBelow g of calls (k + 1)) new
+part_added g of calls k old ends new first second adds =
+    same_counted (λ s x. EndsBelow g of calls k s x ⊎ In s x) (EndsBelow g of calls (k + 1)) new to from
+    (joined (EndsBelow g of calls k) In old ends new beside spread first second adds)
+  where
+    number : List ℕ → ℕ
+    number s = part_number (length g.scripts) of (take calls s)
+
+    In : List ℕ → OutcomeValue → Type 0
+    In = EndsInPart g (record { index = k; of = of; calls = calls })
+
+    to : (s : List ℕ) (x : OutcomeValue) → EndsBelow g of calls k s x ⊎ In s x
+        → EndsBelow g of calls (k + 1) s x
+    to s x h =
+        elim h [
+          | inl below ↦ (below.0, (let less = below.1 in omega arith))
+          | inr here ↦ (here.0, (let is = here.1 in omega arith))
+        ]
+
+    from : (s : List ℕ) (x : OutcomeValue) → EndsBelow g of calls (k + 1) s x
+        → EndsBelow g of calls k s x ⊎ In s x
+    from s x h =
+        elim (cases_lt (part_number (length g.scripts) of (take calls s)) k) [
+          | inl less ↦ inl (h.0, less)
+          | inr more ↦ inr (h.0, (let less = h.1 in omega arith))
+        ]
+
+    beside : (s t : List ℕ) (x y : OutcomeValue) → EndsBelow g of calls k s x → In t y
+        → IsBefore s t ⊎ IsBefore t s
+    beside s t x y below here =
+        elim (compared g s t x y below.0 here.0) [
+          | inl same ↦
+              absurd (let less = below.1 in
+              let is = here.1 in
+              let one = ap number same.0 in omega arith)
+          | inr other ↦ other
+        ]
+
+    spread : (s t : List ℕ) (x y : OutcomeValue) → (x ≡ y → ⊥) → In s x → In t y
+        → IsBefore s t ⊎ IsBefore t s
+    spread s t x y differs a b =
+        elim (compared g s t x y a.0 b.0) [ inl same ↦ absurd (differs same.1) | inr other ↦ other ]
+
+-- those of several more
+lists_added : (g : Setting) (of calls k : ℕ) (lists : List (List Ending)) (old new : List Ending)
+    → ((j : ℕ) (ends : List Ending) → slice_get lists j ≡ Some ends
+    → AreCounted (EndsInPart g (record { index = k + j; of = of; calls = calls })) ends)
+    → AreCounted (EndsBelow g of calls k) old → AddsLists old lists new
+    → AreCounted (EndsBelow g of calls (k + length lists)) new
+lists_added g of calls k [] old new each ok adds =
+    subst (AreCounted (EndsBelow g of calls (k + 0))) (sym adds)
+    (subst (λ (n : ℕ). AreCounted (EndsBelow g of calls n) old) (let e : k ≡ k + 0 = omega arith in e) ok)
+lists_added g of calls k (ends ∷ lists) old new each ok adds =
+    subst (λ (n : ℕ). AreCounted (EndsBelow g of calls n) new)
+    (let e : (k + 1) + length lists ≡ k + suc (length lists) = omega arith in e)
+    (lists_added g of calls (k + 1) lists adds.0 new rest
+    (part_added g of calls k old ends adds.0 ok
+    (subst (λ (n : ℕ). AreCounted (EndsInPart g (record { index = n; of = of; calls = calls })) ends)
+    (let e : k + 0 ≡ k = omega arith in e) (each 0 ends refl))
+    adds.1)
+    adds.2)
+  where
+    rest : (j : ℕ) (more : List Ending) → slice_get lists j ≡ Some more
+        → AreCounted (EndsInPart g (record { index = (k + 1) + j; of = of; calls = calls })) more
+    rest j more h =
+        subst (λ (n : ℕ). AreCounted (EndsInPart g (record { index = n; of = of; calls = calls })) more)
+        (let e : k + suc j ≡ (k + 1) + j = omega arith in e) (each (suc j) more h)
+
+-- those of all
+pub all_below : (g : Setting) (of calls : ℕ) (ends : List Ending) → 0 < of
+    → AreCounted (EndsBelow g of calls of) ends → AreCounted (EndsWith g) ends
+all_below g of calls ends some ok =
+    same_counted (EndsBelow g of calls of) (EndsWith g) ends (λ s x h. h.0)
+    (λ s x h. (h, number_below (length g.scripts) of (take calls s) some)) ok
+
+pub all_added : (g : Setting) (calls : ℕ) (lists : List (List Ending)) (new : List Ending) → 0 < length lists
+    → AreParts g calls lists → AddsLists [] lists new → AreCounted (EndsWith g) new
+all_added g calls lists new some parts adds =
+    all_below g (length lists) calls new some
+    (subst (λ (n : ℕ). AreCounted (EndsBelow g (length lists) calls n) new)
+    (let e : 0 + length lists ≡ length lists = omega arith in e)
+    (lists_added g (length lists) calls 0 lists [] new each (none_below g (length lists) calls) adds))
+  where
+    each : (j : ℕ) (ends : List Ending) → slice_get lists j ≡ Some ends
+        → AreCounted (EndsInPart g (record { index = 0 + j; of = length lists; calls = calls })) ends
+    each j ends h =
+        subst
+        (λ (n : ℕ). AreCounted (EndsInPart g (record { index = n; of = length lists; calls = calls })) ends)
+        (let e : j ≡ 0 + j = omega arith in e) (parts j ends h)
+
+-- ---- their order
+
+-- ends by their first schedules are in order
+pub sorted_in_order : (g : Setting) (old new : List Ending) → AreSorted old new → AreCounted (EndsWith g) new
+    → AreInOrder new
+sorted_in_order g old new moved ok i j e f less h k =
+    elim (compared g e.first.items f.first.items e.outcome f.outcome (ok.firsts i e h).holds
+    (ok.firsts j f k).holds) [
+      | inl same ↦ absurd (let one = ok.apart i j e f h k same.1 in omega arith)
+      | inr sides ↦ elim sides [ inl before ↦ before | inr after ↦ absurd (wrong after) ]
+    ]
+  where
+    later : Ending → Ending → Type 0
+    later a b = is_lt (slice_cmp nat_cmp a.first.items b.first.items) ≡ false
+
+    not_less : later f e
+    not_less =
+        let far =
+        sorted_far (λ (a b : Ending). is_lt (slice_cmp nat_cmp a.first.items b.first.items))
+        (ranks_by nat_list_cmp_total (λ (a : Ending). a.first.items)) new moved.sorted i j e
+        (let le : i ≤ j = omega arith in le) (slice_get_within new j f k) in
+        subst (λ (a : Ending). later a e) (get_or_from_slice_get new j f e k)
+        (subst (λ (a : Ending). later (get_or new j e) a) (get_or_from_slice_get new i e e h) far)
+
+    wrong : IsBefore f.first.items e.first.items → ⊥
+    wrong after =
+        let no = not_less in
+        let is = ap is_lt (before_less f.first.items e.first.items after) in cc
+
+pub all_sorted : (g : Setting) (old new : List Ending) → AreSorted old new → AreCounted (EndsWith g) old
+    → AreCounted (EndsWith g) new
+all_sorted g old new moved ok = counted_moved (EndsWith g) old new moved.moved ok

@@ -1,0 +1,94 @@
+-- What a search has passed by, from turn to turn.
+use Rattle.std.proofs.Common.{◌≡◌, ℕ, ◌+◌, ◌<◌, ◌≤◌, List, [], ◌∷◌, ◌++◌, length, Option, Some, None, refl, ap, sym, subst, ◌∙◌, arith, inl, inr}
+use Rattle.std.proofs.lemmas.List.{append_assoc, append-nil}
+use Rattle.std.proofs.lemmas.Option.{none-some}
+use Rattle.hp_units.specs.declared.events.Event.{Event}
+use Rattle.hp_units.specs.declared.replies.Record.{Record}
+use Rattle.hp_schedules.specs.Orders.{Extends}
+use Rattle.hp_schedules.specs.Schedules.{Setting, next_call, plays}
+use Rattle.hp_schedules.proofs.Plays.{asks_within, none_through, stops}
+use Rattle.hp_schedules.proofs.Regions.{before_first, before_longer, before_next, extends_before}
+use Rattle.hp_explore.specs.Changes.{changes}
+use Rattle.hp_explore.specs.Reaching.{IsPassed, NeedsChanges, Reaches}
+use Rattle.hp_wanted.specs.declared.wanted.Wanted.{Wanted}
+use Rattle.hp_explore.proofs.Growing.{changes_longer}
+
+-- at the start nothing is
+pub passed_none : (g : Setting) (wanted : List Wanted) (budget : ℕ) → IsPassed g wanted budget (0 ∷ [])
+passed_none g wanted budget s reaches before = absurd (before_first s [] before)
+
+-- from a place to its first continuation
+pub passed_down : (g : Setting) (wanted : List Wanted) (budget : ℕ) (p : List ℕ) (cpu : ℕ)
+    → IsPassed g wanted budget (p ++ cpu ∷ []) → IsPassed g wanted budget ((p ++ cpu ∷ []) ++ 0 ∷ [])
+passed_down g wanted budget p cpu passed s reaches before =
+    passed s reaches (before_first s (p ++ cpu ∷ []) before)
+
+-- past a continuation, where each that has it is passed by
+past : (g : Setting) (wanted : List Wanted) (budget : ℕ) (p : List ℕ) (cpu : ℕ)
+    → IsPassed g wanted budget (p ++ cpu ∷ [])
+    → ((s : List ℕ) → Reaches g wanted s → Extends s (p ++ cpu ∷ []) → budget < changes s)
+    → IsPassed g wanted budget (p ++ (cpu + 1) ∷ [])
+past g wanted budget p cpu passed through s reaches before =
+    elim (before_next s p cpu before) [ inl b ↦ passed s reaches b | inr e ↦ through s reaches e ]
+
+-- past one with too many changes
+pub passed_far : (g : Setting) (wanted : List Wanted) (budget : ℕ) (p : List ℕ) (cpu : ℕ)
+    → budget < changes (p ++ cpu ∷ []) → IsPassed g wanted budget (p ++ cpu ∷ [])
+    → IsPassed g wanted budget (p ++ (cpu + 1) ∷ [])
+passed_far g wanted budget p cpu far passed = past g wanted budget p cpu passed through
+  where
+    through : (s : List ℕ) → Reaches g wanted s → Extends s (p ++ cpu ∷ []) → budget < changes s
+    through s reaches e =
+        let more : changes (p ++ cpu ∷ []) ≤ changes s =
+        subst (λ (t : List ℕ). changes (p ++ cpu ∷ []) ≤ changes t) (sym e.1)
+        (changes_longer (p ++ cpu ∷ []) e.0) in
+        omega (arith, far, more)
+
+-- past one by a processor whose script asks for nothing
+pub passed_over : (g : Setting) (wanted : List Wanted) (budget : ℕ) (p : List ℕ) (news : List Record)
+    (cpu : ℕ)
+    → plays g p ≡ Some news → next_call g cpu news ≡ None → IsPassed g wanted budget (p ++ cpu ∷ [])
+    → IsPassed g wanted budget (p ++ (cpu + 1) ∷ [])
+passed_over g wanted budget p news cpu played over passed =
+    past g wanted budget p cpu passed
+    (λ s reaches e. absurd (none_through g p news cpu s reaches.0 played over e reaches.1))
+
+-- after the last continuation of a place that is no such end each that goes on from it is passed by
+pub passed_all : (g : Setting) (wanted : List Wanted) (budget : ℕ) (p : List ℕ) (news : List Record)
+    → plays g p ≡ Some news → (Reaches g wanted p → ⊥)
+    → IsPassed g wanted budget (p ++ length g.scripts ∷ []) → (s : List ℕ) → Reaches g wanted s → Extends s p
+    → budget < changes s
+passed_all g wanted budget p news played no_end passed s reaches e = by_rest e.0 e.1
+  where
+    by_next : (c : ℕ) (rest : List ℕ) → s ≡ p ++ c ∷ rest → (next : Option Event) → next_call g c news ≡ next
+        → budget < changes s
+    by_next c rest is None over =
+        absurd (none-some reaches.1.news
+        (sym (ap (plays g) is ∙ stops g p rest news c played over) ∙ reaches.1.played))
+    by_next c rest is (Some event) asks =
+        passed s reaches (extends_before s p c (length g.scripts) (asks_within g news c event asks)
+        (rest, is ∙ sym (append_assoc p (c ∷ []) rest)))
+
+    by_rest : (rest : List ℕ) → s ≡ p ++ rest → budget < changes s
+    by_rest [] is = absurd (no_end (subst (Reaches g wanted) (is ∙ append-nil p) reaches))
+    by_rest (c ∷ rest) is = by_next c rest is (next_call g c news) refl
+
+-- so the search goes up
+pub passed_up : (g : Setting) (wanted : List Wanted) (budget : ℕ) (p : List ℕ) (cpu : ℕ) (news : List Record)
+    → plays g (p ++ cpu ∷ []) ≡ Some news → (Reaches g wanted (p ++ cpu ∷ []) → ⊥)
+    → IsPassed g wanted budget ((p ++ cpu ∷ []) ++ length g.scripts ∷ [])
+    → IsPassed g wanted budget (p ++ (cpu + 1) ∷ [])
+passed_up g wanted budget p cpu news played no_end passed s reaches before =
+    elim (before_next s p cpu before) [
+      | inl b ↦ passed s reaches (before_longer s (p ++ cpu ∷ []) (length g.scripts ∷ []) b)
+      | inr e ↦ passed_all g wanted budget (p ++ cpu ∷ []) news played no_end passed s reaches e
+    ]
+
+-- or is over
+pub passed_whole : (g : Setting) (wanted : List Wanted) (budget : ℕ) (news : List Record)
+    → plays g [] ≡ Some news → (Reaches g wanted [] → ⊥)
+    → IsPassed g wanted budget (length g.scripts ∷ []) → NeedsChanges g wanted (budget + 1)
+passed_whole g wanted budget news played no_end passed s reaches =
+    let more : budget < changes s =
+    passed_all g wanted budget [] news played no_end passed s reaches (s, refl) in
+    omega (arith, more)

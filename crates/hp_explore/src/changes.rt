@@ -1,0 +1,39 @@
+//! Changes of processor in a schedule.
+ghost use Rattle.std.specs.Prelude.{◌≡◌, ◌≤◌, ◌++◌, ◌∷◌, []};
+ghost use Rattle.hp_explore.specs.Changes.{change, changes};
+
+use hp_units::Cpu;
+
+/// Returns how often the schedule changes the processor: the number of calls by another
+/// processor than the call before.
+pub fn changes_of(schedule: &[Cpu]) -> usize
+    ensures { result ≡ changes schedule.now }
+{
+    let mut count = 0;
+    for index in 1..schedule.len() {
+        count += change(schedule[index - 1], schedule[index]);
+    }
+    count
+}
+
+/// Returns the same for the schedule with one more call.
+#[tactic(auto, using(crate::proofs::Growing::changes_none, crate::proofs::Growing::changes_last))]
+pub(crate) fn changes_with(schedule: &[Cpu], next: Cpu) -> u128
+    ensures { result ≡ changes (schedule.now ++ next ∷ []) }
+{
+    let count = schedule.len();
+    if count == 0 {
+        return 0;
+    }
+    let so_far = changes_of(schedule) as u128;
+    let more = change(schedule[count - 1], next) as u128;
+    so_far + more
+}
+
+/// Returns 1 if the two processors differ.
+fn change(cpu: Cpu, next: Cpu) -> usize
+    ensures is { result ≡ change cpu next }
+    ensures one { result ≤ 1 }
+{
+    if cpu == next { 0 } else { 1 }
+}

@@ -1,0 +1,176 @@
+//! Exploration in several threads.
+ghost use Rattle.std.specs.Prelude.{◌≡◌, ◌^◌, ◌<◌, ◌≤◌, IfErr, IfOk, IfSome, Some, length, map, sum_by};
+ghost use Rattle.hp_schedules.specs.Ends.{AreCounted, AreEnds, AreInOrder};
+ghost use Rattle.hp_explore.specs.Faults.{FillsHistory, FillsPart, IsCause, IsCauseWithin};
+ghost use Rattle.hp_schedules.specs.Orders.{HasMoreThan};
+ghost use Rattle.hp_explore.specs.Fronts.{AreFirst, IfFirst, IfWhole};
+ghost use Rattle.hp_schedules.specs.Parts.{EndsInPart};
+ghost use Rattle.hp_schedules.specs.Schedules.{IsComplete};
+ghost use Rattle.hp_explore.specs.Settings.{setting};
+ghost use Rattle.hp_explore.specs.Sums.{AreParts, HaveRoom, part};
+
+use crate::calls::calls_for;
+use crate::rooms::left_after;
+use crate::summing::sum;
+use crate::{Exploration, ExploreFault, Silent, Watch, explore, explore_part};
+use hp_machine::Machine;
+use hp_schedules::{Ending, Part, Script};
+use std::alloc::Global;
+use std::thread;
+use std::thread::Threads;
+
+/// The largest number of threads.
+const MOST_JOBS: u32 = 256;
+
+/// Explores all schedules like `explore`, in `jobs` threads, at most 256.
+///
+/// Each thread searches a part, and the ends of all parts are merged. `watch` is then called once,
+/// with the total. If a part fails or stops at the limit, or the merged ends exceed the limit, one
+/// thread searches all schedules anew.
+///
+/// A part may take nearly as long as the whole search if many schedules of different parts continue
+/// alike, because each part explores them for itself.
+///
+/// # Errors
+///
+/// The same as `explore`.
+pub fn explore_with_jobs<R: Threads + Sync, W: Watch>(
+    rt: &R,
+    alloc: Global,
+    machine: &Machine,
+    scripts: &[Script],
+    limit: u64,
+    jobs: u32,
+    watch: &mut W,
+) -> Result<Exploration, ExploreFault>
+    requires { length scripts.now < 2 ^ 32 }
+
+    // If all schedules were counted:
+    ensures ok { IfOk result (λ x. IfWhole x (AreEnds (setting machine.now scripts.now))) }
+    ensures few { IfOk result
+        (λ x. IfWhole x (λ _. HasMoreThan (IsComplete (setting machine.now scripts.now)) limit → ⊥)) }
+    ensures room { IfOk result
+        (λ x. IfWhole x (λ _. FillsHistory (setting machine.now scripts.now) → ⊥)) }
+    // If only the first ones were:
+    ensures first { IfOk result (λ x. IfFirst x (AreFirst (setting machine.now scripts.now) limit)) }
+    ensures many { IfOk result
+        (λ x. IfFirst x (λ _. HasMoreThan (IsComplete (setting machine.now scripts.now)) limit)) }
+    // In both cases:
+    ensures within { IfOk result (λ x. sum_by (λ e. e.count) x.ends.items ≤ limit) }
+    ensures ordered { IfOk result (λ x. AreInOrder x.ends.items) }
+    ensures err { IfErr result (IsCause (setting machine.now scripts.now)) }
+    ensures full { IfErr result (IsCauseWithin (setting machine.now scripts.now) limit) }
+{
+    let parts = jobs.min(MOST_JOBS);
+    if parts < 2 {
+        return explore(alloc, machine, scripts, limit, watch);
+    }
+    match search_parts(rt, alloc, machine, scripts, parts, limit, watch) {
+        Some(ends) => Ok(Exploration {
+            ends,
+            is_whole: true,
+        }),
+        None => explore(alloc, machine, scripts, limit, watch),
+    }
+}
+
+/// Returns the ends of all schedules, searched in `parts` parts. Returns `None` if they count more
+/// than the limit, or if a part or the merge failed.
+fn search_parts<R: Threads + Sync, W: Watch>(
+    rt: &R,
+    alloc: Global,
+    machine: &Machine,
+    scripts: &[Script],
+    parts: u32,
+    limit: u64,
+    watch: &mut W,
+) -> Option<Vec<Ending>>
+    requires few { length scripts.now < 2 ^ 32 }
+    requires some { 0 < parts }
+    ensures ends { IfSome result (λ ends. AreEnds (setting machine.now scripts.now) ends.items) }
+    ensures ordered { IfSome result (λ ends. AreInOrder ends.items) }
+    ensures within { IfSome result (λ ends. sum_by (λ e. e.count) ends.items ≤ limit) }
+    ensures room { IfSome result (λ _. FillsHistory (setting machine.now scripts.now) → ⊥) }
+{
+    let calls = calls_for(scripts.len() as u32, parts);
+    let lists = ends_of_parts(rt, alloc, machine, scripts, parts, calls, limit)?;
+    match sum(alloc, lists.as_slice()) {
+        Ok(ends) => {
+            let left = left_after(ends.as_slice(), limit)?;
+            watch.counted(limit - left);
+            Some(ends)
+        }
+        Err(_fault) => None,
+    }
+}
+
+/// Returns the ends of each part, each searched in a thread of its own, or `None` if a part failed.
+fn ends_of_parts<R: Threads + Sync>(
+    rt: &R,
+    alloc: Global,
+    machine: &Machine,
+    scripts: &[Script],
+    parts: u32,
+    calls: u32,
+    limit: u64,
+) -> Option<Vec<Vec<Ending>>>
+    requires { length scripts.now < 2 ^ 32 }
+    ensures ends { IfSome result (λ lists.
+        AreParts (setting machine.now scripts.now) calls (map (λ ends. ends.items) lists.items)) }
+    ensures len { IfSome result (λ lists. length lists.items ≡ parts) }
+    ensures room { IfSome result (λ _. HaveRoom (setting machine.now scripts.now) parts calls) }
+{
+    let search = |index: usize| -> Option<Vec<Ending>>
+        requires { length scripts.now < 2 ^ 32 }
+        ensures ends { IfSome result (λ ends. AreCounted
+            (EndsInPart (setting machine.entry.now scripts.entry.now) (part parts calls index)) ends.items) }
+        ensures room { IfSome result
+            (λ _. FillsPart (setting machine.entry.now scripts.entry.now) (part parts calls index) → ⊥) }
+    { ends_of_part(alloc, machine, scripts, parts, calls, index, limit) };
+    match thread::map_indices(rt, alloc, parts as usize, &search) {
+        Ok(found) => all_of(alloc, found),
+        Err(_refused) => None,
+    }
+}
+
+/// Returns the ends of the part at `index`, or `None` if they were not all counted.
+fn ends_of_part(
+    alloc: Global,
+    machine: &Machine,
+    scripts: &[Script],
+    parts: u32,
+    calls: u32,
+    index: usize,
+    limit: u64,
+) -> Option<Vec<Ending>>
+    requires { length scripts.now < 2 ^ 32 }
+    ensures ends { IfSome result (λ ends. AreCounted
+        (EndsInPart (setting machine.now scripts.now) (part parts calls index)) ends.items) }
+    ensures room { IfSome result
+        (λ _. FillsPart (setting machine.now scripts.now) (part parts calls index) → ⊥) }
+{
+    let index = u32::try_from(index).ok()?;
+    let part = Part::new(index, parts, calls)?;
+    match explore_part(alloc, machine, scripts, part, limit, &mut Silent) {
+        Ok(explored) => {
+            if explored.is_whole {
+                Some(explored.ends)
+            } else {
+                None
+            }
+        }
+        Err(_fault) => None,
+    }
+}
+
+/// Returns all lists, or `None` if one is missing or memory runs out.
+fn all_of(alloc: Global, found: Vec<Option<Vec<Ending>>>) -> Option<Vec<Vec<Ending>>>
+    ensures { IfSome result (λ lists. found.items ≡ map (λ ends. Some ends) lists.items) }
+{
+    let mut lists = Vec::new(alloc);
+    for ends in found {
+        lists.reserve(1).ok()?;
+        lists.push_reserved(ends?);
+    }
+    Some(lists)
+}

@@ -1,7 +1,0 @@
--- No schedule that ends as is wanted has fewer changes.
-use Rattle.hp_explore.specs.Settings.{setting}
-use Rattle.hp_find.specs.Reaching.{NeedsChanges}
-use Rattle.hp_find.proofs.finding.nearest_below.Given as goal
-
-abbrev pub invariant-loop-budget : goal.invariant-loop-budget
-invariant-loop-budget l = record { needs : NeedsChanges (setting l.machine l.scripts) l.wanted l.budget }

@@ -1,4 +1,0 @@
-pub mod Changes
-pub mod Faults
-pub mod Reaching
-pub mod Searches

@@ -1,2 +1,0 @@
-pub mod Explorations
-pub mod Findings

@@ -1,3 +1,0 @@
-pub mod Explorations
-pub mod Findings
-pub mod Texts

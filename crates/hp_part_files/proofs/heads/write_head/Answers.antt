@@ -1,0 +1,22 @@
+use Rattle.std.proofs.Common.{◌++◌, ap, codes, string_bytes, ◌∙◌}
+use Rattle.hp_escapes.specs.Escapes.{escaped_text}
+use Rattle.hp_escapes.specs.declared.escapes.Brackets.TheVariants.{Kept}
+use Rattle.hp_part_files.specs.Heads.{SearchValue, head_counts, head_line, head_numbers}
+use Rattle.hp_part_files.proofs.Written.{four_written}
+use Rattle.hp_part_files.proofs.heads.write_head.Goals as goal
+
+pub returns : goal.returns
+returns c =
+    let here : SearchValue = record {
+      of = c.search.inside.of;
+      calls = c.search.inside.calls;
+      setup = c.search.inside.setup;
+      scenario = c.search.inside.scenario.now;
+    } in
+    four_written _ (head_numbers here c.args.number) (head_counts here.setup c.args.ends)
+    (escaped_text Kept here.scenario) (codes "\"}")
+    _ _ _ _ c.in_ok-write_numbers.ensures c.in_ok-write_counts.ensures c.in_ok-write_escaped.ensures
+    c.in_ok-push_str.ensures.bytes
+    ∙ ap (λ (s : SearchValue). string_bytes c.args.out.now
+    ++ head_line s c.args.number c.args.ends)
+    c.search.view_is

@@ -1,0 +1,12 @@
+use Rattle.std.proofs.Common.{◌≡◌, ℕ, length, arith, subst}
+use Rattle.hp_part_files.specs.Ordering.{ArePlacedBelow}
+use Rattle.hp_part_files.proofs.Ordered.{all_placed}
+use Rattle.hp_part_files.proofs.ordering.check_numbers.Goals as goal
+
+pub returns-clause-ok : goal.returns-clause-ok
+returns-clause-ok c =
+    let all : c.loop-index.index ≡ length c.args.parts.now =
+    omega (arith, c.loop-index.auto.index-end, c.loop-index-test.false) in
+    all_placed c.args.of c.args.parts.now c.requires.within
+    (subst (λ (n : ℕ). ArePlacedBelow n c.args.parts.now) all c.loop-index.invariant.placed)
+    (omega arith)

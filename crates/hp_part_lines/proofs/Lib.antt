@@ -1,5 +1,0 @@
-mod Gathered
-mod Lines
-pub mod Ordered
-pub mod Values
-pub mod Written

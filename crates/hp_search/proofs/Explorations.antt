@@ -1,0 +1,82 @@
+-- From what an exploration says to what its text promises.
+use Rattle.std.proofs.Common.{◌≡◌, ℕ, ◌≤◌, Bool, List, Option, Some, None, sum_by, sym, subst}
+use Rattle.hp_explore.specs.declared.exploring.Exploration.{Exploration}
+use Rattle.hp_schedules.specs.declared.multinomials.HowMany.{HowMany}
+use Rattle.hp_schedules.specs.Ends.{AreEnds, AreInOrder}
+use Rattle.hp_explore.specs.Faults.{FillsHistory, IsCause, IsCauseWithin}
+use Rattle.hp_explore.specs.declared.exploring.ExploreFault.{ExploreFault}
+use Rattle.hp_explore.specs.declared.exploring.ExploreFault.TheVariants.{HistoryFull, OutOfMemory}
+use Rattle.hp_schedules.specs.Orders.{HasMoreThan}
+use Rattle.hp_explore.specs.Fronts.{AreFirst, IfFirst, IfWhole}
+use Rattle.hp_explore.specs.Settings.{setting}
+use Rattle.hp_schedules.specs.declared.scripts.Line.{Line as Step}
+use Rattle.hp_schedules.specs.Schedules.{IsComplete, Setting}
+use Rattle.hp_search.specs.declared.forms.EndsForm.{EndsForm}
+use Rattle.hp_lab_faults.specs.declared.fault.LabFault.{LabFault}
+use Rattle.hp_search.specs.Ends.{IsMore, IsTold}
+use Rattle.hp_search.specs.Faults.{IsFaultOf, IsToldAs}
+use Rattle.hp_search.specs.Prepared.{IsPrepared, IsUnprepared, before_of, names_of, setting_of}
+use Rattle.hp_search.specs.declared.prepared.Prepared.{Prepared}
+use Rattle.hp_search.proofs.Known.{unprepared_known, untold, untold_in}
+use Rattle.hp_search.specs.Explorations.{AreExplored, IsExploredOn, IsFaultWithin}
+
+-- the ends are all, or the first ones
+explored_told : (g : Setting) (limit : ℕ) (x : Exploration) (more : Option HowMany)
+    → IfWhole x (AreEnds g) → IfWhole x (λ _. HasMoreThan (IsComplete g) limit → ⊥)
+    → IfWhole x (λ _. FillsHistory g → ⊥) → IfFirst x (AreFirst g limit)
+    → IfFirst x (λ _. HasMoreThan (IsComplete g) limit) → IsMore g.scripts x.is_whole more
+    → AreExplored g limit x.ends.items more
+explored_told g limit x None whole few room first many h = (whole h, few h, room h)
+explored_told g limit x (Some known) whole few room first many h = (first h.0, many h.0, h.1)
+
+-- and they are told, where the scripts are those of a scenario that was made ready
+pub is_explored : (form : EndsForm) (p : Prepared) (scripts : List (List Step)) (limit : ℕ)
+    (x : Exploration) (text : List ℕ) (found : Bool)
+    → scripts ≡ p.start.scripts.items → IfWhole x (AreEnds (setting p.start.machine scripts))
+    → IfWhole x (λ _. HasMoreThan (IsComplete (setting p.start.machine scripts)) limit → ⊥)
+    → IfWhole x (λ _. FillsHistory (setting p.start.machine scripts) → ⊥)
+    → IfFirst x (AreFirst (setting p.start.machine scripts) limit)
+    → IfFirst x (λ _. HasMoreThan (IsComplete (setting p.start.machine scripts)) limit)
+    → AreInOrder x.ends.items → sum_by (λ e. e.count) x.ends.items ≤ limit
+    → IsTold form (names_of p) (before_of p) (setting_of p) x text found
+    → IsExploredOn form (names_of p) (before_of p) (setting_of p) limit text found
+is_explored form p scripts limit x text found same whole few room first many ordered within told = record {
+  ends = x.ends.items;
+  more = told.0;
+  are =
+      subst (λ (ss : List (List Step)). AreExplored (setting p.start.machine ss) limit x.ends.items told.0)
+      same (explored_told (setting p.start.machine scripts) limit x told.0 whole few room first many
+      (subst (λ (ss : List (List Step)). IsMore ss x.is_whole told.0) (sym same) told.1));
+  ordered = ordered;
+  within = within;
+  told = told.2;
+}
+
+-- ---- faults
+
+-- a call to which the search comes is one of all
+cause_known : (g : Setting) (limit : ℕ) (fault : ExploreFault) → IsCauseWithin g limit fault
+    → IsCause g fault
+cause_known g limit HistoryFull cause = (cause.place, cause.call)
+cause_known g limit OutOfMemory cause = tt
+
+-- as they are told
+pub not_explored : (input : List ℕ) (setup limit : ℕ) (p : Prepared) (fault : ExploreFault) (told : LabFault)
+    → IsPrepared input setup p → IsToldAs (setting_of p) fault told
+    → IsCauseWithin (setting_of p) limit fault
+    → IsFaultOf input setup limit told × IsFaultWithin input setup limit told
+not_explored input setup limit p fault told ready is cause =
+    let C = λ (g : Setting). IsCauseWithin g limit in (
+      untold_in (λ (g : Setting). ⊥) IsCause input setup limit p told ready
+          (untold IsCause (setting_of p) fault told is (cause_known (setting_of p) limit fault cause)),
+      untold_in (λ (g : Setting). ⊥) C input setup limit p told ready
+          (untold C (setting_of p) fault told is cause),
+    )
+
+-- those of what is not made ready
+pub not_prepared : (input : List ℕ) (setup limit : ℕ) (fault : LabFault) → IsUnprepared input setup fault
+    → IsFaultOf input setup limit fault × IsFaultWithin input setup limit fault
+not_prepared input setup limit fault why = (
+  unprepared_known (λ (g : Setting). ⊥) IsCause input setup limit fault why,
+  unprepared_known (λ (g : Setting). ⊥) (λ (g : Setting). IsCauseWithin g limit) input setup limit fault why,
+)

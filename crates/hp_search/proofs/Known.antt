@@ -1,0 +1,120 @@
+-- From what the parts of an answer say to what the whole promises.
+use Rattle.std.proofs.Common.{◌≡◌, ℕ, ◌-◌, ◌≤◌, List, length, get_or, take, Ok, refl, sym, subst, arith}
+use Rattle.std.proofs.lemmas.Option.{slice_get_read}
+use Rattle.hp_scenario.specs.declared.lines.Line.{Line}
+use Rattle.hp_scenario.specs.Scenario.{ScenarioValue, scenario_in}
+use Rattle.hp_scenario.specs.Seen.{scenario_seen}
+use Rattle.hp_explore.specs.declared.exploring.ExploreFault.{ExploreFault}
+use Rattle.hp_explore.specs.declared.exploring.ExploreFault.TheVariants as explore
+use Rattle.hp_schedules.specs.declared.tally.Ending.{Ending}
+use Rattle.hp_schedules.specs.Schedules.{Setting}
+use Rattle.hp_lab_faults.specs.Faults.{start_fault_from}
+use Rattle.hp_lab_faults.specs.declared.fault.LabFault.{LabFault}
+use Rattle.hp_lab_faults.specs.declared.fault.LabFault.TheVariants.{NotJson, BadShape, Layout, BadLine, NotForScript, PastLayout, TooMany, HistoryFull, OutOfMemory}
+use Rattle.hp_search.specs.Ends.{IsNumbered}
+use Rattle.hp_search.specs.Faults.{IsFaultWith, IsFull, IsFullTold, IsToldAs, IsUntold}
+use Rattle.hp_search.specs.Holding.{HoldsIn, InScenario, IsStoppedAfter}
+use Rattle.hp_search.specs.Prepared.{IsPrepared, IsUnprepared, before_of, names_of, setting_of}
+use Rattle.hp_search.specs.declared.prepared.Prepared.{Prepared}
+use Rattle.hp_scripts.specs.Starts.{HasNoStart}
+use Rattle.hp_scripts.specs.declared.fault.StartFault.{StartFault}
+use Rattle.hp_scripts.specs.declared.fault.StartFault.TheVariants as start
+
+-- ---- a line that cannot stand in a script
+
+pub unready : (input : List ℕ) (s : ScenarioValue) (setup : ℕ) (fault : StartFault)
+    → scenario_in input ≡ Ok s → HasNoStart s setup fault → IsUnprepared input setup (start_fault_from fault)
+unready input s setup (start.NotForScript place why) read h = (s, read, h)
+unready input s setup start.OutOfMemory read h = tt
+
+-- ---- the fault of a call
+
+-- as it is told
+pub untold : (C : Setting → ExploreFault → Type 0) (g : Setting) (fault : ExploreFault) (told : LabFault)
+    → IsToldAs g fault told → C g fault → IsUntold C g told
+untold C g explore.HistoryFull told is cause = by_told told is
+  where
+    by_told : (told : LabFault) → IsFullTold g told → IsUntold C g told
+    by_told NotJson is = absurd is
+    by_told BadShape is = absurd is
+    by_told (Layout f) is = absurd is
+    by_told (BadLine n) is = absurd is
+    by_told (NotForScript place why) is = absurd is
+    by_told (PastLayout n) is = absurd is
+    by_told (TooMany n) is = absurd is
+    by_told (HistoryFull needed) is = (cause, is)
+    by_told OutOfMemory is = tt
+untold C g explore.OutOfMemory told is cause = subst (IsUntold C g) (sym is) tt
+
+-- ---- made ready for a search
+
+-- what holds on the machine where a search begins holds in the scenario
+pub held_in : (P : (names : List (List ℕ)) → (before : List Line) → Setting → Type 0) (input : List ℕ)
+    (setup : ℕ) (p : Prepared)
+    → IsPrepared input setup p → P (names_of p) (before_of p) (setting_of p) → HoldsIn P input setup
+held_in P input setup p ready h = record {
+  scenario = scenario_seen p.scenario;
+  read = ready.read;
+  fit = ready.fit;
+  after = record {
+    start = p.start.machine;
+    scripts = p.start.scripts.items;
+    begun = ready.begun;
+    holds = subst (λ (n : ℕ). P (names_of p) (take n p.scenario.lines) (setting_of p)) ready.number h;
+  };
+}
+
+pub stopped_in : (P : Setting → Type 0) (input : List ℕ) (setup : ℕ) (p : Prepared)
+    → IsPrepared input setup p → P (setting_of p) → InScenario input (IsStoppedAfter P setup)
+stopped_in P input setup p ready h = (
+  scenario_seen p.scenario,
+  ready.read,
+  (
+    ready.fit,
+    record {
+      start = p.start.machine;
+      scripts = p.start.scripts.items;
+      begun = ready.begun;
+      holds = h;
+    },
+  ),
+)
+
+-- why there is no answer there
+pub untold_in : (Many : Setting → Type 0) (C : Setting → ExploreFault → Type 0) (input : List ℕ)
+    (setup limit : ℕ) (p : Prepared) (fault : LabFault)
+    → IsPrepared input setup p → IsUntold C (setting_of p) fault → IsFaultWith Many C input setup limit fault
+untold_in Many C input setup limit p NotJson ready h = absurd h
+untold_in Many C input setup limit p BadShape ready h = absurd h
+untold_in Many C input setup limit p (Layout f) ready h = absurd h
+untold_in Many C input setup limit p (BadLine n) ready h = absurd h
+untold_in Many C input setup limit p (NotForScript place why) ready h = absurd h
+untold_in Many C input setup limit p (PastLayout n) ready h = absurd h
+untold_in Many C input setup limit p (TooMany most) ready h = absurd h
+untold_in Many C input setup limit p (HistoryFull needed) ready h =
+    stopped_in (IsFull C needed) input setup p ready h
+untold_in Many C input setup limit p OutOfMemory ready h = tt
+
+-- or why it was not made ready, which has nothing to do with the search
+pub unprepared_known : (Many : Setting → Type 0) (C : Setting → ExploreFault → Type 0) (input : List ℕ)
+    (setup limit : ℕ) (fault : LabFault)
+    → IsUnprepared input setup fault → IsFaultWith Many C input setup limit fault
+unprepared_known Many C input setup limit NotJson h = h
+unprepared_known Many C input setup limit BadShape h = h
+unprepared_known Many C input setup limit (Layout f) h = h
+unprepared_known Many C input setup limit (BadLine n) h = h
+unprepared_known Many C input setup limit (NotForScript place why) h = h
+unprepared_known Many C input setup limit (PastLayout n) h = absurd h
+unprepared_known Many C input setup limit (TooMany most) h = absurd (h.1.2.1.holds)
+unprepared_known Many C input setup limit (HistoryFull needed) h = absurd (h.2.1.holds.0)
+unprepared_known Many C input setup limit OutOfMemory h = tt
+
+-- ---- the number of an end
+
+pub numbered_at : (ends : List Ending) (number : ℕ) (e : Ending) → (number ≡ 0 → ⊥) → number ≤ length ends
+    → e ≡ get_or ends (number - 1) e → IsNumbered ends number e
+numbered_at ends number e some within is = record {
+  place = number - 1;
+  counted = omega (arith, some);
+  here = slice_get_read ends (length ends) (number - 1) e refl (omega (arith, some, within)) is;
+}

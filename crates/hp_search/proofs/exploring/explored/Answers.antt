@@ -1,0 +1,24 @@
+-- The ends are those of all complete schedules, or of the first ones.
+use Rattle.std.proofs.Common.{List, string_bytes, subst}
+use Rattle.std.proofs.lemmas.Result.{err_from_is_err_and}
+use Rattle.hp_schedules.specs.declared.scripts.Line.{Line as Step}
+use Rattle.hp_explore.specs.Faults.{IsCauseWithin}
+use Rattle.hp_explore.specs.Settings.{setting}
+use Rattle.hp_search.proofs.Explorations.{is_explored}
+use Rattle.hp_search.proofs.exploring.explored.Goals as goal
+
+pub returns-clause-ok : goal.returns-clause-ok
+returns-clause-ok g c =
+    let h = c.in_ok-explored.ensures in
+    let f = c.in-Ok.finding in
+    is_explored c.args.form c.args.prepared.now c.as_slice-scripts.result.now c.args.limit
+    c.in_ok-explored.explored (string_bytes f.text) f.is_found c.as_slice-scripts.ensures.value h.ok h.few
+    h.room h.first h.many h.ordered h.within c.in-Ok.ensures.ok
+
+pub returns-in_err-explored-clause-err : goal.returns-in_err-explored-clause-err
+returns-in_err-explored-clause-err g c =
+    let p = err_from_is_err_and c.from_residual.result c.from_residual.ensures.1 in
+    rw (p.1, p.2)
+    (subst (λ (ss : List (List Step)). IsCauseWithin (setting c.args.prepared.now.start.machine ss)
+    c.args.limit c.in_err-explored.field-0.0) c.as_slice-scripts.ensures.value
+    c.in_err-explored.ensures.full)

@@ -1,0 +1,50 @@
+-- What an exploration promises.
+use Rattle.std.specs.Prelude.{ℕ, ◌-◌, ◌^◌, ◌≤◌, Bool, List, Option, Some, None, sum_by}
+use Rattle.hp_schedules.specs.declared.multinomials.HowMany.{HowMany}
+use Rattle.hp_schedules.specs.declared.tally.Ending.{Ending}
+use Rattle.hp_schedules.specs.Ends.{AreEnds, AreInOrder}
+use Rattle.hp_schedules.specs.Interleavings.{IsKnown}
+use Rattle.hp_schedules.specs.Orders.{HasMoreThan}
+use Rattle.hp_schedules.specs.Schedules.{IsComplete, Setting}
+use Rattle.hp_explore.specs.Faults.{FillsHistory, IsCauseWithin}
+use Rattle.hp_explore.specs.Fronts.{AreFirst}
+use Rattle.hp_scenario.specs.declared.lines.Line.{Line}
+use Rattle.hp_search.specs.declared.forms.EndsForm.{EndsForm}
+use Rattle.hp_lab_faults.specs.declared.fault.LabFault.{LabFault}
+use Rattle.hp_search.specs.Ends.{AreEndsTold}
+use Rattle.hp_search.specs.Faults.{IsFaultWith}
+use Rattle.hp_search.specs.Holding.{HoldsIn}
+
+-- ---- on a machine
+
+-- the ends are those of all complete schedules, at most `limit`, and none fills the history; or
+-- there are more, and the ends are those of the first `limit`
+abbrev pub AreExplored : Setting → (limit : ℕ) → List Ending → Option HowMany → Type 0
+AreExplored g limit ends None =
+    AreEnds g ends × (HasMoreThan (IsComplete g) limit → ⊥) × (FillsHistory g → ⊥)
+AreExplored g limit ends (Some known) =
+    AreFirst g limit ends × HasMoreThan (IsComplete g) limit × IsKnown g.scripts (2 ^ 64 - 1) known
+
+-- the text has the ends of at most `limit` schedules, in the order of their first schedules
+pub record IsExploredOn (form : EndsForm) (names : List (List ℕ)) (before : List Line) (g : Setting)
+    (limit : ℕ) (text : List ℕ) (found : Bool) : Type 0 where
+  pub ends : List Ending
+  pub more : Option HowMany
+  pub are : AreExplored g limit ends more
+  pub ordered : AreInOrder ends
+  pub within : sum_by (λ e. e.count) ends ≤ limit
+  pub told : AreEndsTold form names before g ends more text found
+
+-- ---- in a scenario
+
+-- the text is that of an exploration of the scenario's scripts
+abbrev pub IsExplorationOf : EndsForm → (input : List ℕ) → (setup limit : ℕ) → (text : List ℕ)
+    → (found : Bool)
+    → Type 0
+IsExplorationOf form input setup limit text found =
+    HoldsIn (λ names before g. IsExploredOn form names before g limit text found) input setup
+
+-- when each fault comes; a full history only from a call that the search makes within its limit
+abbrev pub IsFaultWithin : (input : List ℕ) → (setup limit : ℕ) → LabFault → Type 0
+IsFaultWithin input setup limit fault =
+    IsFaultWith (λ g. ⊥) (λ g. IsCauseWithin g limit) input setup limit fault

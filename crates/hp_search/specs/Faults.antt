@@ -1,0 +1,70 @@
+-- When each fault comes, and what the fault of a call becomes.
+use Rattle.std.specs.Prelude.{◌≡◌, ℕ, List, Option, Some, Err, slice_get}
+use Rattle.hp_schedules.specs.Interleavings.{IsRoomNeeded}
+use Rattle.hp_schedules.specs.Schedules.{Setting}
+use Rattle.hp_schedules.specs.declared.tally.Ending.{Ending}
+use Rattle.hp_explore.specs.Faults.{FillsAlong, IsCause}
+use Rattle.hp_explore.specs.declared.exploring.ExploreFault.{ExploreFault}
+use Rattle.hp_explore.specs.declared.exploring.ExploreFault.TheVariants as explore
+use Rattle.hp_scenario.specs.declared.fault.ScenarioFault.{ScenarioFault}
+use Rattle.hp_scenario.specs.Scenario.{scenario_in}
+use Rattle.hp_scripts.specs.Starts.{IsUnfitAfter}
+use Rattle.hp_lab_faults.specs.Faults.{fault_from}
+use Rattle.hp_lab_faults.specs.declared.fault.LabFault.{LabFault}
+use Rattle.hp_lab_faults.specs.declared.fault.LabFault.TheVariants.{NotJson, BadShape, Layout, BadLine, NotForScript, PastLayout, TooMany, HistoryFull, OutOfMemory}
+use Rattle.hp_search.specs.Holding.{InScenario, IsStoppedAfter}
+
+-- ---- on a machine
+
+-- the history has no room for a call of the first schedule of one of these ends
+abbrev pub FillsAlongSome : Setting → List Ending → Type 0
+FillsAlongSome g ends =
+    (place : ℕ) × (e : Ending) × (slice_get ends place ≡ Some e) × FillsAlong g e.first.items
+
+-- `C` has this full history as a cause; `needed` is the room that it takes, if that is known
+abbrev pub IsFull : (C : Setting → ExploreFault → Type 0) → (needed : Option ℕ) → Setting → Type 0
+IsFull C needed g = C g explore.HistoryFull × IsRoomNeeded g needed
+
+-- the laboratory's fault for a fault of a call; a full history gets the room it needs, or memory
+-- runs out while that is computed
+abbrev pub IsFullTold : Setting → LabFault → Type 0
+IsFullTold g (HistoryFull needed) = IsRoomNeeded g needed
+IsFullTold g OutOfMemory = Unit {0}
+IsFullTold g fault = ⊥
+
+abbrev pub IsToldAs : Setting → ExploreFault → LabFault → Type 0
+IsToldAs g explore.HistoryFull fault = IsFullTold g fault
+IsToldAs g explore.OutOfMemory fault = fault ≡ OutOfMemory
+
+-- why a call failed, as the laboratory reports it; out of memory may come in place of any other
+abbrev pub IsUntold : (C : Setting → ExploreFault → Type 0) → Setting → LabFault → Type 0
+IsUntold C g (HistoryFull needed) = IsFull C needed g
+IsUntold C g OutOfMemory = Unit {0}
+IsUntold C g fault = ⊥
+
+-- ---- in a scenario
+
+-- the bytes are not a scenario, and this is the reason
+abbrev pub IsUnread : (input : List ℕ) → LabFault → Type 0
+IsUnread input fault = (why : ScenarioFault) × (scenario_in input ≡ Err why) × (fault ≡ fault_from why)
+
+-- when each fault comes, given `Many`, when there are too many interleavings, and `C`, why a call
+-- fails; `PastLayout` comes only from a search for an end
+abbrev pub IsFaultWith : (Many : Setting → Type 0) → (C : Setting → ExploreFault → Type 0) → (input : List ℕ)
+    → (setup limit : ℕ) → LabFault → Type 0
+IsFaultWith Many C input setup limit NotJson = IsUnread input NotJson
+IsFaultWith Many C input setup limit BadShape = IsUnread input BadShape
+IsFaultWith Many C input setup limit (Layout fault) = IsUnread input (Layout fault)
+IsFaultWith Many C input setup limit (BadLine line) = IsUnread input (BadLine line)
+IsFaultWith Many C input setup limit (NotForScript line why) =
+    InScenario input (IsUnfitAfter setup line why)
+IsFaultWith Many C input setup limit (PastLayout number) = ⊥
+IsFaultWith Many C input setup limit (TooMany most) =
+    (most ≡ limit) × InScenario input (IsStoppedAfter Many setup)
+IsFaultWith Many C input setup limit (HistoryFull needed) =
+    InScenario input (IsStoppedAfter (IsFull C needed) setup)
+IsFaultWith Many C input setup limit OutOfMemory = Unit {0}
+
+-- the faults of an exploration; it never has too many interleavings
+abbrev pub IsFaultOf : (input : List ℕ) → (setup limit : ℕ) → LabFault → Type 0
+IsFaultOf input setup limit fault = IsFaultWith (λ g. ⊥) IsCause input setup limit fault

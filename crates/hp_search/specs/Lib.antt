@@ -1,0 +1,11 @@
+pub mod Ends
+pub mod Explorations
+pub mod Faults
+pub mod Findings
+pub mod FoundTexts
+pub mod Holding
+pub mod Objects
+pub mod Prepared
+pub mod Replays
+pub mod Texts
+pub mod Words

@@ -1,0 +1,48 @@
+-- A scenario made ready for a search: the machine after its setup, and the scripts of its later
+-- lines.
+use Rattle.std.specs.Prelude.{◌≡◌, ◌≤◌, ℕ, List, length, take, drop, Option, Some, None, option_map, Ok}
+use Rattle.hp_units.specs.declared.replies.Record.{Record}
+use Rattle.hp_machine.specs.Machine.{MachineValue}
+use Rattle.hp_schedules.specs.Schedules.{Setting}
+use Rattle.hp_explore.specs.Settings.{setting}
+use Rattle.hp_scenario.specs.declared.lines.Line.{Line}
+use Rattle.hp_scenario.specs.Scenario.{scenario_in}
+use Rattle.hp_scenario.specs.Seen.{scenario_seen}
+use Rattle.hp_scripts.specs.Checks.{AreFit}
+use Rattle.hp_search.specs.Faults.{IsFaultWith}
+use Rattle.hp_scripts.specs.Starts.{IsStart}
+use Rattle.hp_lab_faults.specs.declared.fault.LabFault.{LabFault}
+use Rattle.hp_search.specs.declared.prepared.Prepared.{Prepared}
+
+-- the machine and scripts of a search, the names of the owners, and the lines of the setup
+abbrev pub setting_of : Prepared → Setting
+setting_of p = setting p.start.machine p.start.scripts.items
+
+abbrev pub names_of : Prepared → List (List ℕ)
+names_of p = p.scenario.names.keys
+
+abbrev pub before_of : Prepared → List Line
+before_of p = take p.setup p.scenario.lines
+
+-- `p` is the scenario in the bytes, after `setup` lines of setup
+pub record IsPrepared (input : List ℕ) (setup : ℕ) (p : Prepared) : Type 0 where
+  pub number : p.setup ≡ setup
+  pub read : scenario_in input ≡ Ok (scenario_seen p.scenario)
+  pub fit : AreFit p.scenario.layout.cpus (drop setup p.scenario.lines)
+      (length (drop setup p.scenario.lines))
+  pub begun : IsStart p.scenario.layout (take setup p.scenario.lines) (drop setup p.scenario.lines)
+      p.start.machine p.start.scripts.items
+
+-- why bytes are not made ready: a fault of reading them, or of a line after the setup; or out of
+-- memory
+abbrev pub IsUnprepared : (input : List ℕ) → (setup : ℕ) → LabFault → Type 0
+IsUnprepared input setup fault = IsFaultWith (λ g. ⊥) (λ g f. ⊥) input setup 0 fault
+
+-- the calls after the setup of a machine that a schedule led to, and that it has at least the
+-- setup's records; `None` if the schedule cannot be played
+abbrev pub calls_in : Setting → Option MachineValue → Option (List Record)
+calls_in g played = option_map (λ m. drop (length g.start) m.history) played
+
+abbrev pub GoesOn : Setting → Option MachineValue → Type 0
+GoesOn g None = Unit {0}
+GoesOn g (Some m) = length g.start ≤ length m.history

@@ -1,0 +1,72 @@
+//! Explores a scenario.
+ghost use Rattle.std.specs.Prelude.{◌≡◌, ◌^◌, ◌<◌, IfErr, IfOk, length, string_bytes};
+ghost use Rattle.hp_explore.specs.Faults.{IsCauseWithin};
+ghost use Rattle.hp_search.specs.Faults.{IsFaultOf};
+ghost use Rattle.hp_search.specs.Prepared.{before_of, names_of, setting_of};
+ghost use Rattle.hp_search.specs.Explorations.{IsExplorationOf, IsExploredOn, IsFaultWithin};
+
+use crate::{EndsForm, Finding, Prepared, prepare};
+use hp_explore::{ExploreFault, Watch, explore};
+use hp_lab_faults::LabFault;
+use std::alloc::Global;
+
+/// Explores the scenario in `input`: counts all interleavings of its scripts' calls, or the first
+/// `limit` if there are more. The first `setup` lines are run in order; each later line goes to the
+/// script of its processor, where operation 0 is the one that the processor began last.
+///
+/// As words, the text has the number of interleavings, and for each different end how many lead to
+/// it, the processors' replies, the states of the memory blocks, and the calls of the first
+/// interleaving that leads to it. As objects, it has one line of JSON per end. In both forms
+/// nothing is found if there are more interleavings than the limit, and the text reports that. As a
+/// scenario, it has the layout, the lines of the setup, and the calls of the first interleaving
+/// that leads to the end with the number; if no end has that number, the text reports how many
+/// interleavings and ends there are, and nothing is found.
+///
+/// While the search runs, `watch` gets the number of interleavings counted so far.
+///
+/// Errors: those of reading the scenario; `NotForScript` with the first line after the setup that
+/// may not be in a script; `HistoryFull` if the history has no room for a call that the search
+/// makes before it has counted more interleavings than the limit; `OutOfMemory`, which may come in
+/// place of any other result.
+pub fn explore_text<W: Watch>(
+    alloc: Global,
+    input: &[u8],
+    setup: u64,
+    limit: u64,
+    form: EndsForm,
+    watch: &mut W,
+) -> Result<Finding, LabFault>
+    ensures ok { IfOk result (λ f.
+        IsExplorationOf form input.now setup limit (string_bytes f.text) f.is_found) }
+    ensures err { IfErr result (IsFaultOf input.now setup limit) }
+    ensures full { IfErr result (IsFaultWithin input.now setup limit) }
+{
+    let prepared = prepare(alloc, input, setup)?;
+    match explored(alloc, &prepared, form, limit, watch) {
+        Ok(finding) => Ok(finding),
+        Err(fault) => Err(prepared.told_fault(alloc, fault)),
+    }
+}
+
+/// Explores a prepared scenario, and writes the result in a form.
+fn explored<W: Watch>(
+    alloc: Global,
+    prepared: &Prepared,
+    form: EndsForm,
+    limit: u64,
+    watch: &mut W,
+) -> Result<Finding, ExploreFault>
+    requires { length prepared.now.start.scripts.items < 2 ^ 32 }
+    ensures ok { IfOk result (λ f. IsExploredOn form (names_of prepared.now) (before_of prepared.now)
+        (setting_of prepared.now) limit (string_bytes f.text) f.is_found) }
+    ensures err { IfErr result (IsCauseWithin (setting_of prepared.now) limit) }
+{
+    let machine = &prepared.start.machine;
+    let scripts = prepared.start.scripts.as_slice();
+    let explored = explore(alloc, machine, scripts, limit, watch)?;
+    // The search has made the calls of each first interleaving, so only memory can run out.
+    let Ok(finding) = prepared.exploration_told(alloc, &explored, form) else {
+        return Err(ExploreFault::OutOfMemory);
+    };
+    Ok(finding)
+}

@@ -1,0 +1,63 @@
+//! Explores a scenario in threads.
+ghost use Rattle.std.specs.Prelude.{◌≡◌, ◌^◌, ◌<◌, IfErr, IfOk, length, string_bytes};
+ghost use Rattle.hp_explore.specs.Faults.{IsCauseWithin};
+ghost use Rattle.hp_search.specs.Faults.{IsFaultOf};
+ghost use Rattle.hp_search.specs.Prepared.{before_of, names_of, setting_of};
+ghost use Rattle.hp_search.specs.Explorations.{IsExplorationOf, IsExploredOn, IsFaultWithin};
+
+use crate::{EndsForm, Finding, Prepared, prepare};
+use hp_explore::{ExploreFault, Watch, explore_with_jobs};
+use hp_lab_faults::LabFault;
+use std::alloc::Global;
+use std::thread::Threads;
+
+/// Explores a scenario like `explore_text`, in `jobs` threads, with the same result and the same
+/// errors.
+///
+/// While the searches run, `watch` gets what is known of their progress.
+pub fn explore_text_with_jobs<W: Watch>(
+    rt: &(impl Threads + Sync),
+    alloc: Global,
+    input: &[u8],
+    setup: u64,
+    limit: u64,
+    form: EndsForm,
+    jobs: u32,
+    watch: &mut W,
+) -> Result<Finding, LabFault>
+    ensures ok { IfOk result (λ f.
+        IsExplorationOf form input.now setup limit (string_bytes f.text) f.is_found) }
+    ensures err { IfErr result (IsFaultOf input.now setup limit) }
+    ensures full { IfErr result (IsFaultWithin input.now setup limit) }
+{
+    let prepared = prepare(alloc, input, setup)?;
+    match explored(rt, alloc, &prepared, limit, form, jobs, watch) {
+        Ok(finding) => Ok(finding),
+        Err(fault) => Err(prepared.told_fault(alloc, fault)),
+    }
+}
+
+/// Explores a prepared scenario in threads, and writes the result in a form.
+fn explored<W: Watch>(
+    rt: &(impl Threads + Sync),
+    alloc: Global,
+    prepared: &Prepared,
+    limit: u64,
+    form: EndsForm,
+    jobs: u32,
+    watch: &mut W,
+) -> Result<Finding, ExploreFault>
+    requires { length prepared.now.start.scripts.items < 2 ^ 32 }
+    ensures ok { IfOk result (λ f. IsExploredOn form (names_of prepared.now) (before_of prepared.now)
+        (setting_of prepared.now) limit (string_bytes f.text) f.is_found) }
+    ensures err { IfErr result (IsCauseWithin (setting_of prepared.now) limit) }
+{
+    let machine = &prepared.start.machine;
+    let scripts = prepared.start.scripts.as_slice();
+    let explored = explore_with_jobs(rt, alloc, machine, scripts, limit, jobs, watch)?;
+    // The search has made the calls of each first interleaving, so only memory can run out.
+    let Ok(finding) = prepared.exploration_told(alloc, &explored, form) else {
+        return Err(ExploreFault::OutOfMemory);
+    };
+    Ok(finding)
+}

@@ -1,0 +1,112 @@
+-- Texts that stand in one buffer, one after another.
+use Rattle.std.proofs.Common.{ℕ, zero, suc, ◌≡◌, ◌+◌, ◌-◌, ◌<◌, ◌≤◌, List, [], ◌∷◌, ◌++◌, Some, length, get_or, take, drop, refl, sym, ◌∙◌, ap, subst, arith, slice_get}
+use Rattle.std.specs.Prelude.{slice_range}
+use Rattle.std.proofs.lemmas.List.{drop-append-le, drop_at, length-append, length-drop, take-append-le, take_all}
+use Rattle.std.proofs.lemmas.Option.{slice_get_within}
+use Rattle.hp_laws.proofs.Lists.{get_end, get_left}
+use Rattle.hp_states.specs.Codes.{KeepCodes}
+use Rattle.hp_states.specs.Texts.{AreTextsFrom, start_of, texts_from}
+
+-- there are as many as ends
+pub count : (bytes : List ℕ) (start : ℕ) (ends : List ℕ) → length (texts_from bytes start ends) ≡ length ends
+count bytes start [] = refl
+count bytes start (end ∷ ends) = ap suc (count bytes end ends)
+
+-- each but the first starts where the one before it ends
+starts_next : (start : ℕ) (ends : List ℕ) (number : ℕ) → number < length ends
+    → start_of start ends (suc number) ≡ get_or ends number 0
+starts_next start [] number low = absurd (omega arith)
+starts_next start (end ∷ ends) zero low = refl
+starts_next start (end ∷ ends) (suc number) low = starts_next end ends number (omega arith)
+
+pub starts_after : (start : ℕ) (ends : List ℕ) (number before : ℕ) → number < length ends
+    → number ≡ suc before → get_or ends before 0 ≡ start_of start ends number
+starts_after start ends number before low is =
+    sym (ap (start_of start ends) is ∙ starts_next start ends before (omega arith))
+
+-- the text of a number
+pub text_at : (bytes : List ℕ) (start : ℕ) (ends : List ℕ) (number : ℕ) → number < length ends
+    → slice_get (texts_from bytes start ends) number
+    ≡ Some (slice_range bytes (start_of start ends number) (get_or ends number 0))
+text_at bytes start [] number low = absurd (omega arith)
+text_at bytes start (end ∷ ends) zero low = refl
+text_at bytes start (end ∷ ends) (suc number) low = text_at bytes end ends number (omega arith)
+
+-- the places lie within the buffer
+below : (size start : ℕ) (ends : List ℕ) → AreTextsFrom size start ends → start ≤ size
+below size start [] are = omega (arith, are)
+below size start (end ∷ ends) are = omega (arith, are.0, below size end ends are.1)
+
+pub record LiesWithin (size start end : ℕ) : Type 0 where
+  pub ordered : start ≤ end
+  pub within : end ≤ size
+
+pub lies_within : (size start : ℕ) (ends : List ℕ) (number : ℕ) → AreTextsFrom size start ends
+    → number < length ends → LiesWithin size (start_of start ends number) (get_or ends number 0)
+lies_within size start [] number are low = absurd (omega arith)
+lies_within size start (end ∷ ends) zero are low =
+    record { ordered = are.0; within = below size end ends are.1 }
+lies_within size start (end ∷ ends) (suc number) are low =
+    lies_within size end ends number are.1 (omega arith)
+
+-- ---- one text more
+
+pub still_texts : (size more start : ℕ) (ends : List ℕ) → AreTextsFrom size start ends
+    → AreTextsFrom (size + more) start (ends ++ (size + more) ∷ [])
+still_texts size more start [] are = (omega (arith, are), refl)
+still_texts size more start (end ∷ ends) are = (are.0, still_texts size more end ends are.1)
+
+-- a text that was there
+same_text : (bytes more : List ℕ) (start end : ℕ) → start ≤ end → end ≤ length bytes
+    → slice_range (bytes ++ more) start end ≡ slice_range bytes start end
+same_text bytes more start end ordered within =
+    ap (take (end - start)) (drop-append-le start bytes more (omega arith))
+    ∙ take-append-le (end - start) (drop start bytes) more (omega (arith, length-drop start bytes))
+
+-- the text that comes
+new_text : (bytes more : List ℕ)
+    → slice_range (bytes ++ more) (length bytes) (length bytes + length more) ≡ more
+new_text bytes more =
+    ap (take (length bytes + length more - length bytes)) (drop_at bytes more (length bytes) refl)
+    ∙ take_all (length bytes + length more - length bytes) more (omega arith)
+
+pub text_added : (bytes more : List ℕ) (start : ℕ) (ends : List ℕ) → AreTextsFrom (length bytes) start ends
+    → texts_from (bytes ++ more) start (ends ++ (length bytes + length more) ∷ [])
+    ≡ texts_from bytes start ends ++ more ∷ []
+text_added bytes more start [] are =
+    ap (λ (text : List ℕ). text ∷ [])
+    (ap (λ (at : ℕ). slice_range (bytes ++ more) at (length bytes + length more)) are ∙ new_text bytes more)
+text_added bytes more start (end ∷ ends) are =
+    ap (λ (text : List ℕ). text ∷ texts_from (bytes ++ more) end (ends ++ (length bytes + length more) ∷ []))
+    (same_text bytes more start end are.0 (below (length bytes) end ends are.1))
+    ∙ ap (λ (texts : List (List ℕ)). slice_range bytes start end ∷ texts)
+    (text_added bytes more end ends are.1)
+
+-- the earlier ones keep their numbers
+pub keep_more : (texts : List (List ℕ)) (more : List ℕ) → KeepCodes texts (texts ++ more ∷ [])
+keep_more texts more n c is = get_left texts (more ∷ []) n (slice_get_within texts n c is) ∙ is
+
+-- and it has the next one
+pub number_more : (texts : List (List ℕ)) (more : List ℕ) (n : ℕ) → n ≡ length texts
+    → slice_get (texts ++ more ∷ []) n ≡ Some more
+number_more texts more n is = ap (slice_get (texts ++ more ∷ [])) is ∙ get_end texts more
+
+-- both of a buffer and its ends, after a text more
+pub texts_on : (bytes more bytes' ends ends' : List ℕ) (at : ℕ) → AreTextsFrom (length bytes) 0 ends
+    → bytes' ≡ bytes ++ more → ends' ≡ ends ++ at ∷ [] → at ≡ length bytes'
+    → AreTextsFrom (length bytes') 0 ends'
+texts_on bytes more bytes' ends ends' at are b e is =
+    let size : length bytes' ≡ length bytes + length more = ap length b ∙ length-append bytes more in
+    subst (AreTextsFrom (length bytes') 0) (sym e)
+    (subst (λ (n : ℕ). AreTextsFrom (length bytes') 0 (ends ++ n ∷ [])) (sym is)
+    (subst (λ (n : ℕ). AreTextsFrom n 0 (ends ++ n ∷ [])) (sym size)
+    (still_texts (length bytes) (length more) 0 ends are)))
+
+pub texts_are : (bytes more bytes' ends ends' : List ℕ) (at : ℕ) → AreTextsFrom (length bytes) 0 ends
+    → bytes' ≡ bytes ++ more → ends' ≡ ends ++ at ∷ [] → at ≡ length bytes'
+    → texts_from bytes' 0 ends' ≡ texts_from bytes 0 ends ++ more ∷ []
+texts_are bytes more bytes' ends ends' at are b e is =
+    let place : at ≡ length bytes + length more = is ∙ (ap length b ∙ length-append bytes more) in
+    ap (λ (bs : List ℕ). texts_from bs 0 ends') b
+    ∙ (ap (texts_from (bytes ++ more) 0) (e ∙ ap (λ (n : ℕ). ends ++ n ∷ []) place)
+    ∙ text_added bytes more 0 ends are)

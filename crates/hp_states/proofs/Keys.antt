@@ -1,0 +1,316 @@
+-- Keys of places: how they are made, and that what goes on from places with one key goes on alike.
+use Rattle.std.proofs.Common.{◌≡◌, ℕ, zero, suc, ◌+◌, ◌*◌, ◌<◌, ◌≤◌, List, [], ◌∷◌, ◌++◌, length, Option, Some, None, slice_get, refl, ap, sym, subst, ◌∙◌, arith, inl, inr}
+use Rattle.std.specs.Prelude.{◌⊎◌, fold}
+use Rattle.std.proofs.lemmas.Bool.{cases_lt}
+use Rattle.std.proofs.lemmas.List.{append_assoc, length-append, length_push}
+use Rattle.std.proofs.lemmas.Option.{none-some, same_Some, slice_get_within}
+use Rattle.hp_states.proofs.Coded.{coded_states_are_same}
+use Rattle.hp_laws.proofs.Lists.{get_end, get_left}
+use Rattle.hp_units.specs.History.{net_of, value_of}
+use Rattle.hp_units.specs.Receipts.{receipts_of}
+use Rattle.hp_units.specs.declared.events.Event.{Event}
+use Rattle.hp_units.specs.declared.replies.Receipt.{Receipt}
+use Rattle.hp_units.specs.declared.replies.Record.{Record}
+use Rattle.hp_schedules.specs.Alike.{AreAlike, exchanges}
+use Rattle.hp_schedules.specs.Exchanges.{IsExchanged, exchange_in}
+use Rattle.hp_states.specs.Numbered.{AreNamed, IsNumbered, IsStateAt}
+use Rattle.hp_schedules.specs.Openings.{AreOpen, NumberedOpening}
+use Rattle.hp_schedules.specs.Schedules.{Setting, next_call, play_one, plays, record_of_call, schedule_of}
+use Rattle.hp_schedules.specs.Scripts.{own_operation}
+use Rattle.hp_states.specs.Standing.{AddsParts, IsBegunKey, IsKey, IsPart, IsStanding, KeepMeanings, StandingValue}
+use Rattle.hp_schedules.proofs.Exchanged.{exchanges_other, exchanges_own}
+use Rattle.hp_states.proofs.Numbered.{named_once, number_kept, state_kept}
+use Rattle.hp_schedules.proofs.Plays.{asks_within, from_news, plays_one, stays_none}
+
+-- ---- as more numbers come
+
+pub key_kept : (g : Setting) (old new : StandingValue) (news : List Record) (key : List ℕ)
+    → KeepMeanings old new → IsKey g old news key → IsKey g new news key
+key_kept g old new news key keep is = record {
+  state = is.state;
+  openings = is.openings;
+  state_first = is.state_first;
+  state_is = state_kept g old.codes new.codes news (Some is.state) keep.codes is.state_is;
+  openings_next = is.openings_next;
+  openings_are =
+      number_kept g old.codes new.codes old.lists new.lists news (Some is.openings) keep.codes keep.lists
+      is.openings_are;
+  parts = λ cpu within. let part = is.parts cpu within in record {
+    number = part.number;
+    first = part.first;
+    exchanged = keep.chains part.number (exchanges cpu news) part.exchanged;
+    second = part.second;
+  };
+  long = is.long;
+}
+
+-- ---- a key that is made
+
+pub key_begun : (s : StandingValue) (news : List Record) (state openings : ℕ) (old key : List ℕ)
+    → old ≡ [] → key ≡ old ++ state ∷ openings ∷ [] → IsBegunKey s news state openings 0 key
+key_begun s news state openings old key none is =
+    subst (IsBegunKey s news state openings 0)
+    (sym (is ∙ ap (λ (ks : List ℕ). ks ++ state ∷ openings ∷ []) none))
+    (record {
+      long = refl;
+      state_first = refl;
+      openings_next = refl;
+      parts = λ cpu less. absurd
+          (omega arith);
+    })
+
+-- one processor's more
+two_ends : (key : List ℕ) (first second : ℕ)
+    → (slice_get (key ++ first ∷ second ∷ []) (length key) ≡ Some first)
+    × (slice_get (key ++ first ∷ second ∷ []) (length key + 1) ≡ Some second)
+two_ends key first second = (
+  get_at (length key) ∙ (get_left (key ++ first ∷ []) (second ∷ []) (length key)
+      (omega (arith, length_push key first)) ∙ get_end key first),
+  get_at (length key + 1) ∙ (ap (slice_get ((key ++ first ∷ []) ++ second ∷ [])) (sym (length_push key first))
+      ∙ get_end (key ++ first ∷ []) second),
+)
+  where
+    get_at : (n : ℕ)
+        → slice_get (key ++ first ∷ second ∷ []) n ≡ slice_get ((key ++ first ∷ []) ++ second ∷ []) n
+    get_at n = ap (λ (ks : List ℕ). slice_get ks n) (sym (append_assoc key (first ∷ []) (second ∷ [])))
+
+part_left : (s : StandingValue) (cpu : ℕ) (news : List Record) (key more : List ℕ) → IsPart s cpu news key
+    → IsPart s cpu news (key ++ more)
+part_left s cpu news key more part = record {
+  number = part.number;
+  first =
+      get_left key more (2 * cpu + 2) (slice_get_within key (2 * cpu + 2) part.number part.first)
+      ∙ part.first;
+  exchanged = part.exchanged;
+  second =
+      get_left key more (2 * cpu + 3)
+      (slice_get_within key (2 * cpu + 3) (own_operation (receipts_of cpu news)) part.second)
+      ∙ part.second;
+}
+
+pub key_more : (s : StandingValue) (news : List Record) (state openings cpu number op : ℕ)
+    (old key : List ℕ)
+    → IsBegunKey s news state openings cpu old → key ≡ old ++ number ∷ op ∷ []
+    → IsExchanged s.exchanged.chains cpu news number → op ≡ own_operation (receipts_of cpu news)
+    → IsBegunKey s news state openings (cpu + 1) key
+key_more s news state openings cpu number op old key begun is exchanged own =
+    subst (IsBegunKey s news state openings (cpu + 1)) (sym is) (record {
+      long = omega (arith, begun.long, length-append old (number ∷ op ∷ []));
+      state_first =
+          get_left old (number ∷ op ∷ []) 0 (omega (arith, begun.long)) ∙ begun.state_first;
+      openings_next =
+          get_left old (number ∷ op ∷ []) 1 (omega (arith, begun.long)) ∙ begun.openings_next;
+      parts = λ c less. by_place c less (cases_lt c cpu);
+    })
+  where
+    last : IsPart s cpu news (old ++ number ∷ op ∷ [])
+    last = record {
+      number = number;
+      first =
+          ap (slice_get (old ++ number ∷ op ∷ [])) (sym begun.long) ∙ (two_ends old number op).0;
+      exchanged = exchanged;
+      second =
+          ap (slice_get (old ++ number ∷ op ∷ [])) next ∙ ((two_ends old number op).1 ∙ ap Some own);
+    }
+      where
+        next : 2 * cpu + 3 ≡ length old + 1
+        next = omega (arith, begun.long)
+
+    by_place : (c : ℕ) → c < cpu + 1 → (c < cpu) ⊎ (cpu ≤ c) → IsPart s c news (old ++ number ∷ op ∷ [])
+    by_place c less (inl below) = part_left s c news old (number ∷ op ∷ []) (begun.parts c below)
+    by_place c less (inr past) =
+        let same : cpu ≡ c = omega (arith, less, past) in
+        subst (λ (n : ℕ). IsPart s n news (old ++ number ∷ op ∷ [])) same last
+
+pub key_whole : (g : Setting) (s : StandingValue) (news : List Record) (state openings cpus : ℕ)
+    (key : List ℕ)
+    → cpus ≡ length g.scripts → IsStateAt g s.codes news (Some state)
+    → IsNumbered g s.codes s.lists news (Some openings) → IsBegunKey s news state openings cpus key
+    → IsKey g s news key
+key_whole g s news state openings cpus key many state_is openings_are begun = record {
+  state = state;
+  openings = openings;
+  state_first = begun.state_first;
+  state_is = state_is;
+  openings_next = begun.openings_next;
+  openings_are = openings_are;
+  parts = λ cpu within. begun.parts cpu (omega (arith, within, many));
+  long = omega (arith, begun.long, many);
+}
+
+-- begun with the numbers of where a walk stands
+pub key_made : (g : Setting) (s : StandingValue) (news : List Record) (state openings cpus : ℕ)
+    (old first key : List ℕ)
+    → cpus ≡ length g.scripts → s.here.state ≡ Some state → s.here.openings ≡ Some openings
+    → IsStanding g news s → old ≡ [] → first ≡ old ++ state ∷ openings ∷ []
+    → AddsParts s news cpus first key → IsKey g s news key
+key_made g s news state openings cpus old first key many state_is openings_are stands none is more =
+    key_whole g s news state openings cpus key many
+    (subst (IsStateAt g s.codes news) state_is stands.stops.1)
+    (subst (IsNumbered g s.codes s.lists news) openings_are stands.stops.0)
+    (more state openings (key_begun s news state openings old first none is))
+
+-- ---- how many calls there were follows from the exchanges
+
+abbrev many_to : (cpus : ℕ) → List Record → ℕ
+many_to zero h = 0
+many_to (suc cpu) h = many_to cpu h + length (exchanges cpu h)
+
+many_past : (cpus : ℕ) (h : List Record) (r : Record) → cpus ≤ r.cpu
+    → many_to cpus (h ++ r ∷ []) ≡ many_to cpus h
+many_past zero h r past = refl
+many_past (suc cpu) h r past =
+    omega (
+      arith,
+      many_past cpu h r (omega arith),
+      ap (λ (xs : List Receipt). length xs) (exchanges_other cpu h r (λ same. omega (arith, same, past))),
+    )
+
+more_at : (cpu : ℕ) (h : List Record) (r : Record) → r.cpu < suc cpu
+    → (r.cpu < cpu → many_to cpu (h ++ r ∷ []) ≡ many_to cpu h + 1)
+    → many_to (suc cpu) (h ++ r ∷ []) ≡ many_to (suc cpu) h + 1
+more_at cpu h r less before = by_place (cases_lt r.cpu cpu)
+  where
+    by_place : (r.cpu < cpu) ⊎ (cpu ≤ r.cpu) → many_to (suc cpu) (h ++ r ∷ []) ≡ many_to (suc cpu) h + 1
+    by_place (inl below) =
+        omega (
+          arith,
+          before below,
+          ap (λ (xs : List Receipt). length xs)
+              (exchanges_other cpu h r (λ same. omega (arith, same, below))),
+        )
+    by_place (inr past) =
+        let same : r.cpu ≡ cpu = omega (arith, past, less) in
+        omega (
+          arith,
+          many_past cpu h r past,
+          ap (λ (xs : List Receipt). length xs) (exchanges_own cpu h r same),
+          length_push (exchanges cpu h) (exchange_in r),
+        )
+
+many_more : (cpus : ℕ) (h : List Record) (r : Record) → r.cpu < cpus
+    → many_to cpus (h ++ r ∷ []) ≡ many_to cpus h + 1
+many_more zero h r less = absurd (omega arith)
+many_more (suc cpu) h r less = more_at cpu h r less (λ below. many_more cpu h r below)
+
+many_same : (cpus : ℕ) (h k : List Record)
+    → ((cpu : ℕ) → cpu < cpus → exchanges cpu h ≡ exchanges cpu k) → many_to cpus h ≡ many_to cpus k
+many_same zero h k same = refl
+many_same (suc cpu) h k same =
+    omega (
+      arith,
+      many_same cpu h k (λ c less. same c (omega arith)),
+      ap (λ (xs : List Receipt). length xs) (same cpu (omega arith)),
+    )
+
+called_by : (g : Setting) (h : List Record) (cpu : ℕ) (e : Event) (n : ℕ) → cpu < n
+    → (record_of_call g h cpu e).cpu < n
+unfolding record_of_call
+called_by g h cpu e n less = less
+
+-- each call is one of a script's processor
+many_played : (g : Setting) (rest : List ℕ) (h end : List Record)
+    → many_to (length g.scripts) h ≡ length h → from_news g h rest ≡ Some end
+    → many_to (length g.scripts) end ≡ length end
+many_played g [] h end so_far is =
+    subst (λ (news : List Record). many_to (length g.scripts) news ≡ length news) (same_Some h end is) so_far
+many_played g (cpu ∷ rest) h end so_far is =
+    by_call (next_call g cpu h) refl (λ e more on. many_played g rest (h ++ record_of_call g h cpu e ∷ []) end
+    more on)
+  where
+    by_call : (o : Option Event) → next_call g cpu h ≡ o
+        → ((e : Event) → many_to (length g.scripts) (h ++ record_of_call g h cpu e ∷ [])
+        ≡ length (h ++ record_of_call g h cpu e ∷ [])
+        → from_news g (h ++ record_of_call g h cpu e ∷ []) rest ≡ Some end
+        → many_to (length g.scripts) end ≡ length end)
+        → many_to (length g.scripts) end ≡ length end
+    by_call None asked later =
+        absurd (none-some end
+        (sym (ap (λ (o : Option (List Record)). fold (play_one g) o rest) (plays_one g h cpu None asked)
+        ∙ stays_none g rest) ∙ is))
+    by_call (Some e) asked later =
+        later e (counted (asks_within g h cpu e asked))
+        (sym (ap (λ (o : Option (List Record)). fold (play_one g) o rest) (plays_one g h cpu (Some e) asked))
+        ∙ is)
+      where
+        counted : cpu < length g.scripts → many_to (length g.scripts) (h ++ record_of_call g h cpu e ∷ [])
+            ≡ length (h ++ record_of_call g h cpu e ∷ [])
+        counted less =
+            omega (
+              arith,
+              many_more (length g.scripts) h (record_of_call g h cpu e) (whose less),
+              so_far,
+              length_push h (record_of_call g h cpu e),
+            )
+          where
+            whose : cpu < length g.scripts → (record_of_call g h cpu e).cpu < length g.scripts
+            whose within = called_by g h cpu e (length g.scripts) within
+
+pub none_many : (cpus : ℕ) → many_to cpus [] ≡ 0
+none_many zero = refl
+none_many (suc cpu) = omega (arith, none_many cpu)
+
+calls_counted : (g : Setting) (h : List Record) → plays g (schedule_of h) ≡ Some h
+    → many_to (length g.scripts) h ≡ length h
+unfolding plays
+calls_counted g h played = many_played g (schedule_of h) [] h (none_many (length g.scripts)) played
+
+pub calls_same : (g : Setting) (h k : List Record) → plays g (schedule_of h) ≡ Some h
+    → plays g (schedule_of k) ≡ Some k
+    → ((cpu : ℕ) → cpu < length g.scripts → exchanges cpu h ≡ exchanges cpu k) → length h ≡ length k
+calls_same g h k first second same =
+    omega (arith, calls_counted g h first, calls_counted g k second, many_same (length g.scripts) h k same)
+
+-- ---- places with one key
+
+-- the states are the same, and Cancels lead back to the same states
+state_same : (g : Setting) (s : StandingValue) (h k : List Record) (n m : ℕ) → n ≡ m
+    → IsStateAt g s.codes h (Some n) → IsStateAt g s.codes k (Some m)
+    → value_of g.layout g.base (g.start ++ h) ≡ value_of g.layout g.base (g.start ++ k)
+state_same g s h k n m same first second =
+    coded_states_are_same g.layout s.codes m (value_of g.layout g.base (g.start ++ h))
+    (value_of g.layout g.base (g.start ++ k))
+    (subst (λ (number : ℕ). IsStateAt g s.codes h (Some number)) same first) second
+
+openings_same : (g : Setting) (s : StandingValue) (h k : List Record) (n m : ℕ) → n ≡ m
+    → (first : IsNumbered g s.codes s.lists h (Some n)) → (second : IsNumbered g s.codes s.lists k (Some m))
+    → first.1 ≡ second.1
+openings_same g s h k n m same first second =
+    named_once g.layout s.codes second.0 first.1 second.1
+    (subst (λ (ns : List NumberedOpening). AreNamed g.layout s.codes ns first.1)
+    (same_Some first.0 second.0 (sym first.2 ∙ (ap (slice_get s.lists) same ∙ second.2))) first.3)
+    second.3
+
+exchanged_same : (s : StandingValue) (cpu : ℕ) (h k : List Record) (key : List ℕ) → IsPart s cpu h key
+    → IsPart s cpu k key → exchanges cpu h ≡ exchanges cpu k
+exchanged_same s cpu h k key a b =
+    same_Some (exchanges cpu h) (exchanges cpu k)
+    (sym a.exchanged
+    ∙ (ap (slice_get s.exchanged.chains) (same_Some a.number b.number (sym a.first ∙ b.first)) ∙ b.exchanged))
+
+pub keys_alike : (g : Setting) (s : StandingValue) (h k : List Record) (key : List ℕ)
+    → plays g (schedule_of h) ≡ Some h → plays g (schedule_of k) ≡ Some k
+    → IsKey g s h key → IsKey g s k key → AreAlike g h k
+unfolding value_of
+keys_alike g s h k key first second a b = record {
+  calls = calls_same g h k first second exchanged;
+  exchanged = exchanged;
+  begun =
+      λ cpu within. same_Some (own_operation (receipts_of cpu h)) (own_operation (receipts_of cpu k))
+      (sym (a.parts cpu within).second ∙ (b.parts cpu within).second);
+  nets = record {
+    openings = b.openings_are.1;
+    first_open =
+        subst (AreOpen g.layout g.base (net_of (g.start ++ h)))
+        (openings_same g s h k a.openings b.openings
+        (same_Some a.openings b.openings (sym a.openings_next ∙ b.openings_next)) a.openings_are
+        b.openings_are) a.openings_are.4;
+    second_open = b.openings_are.4;
+    state =
+        state_same g s h k a.state b.state (same_Some a.state b.state (sym a.state_first ∙ b.state_first))
+        a.state_is b.state_is;
+  };
+}
+  where
+    exchanged : (cpu : ℕ) → cpu < length g.scripts → exchanges cpu h ≡ exchanges cpu k
+    exchanged cpu within = exchanged_same s cpu h k key (a.parts cpu within) (b.parts cpu within)

@@ -1,0 +1,14 @@
+use Rattle.std.proofs.Common.{◌≡◌, ◌++◌, slice_get, take}
+use Rattle.std.specs.List.{flat_map}
+use Rattle.hp_units.specs.Memory.{free_list}
+use Rattle.hp_states.specs.Numbers.{number_code}
+use Rattle.hp_states.proofs.memories.put_area.Given as goal
+
+abbrev pub invariant-loop-number : goal.invariant-loop-number
+invariant-loop-number l = record {
+  code : l.code
+      ≡ (l.initial.code
+      ++ flat_map number_code
+      (take l._number (free_list l.fn.memory.state.free.areas l.fn.class l.fn.order)));
+  ahead : l.ahead ≡ slice_get (free_list l.fn.memory.state.free.areas l.fn.class l.fn.order) l._number;
+}

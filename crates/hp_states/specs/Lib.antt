@@ -1,0 +1,11 @@
+pub mod Codes
+pub mod Frames
+pub mod Numbered
+pub mod Numbers
+pub mod Parts
+pub mod Places
+pub mod Rooms
+pub mod Seen
+pub mod Standing
+pub mod Texts
+pub mod Walks

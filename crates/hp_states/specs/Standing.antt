@@ -1,0 +1,77 @@
+-- Where a walk is, in numbers.
+use Rattle.std.specs.Prelude.{◌≡◌, ℕ, ◌+◌, ◌*◌, ◌<◌, List, ◌∷◌, Some, length, reverse, slice_get, [], ◌++◌}
+use Rattle.hp_states.specs.Codes.{KeepCodes}
+use Rattle.hp_units.specs.Receipts.{receipts_of}
+use Rattle.hp_units.specs.declared.replies.Record.{Record}
+use Rattle.hp_schedules.specs.Exchanges.{AreExchanged, ExchangesValue, IsExchanged}
+use Rattle.hp_schedules.specs.Numbers.{KeepNumbers}
+use Rattle.hp_states.specs.Numbered.{IsNumbered, IsStateAt}
+use Rattle.hp_schedules.specs.Openings.{NumberedOpening}
+use Rattle.hp_schedules.specs.Schedules.{Setting}
+use Rattle.hp_schedules.specs.Scripts.{own_operation}
+use Rattle.hp_states.specs.declared.standing.Stop.{Stop}
+
+-- the meaning of each number of a state, of openings and of exchanges; each processor's number; and
+-- the numbers of this place and of those before it on the way
+pub record StandingValue : Type 0 where
+  pub codes : List (List ℕ)
+  pub lists : List (List NumberedOpening)
+  pub exchanged : ExchangesValue
+  pub here : Stop
+  pub before : List Stop
+
+-- these are the numbers of the places on a way, the latest first
+abbrev pub AreStops : Setting → (codes : List (List ℕ)) → List (List NumberedOpening) → (news : List Record)
+    → List Stop → Type 0
+AreStops g codes lists news [] = Unit {0}
+AreStops g codes lists news (stop ∷ stops) =
+    IsNumbered g codes lists news stop.openings × IsStateAt g codes news stop.state
+    × ((before : List Record) (r : Record) → news ≡ before ++ r ∷ [] → AreStops g codes lists before stops)
+
+-- the numbers are those of the place after the new records
+pub record IsStanding (g : Setting) (news : List Record) (s : StandingValue) : Type 0 where
+  pub stops : AreStops g s.codes s.lists news (s.here ∷ reverse s.before)
+  pub exchanged : AreExchanged g news s.exchanged
+
+-- each number keeps its meaning
+pub record KeepMeanings (old new : StandingValue) : Type 0 where
+  pub codes : KeepCodes old.codes new.codes
+  pub lists : KeepNumbers old.lists new.lists
+  pub chains : KeepNumbers old.exchanged.chains new.exchanged.chains
+
+-- the same meanings; only the place differs
+abbrev pub AreSameNumbers : (old new : StandingValue) → Type 0
+AreSameNumbers old new =
+    (new.codes ≡ old.codes) × (new.lists ≡ old.lists) × (new.exchanged.chains ≡ old.exchanged.chains)
+
+-- a processor's part of a key: the number of its exchanges, and the operation that it began last
+pub record IsPart (s : StandingValue) (cpu : ℕ) (news : List Record) (key : List ℕ) : Type 0 where
+  pub number : ℕ
+  pub first : slice_get key (2 * cpu + 2) ≡ Some number
+  pub exchanged : IsExchanged s.exchanged.chains cpu news number
+  pub second : slice_get key (2 * cpu + 3) ≡ Some (own_operation (receipts_of cpu news))
+
+-- a key with the parts of the processors below `cpus`
+pub record IsBegunKey (s : StandingValue) (news : List Record) (state openings cpus : ℕ)
+    (key : List ℕ) : Type 0 where
+  pub long : length key ≡ 2 * cpus + 2
+  pub state_first : slice_get key 0 ≡ Some state
+  pub openings_next : slice_get key 1 ≡ Some openings
+  pub parts : (cpu : ℕ) → cpu < cpus → IsPart s cpu news key
+
+-- what was appended completes a fresh key with the parts of the processors below `cpus`
+abbrev pub AddsParts : StandingValue → (news : List Record) → (cpus : ℕ) → (old new : List ℕ) → Type 0
+AddsParts s news cpus old new =
+    (state openings : ℕ) → IsBegunKey s news state openings 0 old → IsBegunKey s news state openings cpus new
+
+-- a key of the place after the new records: the number of the state, that of the cancellable
+-- operations, and a part for each processor that has a script
+pub record IsKey (g : Setting) (s : StandingValue) (news : List Record) (key : List ℕ) : Type 0 where
+  pub state : ℕ
+  pub openings : ℕ
+  pub state_first : slice_get key 0 ≡ Some state
+  pub state_is : IsStateAt g s.codes news (Some state)
+  pub openings_next : slice_get key 1 ≡ Some openings
+  pub openings_are : IsNumbered g s.codes s.lists news (Some openings)
+  pub parts : (cpu : ℕ) → cpu < length g.scripts → IsPart s cpu news key
+  pub long : length key ≡ 2 * length g.scripts + 2

@@ -1,0 +1,182 @@
+//! What a walk does when it reaches a place and when it leaves it.
+ghost use Rattle.std.specs.Prelude.{◌≡◌, ◌<◌, IfOk, List, OnOk, length, true};
+ghost use Rattle.hp_units.specs.declared.replies.Record.{Record as NewRecord};
+ghost use Rattle.hp_states.specs.Frames.{IsAdded, IsArrival, IsEntered, IsEnteredWithin, IsKeeping, IsLeaving, IsStood};
+ghost use Rattle.hp_states.specs.Places.{memory_at, standing};
+ghost use Rattle.hp_states.specs.Seen.{IsMemo, IsOnWay};
+ghost use Rattle.hp_states.specs.Walks.{IsNotedAtEnd};
+ghost use Rattle.hp_schedules.specs.Notes.{HasRoom};
+ghost use Rattle.hp_schedules.specs.Schedules.{Setting};
+ghost use Rattle.hp_schedules.specs.Shares.{AreAtEnds};
+ghost use Rattle.hp_schedules.specs.declared.tally.Ending.{Ending};
+
+use crate::ends::ended_rows;
+use crate::frames::{Entry, Frame, Kept};
+use crate::memo::Memo;
+use crate::watch::Watch;
+use hp_memory::Memory;
+use hp_schedules::{Part, Positions, Share, Tally, fit_in};
+use hp_units::Record;
+use std::alloc::{AllocError, Global};
+
+/// Decides how to treat the place just reached: skip it if it belongs to another part, reuse the
+/// counts of a place that is alike, or walk it.
+///
+/// While too few calls are made to decide the part, a place is always walked, since schedules of
+/// other parts continue from it. Its state still gets a number, because operations that begin there
+/// can be cancelled back to it.
+pub fn arrive<W: Watch>(
+    alloc: Global,
+    records: &[Record],
+    memory: &Memory,
+    positions: &Positions,
+    part: Part,
+    processors: u32,
+    tally: &mut Tally,
+    memo: &mut Memo,
+    watch: &mut W,
+) -> Result<Entry, AllocError>
+    requires processors { processors ≡ length positions.now.cursors.items }
+    requires arrival { (g : Setting) × IsArrival g part records.now memory.now
+        positions.now.cursors.items tally.old.ends memo.old }
+    ensures ok { IfOk result (λ entry. (g : Setting) → IsArrival g part records.now memory.now
+        positions.now.cursors.items tally.old.ends memo.old
+        → IsEntered g records.now part tally.old.ends tally.new.ends entry) }
+    ensures memo { (g : Setting) (ends : List Ending) → IsMemo g ends memo.old → IsMemo g ends memo.new }
+    ensures way { (g : Setting) → memory.now ≡ memory_at g records.now → IsOnWay g records.now memo.old
+        → IsOnWay g records.now memo.new }
+    ensures limit { tally.new.limit ≡ tally.old.limit }
+{
+    if records.len() < part.calls() as usize {
+        let _has_key = memo.come_to(alloc, memory, positions, processors)?;
+        return Ok(Entry::Open(Frame::new(None)));
+    }
+    if part.leaves_out(processors, records) {
+        return Ok(Entry::Counted);
+    }
+    enter(alloc, memory, positions, processors, tally, memo, watch)
+}
+
+/// Decides the same for a place from which only schedules of one part continue: if a place that is
+/// alike has been walked, its counts are added.
+fn enter<W: Watch>(
+    alloc: Global,
+    memory: &Memory,
+    positions: &Positions,
+    processors: u32,
+    tally: &mut Tally,
+    memo: &mut Memo,
+    watch: &mut W,
+) -> Result<Entry, AllocError>
+    requires processors { processors ≡ length positions.now.cursors.items }
+    requires stood { (g : Setting) × (news : List NewRecord) × IsStood g news memory.now
+        positions.now.cursors.items tally.old.ends memo.old }
+    ensures ok { IfOk result (λ entry. (g : Setting) (news : List NewRecord)
+        → IsStood g news memory.now positions.now.cursors.items tally.old.ends memo.old
+        → IsEnteredWithin g news tally.old.ends tally.new.ends entry) }
+    ensures memo { (g : Setting) (ends : List Ending) → IsMemo g ends memo.old → IsMemo g ends memo.new }
+    ensures way { (g : Setting) (news : List NewRecord) → memory.now ≡ memory_at g news
+        → IsOnWay g news memo.old → IsOnWay g news memo.new }
+    ensures limit { tally.new.limit ≡ tally.old.limit }
+{
+    let has_key = memo.come_to(alloc, memory, positions, processors)?;
+    if !has_key {
+        return Ok(Entry::Open(Frame::new(None)));
+    }
+    if let Some(shares) = memo.shares() {
+        return Ok(add_shares(tally, shares, watch));
+    }
+    let frame = Frame::keeping(alloc, tally)?;
+    Ok(Entry::Open(frame))
+}
+
+/// Adds the shares to the tally. If the tally has no room for all of
+/// them, the place is to be walked.
+fn add_shares<W: Watch>(tally: &mut Tally, shares: &[Share], watch: &mut W) -> Entry
+    requires { AreAtEnds (length tally.old.ends) shares.now }
+    ensures ok { IsAdded tally.old.ends shares.now tally.new.ends result }
+    ensures limit { tally.new.limit ≡ tally.old.limit }
+{
+    if !fit_in(shares, tally.room()) {
+        return Entry::Open(Frame::new(None));
+    }
+    tally.add(shares);
+    watch.counted(tally.total());
+    Entry::Counted
+}
+
+/// Counts the schedule that led to this place, if `is_end` says that it
+/// ends here and belongs to the part.
+pub fn note<W: Watch>(
+    alloc: Global,
+    records: &[Record],
+    memory: &Memory,
+    processors: u32,
+    is_end: bool,
+    tally: &mut Tally,
+    watch: &mut W,
+) -> Result<(), AllocError>
+    requires { is_end ≡ true → HasRoom tally.old }
+    ensures ok { OnOk result ((g : Setting) → memory.now ≡ memory_at g records.now
+        → IsNotedAtEnd is_end processors (standing g records.now) tally.old.ends tally.new.ends) }
+    ensures limit { tally.new.limit ≡ tally.old.limit }
+{
+    if !is_end {
+        return Ok(());
+    }
+    let blocks = ended_rows(alloc, memory)?;
+    let noted = tally.note(alloc, processors, records, blocks);
+    watch.counted(tally.total());
+    noted
+}
+
+/// Keeps the counts of a place that has been walked, if its frame asks for that and only schedules
+/// of the part continue from it.
+pub fn leave(
+    records: &[Record],
+    positions: &Positions,
+    part: Part,
+    processors: u32,
+    frame: Frame,
+    tally: &Tally,
+    memo: &mut Memo,
+) -> Result<(), AllocError>
+    requires processors { processors ≡ length positions.now.cursors.items }
+    requires leaving { (g : Setting) × IsLeaving g part records.now positions.now.cursors.items
+        tally.now.ends memo.old frame }
+    ensures memo { OnOk result ((g : Setting) → IsLeaving g part records.now positions.now.cursors.items
+        tally.now.ends memo.old frame → IsMemo g tally.now.ends memo.new) }
+    ensures same { (memo.new.is_on ≡ memo.old.is_on) × (memo.new.standing ≡ memo.old.standing) }
+{
+    if records.len() < part.calls() as usize {
+        return Ok(());
+    }
+    match frame.into_kept() {
+        Some(kept) => keep(positions, processors, Box::into_inner(kept), tally, memo),
+        None => Ok(()),
+    }
+}
+
+/// Stores the place's key, with what each end counts more since the walk reached it.
+fn keep(
+    positions: &Positions,
+    processors: u32,
+    kept: Kept,
+    tally: &Tally,
+    memo: &mut Memo,
+) -> Result<(), AllocError>
+    requires processors { processors ≡ length positions.now.cursors.items }
+    requires keeping { (g : Setting) × (news : List NewRecord) × IsKeeping g news
+        positions.now.cursors.items tally.now.ends memo.old kept }
+    ensures memo { OnOk result ((g : Setting) (news : List NewRecord)
+        → IsKeeping g news positions.now.cursors.items tally.now.ends memo.old kept
+        → IsMemo g tally.now.ends memo.new) }
+    ensures same { (memo.new.is_on ≡ memo.old.is_on) × (memo.new.standing ≡ memo.old.standing) }
+{
+    let has_key = memo.write_key(positions, processors)?;
+    if !has_key {
+        return Ok(());
+    }
+    let Kept { earlier } = kept;
+    memo.keep(earlier.as_slice(), tally)
+}

@@ -1,0 +1,149 @@
+//! The buffer that a state is encoded into.
+ghost use Rattle.std.specs.Prelude.{◌≡◌, [], ◌∷◌, ◌++◌, OnOk, option_map};
+ghost use Rattle.std.specs.List.{flat_map};
+ghost use Rattle.hp_states.specs.Numbers.{number_code, option_code, wide_code};
+ghost use Rattle.hp_states.specs.Parts.{words_code};
+
+use hp_units::{Frame, Order};
+use std::alloc::{AllocError, Global};
+use std::marker::Model;
+
+/// A buffer of bytes that grows at its end.
+#[derive(Drop)]
+pub(crate) struct Code {
+    bytes: Vec<u8>,
+}
+
+impl Model for Code {
+    ghost use Rattle.std.specs.Prelude.{ℕ, List};
+
+    ghost Value = { List ℕ };
+
+    ghost view = { λ c. c.bytes.items };
+}
+
+impl Code {
+    /// Creates an empty buffer. Allocates nothing.
+    pub(crate) fn new(alloc: Global) -> Code
+        ensures { result ≡ [] }
+    {
+        Code {
+            bytes: Vec::new(alloc),
+        }
+    }
+
+    /// Removes all bytes but keeps the capacity, so that the next state reuses it.
+    pub(crate) fn clear(&mut self)
+        ensures { self.new ≡ [] }
+    {
+        self.bytes.clear();
+    }
+
+    /// Returns the bytes written so far.
+    pub(crate) fn bytes(&self) -> &[u8]
+        ensures { result.now ≡ self.now }
+    {
+        self.bytes.as_slice()
+    }
+
+    /// Appends one byte.
+    #[inline(always)]
+    pub(crate) fn byte(&mut self, byte: u8) -> Result<(), AllocError>
+        ensures { OnOk result (self.new ≡ self.old ++ byte ∷ []) }
+    {
+        if self.bytes.len() < self.bytes.capacity() {
+            self.bytes.push_reserved(byte);
+            return Ok(());
+        }
+        self.byte_past_room(byte)
+    }
+
+    /// Appends one byte when the buffer is full. Kept out of line, since it is rare.
+    #[inline(never)]
+    fn byte_past_room(&mut self, byte: u8) -> Result<(), AllocError>
+        ensures { OnOk result (self.new ≡ self.old ++ byte ∷ []) }
+    {
+        self.bytes.push(byte)?;
+        Ok(())
+    }
+
+    /// Appends a number: in one byte if it is below 253, and in 3, 5 or 9 bytes otherwise.
+    #[inline(always)]
+    #[tactic(auto, unfolding(crate::specs::Numbers::number_code))]
+    pub(crate) fn number(&mut self, number: u64) -> Result<(), AllocError>
+        ensures { OnOk result (self.new ≡ self.old ++ number_code number) }
+    {
+        if number < 253 {
+            self.byte(number as u8)
+        } else {
+            self.wide(number)
+        }
+    }
+
+    /// Appends a number that needs more than one byte.
+    #[inline(never)]
+    fn wide(&mut self, number: u64) -> Result<(), AllocError>
+        ensures { OnOk result (self.new ≡ self.old ++ wide_code number) }
+    {
+        if number < 1 << 16 {
+            self.marked(253, &(number as u16).to_le_bytes())
+        } else if number < 1 << 32 {
+            self.marked(254, &(number as u32).to_le_bytes())
+        } else {
+            self.marked(255, &number.to_le_bytes())
+        }
+    }
+
+    /// Appends a mark and the bytes that belong to it.
+    fn marked(&mut self, mark: u8, bytes: &[u8]) -> Result<(), AllocError>
+        ensures { OnOk result (self.new ≡ self.old ++ mark ∷ bytes.now) }
+    {
+        self.byte(mark)?;
+        self.bytes.extend_from_slice(bytes)?;
+        Ok(())
+    }
+
+    /// Appends an optional frame: 0 for none, and its number plus one otherwise.
+    pub(crate) fn frame_or_none(&mut self, frame: Option<Frame>) -> Result<(), AllocError>
+        ensures { OnOk result (self.new ≡ self.old ++ option_code frame) }
+    {
+        match frame {
+            None => self.number(0),
+            Some(frame) => self.number(u64::from(frame.0) + 1),
+        }
+    }
+
+    /// Appends an optional order: 0 for none, and the order plus one otherwise.
+    pub(crate) fn order_or_none(&mut self, order: Option<Order>) -> Result<(), AllocError>
+        ensures { OnOk result (self.new ≡ self.old ++ option_code order) }
+    {
+        match order {
+            None => self.number(0),
+            Some(order) => self.number(u64::from(order.0) + 1),
+        }
+    }
+
+    /// Appends a page's words after their count plus one, or 0 if the page is not mapped.
+    pub(crate) fn words(&mut self, words: Option<&[u64]>) -> Result<(), AllocError>
+        ensures { OnOk result
+            (self.new ≡ self.old ++ words_code (option_map (λ w. w.now) words.entry)) }
+    {
+        match words {
+            None => self.number(0),
+            Some(words) => {
+                self.number(words.len() as u64 + 1)?;
+                self.numbers(words)
+            }
+        }
+    }
+
+    /// Appends several numbers without their count.
+    fn numbers(&mut self, numbers: &[u64]) -> Result<(), AllocError>
+        ensures { OnOk result (self.new ≡ self.old ++ flat_map number_code numbers.now) }
+    {
+        for number in numbers {
+            self.number(*number)?;
+        }
+        Ok(())
+    }
+}

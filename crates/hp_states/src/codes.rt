@@ -1,0 +1,62 @@
+//! The table of encoded states.
+ghost use Rattle.std.specs.Prelude.{◌≡◌, [], IfOk};
+ghost use Rattle.hp_states.specs.Codes.{IsCoded, KeepCodes};
+
+use crate::code::Code;
+use crate::memories::put_memory;
+use crate::texts::Texts;
+use hp_memory::Memory;
+use std::alloc::{AllocError, Global};
+use std::marker::Model;
+
+/// A table that interns states: it stores each state's code and gives it a number, from 0 on.
+///
+/// A search compares and keeps these numbers in place of whole states. The contract sees
+/// the table as the list of codes.
+pub struct Codes {
+    written: Code,
+    texts: Texts,
+}
+
+impl Model for Codes {
+    ghost use Rattle.std.specs.Prelude.{ℕ, List};
+
+    ghost Value = { List (List ℕ) };
+
+    ghost view = { λ c. c.texts };
+}
+
+/// Keeps callers from proving again how each field is dropped.
+impl Drop for Codes {
+    fn drop(self) {
+        let Codes {
+            written: _,
+            texts: _,
+        } = self;
+    }
+}
+
+impl Codes {
+    /// Creates an empty table. Allocates nothing.
+    pub fn new(alloc: Global) -> Codes
+        ensures { result ≡ [] }
+    {
+        Codes {
+            written: Code::new(alloc),
+            texts: Texts::new(alloc),
+        }
+    }
+
+    /// Returns the number of the memory's state, and adds the state if it is not found.
+    ///
+    /// If memory runs out, all earlier numbers still mean the same states.
+    pub fn number_of(&mut self, alloc: Global, memory: &Memory) -> Result<usize, AllocError>
+        ensures kept { KeepCodes self.old self.new }
+        ensures ok { IfOk result (λ n. IsCoded memory.now.layout self.new n memory.now.state) }
+    {
+        memory.is_placed();
+        self.written.clear();
+        put_memory(&mut self.written, memory)?;
+        self.texts.number_of(self.written.bytes())
+    }
+}

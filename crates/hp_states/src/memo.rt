@@ -1,0 +1,229 @@
+//! The places walked so far, with the counts that are reused at places alike.
+ghost use Rattle.std.specs.Prelude.{◌≡◌, ◌++◌, ◌∷◌, [], IfOk, IfSome, IsTrue, List, None, OnOk, Some, cond, length, replicate, true};
+ghost use Rattle.hp_units.specs.History.{effect_of};
+ghost use Rattle.hp_units.specs.declared.replies.Record.{Record as NewRecord};
+ghost use Rattle.hp_schedules.specs.Alike.{leaves_steps};
+ghost use Rattle.hp_schedules.specs.Cursors.{AreCursors};
+ghost use Rattle.hp_schedules.specs.Schedules.{Setting};
+ghost use Rattle.hp_states.specs.Seen.{AreSamePlaces, IsKeptMore, IsMemo, IsOnWay, IsRowAmong, key_in};
+ghost use Rattle.hp_schedules.specs.Shares.{AreNoMore};
+ghost use Rattle.hp_states.specs.Standing.{AreSameNumbers, IsKey, KeepMeanings};
+ghost use Rattle.hp_states.specs.Places.{IsPlace, memory_at};
+ghost use Rattle.hp_schedules.specs.declared.tally.Ending.{Ending};
+
+use crate::standing::Standing;
+use hp_memory::Memory;
+use hp_schedules::{Positions, Rows, Share, Tally, key_digest, learn};
+use hp_units::{Cpu, Record};
+use indexmap::IndexMap;
+use std::alloc::{AllocError, Global};
+use std::marker::Model;
+
+/// The places walked so far: the key of each, and how many schedules continue from it to each end.
+///
+/// All keys have the same width and are stored one after another. `latest` maps a hash to the
+/// newest place that has it. `key` is the key written last, and `shares` a buffer that is reused.
+pub struct Memo {
+    is_on: bool,
+    keys: Vec<u32>,
+    rows: Rows,
+    latest: IndexMap<u64, usize>,
+    key: Vec<u32>,
+    shares: Vec<Share>,
+    standing: Standing,
+}
+
+impl Model for Memo {
+    ghost use Rattle.hp_states.specs.Seen.{MemoValue};
+
+    ghost Value = { MemoValue };
+
+    ghost view = { λ m. record {
+      is_on = m.is_on;
+      keys = m.keys.items;
+      rows = m.rows;
+      key = m.key.items;
+      standing = m.standing;
+    } };
+}
+
+/// Keeps callers from proving again how each field is dropped.
+impl Drop for Memo {
+    fn drop(self) {
+        let Memo {
+            is_on: _,
+            keys: _,
+            rows: _rows,
+            latest: _,
+            key: _,
+            shares: _,
+            standing: _standing,
+        } = self;
+    }
+}
+
+impl Memo {
+    /// Creates an empty memo for a walk at the beginning of the scripts. With
+    /// `is_on` false, no place is ever kept.
+    ///
+    /// `is_closed` states that no Cancel can drop a step that led there.
+    pub fn start(
+        alloc: Global,
+        is_on: bool,
+        processors: usize,
+        is_closed: bool,
+    ) -> Result<Memo, AllocError>
+        ensures on { IfOk result (λ memo. memo.is_on ≡ is_on) }
+        ensures rows { IfOk result (λ memo. (memo.keys ≡ []) × (memo.rows ≡ [])) }
+        ensures standing { IfOk result (λ memo. memo.standing ≡ record {
+          codes = [];
+          lists = [] ∷ [];
+          exchanged = record { chains = [] ∷ []; here = replicate processors 0 };
+          here = record { openings = cond is_closed (Some 0) None; state = None };
+          before = [];
+        }) }
+    {
+        let standing = Standing::start(alloc, processors, is_closed)?;
+        Ok(Memo {
+            is_on,
+            keys: Vec::new(alloc),
+            rows: Rows::new(alloc),
+            latest: IndexMap::new(alloc),
+            key: Vec::new(alloc),
+            shares: Vec::new(alloc),
+            standing,
+        })
+    }
+
+    /// Follows a call.
+    pub fn go_on(&mut self, alloc: Global, latest: &Record) -> Result<(), AllocError>
+        requires { (g : Setting) × (news : List NewRecord) × IsOnWay g news self.old }
+        ensures kept { KeepMeanings self.old.standing self.new.standing }
+        ensures same { AreSamePlaces self.old self.new }
+        ensures ok { OnOk result ((g : Setting) (news : List NewRecord) → IsOnWay g news self.old
+            → (self.old.is_on ≡ true → leaves_steps (effect_of latest.now.event) ≡ true)
+            → IsOnWay g (news ++ latest.now ∷ []) self.new) }
+    {
+        if !self.is_on {
+            return Ok(());
+        }
+        self.standing.go_on(alloc, latest)
+    }
+
+    /// Takes back the latest call of processor `cpu`.
+    pub fn go_back(&mut self, cpu: Cpu)
+        ensures same { AreSamePlaces self.old self.new
+            × AreSameNumbers self.old.standing self.new.standing }
+        ensures back { (g : Setting) (news : List NewRecord) (r : NewRecord) → r.cpu ≡ cpu
+            → IsOnWay g (news ++ r ∷ []) self.old → IsOnWay g news self.new }
+    {
+        if self.is_on {
+            self.standing.go_back(cpu);
+        }
+    }
+
+    /// Gives the state at the place a number, writes the place's key,
+    /// and returns whether it has one.
+    ///
+    /// It has none if places are not kept, or if it is unknown which
+    /// operations a Cancel can take back.
+    pub(crate) fn come_to(
+        &mut self,
+        alloc: Global,
+        memory: &Memory,
+        positions: &Positions,
+        processors: u32,
+    ) -> Result<bool, AllocError>
+        requires processors { processors ≡ length positions.now.cursors.items }
+        requires way { (g : Setting) × (news : List NewRecord)
+            × IsPlace g news memory.now positions.now.cursors.items × IsOnWay g news self.old }
+        ensures kept { KeepMeanings self.old.standing self.new.standing }
+        ensures same { AreSamePlaces self.old self.new }
+        ensures memo { (g : Setting) (ends : List Ending) → IsMemo g ends self.old → IsMemo g ends self.new }
+        ensures way { (g : Setting) (news : List NewRecord) → memory.now ≡ memory_at g news
+            → IsOnWay g news self.old → IsOnWay g news self.new }
+        ensures on { IfOk result (λ has. has ≡ true → self.old.is_on ≡ true) }
+        ensures ok { IfOk result (λ has. has ≡ true → (g : Setting) (news : List NewRecord)
+            → IsPlace g news memory.now positions.now.cursors.items → IsOnWay g news self.old
+            → IsKey g self.new.standing news self.new.key) }
+    {
+        if !self.is_on {
+            return Ok(false);
+        }
+        self.standing.number_state(alloc, memory)?;
+        self.standing.key(positions, processors, &mut self.key)
+    }
+
+    /// Writes the key of the place where the walk is, after `come_to`,
+    /// and returns whether it has one.
+    pub(crate) fn write_key(
+        &mut self,
+        positions: &Positions,
+        processors: u32,
+    ) -> Result<bool, AllocError>
+        requires processors { processors ≡ length positions.now.cursors.items }
+        requires way { (g : Setting) × (news : List NewRecord)
+            × AreCursors g news positions.now.cursors.items × IsOnWay g news self.old }
+        ensures same { AreSamePlaces self.old self.new × (self.new.standing ≡ self.old.standing) }
+        ensures ok { IfOk result (λ has. has ≡ true → (g : Setting) (news : List NewRecord)
+            → AreCursors g news positions.now.cursors.items → IsOnWay g news self.old
+            → IsKey g self.new.standing news self.new.key) }
+    {
+        if !self.is_on {
+            return Ok(false);
+        }
+        self.standing.key(positions, processors, &mut self.key)
+    }
+
+    /// Returns the shares of a place with the key written last, if it is
+    /// the newest place with its hash.
+    pub(crate) fn shares(&self) -> Option<&[Share]>
+        ensures { IfSome result (λ shares. IsRowAmong self.now.keys self.now.rows self.now.key shares.now) }
+    {
+        let key = self.key.as_slice();
+        let Some(place) = self.latest.get(&key_digest(key)) else {
+            return None;
+        };
+        if !is_key_at(self.keys.as_slice(), *place, key) {
+            return None;
+        }
+        self.rows.row(*place)
+    }
+
+    /// Stores a place under the key written last, with what each end counts more than in `earlier`.
+    pub(crate) fn keep(&mut self, earlier: &[u64], tally: &Tally) -> Result<(), AllocError>
+        requires { AreNoMore earlier.now tally.now.ends }
+        ensures same { (self.new.is_on ≡ self.old.is_on) × (self.new.standing ≡ self.old.standing) }
+        ensures ok { OnOk result (IsKeptMore earlier.now tally.now.ends self.old self.new) }
+    {
+        tally.since(earlier, &mut self.shares)?;
+        let digest = key_digest(self.key.as_slice());
+        let place = self.rows.len();
+        self.keys.extend_from_slice(self.key.as_slice())?;
+        self.rows.push(self.shares.as_slice())?;
+        learn(&mut self.latest, digest, place)
+    }
+}
+
+/// Returns whether the key at index `place` is this one. All keys are equally long.
+fn is_key_at(keys: &[u32], place: usize, key: &[u32]) -> bool
+    ensures { IsTrue result → key_in keys.now (length key.now) place ≡ key.now }
+{
+    match key_at(keys, place, key.len()) {
+        Some(there) => there == key,
+        None => false,
+    }
+}
+
+/// Returns the key at index `place`, if each key has `width` numbers.
+fn key_at(keys: &[u32], place: usize, width: usize) -> Option<&[u32]>
+    ensures { IfSome result (λ key. key.now ≡ key_in keys.now width place) }
+{
+    let Some(start) = place.checked_mul(width) else {
+        return None;
+    };
+    let Some(end) = start.checked_add(width) else {
+        return None;
+    };
+    keys.get(start..end)
+}

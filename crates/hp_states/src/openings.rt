@@ -1,0 +1,209 @@
+//! The operations that a Cancel can take back whole at a place, with the states it leads back to.
+//! Equal lists share a number in nearly all cases, so that places are compared by numbers.
+ghost use Rattle.std.specs.Prelude.{◌≡◌, ◌∷◌, ◌<◌, ◌≤◌, [], IfNone, IfOk, IfSome, List, Some, length, slice_get};
+ghost use Rattle.hp_schedules.specs.Numbers.{KeepNumbers};
+ghost use Rattle.hp_states.specs.Numbered.{IsBegun, IsEntryOf, IsInFront, IsMadeBy, NumbersOn};
+ghost use Rattle.hp_schedules.specs.Openings.{NumberedOpening, after_cancel, after_work};
+
+use hp_schedules::{Change, change_of, learn, mixed};
+use hp_units::{Record, Serial};
+use indexmap::IndexMap;
+use std::alloc::{AllocError, Global};
+use std::marker::Model;
+
+/// An operation in front of the list numbered `below`, with the number
+/// of the state before its Begin.
+#[derive(Clone, Copy, Drop)]
+pub(crate) struct Entry {
+    op: Serial,
+    state: usize,
+    /// The number of the earlier list.
+    below: usize,
+}
+
+/// Lists of operations by number: 0 is the empty list, and each entry makes one more.
+///
+/// `latest` maps a hash to the newest list that has it.
+pub(crate) struct Openings {
+    entries: Vec<Entry>,
+    latest: IndexMap<u64, usize>,
+}
+
+impl Model for Openings {
+    ghost use Rattle.std.specs.Prelude.{List};
+    ghost use Rattle.hp_schedules.specs.Numbers.{StandOnEarlier};
+    ghost use Rattle.hp_states.specs.Numbered.{entry_below, openings_of};
+    ghost use Rattle.hp_schedules.specs.Openings.{NumberedOpening};
+
+    ghost Value = { List (List NumberedOpening) };
+
+    ghost view = { λ o. openings_of o.entries.items };
+
+    ghost invariant = { λ o. StandOnEarlier entry_below o.entries.items };
+}
+
+/// Keeps callers from proving again how each field is dropped.
+impl Drop for Openings {
+    fn drop(self) {
+        let Openings {
+            entries: _,
+            latest: _,
+        } = self;
+    }
+}
+
+impl Openings {
+    /// Creates a collection with only the empty list.
+    pub(crate) fn new(alloc: Global) -> Openings
+        ensures { result ≡ [] ∷ [] }
+    {
+        Openings {
+            entries: Vec::new(alloc),
+            latest: IndexMap::new(alloc),
+        }
+    }
+
+    /// Returns the number of the list after one more call, if the list before was `was` and the
+    /// state `from`. Returns `None` if the list is unknown.
+    pub(crate) fn after(
+        &mut self,
+        was: Option<usize>,
+        from: Option<usize>,
+        latest: &Record,
+    ) -> Result<Option<usize>, AllocError>
+        requires { IfSome was (λ number. number < length self.old) }
+        ensures kept { KeepNumbers self.old self.new }
+        ensures ok { IfOk result (NumbersOn self.old self.new from latest.now was) }
+    {
+        match change_of(latest) {
+            Change::Stays => Ok(was),
+            Change::Begins => self.after_begin(was, from, latest.serial),
+            Change::Works { op } => Ok(self.after_work(was, op)),
+            Change::Cancels { op } => Ok(self.after_cancel(was, op)),
+            Change::Ends => Ok(Some(self.empty())),
+        }
+    }
+
+    /// Returns the number of the list after a Begin in state `from`, or `None` if
+    /// the list or the state is unknown.
+    fn after_begin(
+        &mut self,
+        was: Option<usize>,
+        from: Option<usize>,
+        op: Serial,
+    ) -> Result<Option<usize>, AllocError>
+        requires { IfSome was (λ number. number < length self.old) }
+        ensures kept { KeepNumbers self.old self.new }
+        ensures ok { IfOk result (IsBegun self.old self.new op from was) }
+    {
+        let Some(below) = was else {
+            return Ok(None);
+        };
+        let Some(from) = from else {
+            return Ok(None);
+        };
+        let number = self.in_front(op, from, below)?;
+        Ok(Some(number))
+    }
+
+    /// Returns the number of the list `below` with this operation in front, and
+    /// adds that list if it is not found.
+    fn in_front(&mut self, op: Serial, state: usize, below: usize) -> Result<usize, AllocError>
+        requires { below < length self.old }
+        ensures kept { KeepNumbers self.old self.new }
+        ensures ok { IfOk result (IsInFront self.old self.new op state below) }
+    {
+        let digest = mixed(mixed(state as u64, op.0), below as u64);
+        if let Some(number) = self.found(digest, op, state, below) {
+            return Ok(number);
+        }
+        self.entries.reserve(1)?;
+        let number = self.entries.len() + 1;
+        learn(&mut self.latest, digest, number)?;
+        self.entries.push_reserved(Entry { op, state, below });
+        Ok(number)
+    }
+
+    /// Returns the number of that list if it is the newest with its hash.
+    fn found(&self, digest: u64, op: Serial, state: usize, below: usize) -> Option<usize>
+        ensures { IfSome result (IsInFront self.now self.now op state below) }
+    {
+        let Some(number) = self.latest.get(&digest) else {
+            return None;
+        };
+        let Some(entry) = self.entry(*number) else {
+            return None;
+        };
+        if entry.op == op && entry.below == below && entry.state == state {
+            Some(*number)
+        } else {
+            None
+        }
+    }
+
+    /// Returns the number after an operation's own work: the same list if the operation is first in
+    /// it, otherwise the empty list.
+    fn after_work(&self, was: Option<usize>, worked: Serial) -> Option<usize>
+        ensures { IsMadeBy (after_work worked) self.now was result }
+    {
+        let Some(number) = was else {
+            return None;
+        };
+        let Some(entry) = self.entry(number) else {
+            return Some(self.empty());
+        };
+        if entry.op == worked {
+            Some(number)
+        } else {
+            Some(self.empty())
+        }
+    }
+
+    /// Returns the number after a Cancel: the rest of the list if the operation is first in it,
+    /// otherwise the empty list.
+    fn after_cancel(&self, was: Option<usize>, cancelled: Serial) -> Option<usize>
+        ensures { IsMadeBy (after_cancel cancelled) self.now was result }
+    {
+        let Some(number) = was else {
+            return None;
+        };
+        let Some(entry) = self.entry(number) else {
+            return Some(self.empty());
+        };
+        if entry.op == cancelled {
+            Some(entry.below)
+        } else {
+            Some(self.empty())
+        }
+    }
+
+    /// Returns the number of the empty list.
+    fn empty(&self) -> usize
+        ensures { slice_get self.now result ≡ Some [] }
+    {
+        let _ = &self.entries;
+        0
+    }
+
+    /// Returns the entry that made a list, or `None` if the list is
+    /// empty or there is no such number.
+    fn entry(&self, number: usize) -> Option<&Entry>
+        ensures some { IfSome result (λ entry. IsEntryOf self.now number entry.now) }
+        ensures none { IfNone result ((os : List NumberedOpening)
+            → slice_get self.now number ≡ Some os → os ≡ []) }
+    {
+        let entries = self.entries.as_slice();
+        if number == 0 {
+            return None;
+        }
+        entry_at(entries, number - 1)
+    }
+}
+
+/// Returns the entry at this index.
+fn entry_at(entries: &[Entry], place: usize) -> Option<&Entry>
+    ensures some { IfSome result (λ entry. slice_get entries.now place ≡ Some entry.now) }
+    ensures none { IfNone result (length entries.now ≤ place) }
+{
+    entries.get(place)
+}

@@ -1,0 +1,137 @@
+//! Interned byte strings.
+ghost use Rattle.std.specs.Prelude.{◌≡◌, ◌<◌, [], IfOk, IfSome, Some, length, slice_get};
+ghost use Rattle.hp_states.specs.Codes.{KeepCodes};
+ghost use Rattle.hp_states.specs.Texts.{AreTextsFrom, start_of, texts_from};
+
+use crate::digests::digest_of;
+use indexmap::IndexMap;
+use std::alloc::{AllocError, Global};
+use std::marker::Model;
+
+/// Byte strings in one buffer, with the end of each.
+///
+/// `latest` maps a hash to the newest string that has it.
+pub(crate) struct Texts {
+    bytes: Vec<u8>,
+    ends: Vec<usize>,
+    latest: IndexMap<u64, usize>,
+}
+
+impl Model for Texts {
+    ghost use Rattle.std.specs.Prelude.{ℕ, List, length};
+    ghost use Rattle.hp_states.specs.Texts.{AreTextsFrom, texts_from};
+
+    ghost Value = { List (List ℕ) };
+
+    ghost view = { λ t. texts_from t.bytes.items 0 t.ends.items };
+
+    ghost invariant = { λ t. AreTextsFrom (length t.bytes.items) 0 t.ends.items };
+}
+
+/// Keeps callers from proving again how each field is dropped.
+impl Drop for Texts {
+    fn drop(self) {
+        let Texts {
+            bytes: _,
+            ends: _,
+            latest: _,
+        } = self;
+    }
+}
+
+impl Texts {
+    /// Creates an empty collection. Allocates nothing.
+    pub(crate) fn new(alloc: Global) -> Texts
+        ensures { result ≡ [] }
+    {
+        Texts {
+            bytes: Vec::new(alloc),
+            ends: Vec::new(alloc),
+            latest: IndexMap::new(alloc),
+        }
+    }
+
+    /// Returns the number of `text`, and adds it if it is not found.
+    ///
+    /// If memory runs out, all earlier numbers still mean the same strings.
+    pub(crate) fn number_of(&mut self, text: &[u8]) -> Result<usize, AllocError>
+        ensures kept { KeepCodes self.old self.new }
+        ensures ok { IfOk result (λ n. slice_get self.new n ≡ Some text.now) }
+    {
+        let digest = digest_of(text);
+        match self.found(digest, text) {
+            Some(number) => Ok(number),
+            None => self.add(digest, text),
+        }
+    }
+
+    /// Returns the number of `text` if it is the newest string with its hash.
+    ///
+    /// An older string with the same hash is not looked for: a collision costs a
+    /// second copy, never a wrong number.
+    fn found(&self, digest: u64, text: &[u8]) -> Option<usize>
+        ensures { IfSome result (λ n. slice_get self.now n ≡ Some text.now) }
+    {
+        let Some(number) = self.latest.get(&digest) else {
+            return None;
+        };
+        let Some(kept) = self.text(*number) else {
+            return None;
+        };
+        if kept == text { Some(*number) } else { None }
+    }
+
+    /// Returns the string with this number, if there is one.
+    fn text(&self, number: usize) -> Option<&[u8]>
+        ensures { IfSome result (λ text. slice_get self.now number ≡ Some text.now) }
+    {
+        if number < self.ends.len() {
+            Some(self.text_at(number))
+        } else {
+            None
+        }
+    }
+
+    /// Returns the string with a number that is in use.
+    fn text_at(&self, number: usize) -> &[u8]
+        requires { number < length self.now }
+        ensures { slice_get self.now number ≡ Some result.now }
+    {
+        text_in(&self.bytes, &self.ends, number)
+    }
+
+    /// Appends a string and returns its number.
+    fn add(&mut self, digest: u64, text: &[u8]) -> Result<usize, AllocError>
+        ensures kept { KeepCodes self.old self.new }
+        ensures ok { IfOk result (λ n. slice_get self.new n ≡ Some text.now) }
+    {
+        self.ends.reserve(1)?;
+        let number = self.ends.len();
+        match self.latest.insert(digest, number) {
+            Ok(_earlier) => {}
+            Err(_failed) => return Err(AllocError),
+        }
+        self.bytes.extend_from_slice(text)?;
+        self.ends.push_reserved(self.bytes.len());
+        Ok(number)
+    }
+}
+
+/// Returns one string from the buffer.
+fn text_in<'a>(bytes: &'a [u8], ends: &[usize], number: usize) -> &'a [u8]
+    requires texts { AreTextsFrom (length bytes.now) 0 ends.now }
+    requires number { number < length ends.now }
+    ensures { slice_get (texts_from bytes.now 0 ends.now) number ≡ Some result.now }
+{
+    let start = start_of(ends, number);
+    let end = ends[number];
+    &bytes[start..end]
+}
+
+/// Returns the place where a string starts, which is where the one before it ends.
+fn start_of(ends: &[usize], number: usize) -> usize
+    requires { number < length ends.now }
+    ensures { result ≡ start_of 0 ends.now number }
+{
+    if number == 0 { 0 } else { ends[number - 1] }
+}
