@@ -1,5 +1,5 @@
-//! The numbers, the layout and the events and replies of the memory machine, and the definitions
-//! that say what each step of it means.
+//! The vocabulary of the memory machine: its layout, events and replies, and the
+//! definitions of what each step does.
 #![tactic(auto)]
 
 pub mod events;
