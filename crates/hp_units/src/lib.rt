@@ -1,5 +1,7 @@
-//! The vocabulary of the memory machine: its layout, events and replies, and the
-//! definitions of what each step does.
+//! The vocabulary of the memory machine: its layout, events and replies, and the definitions of
+//! what each step does.
+//!
+//! Read specs/Memory and specs/Step first, then specs/History and specs/Placement.
 #![tactic(auto)]
 
 pub mod events;

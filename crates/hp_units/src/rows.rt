@@ -389,7 +389,7 @@ pub enum Auto {
     Offline,
     /// Online in zone Normal.
     Online,
-    /// Online in zone Normal, as `online_kernel` does.
+    /// Online in zone Normal, the kernel's zone (Linux: online_kernel).
     OnlineKernel,
     /// Online in zone Movable.
     OnlineMovable,
