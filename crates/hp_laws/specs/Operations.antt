@@ -40,7 +40,7 @@ state_behind l base before h r = value_of l base (take (r.serial - before) h)
 abbrev pub RowsAre : Memory → List Item → (Item → Row) → Type 0
 RowsAre s plan row = AllByRecursion (λ item. row_of s.blocks item.block ≡ row item) plan
 
--- the row that a wish asks for
+-- the row of a block that got its wish
 abbrev pub wished_row : Wish → Row
 wished_row OffWish = offline_row
 wished_row NormalWish = record { state = OnlineState; zone = Some NormalZone; claim = None }

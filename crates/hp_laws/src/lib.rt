@@ -2,6 +2,8 @@
 //! earlier state is reached, that each frame stays in one place and what follows from it, what the
 //! pages hold, which frames are handed out, how operations proceed, also across seals, and that an
 //! undisturbed offline commits.
+//!
+//! Read `placement` and `laws` first.
 #![tactic(auto)]
 
 mod consequences;

@@ -18,10 +18,11 @@ pub struct ImageStep {
     pub reply: Reply,
 }
 
-/// Carries out one step of the definitions on a copy of an Image, whose state must be well placed.
+/// Carries out one step of the definitions from an Image, whose state must be well placed, to a new
+/// Image.
 ///
-/// A Cancel only releases here, and an UndoAfter does nothing, as in `Memory::step`. Converts the
-/// whole state twice, so it costs much more than `Memory::step`.
+/// A Cancel only releases here, and an UndoAfter does nothing, as in `Memory::step`. Both Images
+/// are converted whole, so this costs much more than `Memory::step`.
 pub fn step_of_image(
     alloc: Global,
     image: &Image,

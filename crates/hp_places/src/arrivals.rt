@@ -105,8 +105,8 @@ fn add_shares<W: Watch>(tally: &mut Tally, shares: &[Share], watch: &mut W) -> E
     Entry::Counted
 }
 
-/// Counts the schedule that led to this place, if `is_end` says that it
-/// ends here and belongs to the part.
+/// Counts the schedule that led to this place if `is_end` is true: then it ends here and belongs to
+/// the part.
 pub fn note<W: Watch>(
     alloc: Global,
     records: &[Record],

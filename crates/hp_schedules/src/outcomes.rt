@@ -157,7 +157,7 @@ fn answers_to(alloc: Global, cpu: Cpu, records: &[Record]) -> Result<Answers, Al
 
 /// Returns the reply with 0 in place of the number of an opened operation.
 ///
-/// That number only depends on how many calls came before, so it must not tell outcomes apart.
+/// That number is only the number of calls before, so it must not tell outcomes apart.
 pub(crate) fn told(reply: &Reply) -> Reply
     ensures { result ≡ told reply.now }
 {

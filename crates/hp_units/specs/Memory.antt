@@ -137,7 +137,7 @@ row_of bs block = slice_index_or bs.rows block offline_row
 abbrev pub with_row : Blocks → Block → Row → Blocks
 with_row bs block row = record bs { rows = slice_set bs.rows block row }
 
--- ---- the kernel's blocks
+-- ---- the kernel blocks
 
 abbrev pub kernel_order : Memory → Frame → Option Order
 kernel_order s frame = slice_index_or s.kernel frame None
