@@ -14,8 +14,8 @@ use std::alloc::{AllocError, Global};
 use std::marker::Model;
 use std::mem::replace;
 
-/// The rows of a layout's memory blocks, and what an added block becomes.
-/// Only `new` and `copy` allocate.
+/// The rows of a layout's memory blocks, and what an added block becomes. Only `new`
+/// and `copy` allocate.
 pub struct Blocks {
     layout: Layout,
     rows: Vec<Row>,
@@ -158,8 +158,8 @@ impl Blocks {
         tape.note(Delta::Auto { was, now: auto });
     }
 
-    /// Undoes a delta that fits and whose numbers are within the layout. A delta of
-    /// another layer changes nothing.
+    /// Undoes a delta that fits and whose numbers are within the layout. A delta of another layer
+    /// changes nothing.
     pub fn back(&mut self, delta: Delta)
         requires fits { FitsBlocks delta self.old.blocks }
         requires numbers { IsDeltaOf self.old.layout delta }

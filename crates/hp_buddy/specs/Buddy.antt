@@ -44,8 +44,8 @@ HasBlockMore more less order first =
 
 -- ---- on which list a free block is
 
--- the class and the order of the list that a frame is on; a list's number is five
--- times its order plus its class
+-- the class and the order of the list that a frame is on; a list's number is five times its order
+-- plus its class
 abbrev pub place_from : (frame number : ℕ) → List (List ℕ) → Option (Class × ℕ)
 place_from frame number [] = None
 place_from frame number (frames ∷ lists) =

@@ -184,9 +184,9 @@ impl Buddy {
         }
     }
 
-    /// Steals a block for a mobility of zone Normal: the front block of the greatest order
-    /// at which the other mobility has one, split down to `order`. A whole pageblock
-    /// changes to the wanted mobility.
+    /// Steals a block for a mobility of zone Normal: the front block of the greatest order at
+    /// which the other mobility has one, split down to `order`. A whole pageblock changes to
+    /// the wanted mobility.
     ///
     /// Returns `None`, and changes nothing, if the other mobility has none (Gorman, chapter 6:
     /// fallback; the exact rule is this model's).
@@ -232,9 +232,9 @@ impl Buddy {
         self.push_front(class, joined, frame.ancestor(joined), tape);
     }
 
-    /// Isolates a pageblock, or releases it. Its free blocks move, in rising order, to the
-    /// backs of the lists of their new class (Linux guide, Memory Hot(Un)Plug: offlining; the
-    /// order is this model's choice).
+    /// Isolates a pageblock, or releases it. Its free blocks move, in rising order, to the backs of
+    /// the lists of their new class (Linux guide, Memory Hot(Un)Plug: offlining; the order is this
+    /// model's choice).
     pub fn move_pageblock(
         &mut self,
         zone: Zone,
@@ -284,9 +284,9 @@ impl Buddy {
         self.push_back(class, order, first, tape);
     }
 
-    /// Removes a pageblock that is one isolated free block. It is movable and not
-    /// isolated from then on (Linux guide, Memory Hot(Un)Plug: offlining removes the
-    /// free pages from the allocator).
+    /// Removes a pageblock that is one isolated free block. It is movable and not isolated from
+    /// then on (Linux guide, Memory Hot(Un)Plug: offlining removes the free pages from the
+    /// allocator).
     pub fn remove_pageblock(&mut self, zone: Zone, pageblock: Pageblock, tape: &mut Tape)
         requires pageblock { pageblock < pageblock_count self.old.layout }
         requires free { is_on (pageblock * pageblock_size self.old.layout)
@@ -306,8 +306,8 @@ impl Buddy {
         self.set_kind(pageblock, Kind::plain(), tape);
     }
 
-    /// Undoes a delta that fits and whose numbers are within the layout. A delta of
-    /// another layer changes nothing.
+    /// Undoes a delta that fits and whose numbers are within the layout. A delta of another layer
+    /// changes nothing.
     pub fn back(&mut self, delta: Delta)
         requires fits { FitsAreas delta self.old.areas }
         requires numbers { IsDeltaOf self.old.layout delta }

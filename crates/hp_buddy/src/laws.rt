@@ -1,5 +1,5 @@
-//! What a well placed state guarantees to the calls of the free areas, as contracts
-//! of functions with empty bodies.
+//! What a well placed state guarantees to the calls of the free areas, as contracts of functions
+//! with empty bodies.
 ghost use Rattle.std.specs.Prelude.{◌≡◌, ℕ, Some};
 ghost use Rattle.hp_units.specs.LayoutParts.{IsLayout, LayoutParts};
 ghost use Rattle.hp_units.specs.Memory.{Memory, kernel_order};
@@ -13,8 +13,8 @@ pub fn well_placed_blocks_are_apart()
     ensures { (l : LayoutParts) (s : Memory) → IsLayout l → IsWellPlaced l s → AreApart l s.free.areas }
 {}
 
-/// In a well placed state each kernel block and each page's frame can
-/// be given back to the free areas.
+/// In a well placed state each kernel block and each page's frame can be given back
+/// to the free areas.
 pub fn blocks_in_use_may_be_given()
     ensures kernel { (l : LayoutParts) (s : Memory) (first order : ℕ) → IsLayout l → IsWellPlaced l s
         → kernel_order s first ≡ Some order → MayBeGiven l s.free.areas order first }

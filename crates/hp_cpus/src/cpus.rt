@@ -48,8 +48,8 @@ impl Model for Cpus {
 }
 
 impl Cpus {
-    /// Creates the lists of a layout's processors, all empty. Allocates the same
-    /// number of times for every layout.
+    /// Creates the lists of a layout's processors, all empty. Allocates the same number of times
+    /// for every layout.
     pub fn new(alloc: Global, layout: &Layout) -> Result<Cpus, AllocError>
         ensures value { IfOk result
             (λ c. c ≡ record { layout = layout.now; cached = empty_cached layout.now }) }
@@ -102,8 +102,8 @@ impl Cpus {
         self.links.next(frame)
     }
 
-    /// Takes the front frame of a processor's list. An empty list is first refilled
-    /// by a batch from the free areas.
+    /// Takes the front frame of a processor's list. An empty list is first refilled by a batch from
+    /// the free areas.
     ///
     /// Returns `None`, and changes nothing, if they have no frame for the pool (Gorman, chapter 6:
     /// per-cpu lists; which end of the list is this model's choice).

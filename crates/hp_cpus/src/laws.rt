@@ -15,8 +15,8 @@ pub fn well_placed_frames_are_together()
         (record { layout = l; areas = s.free.areas }) }
 {}
 
-/// In a well placed state each single frame of the kernel and each page's frame can be
-/// put back on a processor's list.
+/// In a well placed state each single frame of the kernel and each page's frame can be put back on
+/// a processor's list.
 pub fn frames_in_use_may_be_put()
     ensures kernel { (l : LayoutParts) (s : Memory) (frame : ℕ) → IsLayout l → IsWellPlaced l s
         → kernel_order s frame ≡ Some 0

@@ -106,8 +106,8 @@ impl KernelBlocks {
         tape.note(Delta::Kernel { frame, was, now });
     }
 
-    /// Undoes a delta of a layout with as many frames as the table. A delta of
-    /// another layer changes nothing.
+    /// Undoes a delta of a layout with as many frames as the table. A delta of another layer
+    /// changes nothing.
     pub fn back(&mut self, delta: Delta)
         requires { (l : LayoutParts) × (length self.old ≡ frame_count l) × IsDeltaOf l delta }
         ensures { self.new ≡ kernel_undo delta self.old }

@@ -1,5 +1,5 @@
--- An operation that nothing disturbs between its Begin and its Commit,
--- and the numbers of operations.
+-- An operation that nothing disturbs between its Begin and its Commit, and the numbers of
+-- operations.
 use Rattle.std.specs.Prelude.{◌≡◌, ℕ, ◌<◌, ◌≤◌, Bool, true, false, ◌&&◌, ◌==◌, List, ◌∷◌, ◌++◌, None, map, IfSome}
 use Rattle.std.specs.List.{AllByRecursion, list_any}
 use Rattle.hp_units.specs.declared.events.Event.{Event}
@@ -17,9 +17,9 @@ abbrev pub drains_for : (op cpu : ℕ) → Event → Bool
 drains_for op cpu (DrainFor other drained) = (other == op) && (drained == cpu)
 drains_for op cpu event = false
 
--- from the operation's Begin on, the steps are its own drains and migrations, with a drain
--- of each processor among them; and in the state that they lead to, no frame of the blocks
--- that it takes offline holds a page
+-- from the operation's Begin on, the steps are its own drains and migrations, with a drain of each
+-- processor among them; and in the state that they lead to, no frame of the blocks that it takes
+-- offline holds a page
 pub record IsUndisturbed (l : LayoutParts) (s : Memory) (op : ℕ) (net : List Record) : Type 0 where
   pub earlier : List Record
   pub begin : Record

@@ -1,5 +1,5 @@
-//! What follows from a state being well placed. Each law is the contract of
-//! a function with an empty body.
+//! What follows from a state being well placed. Each law is the contract of a function with an
+//! empty body.
 ghost use Rattle.std.specs.Prelude.{◌≡◌, ℕ, ◌^◌, ◌<◌, ◌≤◌, ◌↔◌, true, Some, List, ◌∷◌, ◌++◌, [], is_none, length};
 ghost use Rattle.std.specs.List.{list_all};
 ghost use Rattle.hp_units.specs.Arithmetic.{block_of, frame_count};
@@ -67,9 +67,9 @@ pub fn lists_are_short()
 {}
 
 /// A Commit by a processor of the layout is refused as NotFree exactly if some frame of a block
-/// that its operation takes offline is in no free block. The refusal names the lowest such
-/// frame. The Commit is done exactly if the operation is live and there is no such frame
-/// (Linux, memory hotplug: offlining).
+/// that its operation takes offline is in no free block. The refusal names the lowest such frame.
+/// The Commit is done exactly if the operation is live and there is no such frame (Linux, memory
+/// hotplug: offlining).
 pub fn commits_need_free_frames()
     ensures lowest { (l : LayoutParts) (s : Memory) (serial cpu op frame : ℕ) → IsLayout l → IsWellPlaced l s
         → cpu < l.cpus

@@ -28,8 +28,8 @@ pub fn restored_state()
         × (value_of l base (h ++ r ∷ []) ≡ value_of l base (take (op - before - 1) h)) }
 {}
 
-/// Each prefix of the steps is what some undo keeps, and its state is the one just
-/// before the step that follows it.
+/// Each prefix of the steps is what some undo keeps, and its state is the one just before the step
+/// that follows it.
 pub fn earlier_states()
     ensures prefix { (l : LayoutParts) (base : Memory) (before k : ℕ) (h : List Record)
         → IsLegal l base before h

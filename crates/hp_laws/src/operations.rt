@@ -1,5 +1,5 @@
-//! The laws of operations on memory blocks. Each law is the contract of
-//! a function with an empty body.
+//! The laws of operations on memory blocks. Each law is the contract of a function
+//! with an empty body.
 ghost use Rattle.std.specs.Prelude.{◌≡◌, ℕ, false, List, [], ◌∷◌, ◌++◌};
 ghost use Rattle.hp_laws.specs.Operations.{BeginsAt, IsOpenBehind, RowsAre, state_before, state_behind, wished_row};
 ghost use Rattle.hp_units.specs.History.{IsLegal, is_refused, net_of, value_of};
@@ -28,9 +28,9 @@ pub fn operations_hold_their_rows()
         (λ item. row_of (state_behind l base before h b).blocks item.block) }
 {}
 
-/// A Commit that is not refused gives each block of its operation's plan its wish, all
-/// in this one step. Just before it, their rows are still those that the Begin left
-/// (Linux, memory hotplug: offlining).
+/// A Commit that is not refused gives each block of its operation's plan its wish, all in this one
+/// step. Just before it, their rows are still those that the Begin left (Linux, memory hotplug:
+/// offlining).
 pub fn commits_grant_wishes()
     ensures held { (l : LayoutParts) (base : Memory) (before : ℕ) (h : List Record) (r : Record) (place : ℕ)
         (b : Record) (plan : List Item)

@@ -1,5 +1,5 @@
-//! The laws of placement and of contents. Each law is the contract of
-//! a function with an empty body.
+//! The laws of placement and of contents. Each law is the contract of a function
+//! with an empty body.
 ghost use Rattle.std.specs.Prelude.{◌≡◌, ℕ, ◌+◌, ◌≤◌, true, List, ◌==◌, if◌then◌else◌};
 ghost use Rattle.std.specs.Option.{option_map};
 ghost use Rattle.hp_units.specs.Arithmetic.{block_of};
@@ -22,8 +22,8 @@ pub fn boot_is_well_placed()
     ensures { (l : LayoutParts) → IsLayout l → IsWellPlaced l (boot_memory l) }
 {}
 
-/// Each step from a well placed state leads to a well placed state,
-/// whatever the event and the processor.
+/// Each step from a well placed state leads to a well placed state, whatever the event and the
+/// processor.
 pub fn steps_keep_placement()
     ensures { (l : LayoutParts) (s : Memory) (serial cpu : ℕ) (event : Event) → IsLayout l → IsWellPlaced l s
         → IsWellPlaced l (step l s serial cpu event).memory }
@@ -35,8 +35,8 @@ pub fn well_placed_states_fit_their_layout()
     ensures { (l : LayoutParts) (s : Memory) → IsLayout l → IsWellPlaced l s → IsMemoryOf l s }
 {}
 
-/// Each history from a well placed base state leads to a well placed state, and
-/// so does each history from boot.
+/// Each history from a well placed base state leads to a well placed state, and so does each
+/// history from boot.
 pub fn histories_keep_placement()
     ensures base { (l : LayoutParts) (base : Memory) (h : List Record) → IsLayout l → IsWellPlaced l base
         → IsWellPlaced l (value_of l base h) }
@@ -56,9 +56,9 @@ pub fn free_frames_are_not_in_use()
         + kernel_places s frame ≡ 0 }
 {}
 
-/// A migration gives the page at its old frame the new one, and leaves each other
-/// page where it is. It changes no word of any page, so the words follow the table
-/// (Linux, memory hotplug: migration).
+/// A migration gives the page at its old frame the new one, and leaves each other page where it is.
+/// It changes no word of any page, so the words follow the table (Linux, memory hotplug:
+/// migration).
 pub fn migrations_move_no_word()
     ensures words { (l : LayoutParts) (s : Memory) (serial cpu op : ℕ)
         → (step l s serial cpu (Migrate op)).memory.pages.contents ≡ s.pages.contents }

@@ -12,9 +12,9 @@ ghost use Rattle.hp_units.specs.declared.events.Event.TheVariants.{Cancel, Commi
 ghost use Rattle.hp_units.specs.declared.plans.Item.{Item};
 ghost use Rattle.hp_units.specs.declared.replies.Record.{Record};
 
-/// A Begin that is not undone claims each block of its plan. While no Commit and no
-/// Cancel of its operation follows, the rows of these blocks stay as it left them, even
-/// if the history is sealed in between.
+/// A Begin that is not undone claims each block of its plan. While no Commit and no Cancel of its
+/// operation follows, the rows of these blocks stay as it left them, even if the history is sealed
+/// in between.
 pub fn operations_hold_across_seals()
     ensures claimed { (l : LayoutParts) (base : Memory) (before : ℕ) (hs : List (List Record)) (place : ℕ)
         (b : Record) (plan : List Item)

@@ -70,8 +70,8 @@ pub record AreNoted (l : LayoutParts) (most : ℕ) (was now : List Delta)
   pub numbers : AllByRecursion (IsDeltaOf l) deltas
   pub lead : LeadBack Fits undo deltas later earlier
 
--- an event was carried out: the layers have the defined state, the reply is the
--- defined one, and the deltas are noted
+-- an event was carried out: the layers have the defined state, the reply is the defined one, and
+-- the deltas are noted
 pub record IsAnswered (old : Layers) (event : Event) (answered : Answered) (new : Layers)
     (was now : List Delta) (given : Reply) : Type 0 where
   pub led : AreLedTo old answered.memory new

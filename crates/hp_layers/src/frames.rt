@@ -201,8 +201,8 @@ impl Frames {
         }
     }
 
-    /// Gives a block back: a single frame to the processor's list, any
-    /// other block straight to the areas.
+    /// Gives a block back: a single frame to the processor's list, any other block
+    /// straight to the areas.
     pub(crate) fn give_back(
         &mut self,
         cpu: Cpu,
@@ -300,8 +300,8 @@ impl Frames {
         }
     }
 
-    /// Adds a whole pageblock at the back of its zone's list. None of its
-    /// frames may be free or on a list.
+    /// Adds a whole pageblock at the back of its zone's list. None of its frames may be
+    /// free or on a list.
     fn add_pageblock(&mut self, layout: &Layout, zone: Zone, pageblock: Pageblock, tape: &mut Tape)
         requires same { self.old.cpus.layout ≡ layout.now }
         requires pageblock { pageblock < pageblock_count layout.now }

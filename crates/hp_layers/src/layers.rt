@@ -110,8 +110,8 @@ impl Layers {
         }
     }
 
-    /// Returns the zone of the memory block that contains the frame,
-    /// or Normal if the block has none.
+    /// Returns the zone of the memory block that contains the frame, or Normal if
+    /// the block has none.
     fn zone_of(&self, frame: Frame) -> Zone
         requires frame { IsFrame self.now.layout frame }
         requires one { AreOfOneLayout self.now }

@@ -171,8 +171,8 @@ impl Links {
         self.rings.insert(list, before, place_of(frame), next);
     }
 
-    /// Puts a frame after `after`, or at the front if `after` is `None`. Undoes an
-    /// `unlink` that returned `after`.
+    /// Puts a frame after `after`, or at the front if `after` is `None`. Undoes an `unlink` that
+    /// returned `after`.
     pub fn relink_after(&mut self, list: ListNumber, frame: Frame, after: Option<Frame>)
         requires list_in { list < length self.old.lists }
         requires frame_in { frame < self.old.frame_count }

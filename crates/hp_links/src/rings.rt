@@ -20,8 +20,8 @@ pub fn place_of(frame: Frame) -> u32
 pub struct Node {
     pub next: u32,
     pub prev: u32,
-    /// One more than the number of the list that the frame is on. 0 for a
-    /// head, and for a frame on no list.
+    /// One more than the number of the list that the frame is on. 0 for a head, and for
+    /// a frame on no list.
     pub list: u32,
 }
 

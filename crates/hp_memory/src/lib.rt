@@ -5,8 +5,8 @@
 //! from layers (`images`); `image_steps` makes a step from an Image to an Image. It keeps no
 //! history and no records: the caller keeps the tape, and remembers where each step's deltas end.
 //!
-//! Read first: `memory` (what a caller sees), then specs/Layers of hp_layers
-//! (what a step leaves and notes).
+//! Read first: `memory` (what a caller sees), then specs/Layers of hp_layers (what a step leaves
+//! and notes).
 #![tactic(auto)]
 
 mod image_steps;

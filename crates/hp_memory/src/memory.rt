@@ -91,8 +91,8 @@ impl Memory {
     /// Carries out one step of the definitions, and notes what it did to the layers on the tape,
     /// after the deltas there.
     ///
-    /// A Cancel only releases here, and an UndoAfter does nothing. All memory is
-    /// allocated before anything changes.
+    /// A Cancel only releases here, and an UndoAfter does nothing. All memory is allocated before
+    /// anything changes.
     pub fn step(
         &mut self,
         alloc: Global,

@@ -1,9 +1,9 @@
--- What a number counts, for the signatures of the definitions. Each is the number
--- itself, and costs a proof nothing.
+-- What a number counts, for the signatures of the definitions. Each is the number itself, and costs
+-- a proof nothing.
 use Rattle.std.specs.Prelude.{ℕ, ◌*◌, ◌/◌, ◌^◌}
 
--- a page frame (Gorman, chapter 2), and the order of a block of 2^order frames
--- (Knuth, volume 1, section 2.5)
+-- a page frame (Gorman, chapter 2), and the order of a block of 2^order frames (Knuth, volume 1,
+-- section 2.5)
 abbrev pub Frame : Type 0
 Frame = ℕ
 

@@ -9,8 +9,8 @@ fn is_bare(word: &str) -> bool
     !word.starts_with('+') && (word.len() < 2 || !word.starts_with('0'))
 }
 
-/// Parses a decimal number below 2^32, without a sign and without leading zeros.
-/// Returns `None` for any other word.
+/// Parses a decimal number below 2^32, without a sign and without leading zeros. Returns `None` for
+/// any other word.
 #[tactic(auto, using(crate::proofs::NumbersParsed::parsed, crate::proofs::NumbersParsed::refused))]
 pub fn number32(word: &str) -> Option<u32>
     ensures { result ≡ number_of 32 word.now }
@@ -21,8 +21,8 @@ pub fn number32(word: &str) -> Option<u32>
     word.parse::<u32>().ok()
 }
 
-/// Parses a decimal number below 2^64, without a sign and without leading zeros.
-/// Returns `None` for any other word.
+/// Parses a decimal number below 2^64, without a sign and without leading zeros. Returns `None` for
+/// any other word.
 #[tactic(auto, using(crate::proofs::NumbersParsed::parsed, crate::proofs::NumbersParsed::refused))]
 pub fn number64(word: &str) -> Option<u64>
     ensures { result ≡ number_of 64 word.now }

@@ -53,8 +53,8 @@ impl Model for Pageblock {
     ghost inverse = { λ n. record { 0 = n } };
 }
 
-/// A memory block, counted from 0: the unit that goes online and offline
-/// (Linux guide, Memory Hot(Un)Plug).
+/// A memory block, counted from 0: the unit that goes online and offline (Linux guide, Memory
+/// Hot(Un)Plug).
 #[derive(Clone, Copy, PartialEq, Eq)]
 pub struct Block(pub u32);
 
@@ -102,8 +102,8 @@ impl Model for Page {
     ghost inverse = { λ n. record { 0 = n } };
 }
 
-/// The serial of a record, counted from 1 and never reused. The serial of a
-/// Begin also names its operation.
+/// The serial of a record, counted from 1 and never reused. The serial of a Begin also names its
+/// operation.
 #[derive(Clone, Copy, Debug, PartialEq, Eq, PartialOrd)]
 pub struct Serial(pub u64);
 

@@ -77,8 +77,8 @@ unmap_from v owner page frame =
 abbrev pub unmap_frame : PageFrames → (owner page : ℕ) → PageFrames
 unmap_frame v owner page = option_map_or (unmap_from v owner page) (entry_of v.table owner page) v
 
--- one word changes in a frame, and in a page's frame; a frame keeps a
--- buffer only while a word is not 0
+-- one word changes in a frame, and in a page's frame; a frame keeps a buffer only
+-- while a word is not 0
 abbrev pub write_at : LayoutParts → PageFrames → (frame index value : ℕ) → PageFrames
 write_at l v frame index value = with_buffer v frame (buffer_for (slice_set (words_in l v frame) index value))
 
@@ -106,8 +106,8 @@ abbrev pub prepared_for : LayoutParts → PageFrames → (owner page index value
 prepared_for l v owner page index value =
     prepared_at l v index value (unwrap_or (entry_of v.table owner page) 0)
 
--- the buffers of two frames are swapped, and a page moves from one frame to another
--- (Linux, memory hotplug: migration)
+-- the buffers of two frames are swapped, and a page moves from one frame to another (Linux, memory
+-- hotplug: migration)
 abbrev pub swap_buffers : PageFrames → (a b : ℕ) → PageFrames
 swap_buffers v a b = with_buffer (with_buffer v a (buffer_of v b)) b (buffer_of v a)
 

@@ -7,8 +7,8 @@ use hp_units::Frame;
 use std::alloc::{AllocError, Global};
 use std::marker::Model;
 
-/// A set of frames, as a bitmap of 64 frames per word, lowest bit first.
-/// Only `none` and `copy` allocate.
+/// A set of frames, as a bitmap of 64 frames per word, lowest bit first. Only `none`
+/// and `copy` allocate.
 ///
 /// A contract sees the list of words; `has` of specs/FrameSets means that a frame is in the set.
 #[derive(Drop)]
@@ -51,8 +51,8 @@ impl FrameSet {
         self.words[at] = with_bit(self.words[at], frame.0 % 64, is_in);
     }
 
-    /// Returns the lowest frame in the set with first <= frame <
-    /// past. Takes one step per 64 frames.
+    /// Returns the lowest frame in the set with first <= frame < past. Takes one
+    /// step per 64 frames.
     pub fn lowest(&self, first: u32, past: u32) -> Option<Frame>
         requires within { past ≤ 64 * length self.now }
         requires small { past ≤ 2 ^ 20 }

@@ -1,5 +1,5 @@
-//! What a well placed state guarantees to the calls of the pages, as the contract of
-//! a function with an empty body.
+//! What a well placed state guarantees to the calls of the pages, as the contract of a function
+//! with an empty body.
 ghost use Rattle.hp_units.specs.LayoutParts.{IsLayout, LayoutParts};
 ghost use Rattle.hp_units.specs.Memory.{Memory};
 ghost use Rattle.hp_units.specs.Placement.{IsWellPlaced};

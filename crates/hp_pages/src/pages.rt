@@ -114,8 +114,8 @@ impl Pages {
         self.table.page_at(frame)
     }
 
-    /// Returns the lowest mapped frame among the `count` frames from `first`
-    /// on. Takes one step per 64 frames.
+    /// Returns the lowest mapped frame among the `count` frames from `first` on. Takes one step per
+    /// 64 frames.
     pub fn lowest_mapped(&self, first: Frame, count: u32) -> Option<Frame>
         requires { first + count ≤ frame_count self.now.layout }
         ensures { result
@@ -234,8 +234,8 @@ impl Pages {
 
     /// Prepares a write of a word to a mapped page: allocates what `write` needs.
     ///
-    /// That is a buffer of zeros if the page's frame has none and the value is not
-    /// 0, otherwise the word's delta.
+    /// That is a buffer of zeros if the page's frame has none and the value is not 0, otherwise the
+    /// word's delta.
     pub fn prepare(
         &self,
         alloc: Global,
@@ -260,8 +260,8 @@ impl Pages {
         Ok(PreparedWrite::Change(change))
     }
 
-    /// Writes one word of a mapped page. Words are counted from 0. Allocates
-    /// nothing beyond what was prepared.
+    /// Writes one word of a mapped page. Words are counted from 0. Allocates nothing beyond what
+    /// was prepared.
     ///
     /// Notes one delta, or none if a word of a frame without a buffer stays 0.
     pub fn write(

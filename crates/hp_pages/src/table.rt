@@ -204,8 +204,8 @@ impl Table {
         self.sums.join(now, place);
     }
 
-    /// Returns the lowest frame with a page among the `count` frames from `first`
-    /// on. Takes one step per 64 frames.
+    /// Returns the lowest frame with a page among the `count` frames from `first` on. Takes one
+    /// step per 64 frames.
     pub(crate) fn lowest(&self, first: u32, count: u32) -> Option<Frame>
         requires { first + count ≤ self.now.frames }
         ensures { result

@@ -1,5 +1,5 @@
--- Marks that count in how many places each frame is, and what a well
--- placed state requires of each part.
+-- Marks that count in how many places each frame is, and what a well placed state
+-- requires of each part.
 use Rattle.std.specs.Prelude.{◌≡◌, ℕ, zero, suc, ◌+◌, ◌<◌, ◌≤◌, true, false, List, Option, None, Some, slice_index_or, if◌then◌else◌, IfSome, count_by}
 use Rattle.std.specs.List.{enumerate_from}
 use Rattle.std.specs.Option.{option_map_or}
@@ -15,8 +15,8 @@ use Rattle.hp_units.specs.Placement.{IsBlockOf, IsKernelAt, IsPage, IsRow, class
 
 -- ---- marks
 
--- the mark of a frame: in how many places it is. A number outside the
--- layout is in one, as if offline
+-- the mark of a frame: in how many places it is. A number outside the layout is in
+-- one, as if offline
 abbrev pub mark_of : List ℕ → Frame → ℕ
 mark_of marks frame = slice_index_or marks frame 1
 

@@ -1,5 +1,5 @@
-//! Tests of the single frames on processors' lists: each must be on a list of
-//! its pool, and in no other place.
+//! Tests of the single frames on processors' lists: each must be on a list of its pool, and in no
+//! other place.
 ghost use Rattle.std.specs.Prelude.{◌≡◌, ◌==◌, MatchBool, Some, count_by};
 ghost use Rattle.hp_units.specs.Arithmetic.{pageblock_of};
 ghost use Rattle.hp_units.specs.Placement.{pool_at};

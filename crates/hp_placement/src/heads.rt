@@ -8,8 +8,8 @@ use hp_units::{Frame, Layout, Order, buddy};
 use std::alloc::{AllocError, Global};
 use std::marker::Model;
 
-/// For each frame, the number of the latest list with a free block that starts
-/// there, or 0 if there was none.
+/// For each frame, the number of the latest list with a free block that starts there, or 0
+/// if there was none.
 #[derive(Drop)]
 pub struct Heads {
     frames: Vec<u8>,

@@ -23,8 +23,8 @@ impl Model for Marks {
 }
 
 impl Marks {
-    /// Creates the marks, with the frames of offline and absent blocks
-    /// marked. Takes one byte per frame.
+    /// Creates the marks, with the frames of offline and absent blocks marked. Takes
+    /// one byte per frame.
     pub fn of_unplugged(alloc: Global, layout: &Layout, rows: &[Row]) -> Result<Marks, AllocError>
         requires { length rows.now ≡ layout.now.blocks }
         ensures { IfOk result
@@ -38,8 +38,8 @@ impl Marks {
         Ok(Marks { frames })
     }
 
-    /// Marks the frames of a block. Stops and returns false at the first that is
-    /// already marked or outside the layout.
+    /// Marks the frames of a block. Stops and returns false at the first that is already marked or
+    /// outside the layout.
     pub(crate) fn mark(&mut self, order: Order, first: Frame) -> bool
         requires { order ≤ 10 }
         ensures { MatchBool result (AreMarked self.old self.new (λ frame. covered frame order first))

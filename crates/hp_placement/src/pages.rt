@@ -1,5 +1,5 @@
-//! The test of an owner's page: it must have both a frame and words or neither, and
-//! its frame be in no other place.
+//! The test of an owner's page: it must have both a frame and words or neither, and its frame be in
+//! no other place.
 ghost use Rattle.std.specs.Prelude.{MatchBool, if◌then◌else◌};
 ghost use Rattle.std.specs.Option.{option_map};
 ghost use Rattle.hp_units.specs.Pages.{holds};

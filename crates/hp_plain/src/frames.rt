@@ -14,9 +14,9 @@ use hp_units::{Block, Class, Cpu, Frame, Kind, Layout, Mobility, Order, Pagebloc
 use std::alloc::{AllocError, Global};
 use std::marker::Model;
 
-/// The free areas, and in front of them each processor's lists of single frames, one per
-/// pool (Gorman, chapter 6: per-cpu lists). The index of a list is three times its
-/// processor plus the index of its pool.
+/// The free areas, and in front of them each processor's lists of single frames, one per pool
+/// (Gorman, chapter 6: per-cpu lists). The index of a list is three times its processor plus the
+/// index of its pool.
 pub(crate) struct FreeFrames {
     areas: Areas,
     cached: Vec<FrameList>,
@@ -129,8 +129,8 @@ impl FreeFrames {
         self.areas.add_back(class, order, frame)
     }
 
-    /// Adds a frame of the layout at the back of a processor's list. If
-    /// memory runs out, nothing changes.
+    /// Adds a frame of the layout at the back of a processor's list. If memory runs
+    /// out, nothing changes.
     pub(crate) fn add_cached(
         &mut self,
         layout: &Layout,

@@ -185,16 +185,16 @@ impl Image {
         self.blocks.auto()
     }
 
-    /// Returns the free blocks of a class and an order, front first. The list is
-    /// empty above the greatest order.
+    /// Returns the free blocks of a class and an order, front first. The list is empty above the
+    /// greatest order.
     pub fn list(&self, class: Class, order: Order) -> &[Frame]
         ensures { result.now ≡ free_list self.now.memory.free.areas class order }
     {
         self.free.areas().free_list(class, order)
     }
 
-    /// Returns a processor's list of a pool, front first. The list is empty for
-    /// a processor outside the layout.
+    /// Returns a processor's list of a pool, front first. The list is empty for a processor outside
+    /// the layout.
     pub fn cpu_list(&self, cpu: Cpu, pool: Pool) -> &[Frame]
         ensures { result.now ≡ cached_list self.now.memory.free cpu pool }
     {

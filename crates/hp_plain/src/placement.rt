@@ -81,8 +81,8 @@ pub(crate) fn place_pages(layout: &Layout, pages: &Pages, marks: &mut Marks) -> 
     true
 }
 
-/// Returns whether each page of one owner has both a frame and words or
-/// neither, and marks the frames.
+/// Returns whether each page of one owner has both a frame and words or neither,
+/// and marks the frames.
 fn place_owner(layout: &Layout, pages: &Pages, marks: &mut Marks, owner: Owner) -> bool
     requires pages { ArePagesOf layout.now pages.now }
     requires owner { owner < layout.now.owners }
@@ -112,8 +112,8 @@ pub(crate) fn are_joined(alloc: Global, layout: &Layout, areas: &Areas) -> Resul
     Ok(are_joined_by(&mut heads, layout, areas))
 }
 
-/// Returns the same, by way of the table of free blocks' first frames,
-/// in which nothing may be set yet.
+/// Returns the same, by way of the table of free blocks' first frames, in which
+/// nothing may be set yet.
 fn are_joined_by(heads: &mut Heads, layout: &Layout, areas: &Areas) -> bool
     requires areas { AreFreeAreasOf layout.now areas.now }
     requires length { length heads.old ≡ frame_count layout.now }

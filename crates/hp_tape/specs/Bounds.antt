@@ -38,8 +38,8 @@ take_one_from l (frame ∷ frames) = 1
 abbrev pub take_one_bound : LayoutParts → FreeFrames → (cpu : ℕ) → Pool → ℕ
 take_one_bound l fs cpu pool = take_one_from l (cached_list fs cpu pool)
 
--- one frame back: straight to the areas if its pageblock is isolated;
--- otherwise one delta, or a spill
+-- one frame back: straight to the areas if its pageblock is isolated; otherwise
+-- one delta, or a spill
 abbrev pub put_one_bound : LayoutParts → FreeFrames → (cpu : ℕ) → Zone → (frame : ℕ) → ℕ
 put_one_bound l fs cpu zone frame =
     let kind = kind_of fs.areas (pageblock_of l frame) in

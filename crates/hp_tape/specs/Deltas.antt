@@ -1,5 +1,5 @@
--- What a delta undoes, and the state as the journal sees it: the words of a
--- page are in a buffer of its frame.
+-- What a delta undoes, and the state as the journal sees it: the words of a page are in a buffer of
+-- its frame.
 use Rattle.std.specs.Prelude.{◌≡◌, ◌<◌, ◌≤◌, ℕ, ◌^◌, length, IfSome, Bool, true, false, not, ◌&&◌, List, [], ◌∷◌, Option, Some, None, ◌==◌, map, nat_lt, replicate, slice_get, slice_index_or, slice_set, unwrap_or, if◌then◌else◌}
 use Rattle.std.specs.List.{list_all}
 use Rattle.std.specs.Option.{option_map, option_map_or, option_and_then}

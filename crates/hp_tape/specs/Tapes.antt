@@ -15,8 +15,8 @@ pub record TapeValue : Type 0 where
 abbrev pub HasRoom : TapeValue → ℕ → Type 0
 HasRoom tape more = length tape.deltas + more ≤ tape.room
 
--- the deltas lead from a layer's later state back to the earlier one, latest first,
--- and each fits when its turn comes
+-- the deltas lead from a layer's later state back to the earlier one, latest first, and each fits
+-- when its turn comes
 pub record LeadBack {S : Type 0} (Fit : Delta → S → Type 0) (one : Delta → S → S) (deltas : List Delta)
     (later earlier : S) : Type 0 where
   pub fit : AllFit Fit one deltas later

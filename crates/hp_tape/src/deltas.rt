@@ -102,8 +102,8 @@ pub enum Delta {
         frame: Frame,
         now: u64,
     },
-    /// A frame's buffer moved into the journal: its page was unmapped, or its
-    /// last word that was not 0 became 0.
+    /// A frame's buffer moved into the journal: its page was unmapped, or its last word that was
+    /// not 0 became 0.
     Emptied {
         frame: Frame,
         words: Words,

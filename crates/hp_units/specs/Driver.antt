@@ -1,5 +1,5 @@
--- One run of a plan's driver: each event follows from the receipts so
--- far, and the end from all of them.
+-- One run of a plan's driver: each event follows from the receipts so far, and the
+-- end from all of them.
 use Rattle.std.specs.Prelude.{◌≡◌, ℕ, ◌+◌, Bool, true, false, List, [], ◌∷◌, ◌++◌, Option, Some, None, nat_lt, count_by, fold, if◌then◌else◌}
 use Rattle.std.specs.List.{last_or}
 use Rattle.std.specs.Option.{option_map_or, option_and_then}
@@ -77,8 +77,8 @@ AllNext cpus turns plan earlier [] = Unit {0}
 AllNext cpus turns plan earlier (r ∷ rs) =
     (next_event cpus turns plan earlier ≡ Some r.event) × AllNext cpus turns plan (earlier ++ r ∷ []) rs
 
--- the end that follows from the receipts and the last call's fault; a fault means
--- that an event was still to come
+-- the end that follows from the receipts and the last call's fault; a fault means that an event was
+-- still to come
 abbrev pub Ends : List Receipt → Option Event → Option CallFault → OpEnd → Type 0
 Ends receipts (Some event) (Some fault) end = end ≡ EndsLeft (operation_of receipts) fault
 Ends receipts (Some event) None end = ⊥

@@ -79,9 +79,9 @@ take_first a class rest order wanted (frame ∷ frames) =
 abbrev pub take_front : FreeAreas → (class rest : Class) → (order wanted : Order) → Option Taken
 take_front a class rest order wanted = take_first a class rest order wanted (free_list a class order)
 
--- the front block of the least order that is large enough, split down to the wanted
--- order; None if no order is (Knuth, volume 1, section 2.5, reservation; which end of
--- the list is this model's choice)
+-- the front block of the least order that is large enough, split down to the wanted order;
+-- None if no order is (Knuth, volume 1, section 2.5, reservation; which end of the list is
+-- this model's choice)
 unfoldable pub take_block : LayoutParts → FreeAreas → Class → Order → Option Taken
 take_block l a class wanted =
     option_and_then (λ order. take_front a class class order wanted)
@@ -95,8 +95,8 @@ join_order a class frame order (suc count) =
     let joined = join_order a class frame (suc order) count in
     if is_on (buddy (ancestor frame order) order) (free_list a class order) then joined else order
 
--- the areas without the frame's buddies of `count` orders (Knuth,
--- volume 1, section 2.5, liberation)
+-- the areas without the frame's buddies of `count` orders (Knuth, volume 1, section 2.5,
+-- liberation)
 abbrev pub without_buddies : FreeAreas → Class → (frame : Frame) (order : Order) (count : ℕ) → FreeAreas
 without_buddies a class frame order zero = a
 without_buddies a class frame order (suc count) =

@@ -91,8 +91,8 @@ abbrev pub cancel_reply : Reply → Option ℕ → Reply
 cancel_reply reply None = reply
 cancel_reply reply (Some place) = if is_refused reply then reply else Restored
 
--- the reply to an undo of the steps above a serial, given the number of
--- earlier records and the last serial
+-- the reply to an undo of the steps above a serial, given the number of earlier records and the
+-- last serial
 abbrev pub undo_reply : (before last : Serial) → List Record → Serial → Reply
 undo_reply before last net serial =
     if nat_lt last serial || nat_lt serial before then Refused Gone else Undone (count_above serial net)

@@ -24,8 +24,8 @@ pub record AreFreeFramesOf (l : LayoutParts) (fs : FreeFrames) : Type 0 where
   pub cached : (cpu : Cpu) (pool : Pool) (frame : Frame) → is_on frame (cached_list fs cpu pool) ≡ true
       → IsFrame l frame
 
--- each owner has the layout's number of pages, each at a frame and
--- with the layout's number of words
+-- each owner has the layout's number of pages, each at a frame and with the
+-- layout's number of words
 pub record ArePagesOf (l : LayoutParts) (ps : Pages) : Type 0 where
   pub owners : length ps.table ≡ l.owners
   pub pages : AllByRecursion (λ row. length row ≡ l.pages) ps.table

@@ -36,8 +36,8 @@ abbrev pub holds_only_own_work : Serial → List Tag → Bool
 holds_only_own_work op [] = true
 holds_only_own_work op (t ∷ ts) = is_work_of op t.mark && holds_only_own_work op ts
 
--- the index of the operation's Begin if only the operation's own work follows
--- it: then the operation is sole
+-- the index of the operation's Begin if only the operation's own work follows it: then the
+-- operation is sole
 unfoldable pub sole_at : Serial → List Tag → Option ℕ
 sole_at op [] = None
 sole_at op (t ∷ ts) =

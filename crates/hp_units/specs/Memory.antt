@@ -22,8 +22,8 @@ pub record Pages : Type 0 where
   pub table : List (List (Option Frame))
   pub contents : List (List (Option (List ℕ)))
 
--- each memory block's row, and what an added block becomes (Linux, memory
--- hotplug: state, auto_online_blocks)
+-- each memory block's row, and what an added block becomes (Linux, memory hotplug: state,
+-- auto_online_blocks)
 pub record Blocks : Type 0 where
   pub rows : List Row
   pub auto : Auto

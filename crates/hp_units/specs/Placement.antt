@@ -1,5 +1,5 @@
--- Well placed states: each frame is in exactly one place, and each
--- place agrees with the blocks' rows.
+-- Well placed states: each frame is in exactly one place, and each place agrees
+-- with the blocks' rows.
 use Rattle.std.specs.Prelude.{◌≡◌, ℕ, ◌+◌, ◌*◌, ◌/◌, ◌%◌, ◌^◌, ◌<◌, ◌≤◌, Bool, true, false, ◌&&◌, ◌||◌, List, [], ◌∷◌, Option, Some, None, ◌==◌, nat_lt, nat_le, length, count_by, sum_by, slice_index_or, IfSome, IsSome, if◌then◌else◌}
 use Rattle.std.specs.List.{AllByRecursion, enumerate_from}
 use Rattle.std.specs.Option.{option_map, option_map_or}
@@ -74,8 +74,8 @@ places_of l s frame =
 
 -- ---- what a place demands of a frame
 
--- a pageblock's row and kind, and the class of its free blocks and the pool of its
--- single frames; None without a zone
+-- a pageblock's row and kind, and the class of its free blocks and the pool of its single frames;
+-- None without a zone
 abbrev pub row_at : LayoutParts → List Row → Pageblock → Row
 row_at l rows pageblock = slice_index_or rows (block_of_pageblock l pageblock) offline_row
 

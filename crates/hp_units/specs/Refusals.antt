@@ -126,7 +126,7 @@ event_refusals l s cpu (Probe address) =
 event_refusals l s cpu (Remove block) = offline_refusals l s block
 event_refusals l s cpu (SetAuto auto) = []
 
--- the refusal of an event, if any: that of the caller's processor,
--- otherwise the first of the event's own
+-- the refusal of an event, if any: that of the caller's processor, otherwise the first of the
+-- event's own
 unfoldable pub refusal_of : LayoutParts → Memory → Cpu → Event → Option Refusal
 refusal_of l s cpu event = first_some (then_some (nat_le l.cpus cpu) NoCpu ∷ event_refusals l s cpu event)

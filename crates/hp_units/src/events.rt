@@ -19,8 +19,8 @@ pub enum Event {
     KernelAlloc {
         order: Order,
     },
-    /// Gives back the kernel block that starts at `frame` (Gorman, chapter 6;
-    /// Knuth, volume 1, section 2.5).
+    /// Gives back the kernel block that starts at `frame` (Gorman, chapter 6; Knuth, volume 1,
+    /// section 2.5).
     KernelFree {
         frame: Frame,
     },
@@ -66,8 +66,8 @@ pub enum Event {
         op: Serial,
         cpu: Cpu,
     },
-    /// Moves the page at the lowest mapped frame of the operation's going blocks
-    /// (Linux guide, Memory Hot(Un)Plug).
+    /// Moves the page at the lowest mapped frame of the operation's going blocks (Linux guide,
+    /// Memory Hot(Un)Plug).
     Migrate {
         op: Serial,
     },

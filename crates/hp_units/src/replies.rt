@@ -40,8 +40,8 @@ pub enum Refusal {
     NotOnline { block: Block },
     /// The block is not offline.
     NotOffline { block: Block },
-    /// A kernel block starts at this frame of a block that is to go
-    /// offline. It is the lowest such frame.
+    /// A kernel block starts at this frame of a block that is to go offline. It is the
+    /// lowest such frame.
     Unmovable { frame: Frame },
     /// The operation is not live.
     NoOp,

@@ -26,8 +26,8 @@ pub enum Mobility {
 }
 
 impl Mobility {
-    /// Returns the mobility to steal from when this one has no free block
-    /// (Gorman, chapter 6: fallback).
+    /// Returns the mobility to steal from when this one has no free block (Gorman, chapter 6:
+    /// fallback).
     pub fn other(self) -> Mobility
         ensures { result ≡ other_mobility self }
     {
@@ -60,8 +60,8 @@ impl Kind {
     }
 }
 
-/// The class of a free block: its zone and mobility, or that it is isolated. Each
-/// class has free lists of its own.
+/// The class of a free block: its zone and mobility, or that it is isolated. Each class has free
+/// lists of its own.
 #[derive(Clone, Copy, PartialEq, Eq, Drop)]
 pub enum Class {
     /// Zone Normal, mobility Unmovable.
@@ -250,8 +250,8 @@ pub struct Claim {
     pub wish: Wish,
 }
 
-/// A memory block's row. An online or going block has a zone; a block
-/// held by an operation has a claim.
+/// A memory block's row. An online or going block has a zone; a block held by an
+/// operation has a claim.
 #[derive(Clone, Copy, PartialEq, Eq, Drop)]
 pub struct Row {
     /// Whether the block is there and in use.

@@ -1,5 +1,5 @@
-//! Searches for an order: the least and the greatest that has a free block, and the
-//! one up to which a block joins.
+//! Searches for an order: the least and the greatest that has a free block, and the one up to which
+//! a block joins.
 ghost use Rattle.std.specs.Prelude.{◌≡◌, ◌+◌, ◌-◌, ◌<◌, ◌≤◌};
 ghost use Rattle.hp_units.specs.Arithmetic.{frame_count};
 ghost use Rattle.hp_units.specs.FreeAreas.{greatest_order, is_on, join_order, least_order};

@@ -13,8 +13,8 @@ use hp_tape::Tape;
 use hp_units::{Class, Frame, Kind, Mobility, Order, Zone, pageblock_of};
 
 impl Buddy {
-    /// Takes the front block of an order, and puts what it has above the wanted order on
-    /// the lists of the class `rest`.
+    /// Takes the front block of an order, and puts what it has above the wanted order on the lists
+    /// of the class `rest`.
     pub(super) fn take_front(
         &mut self,
         class: Class,
@@ -45,8 +45,8 @@ impl Buddy {
         }
     }
 
-    /// Splits a block down from `order` to `last`, and puts the upper
-    /// halves on the lists of a class.
+    /// Splits a block down from `order` to `last`, and puts the upper halves on
+    /// the lists of a class.
     fn put_halves(&mut self, class: Class, frame: Frame, last: Order, order: Order, tape: &mut Tape)
         requires last { last ≤ order }
         requires layout { IsLayout self.old.layout }
@@ -64,8 +64,8 @@ impl Buddy {
         }
     }
 
-    /// Takes the front block of an order of the other mobility. A whole pageblock
-    /// changes to the wanted mobility.
+    /// Takes the front block of an order of the other mobility. A whole pageblock changes to the
+    /// wanted mobility.
     pub(super) fn steal_front(
         &mut self,
         mobility: Mobility,

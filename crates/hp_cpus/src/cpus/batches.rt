@@ -54,8 +54,8 @@ impl Cpus {
         }
     }
 
-    /// Puts a frame at the front of a list. If the list is then longer than
-    /// `high`, it gives a batch back.
+    /// Puts a frame at the front of a list. If the list is then longer than `high`, it gives a
+    /// batch back.
     pub(super) fn put_cached(
         &mut self,
         cpu: Cpu,

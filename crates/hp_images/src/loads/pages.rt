@@ -97,8 +97,8 @@ fn load_buffers(alloc: Global, pages: &mut Pages, image: &Image) -> Result<(), A
     Ok(())
 }
 
-/// Loads the words of one frame's page, if there is one, into its buffer.
-/// Words that are all 0 need none.
+/// Loads the words of one frame's page, if there is one, into its buffer. Words that
+/// are all 0 need none.
 fn load_buffer(
     alloc: Global,
     pages: &mut Pages,

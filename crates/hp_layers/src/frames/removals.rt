@@ -13,8 +13,8 @@ use hp_tape::Tape;
 use hp_units::{Block, Layout, Pageblock, Zone};
 
 impl Frames {
-    /// Removes the pageblocks of a memory block from the areas, in rising order. Each
-    /// must be one isolated free block.
+    /// Removes the pageblocks of a memory block from the areas, in rising order. Each must be one
+    /// isolated free block.
     pub(crate) fn remove_block(
         &mut self,
         layout: &Layout,

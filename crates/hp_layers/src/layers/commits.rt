@@ -24,8 +24,8 @@ use hp_units::{Block, Frame, Refusal, Reply, Row, Serial, State, Wish, Zone};
 use std::alloc::{AllocError, Global};
 
 impl Layers {
-    /// Commits an operation: its going blocks leave the free areas and are
-    /// offline, and the others go online.
+    /// Commits an operation: its going blocks leave the free areas and are offline, and the others
+    /// go online.
     ///
     /// Refused while a frame of a going block is in use (Linux, memory hotplug: offlining). That it
     /// is all or nothing is this model's choice.

@@ -13,8 +13,8 @@ use hp_tape::Tape;
 use hp_units::{Block, Row, State, Zone};
 
 impl Layers {
-    /// Takes a block, which is offline or absent, online in a zone
-    /// (Linux, memory hotplug: onlining).
+    /// Takes a block, which is offline or absent, online in a zone (Linux, memory hotplug:
+    /// onlining).
     #[tactic(auto, unfolding(hp_units::specs::Rows::online_block))]
     pub(crate) fn online_block(&mut self, zone: Zone, block: Block, tape: &mut Tape)
         requires placed { ArePlaced self.old }

@@ -21,8 +21,8 @@ use hp_tape::Tape;
 use hp_units::{Block, Item, Serial, Wish, Zone};
 
 impl Layers {
-    /// Claims the blocks of a plan for an operation, in rising order. No
-    /// operation may hold any of them.
+    /// Claims the blocks of a plan for an operation, in rising order. No operation
+    /// may hold any of them.
     #[tactic(auto, unfolding(hp_units::specs::Rows::begin_plan))]
     pub(crate) fn begin_plan(&mut self, op: Serial, plan: &[Item], tape: &mut Tape)
         requires one { AreOfOneLayout self.old }

@@ -96,8 +96,8 @@ impl Layers {
         self.blocks.row(item.block).is_claimed()
     }
 
-    /// Returns the first block of a plan that is to go offline but is not online
-    /// (Linux, memory hotplug: offlining).
+    /// Returns the first block of a plan that is to go offline but is not online (Linux, memory
+    /// hotplug: offlining).
     fn first_not_online(&self, plan: &[Item]) -> Option<Block>
         requires one { AreOfOneLayout self.now }
         requires within { names_no_block self.now.layout plan.now ≡ false }
@@ -121,8 +121,8 @@ impl Layers {
         item.wish.is_off() && !self.blocks.row(item.block).is_online()
     }
 
-    /// Returns the first block of a plan that is to go online but is not offline
-    /// (Linux, memory hotplug: onlining).
+    /// Returns the first block of a plan that is to go online but is not offline (Linux, memory
+    /// hotplug: onlining).
     fn first_not_offline(&self, plan: &[Item]) -> Option<Block>
         requires one { AreOfOneLayout self.now }
         requires within { names_no_block self.now.layout plan.now ≡ false }
@@ -147,8 +147,8 @@ impl Layers {
         !item.wish.is_off() && !self.blocks.row(item.block).is_offline()
     }
 
-    /// Returns the lowest frame at which a kernel block starts, in the first block
-    /// that is to go offline and has one.
+    /// Returns the lowest frame at which a kernel block starts, in the first block that is to go
+    /// offline and has one.
     fn first_unmovable(&self, plan: &[Item]) -> Option<Frame>
         requires one { AreOfOneLayout self.now }
         requires within { names_no_block self.now.layout plan.now ≡ false }
@@ -162,8 +162,8 @@ impl Layers {
         None
     }
 
-    /// Returns the lowest frame at which a kernel block starts in the item's block,
-    /// if the block is to go offline.
+    /// Returns the lowest frame at which a kernel block starts in the item's block, if the block is
+    /// to go offline.
     fn kernel_frame_in(&self, item: Item) -> Option<Frame>
         requires one { AreOfOneLayout self.now }
         requires block { item.block < self.now.layout.blocks }

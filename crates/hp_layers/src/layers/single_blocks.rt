@@ -1,5 +1,5 @@
-//! The events of single memory blocks: online, probe, remove, and
-//! setting what an added block becomes.
+//! The events of single memory blocks: online, probe, remove, and setting what an
+//! added block becomes.
 ghost use Rattle.std.specs.Prelude.{◌≡◌, ◌/◌, ◌<◌, true, IfOk, OnErr};
 ghost use Rattle.hp_units.specs.declared.events.Event.TheVariants.{Online, Probe, Remove, SetAuto};
 ghost use Rattle.hp_units.specs.Arithmetic.{block_bytes};
@@ -117,8 +117,8 @@ impl Layers {
         1 + self.layout.pageblocks() as usize
     }
 
-    /// Brings an added block to the state that the machine is set to (Linux,
-    /// memory hotplug: auto_online_blocks).
+    /// Brings an added block to the state that the machine is set to (Linux, memory hotplug:
+    /// auto_online_blocks).
     fn auto_online(&mut self, block: Block, tape: &mut Tape)
         requires placed { ArePlaced self.old }
         requires block { block < self.old.layout.blocks }

@@ -9,8 +9,8 @@ use hp_units::{Cpu, Event, Refusal, Reply, Serial};
 use std::alloc::{AllocError, Global};
 
 impl Layers {
-    /// Carries out one step of the definitions, and notes what it did on
-    /// the tape after the deltas there.
+    /// Carries out one step of the definitions, and notes what it did on the tape
+    /// after the deltas there.
     ///
     /// A Cancel only releases here, and an UndoAfter does nothing; the history does the rest. All
     /// memory is allocated before anything changes.

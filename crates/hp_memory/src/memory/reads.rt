@@ -58,8 +58,8 @@ impl Memory {
         self.layers.kernel.order_at(frame)
     }
 
-    /// Returns the row of a memory block, or `None` past the last one
-    /// (Linux, memory hotplug: state).
+    /// Returns the row of a memory block, or `None` past the last one (Linux,
+    /// memory hotplug: state).
     pub fn row(&self, block: Block) -> Option<Row>
         ensures { result ≡ slice_get self.now.state.blocks.rows block }
     {
@@ -69,8 +69,8 @@ impl Memory {
         Some(self.layers.blocks.row(block))
     }
 
-    /// Returns the frame that holds an owner's page, or `None` if the page is
-    /// not mapped or outside the layout.
+    /// Returns the frame that holds an owner's page, or `None` if the page is not mapped or outside
+    /// the layout.
     pub fn frame_at(&self, owner: Owner, page: Page) -> Option<Frame>
         ensures { result ≡ frame_at self.now.state.pages owner page }
     {

@@ -9,8 +9,8 @@ use hp_tape::{Delta, FrameChange};
 use hp_units::{Frame, Owner, Page};
 
 impl Pages {
-    /// Undoes a delta that fits and whose numbers are within the layout. A delta of
-    /// another layer changes nothing.
+    /// Undoes a delta that fits and whose numbers are within the layout. A delta of another layer
+    /// changes nothing.
     pub fn back(&mut self, delta: Delta)
         requires fits { FitsPages delta self.old.pages }
         requires numbers { IsDeltaOf self.old.layout delta }
