@@ -66,8 +66,8 @@ impl Outcome {
         Outcome { replies, blocks }
     }
 
-    /// Returns each processor's replies, from processor 0 on. The number of an
-    /// opened operation is always 0 there.
+    /// Returns each processor's replies, from processor 0 on. The number of an opened operation is
+    /// always 0 there.
     pub fn replies(&self) -> &[Answers]
         ensures { result.now ≡ self.now.replies }
     {
@@ -75,8 +75,8 @@ impl Outcome {
         answers.as_slice()
     }
 
-    /// Returns each memory block's row, from block 0 on. A row never names the
-    /// operation that holds the block.
+    /// Returns each memory block's row, from block 0 on. A row never names the operation that holds
+    /// the block.
     pub fn blocks(&self) -> &[Row]
         ensures { result.now ≡ self.now.blocks }
     {
