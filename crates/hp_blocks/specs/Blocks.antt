@@ -10,17 +10,17 @@ pub record BlocksValue : Type 0 where
   pub layout : LayoutParts
   pub blocks : Blocks
 
--- every layer has a row for each memory block of its layout, of which there are at most 256
+-- every layer has a row per memory block of its layout, at most 256
 pub record AreLayerOf (l : LayoutParts) (bs : Blocks) : Type 0 where
   pub rows : AreBlocksOf l bs
   pub few : l.blocks ≤ 256
 
--- an operation holds none of the blocks from one on and before another
+-- the operation holds none of the blocks with first <= block < past
 abbrev pub AreUnclaimed : BlocksValue → (op first past : ℕ) → Type 0
 AreUnclaimed b op first past =
     (block : ℕ) → first ≤ block → block < past → is_claimed_by op (row_of b.blocks block) ≡ false
 
--- a block is the lowest, from one on, that an operation holds
+-- the block is the lowest, from `first` on, that the operation holds
 pub record IsNextClaimed (b : BlocksValue) (op first block : ℕ) : Type 0 where
   pub low : first ≤ block
   pub high : block < b.layout.blocks

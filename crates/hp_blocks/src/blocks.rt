@@ -1,4 +1,4 @@
-//! Rows of memory blocks.
+//! The layer of the memory blocks' rows.
 ghost use Rattle.std.specs.Prelude.{◌≡◌, ◌<◌, IfNone, IfOk, IfSome};
 ghost use Rattle.hp_units.specs.Boot.{empty_blocks};
 ghost use Rattle.hp_units.specs.InLayout.{AreBlocksOf};
@@ -14,15 +14,15 @@ use std::alloc::{AllocError, Global};
 use std::marker::Model;
 use std::mem::replace;
 
-/// The rows of the memory blocks of a layout, and what a block that is added becomes. No call but
-/// `new` and `copy` takes memory.
+/// The rows of a layout's memory blocks, and what an added block becomes. Only `new`
+/// and `copy` allocate.
 pub struct Blocks {
     layout: Layout,
     rows: Vec<Row>,
     auto: Auto,
 }
 
-/// A function of its own, so that no proof of a caller takes the fields apart.
+/// Keeps callers from proving again how each field is dropped.
 impl Drop for Blocks {
     fn drop(self) {
         let Blocks {
@@ -45,7 +45,7 @@ impl Model for Blocks {
 }
 
 impl Blocks {
-    /// The blocks of a layout, all offline, where a block that is added becomes offline (own rule).
+    /// Creates the rows of a layout's blocks, all offline. An added block becomes offline.
     pub fn new(alloc: Global, layout: &Layout) -> Result<Blocks, AllocError>
         ensures { IfOk result (λ b. b ≡ record { layout = layout.now; blocks = empty_blocks layout.now }) }
     {
@@ -62,7 +62,7 @@ impl Blocks {
         })
     }
 
-    /// Equal rows. An error is out of memory.
+    /// Returns a copy.
     pub fn copy(&self, alloc: Global) -> Result<Blocks, AllocError>
         ensures { IfOk result (λ blocks. blocks ≡ self.now) }
     {
@@ -75,7 +75,7 @@ impl Blocks {
         })
     }
 
-    /// The row of a memory block of the layout.
+    /// Returns the row of a memory block.
     pub fn row(&self, block: Block) -> Row
         requires { block < self.now.layout.blocks }
         ensures row { result ≡ row_of self.now.blocks block }
@@ -85,8 +85,8 @@ impl Blocks {
         self.rows[at]
     }
 
-    /// Makes an operation hold a memory block of the layout that no other one holds; with wish Off
-    /// the block is going (Linux guide: offlining; own rule). One delta.
+    /// Claims a memory block, which no other operation holds. With the wish Off, the block is then
+    /// going (Linux guide: offlining). Notes one delta.
     pub fn claim(&mut self, block: Block, op: Serial, wish: Wish, tape: &mut Tape)
         requires block { block < self.old.layout.blocks }
         requires one { IfSome (row_of self.old.blocks block).claim (λ claim. claim.op ≡ op) }
@@ -100,8 +100,8 @@ impl Blocks {
         self.set(block, row.claimed(op, wish), tape);
     }
 
-    /// Gives a memory block of the layout another row. Where an operation holds the block before
-    /// and after, it is the same one. One delta.
+    /// Replaces the row of a memory block. If it has a claim before and after, both must be the
+    /// same operation's. Notes one delta.
     pub fn set(&mut self, block: Block, row: Row, tape: &mut Tape)
         requires block { block < self.old.layout.blocks }
         requires one { IfSome row.claim
@@ -116,7 +116,7 @@ impl Blocks {
         self.rows[block.0 as usize] = row;
     }
 
-    /// The lowest memory block, from one on, that an operation holds, if there is one (own rule).
+    /// Returns the lowest memory block, from `first` on, that the operation holds.
     pub fn next_claimed(&self, op: Serial, first: Block) -> Option<Block>
         ensures some { IfSome result (IsNextClaimed self.now op first) }
         ensures none { IfNone result (AreUnclaimed self.now op first self.now.layout.blocks) }
@@ -132,14 +132,14 @@ impl Blocks {
         None
     }
 
-    /// Whether an operation is live: whether it holds a memory block (own rule).
+    /// Returns whether the operation is live, which means that it holds a memory block.
     pub fn is_live(&self, op: Serial) -> bool
         ensures { result ≡ is_live self.now.blocks op }
     {
         self.rows.iter().any(|row| row.is_claimed_by(op))
     }
 
-    /// What a memory block that is added becomes (Linux guide: auto_online_blocks).
+    /// Returns what an added memory block becomes (Linux guide: auto_online_blocks).
     pub fn auto(&self) -> Auto
         ensures auto { result ≡ self.now.blocks.auto }
         ensures blocks { AreBlocksOf self.now.layout self.now.blocks }
@@ -147,7 +147,7 @@ impl Blocks {
         self.auto
     }
 
-    /// Sets what a memory block that is added becomes (Linux guide: auto_online_blocks). One delta.
+    /// Sets what an added memory block becomes (Linux guide: auto_online_blocks). Notes one delta.
     pub fn set_auto(&mut self, auto: Auto, tape: &mut Tape)
         requires { HasRoom tape.old 1 }
         ensures set { self.new.blocks ≡ record self.old.blocks { auto = auto } }
@@ -158,7 +158,8 @@ impl Blocks {
         tape.note(Delta::Auto { was, now: auto });
     }
 
-    /// Does the opposite of a delta of the layout that fits; one of another layer changes nothing.
+    /// Undoes a delta that fits and whose numbers are within the layout. A delta of another layer
+    /// changes nothing.
     pub fn back(&mut self, delta: Delta)
         requires fits { FitsBlocks delta self.old.blocks }
         requires numbers { IsDeltaOf self.old.layout delta }

@@ -1,4 +1,4 @@
--- What a contract sees of the layer of free areas, and what its calls need and keep.
+-- What a contract sees of the layer of free areas, and what its calls require and keep.
 use Rattle.std.specs.Prelude.{ℕ, ◌≡◌, ◌+◌, ◌*◌, ◌/◌, ◌%◌, ◌^◌, ◌<◌, ◌≤◌, true, List, [], ◌∷◌, Option, Some, None, length, if◌then◌else◌}
 use Rattle.hp_units.specs.declared.rows.Class.{Class}
 use Rattle.hp_units.specs.declared.rows.Kind.{Kind}
@@ -25,7 +25,7 @@ pub record AreApart (l : LayoutParts) (a : FreeAreas) : Type 0 where
       → first % 2 ^ order ≡ 0
   pub once : (frame : ℕ) → free_places a frame ≤ 1
 
--- ---- what a block must be to come back (own rule)
+-- ---- what a block must be to come back
 
 -- its order is in the layout, it lies within the frames at a multiple of its size, and none of its
 -- frames is in a free block
@@ -35,17 +35,17 @@ pub record MayBeGiven (l : LayoutParts) (a : FreeAreas) (order first : ℕ) : Ty
   pub within : first + 2 ^ order ≤ frame_count l
   pub unfree : (frame : ℕ) → first ≤ frame → frame < first + 2 ^ order → free_places a frame ≡ 0
 
--- ---- in how many free blocks a frame is, by a block more
+-- ---- in how many free blocks a frame is, with one block more
 
--- the frames of a block are in one free block more, and all others in as many
+-- the frames of the block are in one free block more, all others in equally many
 abbrev pub HasBlockMore : (more less : FreeAreas) → (order first : ℕ) → Type 0
 HasBlockMore more less order first =
     (frame : ℕ) → free_places more frame ≡ free_places less frame + covered frame order first
 
--- ---- where a free block stands
+-- ---- on which list a free block is
 
--- the class and the order of the list that a frame is on: a list's number is five times its order,
--- and its class
+-- the class and the order of the list that a frame is on; a list's number is five times its order
+-- plus its class
 abbrev pub place_from : (frame number : ℕ) → List (List ℕ) → Option (Class × ℕ)
 place_from frame number [] = None
 place_from frame number (frames ∷ lists) =
@@ -55,7 +55,7 @@ place_from frame number (frames ∷ lists) =
 abbrev pub place_of : FreeAreas → ℕ → Option (Class × ℕ)
 place_of a frame = place_from frame 0 a.lists
 
--- the frame after a frame on the list that it is on
+-- the frame after this one on the list that it is on
 abbrev pub next_from : ℕ → List (List ℕ) → Option ℕ
 next_from frame [] = None
 next_from frame (frames ∷ lists) =
@@ -64,7 +64,7 @@ next_from frame (frames ∷ lists) =
 abbrev pub next_of : FreeAreas → ℕ → Option ℕ
 next_of a frame = next_from frame a.lists
 
--- ---- how the areas are kept
+-- ---- how the areas are stored
 
 -- the tables are those of the layout
 pub record IsBuddyOf (l : LayoutParts) (links : LinkedLists) (kinds : List Kind) : Type 0 where

@@ -1,20 +1,20 @@
--- The free blocks of a pageblock change their class, one block at a time.
+-- Moving a pageblock's free blocks to another class, one at a time.
 use Rattle.std.specs.Prelude.{ℕ, zero, suc, ◌+◌, if◌then◌else◌}
 use Rattle.hp_units.specs.declared.rows.Class.{Class}
 use Rattle.hp_units.specs.Memory.{FreeAreas, free_list}
 use Rattle.hp_units.specs.FreeAreas.{is_on, with_back, without_free}
 
--- a block that is free in one class goes to the back of another one's list
+-- a block that is free in one class goes to the back of another class's list
 abbrev pub move_one : FreeAreas → (from to : Class) → (order frame : ℕ) → FreeAreas
 move_one a from to order frame =
     if is_on frame (free_list a from order) then with_back (without_free a from order frame) to order frame
     else a
 
--- 1 if a free block of a class and an order starts at a frame, and 0 otherwise
+-- 1 if a free block of this class and order starts at the frame, 0 otherwise
 abbrev pub free_one : FreeAreas → Class → (order frame : ℕ) → ℕ
 free_one a class order frame = if is_on frame (free_list a class order) then 1 else 0
 
--- how many start at so many frames from the first one on
+-- how many start at the `count` frames from `first` on
 abbrev pub free_count : FreeAreas → Class → (order first count : ℕ) → ℕ
 free_count a class order first zero = 0
 free_count a class order first (suc count) =

@@ -1,4 +1,4 @@
-//! The free areas.
+//! The layer of the free areas: the buddy allocator's calls.
 ghost use Rattle.std.specs.Prelude.{◌≡◌, ℕ, true, ◌+◌, ◌*◌, ◌/◌, ◌<◌, ◌≤◌, None, Some, IfOk, IfSome, MatchOption, length, slice_get};
 ghost use Rattle.hp_units.specs.Arithmetic.{frame_count, pageblock_count, pageblock_size};
 ghost use Rattle.hp_units.specs.Boot.{empty_areas};
@@ -26,14 +26,14 @@ use hp_units::{Class, Frame, Kind, Layout, Mobility, Order, Pageblock, Zone};
 use std::alloc::{AllocError, Global};
 use std::marker::Model;
 
-/// The free areas of a layout. No call but `new`, `copy` and `list` takes memory.
+/// The free areas of a layout. Only `new`, `copy` and `list` allocate.
 pub struct Buddy {
     layout: Layout,
     links: Links,
     kinds: Vec<Kind>,
 }
 
-/// A function of its own, so that no proof of a caller takes the fields apart.
+/// Keeps callers from proving again how each field is dropped.
 impl Drop for Buddy {
     fn drop(self) {
         let Buddy {
@@ -56,7 +56,7 @@ impl Model for Buddy {
 }
 
 impl Buddy {
-    /// The first frame of a pageblock of the layout.
+    /// Returns the first frame of a pageblock.
     fn first_frame(&self, pageblock: Pageblock) -> Frame
         requires { pageblock < pageblock_count self.now.layout }
         ensures { result ≡ pageblock * pageblock_size self.now.layout }
@@ -64,7 +64,7 @@ impl Buddy {
         self.layout.first_frame(pageblock)
     }
 
-    /// How many frames a pageblock has.
+    /// Returns the number of frames per pageblock.
     fn pageblock_size(&self) -> u32
         ensures is { result ≡ pageblock_size self.now.layout }
         ensures layout { IsLayout self.now.layout }
@@ -72,8 +72,8 @@ impl Buddy {
         self.layout.pageblock_size()
     }
 
-    /// The areas of a layout with nothing free, every pageblock movable and not isolated: by as
-    /// many requests for memory whatever the layout.
+    /// Creates areas with nothing free, and every pageblock movable and not isolated. Allocates the
+    /// same number of times for every layout.
     pub fn new(alloc: Global, layout: &Layout) -> Result<Buddy, AllocError>
         ensures value { IfOk result
             (λ b. b ≡ record { layout = layout.now; areas = empty_areas layout.now }) }
@@ -90,7 +90,7 @@ impl Buddy {
         })
     }
 
-    /// Equal areas, by as many requests for memory whatever the layout. An error is out of memory.
+    /// Returns a copy. Allocates the same number of times for every layout.
     pub fn copy(&self, alloc: Global) -> Result<Buddy, AllocError>
         ensures { IfOk result (λ buddy. buddy ≡ self.now) }
     {
@@ -104,7 +104,7 @@ impl Buddy {
         })
     }
 
-    /// The kind of a pageblock of the layout.
+    /// Returns the kind of a pageblock.
     pub fn kind(&self, pageblock: Pageblock) -> Kind
         requires { pageblock < pageblock_count self.now.layout }
         ensures { result ≡ kind_of self.now.areas pageblock }
@@ -112,7 +112,7 @@ impl Buddy {
         self.kinds[pageblock.0 as usize]
     }
 
-    /// How many free blocks a class has of an order of the layout.
+    /// Returns the number of free blocks of a class and an order. Takes constant time.
     pub fn len(&self, class: Class, order: Order) -> u32
         requires { order ≤ self.now.layout.order }
         ensures { result ≡ length (free_list self.now.areas class order) }
@@ -120,7 +120,7 @@ impl Buddy {
         self.links.len(list_number(class, order))
     }
 
-    /// The free blocks of a class and an order of the layout, front first.
+    /// Returns the free blocks of a class and an order, front first.
     pub fn list(&self, alloc: Global, class: Class, order: Order) -> Result<Vec<Frame>, AllocError>
         requires { order ≤ self.now.layout.order }
         ensures { IfOk result (λ frames. frames.items ≡ free_list self.now.areas class order) }
@@ -128,7 +128,7 @@ impl Buddy {
         self.links.list(alloc, list_number(class, order))
     }
 
-    /// The first free block of a class and an order of the layout.
+    /// Returns the first free block of a class and an order.
     pub fn front(&self, class: Class, order: Order) -> Option<Frame>
         requires { order ≤ self.now.layout.order }
         ensures { result ≡ slice_get (free_list self.now.areas class order) 0 }
@@ -136,7 +136,7 @@ impl Buddy {
         self.links.front(list_number(class, order))
     }
 
-    /// The free block after the one that starts at a frame of the layout, on its list.
+    /// Returns the free block after the one that starts at this frame, on its list.
     pub fn next(&self, frame: Frame) -> Option<Frame>
         requires { frame < frame_count self.now.layout }
         ensures { result ≡ next_of self.now.areas frame }
@@ -144,7 +144,7 @@ impl Buddy {
         self.links.next(frame)
     }
 
-    /// The class and the order of the free block that starts at a frame of the layout.
+    /// Returns the class and the order of the free block that starts at this frame, if any.
     pub fn place(&self, frame: Frame) -> Option<(Class, Order)>
         requires { frame < frame_count self.now.layout }
         ensures place { result ≡ place_of self.now.areas frame }
@@ -160,9 +160,9 @@ impl Buddy {
         }
     }
 
-    /// Takes a block of an order of the layout: the front block of the least order at which the
-    /// class has one, split down. None if the class has none, and then nothing changes (Knuth,
-    /// volume 1, section 2.5, reservation; which end is own).
+    /// Takes a block: the front block of the least order at which the class has one, split down to
+    /// `order`. Returns `None`, and changes nothing, if the class has none (Knuth, volume 1,
+    /// section 2.5, reservation; which end of the list is this model's choice).
     pub fn take(&mut self, class: Class, order: Order, tape: &mut Tape) -> Option<Frame>
         requires order { order ≤ self.old.layout.order }
         requires apart { AreApart self.old.layout self.old.areas }
@@ -184,10 +184,12 @@ impl Buddy {
         }
     }
 
-    /// Takes a block of an order of the layout for a mobility of zone Normal from the other
-    /// mobility: the front block of the greatest order that has one, split down. A whole pageblock
-    /// takes the mobility. None if the other mobility has none, and then nothing changes (Gorman,
-    /// chapter 6: fallback; the rule is own).
+    /// Steals a block for a mobility of zone Normal: the front block of the greatest order at
+    /// which the other mobility has one, split down to `order`. A whole pageblock changes to
+    /// the wanted mobility.
+    ///
+    /// Returns `None`, and changes nothing, if the other mobility has none (Gorman, chapter 6:
+    /// fallback; the exact rule is this model's).
     pub fn steal(&mut self, wanted: Mobility, order: Order, tape: &mut Tape) -> Option<Frame>
         requires order { order ≤ self.old.layout.order }
         requires apart { AreApart self.old.layout self.old.areas }
@@ -210,9 +212,9 @@ impl Buddy {
         }
     }
 
-    /// Gives a block back: it joins with its buddies as far as they are free in the class that its
-    /// pageblock shows, and goes to the front of its list (Knuth, volume 1, section 2.5,
-    /// liberation; that a pageblock isn't crossed is own).
+    /// Gives a block back. It joins with its buddies while they are free in its pageblock's class,
+    /// and goes to the front of its list (Knuth, volume 1, section 2.5, liberation; that it never
+    /// joins across pageblocks is this model's choice).
     pub fn give(&mut self, zone: Zone, frame: Frame, order: Order, tape: &mut Tape)
         requires block { MayBeGiven self.old.layout self.old.areas order frame }
         requires apart { AreApart self.old.layout self.old.areas }
@@ -230,9 +232,9 @@ impl Buddy {
         self.push_front(class, joined, frame.ancestor(joined), tape);
     }
 
-    /// Isolates a pageblock of the layout, or releases it: its free blocks go, by rising number, to
-    /// the back of the lists of their new class (Linux guide, Memory Hot(Un)Plug: offlining; the
-    /// order is own).
+    /// Isolates a pageblock, or releases it. Its free blocks move, in rising order, to the backs of
+    /// the lists of their new class (Linux guide, Memory Hot(Un)Plug: offlining; the order is this
+    /// model's choice).
     pub fn move_pageblock(
         &mut self,
         zone: Zone,
@@ -262,8 +264,7 @@ impl Buddy {
         self.set_kind(pageblock, moved, tape);
     }
 
-    /// Adds a whole pageblock of the layout at the back of its zone's movable list of the greatest
-    /// order (own rule).
+    /// Adds a whole pageblock at the back of its zone's movable list of the greatest order.
     pub fn add_pageblock(&mut self, zone: Zone, pageblock: Pageblock, tape: &mut Tape)
         requires pageblock { pageblock < pageblock_count self.old.layout }
         requires block { MayBeGiven self.old.layout self.old.areas self.old.layout.order
@@ -283,9 +284,9 @@ impl Buddy {
         self.push_back(class, order, first, tape);
     }
 
-    /// Removes a pageblock of the layout that is one isolated free block; it is movable and not
-    /// isolated from then on (Linux guide, Memory Hot(Un)Plug: offlining removes the free pages
-    /// from the allocator).
+    /// Removes a pageblock that is one isolated free block. It is movable and not isolated from
+    /// then on (Linux guide, Memory Hot(Un)Plug: offlining removes the free pages from the
+    /// allocator).
     pub fn remove_pageblock(&mut self, zone: Zone, pageblock: Pageblock, tape: &mut Tape)
         requires pageblock { pageblock < pageblock_count self.old.layout }
         requires free { is_on (pageblock * pageblock_size self.old.layout)
@@ -305,7 +306,8 @@ impl Buddy {
         self.set_kind(pageblock, Kind::plain(), tape);
     }
 
-    /// Does the opposite of a delta of the layout that fits; one of another layer changes nothing.
+    /// Undoes a delta that fits and whose numbers are within the layout. A delta of another layer
+    /// changes nothing.
     pub fn back(&mut self, delta: Delta)
         requires fits { FitsAreas delta self.old.areas }
         requires numbers { IsDeltaOf self.old.layout delta }
@@ -315,7 +317,7 @@ impl Buddy {
         self.back_by(&delta);
     }
 
-    /// The same by a delta that the caller owns, so that here none is dropped at each exit.
+    /// Undoes a delta that the caller owns, so that none is dropped at each exit here.
     #[inline(always)]
     fn back_by(&mut self, delta: &Delta)
         requires fits { FitsAreas delta.now self.old.areas }

@@ -1,11 +1,11 @@
-//! The numbers of lists, and the classes of free blocks.
+//! Numbers of lists, and parts of blocks.
 ghost use Rattle.std.specs.Prelude.{◌≡◌, ◌+◌, ◌*◌, ◌^◌, ◌<◌};
 ghost use Rattle.hp_units.specs.Memory.{class_index};
 
 use hp_links::ListNumber;
 use hp_units::{Class, Frame, Order};
 
-/// The number of the list of a class and an order.
+/// Returns the number of the list of a class and an order.
 pub fn list_number(class: Class, order: Order) -> ListNumber
     requires { order < 32 }
     ensures { result ≡ 5 * order + class_index class }
@@ -13,7 +13,7 @@ pub fn list_number(class: Class, order: Order) -> ListNumber
     ListNumber(5 * order.0 + class.index())
 }
 
-/// The first frame of the upper half of a block of twice the size that starts at a frame.
+/// Returns the first frame of the upper half of a block of order `order` + 1.
 pub fn upper_half(frame: Frame, order: Order) -> Frame
     requires order { order < 32 }
     requires frame { frame + 2 ^ order < 2 ^ 32 }
@@ -22,7 +22,7 @@ pub fn upper_half(frame: Frame, order: Order) -> Frame
     Frame(frame.0 + (1 << order.0))
 }
 
-/// The first frame of a block of an order that stands after so many others from a frame on.
+/// Returns the first frame of block number `at` of an order, counted from the block at `first`.
 pub fn nth_block(first: Frame, order: Order, at: u32) -> Frame
     requires order { order < 32 }
     requires frame { first + at * 2 ^ order < 2 ^ 32 }

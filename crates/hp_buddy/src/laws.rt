@@ -1,5 +1,5 @@
-//! What a well placed state gives the calls of the free areas. Each law is a function that does
-//! nothing; what it ensures is the law.
+//! What a well placed state guarantees to the calls of the free areas, as contracts of functions
+//! with empty bodies.
 ghost use Rattle.std.specs.Prelude.{◌≡◌, ℕ, Some};
 ghost use Rattle.hp_units.specs.LayoutParts.{IsLayout, LayoutParts};
 ghost use Rattle.hp_units.specs.Memory.{Memory, kernel_order};
@@ -7,14 +7,14 @@ ghost use Rattle.hp_units.specs.Pages.{frame_at};
 ghost use Rattle.hp_units.specs.Placement.{IsWellPlaced};
 ghost use Rattle.hp_buddy.specs.Buddy.{AreApart, MayBeGiven};
 
-/// The free blocks of a well placed state lie within the frames, at multiples of their sizes, and no
-/// frame is in two of them: what each call asks of the areas (Knuth, volume 1, section 2.5).
+/// In a well placed state the free blocks lie within the frames, at multiples of their sizes, and
+/// no frame is in two of them. Each call requires this of the areas (Knuth, volume 1, section 2.5).
 pub fn well_placed_blocks_are_apart()
     ensures { (l : LayoutParts) (s : Memory) → IsLayout l → IsWellPlaced l s → AreApart l s.free.areas }
 {}
 
-/// In a well placed state each kernel's block and each page's frame may come back to the free areas
-/// (own rule).
+/// In a well placed state each kernel block and each page's frame can be given back
+/// to the free areas.
 pub fn blocks_in_use_may_be_given()
     ensures kernel { (l : LayoutParts) (s : Memory) (first order : ℕ) → IsLayout l → IsWellPlaced l s
         → kernel_order s first ≡ Some order → MayBeGiven l s.free.areas order first }

@@ -1,4 +1,6 @@
 //! The buddy allocator: free areas by class and order, and the kind of each pageblock.
+//!
+//! Read specs/Buddy first, and specs/FreeAreas of hp_units for the rules.
 #![tactic(auto)]
 
 mod buddy;

@@ -1,5 +1,5 @@
--- What a contract sees of the processors' lists, and what the calls need of them and of the free
--- areas together.
+-- What a contract sees of the processors' lists, and what the calls require of them together with
+-- the free areas.
 use Rattle.std.specs.Prelude.{ℕ, ◌≡◌, ◌+◌, ◌*◌, ◌≤◌, ◌==◌, List, [], length, slice_index_or, slice_set, sum_by, count_by, if◌then◌else◌}
 use Rattle.hp_units.specs.declared.rows.Pool.{Pool}
 use Rattle.hp_units.specs.LayoutParts.{LayoutParts, IsLayout}
@@ -9,12 +9,12 @@ use Rattle.hp_units.specs.Placement.{free_places}
 use Rattle.hp_links.specs.LinkedLists.{LinkedLists}
 use Rattle.hp_buddy.specs.Buddy.{BuddyValue, AreApart}
 
--- the layout, and each processor's list for each pool
+-- the layout, and each processor's list of each pool
 pub record CpusValue : Type 0 where
   pub layout : LayoutParts
   pub cached : List (List ℕ)
 
--- the processors' lists beside free areas
+-- the processors' lists together with free areas
 abbrev pub frames_of : FreeAreas → CpusValue → FreeFrames
 frames_of a c = record { areas = a; cached = c.cached }
 
@@ -31,19 +31,19 @@ with_list_of c cpu pool frames = record c { cached = slice_set c.cached (3 * cpu
 abbrev pub places_in : CpusValue → ℕ → ℕ
 places_in c frame = sum_by (λ frames. count_by (λ other. other == frame) frames) c.cached
 
--- in how many free blocks and on how many processors' lists it is
+-- in how many free blocks and on how many processors' lists a frame is
 abbrev pub places_among : FreeAreas → CpusValue → ℕ → ℕ
 places_among a c frame = free_places a frame + places_in c frame
 
--- 1 for this frame, and 0 for all others
+-- 1 for this frame, 0 for all others
 abbrev pub one_at : (frame other : ℕ) → ℕ
 one_at frame other = if frame == other then 1 else 0
 
--- ---- what calls need and keep
+-- ---- what calls require and keep
 
--- the free areas and the processors' lists are of one layout, free blocks lie apart, a frame on a
--- processor's list is one of the layout, and no frame is in two of these places: so it is of every
--- well placed state
+-- the free areas and the processors' lists are of one layout, free blocks are apart, frames on
+-- processors' lists are within the layout, and no frame is in two of these places. This holds of
+-- every well placed state
 pub record AreTogether (c : CpusValue) (b : BuddyValue) : Type 0 where
   pub layout : b.layout ≡ c.layout
   pub lists : length c.cached ≡ 3 * c.layout.cpus
@@ -51,13 +51,13 @@ pub record AreTogether (c : CpusValue) (b : BuddyValue) : Type 0 where
   pub within : (frame : ℕ) → frame_count c.layout ≤ frame → places_in c frame ≡ 0
   pub once : (frame : ℕ) → places_among b.areas c frame ≤ 1
 
--- a frame that may be put on a list or given to the areas: it is one of the layout, in no free
--- block and on no processor's list
+-- the frame may be put on a list or given to the areas: it is within the layout, in no free block
+-- and on no processor's list
 pub record MayBePut (c : CpusValue) (b : BuddyValue) (frame : ℕ) : Type 0 where
   pub within : IsFrame c.layout frame
   pub nowhere : places_among b.areas c frame ≡ 0
 
--- ---- how the lists are kept
+-- ---- how the lists are stored
 
 -- the table is that of the layout
 pub record IsCpusOf (l : LayoutParts) (links : LinkedLists) : Type 0 where

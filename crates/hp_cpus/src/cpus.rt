@@ -1,4 +1,4 @@
-//! The processors' lists.
+//! The layer of the processors' lists.
 ghost use Rattle.std.specs.Prelude.{◌≡◌, ℕ, ◌+◌, ◌<◌, None, Some, IfOk, IfSome, MatchOption, length, slice_get};
 ghost use Rattle.hp_units.specs.Arithmetic.{frame_count};
 ghost use Rattle.hp_units.specs.Boot.{empty_cached};
@@ -21,14 +21,13 @@ use hp_units::{Cpu, Frame, Layout, Pool, Zone, pageblock_of};
 use std::alloc::{AllocError, Global};
 use std::marker::Model;
 
-/// Each processor's lists of single frames, one for each pool. No call but `new`, `copy` and `list`
-/// takes memory.
+/// Each processor's lists of single frames, one per pool. Only `new`, `copy` and `list` allocate.
 pub struct Cpus {
     layout: Layout,
     links: Links,
 }
 
-/// A function of its own, so that no proof of a caller takes the fields apart.
+/// Keeps callers from proving again how each field is dropped.
 impl Drop for Cpus {
     fn drop(self) {
         let Cpus {
@@ -49,7 +48,8 @@ impl Model for Cpus {
 }
 
 impl Cpus {
-    /// The lists of a layout's processors, all empty: by as many requests for memory whatever the layout.
+    /// Creates the lists of a layout's processors, all empty. Allocates the same number of times
+    /// for every layout.
     pub fn new(alloc: Global, layout: &Layout) -> Result<Cpus, AllocError>
         ensures value { IfOk result
             (λ c. c ≡ record { layout = layout.now; cached = empty_cached layout.now }) }
@@ -61,7 +61,7 @@ impl Cpus {
         Ok(Cpus { layout, links })
     }
 
-    /// Equal lists, by as many requests for memory whatever the layout. An error is out of memory.
+    /// Returns a copy. Allocates the same number of times for every layout.
     pub fn copy(&self, alloc: Global) -> Result<Cpus, AllocError>
         ensures { IfOk result (λ cpus. cpus ≡ self.now) }
     {
@@ -70,7 +70,7 @@ impl Cpus {
         Ok(Cpus { layout, links })
     }
 
-    /// How many frames a processor of the layout has in its list of a pool.
+    /// Returns the number of frames on a processor's list of a pool. Takes constant time.
     pub fn len(&self, cpu: Cpu, pool: Pool) -> u32
         requires { cpu < self.now.layout.cpus }
         ensures { result ≡ length (list_of self.now cpu pool) }
@@ -78,7 +78,7 @@ impl Cpus {
         self.links.len(list_number(cpu, pool))
     }
 
-    /// The frames of a list of a processor of the layout, front first.
+    /// Returns the frames on a processor's list of a pool, front first.
     pub fn list(&self, alloc: Global, cpu: Cpu, pool: Pool) -> Result<Vec<Frame>, AllocError>
         requires { cpu < self.now.layout.cpus }
         ensures { IfOk result (λ frames. frames.items ≡ list_of self.now cpu pool) }
@@ -86,7 +86,7 @@ impl Cpus {
         self.links.list(alloc, list_number(cpu, pool))
     }
 
-    /// The first frame of a list of a processor of the layout.
+    /// Returns the first frame on a processor's list of a pool.
     pub fn front(&self, cpu: Cpu, pool: Pool) -> Option<Frame>
         requires { cpu < self.now.layout.cpus }
         ensures { result ≡ slice_get (list_of self.now cpu pool) 0 }
@@ -94,7 +94,7 @@ impl Cpus {
         self.links.front(list_number(cpu, pool))
     }
 
-    /// The frame after a frame of the layout, on the processor's list that it is on.
+    /// Returns the frame after this one, on the processor's list that it is on.
     pub fn next(&self, frame: Frame) -> Option<Frame>
         requires { frame < frame_count self.now.layout }
         ensures { result ≡ next_from frame self.now.cached }
@@ -102,9 +102,11 @@ impl Cpus {
         self.links.next(frame)
     }
 
-    /// Takes the front frame of a processor's list; a list that is empty is first refilled by a
-    /// batch from the free areas. None if these have none for the pool, and then nothing changes
-    /// (Gorman, chapter 6: per-cpu lists; the end is own).
+    /// Takes the front frame of a processor's list. An empty list is first refilled by a batch from
+    /// the free areas.
+    ///
+    /// Returns `None`, and changes nothing, if they have no frame for the pool (Gorman, chapter 6:
+    /// per-cpu lists; which end of the list is this model's choice).
     pub fn take_one(
         &mut self,
         cpu: Cpu,
@@ -137,10 +139,11 @@ impl Cpus {
         self.pop(cpu, pool, tape)
     }
 
-    /// Puts a frame of a zone at the front of the processor's list of its pool; a list that is then
-    /// longer than its mark gives a batch back to the free areas, the last frame first. A frame of
-    /// an isolated pageblock goes to the free areas at once (Gorman, chapter 6: per-cpu lists; the
-    /// ends are own).
+    /// Puts a frame of a zone at the front of the processor's list of its pool. If the list is then
+    /// longer than `high`, it gives a batch back to the free areas, last frame first.
+    ///
+    /// A frame of an isolated pageblock goes straight to the free areas (Gorman, chapter 6: per-cpu
+    /// lists; which ends of the list is this model's choice).
     pub fn put_one(
         &mut self,
         cpu: Cpu,
@@ -179,7 +182,7 @@ impl Cpus {
         }
     }
 
-    /// Gives all that a processor's lists hold back to the free areas, pool by pool and front first
+    /// Gives all frames on a processor's lists back to the free areas, pool by pool and front first
     /// (Gorman, chapter 6: drain_local_pages).
     pub fn drain(&mut self, cpu: Cpu, buddy: &mut Buddy, tape: &mut Tape)
         requires cpu { cpu < self.old.layout.cpus }
@@ -201,8 +204,8 @@ impl Cpus {
         self.drain_pool(cpu, Pool::Mm, buddy, tape);
     }
 
-    /// Does the opposite of a delta of the layout that fits, whatever the free areas are; one of
-    /// another layer changes nothing.
+    /// Undoes a delta that fits, whatever the free areas are, and whose numbers are within the
+    /// layout. A delta of another layer changes nothing.
     pub fn back(&mut self, delta: Delta)
         requires fits { (areas : FreeAreas) × FitsCached delta (frames_of areas self.old) }
         requires numbers { IsDeltaOf self.old.layout delta }
@@ -213,7 +216,7 @@ impl Cpus {
         self.back_by(&delta);
     }
 
-    /// The same by a delta that the caller owns, so that here none is dropped at each exit.
+    /// Undoes a delta that the caller owns, so that none is dropped at each exit here.
     #[inline(always)]
     fn back_by(&mut self, delta: &Delta)
         requires fits { (areas : FreeAreas) × FitsCached delta.now (frames_of areas self.old) }

@@ -1,4 +1,6 @@
 //! The processors' lists of single frames, in front of the free areas.
+//!
+//! Read specs/Cpus first, and specs/ProcessorLists of hp_units for the rules.
 #![tactic(auto)]
 
 mod cpus;

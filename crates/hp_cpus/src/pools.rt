@@ -1,11 +1,11 @@
-//! The numbers of the processors' lists.
+//! Numbers of the processors' lists.
 ghost use Rattle.std.specs.Prelude.{◌≡◌, ◌+◌, ◌*◌, ◌<◌};
 ghost use Rattle.hp_units.specs.Memory.{pool_index};
 
 use hp_links::ListNumber;
 use hp_units::{Cpu, Pool};
 
-/// The number of a processor's list of a pool.
+/// Returns the number of a processor's list of a pool.
 pub fn list_number(cpu: Cpu, pool: Pool) -> ListNumber
     requires { cpu < 64 }
     ensures { result ≡ 3 * cpu + pool_index pool }

@@ -10,8 +10,8 @@ use Rattle.hp_schedules.specs.declared.tally.Ending.{Ending}
 abbrev pub earlier : List ℕ → List ℕ → List ℕ
 earlier s t = if is_lt (slice_cmp nat_cmp s t) then s else t
 
--- one of the ends has the outcome, and counts its schedules too; its first
--- schedule is the earlier of both
+-- one of the ends has the outcome, and counts its schedules too; its first schedule is
+-- the earlier of both
 pub record AddsMore (old : List Ending) (e : Ending) (new : List Ending) : Type 0 where
   pub at : ℕ
   pub entry : Ending

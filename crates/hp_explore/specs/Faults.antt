@@ -38,8 +38,8 @@ IsCause g OutOfMemory = Unit {0}
 
 -- ---- for one part
 
--- the history has no room for a call that a processor has to make, where a
--- schedule of the part's search leads
+-- the history has no room for a call that a processor has to make, where a schedule of the part's
+-- search leads
 abbrev pub FillsPart : Setting → PartValue → Type 0
 FillsPart g part = (s : List ℕ) × HasNoRoom g s × ComesTo (length g.scripts) part s
 

@@ -20,8 +20,8 @@ few_changes = 3
 
 -- ---- a full history
 
--- the history has no room for a call of a search within this budget, and no schedule
--- before that call ends as wanted
+-- the history has no room for a call of a search within this budget, and no schedule before that
+-- call ends as wanted
 pub record FillsPass (g : Setting) (wanted : List Wanted) (budget : ℕ) : Type 0 where
   pub place : List ℕ
   pub call : HasNoRoom g place

@@ -1,5 +1,5 @@
--- The stack of a walk: what it knows of each place from the beginning
--- of the scripts to where it is.
+-- The stack of a walk: what it knows of each place from the beginning of the
+-- scripts to where it is.
 use Rattle.std.specs.Prelude.{◌≡◌, ℕ, ◌+◌, ◌-◌, ◌*◌, ◌^◌, ◌<◌, ◌≤◌, Bool, true, false, List, [], ◌∷◌, ◌++◌, Some, length, reverse}
 use Rattle.hp_units.specs.declared.events.Event.{Event}
 use Rattle.hp_units.specs.declared.replies.Record.{Record}
@@ -16,8 +16,8 @@ use Rattle.hp_explore.specs.declared.walk.Turned.{Turned}
 use Rattle.hp_explore.specs.declared.walk.Turned.TheVariants.{On, Over, Full}
 use Rattle.hp_explore.specs.declared.walk.Walk.{Walk}
 
--- all before the frame's next processor is walked, and it is known
--- whether a processor so far had a call
+-- all before the frame's next processor is walked, and it is known whether a
+-- processor so far had a call
 pub record AreTurns (g : Setting) (part : PartValue) (news : List Record) (ends : List Ending)
     (frame : Frame) : Type 0 where
   pub walked : IsPartWalkedBefore g part (schedule_of news ++ frame.next ∷ []) ends
@@ -89,8 +89,8 @@ pub record IsComing (w : Walk) (frames : List Frame) : Type 0 where
   pub few : w.processors < 2 ^ 32
   pub short : length w.path.news ≤ w.path.setting.layout.history
 
--- the result of a turn: less is left; all is walked; or the limit is
--- reached and there is another schedule
+-- the result of a turn: less is left; all is walked; or the limit is reached and there
+-- is another schedule
 abbrev pub IsTurnedTo : (old new : Walk) → Turned → Type 0
 IsTurnedTo old new On =
     IsWalking new (frames_of new) × (left new (frames_of new) < left old (frames_of old))

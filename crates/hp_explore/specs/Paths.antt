@@ -66,8 +66,8 @@ IsWayBack g here cursors (turn ∷ turns) =
     × AreCursors g old.records (slice_set cursors r.cpu turn.from)
     × IsWayBack g old (slice_set cursors r.cpu turn.from) turns
 
--- a path is where its schedule leads, its cursors are where the
--- scripts are, and its turns lead back
+-- a path is where its schedule leads, its cursors are where the scripts are, and
+-- its turns lead back
 pub record IsPath (g : Setting) (here : StepsValue) (cursors : List Cursor) (turns : List Turn) : Type 0 where
   pub at : IsAt g here
   pub cursors_at : AreCursors g here.records cursors

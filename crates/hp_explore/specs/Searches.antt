@@ -54,8 +54,8 @@ pub record IsPast (budget : ℕ) (v w : SearchValue) : Type 0 where
 abbrev pub IsDown : (budget : ℕ) → SearchValue → SearchValue → Type 0
 IsDown budget v w = IsMade budget v w ⊎ IsPast budget v w
 
--- the latest call was taken back, and the processor after the one that made it
--- is tried; or there was no call
+-- the latest call was taken back, and the processor after the one that made it is tried; or there
+-- was no call
 pub record IsTakenBack (v w : SearchValue) : Type 0 where
   pub path : PathValue
   pub cpu : ℕ

@@ -4,8 +4,8 @@ ghost use Rattle.hp_explore.specs.Changes.{change, changes};
 
 use hp_units::Cpu;
 
-/// Returns how often the schedule changes the processor: the number of calls by another
-/// processor than the call before.
+/// Returns how often the schedule changes the processor: the number of calls by another processor
+/// than the call before.
 pub fn changes_of(schedule: &[Cpu]) -> usize
     ensures { result ≡ changes schedule.now }
 {

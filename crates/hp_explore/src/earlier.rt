@@ -31,8 +31,8 @@ pub(crate) fn order_of(schedule: &[Cpu], other: &[Cpu]) -> Ordering
     }
 }
 
-/// Replaces `kept` by the other schedule if that one is earlier. If memory
-/// runs out, `kept` stays as it was.
+/// Replaces `kept` by the other schedule if that one is earlier. If memory runs out, `kept` stays
+/// as it was.
 pub(crate) fn keep_earlier(
     alloc: Global,
     kept: &mut Vec<Cpu>,

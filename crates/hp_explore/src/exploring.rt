@@ -23,8 +23,8 @@ use thiserror::Error;
 pub struct Exploration {
     /// The ends.
     pub ends: Vec<Ending>,
-    /// True if all complete schedules are counted. Otherwise only the first
-    /// ones are, as many as the limit.
+    /// True if all complete schedules are counted. Otherwise only the first ones are, as many as
+    /// the limit.
     pub is_whole: bool,
 }
 
@@ -107,8 +107,8 @@ pub fn explore<W: Watch>(
 /// Explores one part of the complete schedules, like `explore`. The parts can be searched side by
 /// side, and the counts of their ends add up to those of the whole search.
 ///
-/// If more schedules belong to the part than `limit`, exactly the
-/// first `limit` of these are counted.
+/// If more schedules belong to the part than `limit`, exactly the first `limit` of
+/// these are counted.
 ///
 /// # Errors
 ///
@@ -154,8 +154,8 @@ pub fn explore_part<W: Watch>(
 /// Returns how many records the history must hold so that every call of every schedule has room:
 /// those it has, and one per line of the scripts.
 ///
-/// Returns `None` if a script carries a plan, whose calls only a search can count, or
-/// if the number is 2^64 or more.
+/// Returns `None` if a script carries a plan, whose calls only a search can count, or if the number
+/// is 2^64 or more.
 pub fn room_needed(
     alloc: Global,
     machine: &Machine,

@@ -109,8 +109,8 @@ fn nearest_to(
     }
 }
 
-/// Returns the first schedule with the fewest changes, if any has fewer than
-/// `below`. None has fewer than `from`.
+/// Returns the first schedule with the fewest changes, if any has fewer than `below`. None has
+/// fewer than `from`.
 #[tactic(auto, using(crate::proofs::Levels::nearest_found))]
 fn nearest_below(
     alloc: Global,

@@ -13,8 +13,8 @@ use hp_schedules::{Positions, Script};
 use hp_units::{Cpu, Record};
 use std::alloc::Global;
 
-/// Plays a schedule on a copy of the machine and returns the copy, whose history
-/// then shows the schedule's records.
+/// Plays a schedule on a copy of the machine and returns the copy, whose history then shows the
+/// schedule's records.
 ///
 /// Returns `None` if the schedule names a processor whose script is finished.
 ///

@@ -34,8 +34,8 @@ impl From<AllocError> for SumFault {
     }
 }
 
-/// Merges the ends of all parts of a search into those of the whole. The parts
-/// must be in order, index 0 first.
+/// Merges the ends of all parts of a search into those of the whole. The parts must be in order,
+/// index 0 first.
 ///
 /// Equal outcomes become one end, with the sum of their counts and the earliest of their first
 /// schedules. The result is in the order of these first schedules.

@@ -79,8 +79,8 @@ pub(crate) fn step_back(
     }
 }
 
-/// Makes the processor's next call and returns the way back over it. After an
-/// error, everything is as it was.
+/// Makes the processor's next call and returns the way back over it. After an error, everything is
+/// as it was.
 ///
 /// Most calls are steps that can be taken back. An undo or a Cancel may itself go back, so the
 /// earlier steps are kept whole for it.
@@ -168,8 +168,8 @@ fn steps_after(
     Ok(Some(steps))
 }
 
-/// Returns whether the event is an undo above a serial that is not used
-/// yet, by a processor of the layout.
+/// Returns whether the event is an undo above a serial that is not used yet, by a
+/// processor of the layout.
 fn is_gone(start: &Machine, cpu: u32, serial: Serial, event: &Event) -> bool
     ensures { IsTrue result → IsGone start.now cpu serial event.now }
 {

@@ -84,8 +84,8 @@ impl<'a> Walk<'a> {
         })
     }
 
-    /// Walks to the end and returns true if all schedules are counted. Returns
-    /// false if it stopped at the limit.
+    /// Walks to the end and returns true if all schedules are counted. Returns false if it stopped
+    /// at the limit.
     pub(crate) fn run<W: Watch>(
         &mut self,
         alloc: Global,
@@ -220,8 +220,8 @@ impl<'a> Walk<'a> {
         Ok(())
     }
 
-    /// Leaves a place at which all processors have been tried, and
-    /// takes back the call that led to it.
+    /// Leaves a place at which all processors have been tried, and takes back the
+    /// call that led to it.
     fn go_back<W: Watch>(
         &mut self,
         alloc: Global,

@@ -14,8 +14,8 @@ use std::mem::swap;
 pub(crate) enum Way {
     /// Take the step back, down to this mark.
     Mark(usize),
-    /// Put these earlier steps back, because the call may go back itself.
-    /// Boxed, since most turns keep none.
+    /// Put these earlier steps back, because the call may go back itself. Boxed, since most turns
+    /// keep none.
     Kept(Box<Steps>),
 }
 

@@ -1,10 +1,10 @@
-//! The layers of a memory from an Image, and an Image from the layers.
+//! Converts an Image to the layers of a memory, and the layers to an Image.
 //!
-//! A layer of an Image starts empty, and each part of the Image then comes into it as the opposite
-//! of a delta, so that the layer needs no other way in than its way back (`loads`). An Image of the
-//! layers starts empty as well, and gets their parts one by one (`pictures`).
+//! A layer starts empty, and each part of the Image is then loaded by undoing a delta. So a layer
+//! needs no way in besides its way back (`loads`). An Image starts empty as well, and the parts of
+//! the layers are added one by one (`pictures`).
 //!
-//! Read first: specs/Tables (how far a table is copied), then one layer, as `loads/rows`.
+//! Read first: specs/Tables (how far a table is copied), then one layer, such as `loads/rows`.
 #![tactic(auto)]
 
 mod loads;

@@ -1,4 +1,4 @@
-//! The layers of an Image.
+//! Loading the layers from an Image.
 mod areas;
 mod kernel;
 mod pages;

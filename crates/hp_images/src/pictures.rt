@@ -1,4 +1,4 @@
-//! An Image of the layers, part by part.
+//! Adding the layers' parts to an Image.
 mod areas;
 mod kernel;
 mod pages;

@@ -1,4 +1,4 @@
-//! The kernel's blocks: the order of the block that starts at each frame.
+//! The layer of the kernel blocks: the order of the block that starts at each frame.
 ghost use Rattle.std.specs.Prelude.{◌≡◌, ℕ, ◌+◌, ◌<◌, ◌≤◌, ◌^◌, None, IfOk, IfSome, find, is_some, replicate, length, slice_index_or, slice_set};
 ghost use Rattle.std.specs.List.{range_with_len};
 ghost use Rattle.hp_units.specs.Arithmetic.{IsFrame, frame_count};
@@ -13,8 +13,8 @@ use hp_units::{Frame, Order};
 use std::alloc::{AllocError, Global};
 use std::marker::Model;
 
-/// The kernel's blocks of a layout: the order of the block that starts at each frame, in two bytes,
-/// and the set of the frames where one starts. No call but `new` and `copy` takes memory.
+/// The kernel blocks of a layout: the order of the block that starts at each frame, in two bytes,
+/// and the set of these frames. Only `new` and `copy` allocate.
 #[derive(Drop)]
 pub struct KernelBlocks {
     orders: Vec<Option<u8>>,
@@ -33,7 +33,7 @@ impl Model for KernelBlocks {
 }
 
 impl KernelBlocks {
-    /// No blocks, among so many frames. An error is out of memory.
+    /// Creates the table of `frames` frames, without blocks.
     pub fn new(alloc: Global, frames: u32) -> Result<KernelBlocks, AllocError>
         ensures { IfOk result (λ kernel. kernel ≡ replicate frames None) }
     {
@@ -42,7 +42,7 @@ impl KernelBlocks {
         Ok(KernelBlocks { orders, starts })
     }
 
-    /// Equal blocks. An error is out of memory.
+    /// Returns a copy.
     pub fn copy(&self, alloc: Global) -> Result<KernelBlocks, AllocError>
         ensures { IfOk result (λ kernel. kernel ≡ self.now) }
     {
@@ -51,7 +51,7 @@ impl KernelBlocks {
         Ok(KernelBlocks { orders, starts })
     }
 
-    /// The order of the block that starts at a frame of the table. None where no block does.
+    /// Returns the order of the block that starts at the frame, if any.
     pub fn order_at(&self, frame: Frame) -> Option<Order>
         requires { frame < length self.now }
         ensures { result ≡ slice_index_or self.now frame None }
@@ -62,7 +62,7 @@ impl KernelBlocks {
         }
     }
 
-    /// The same, in the form that the table and a delta have.
+    /// Returns the same in the short form of the table and of deltas.
     fn short_at(&self, frame: Frame) -> Option<u8>
         requires { frame < length self.now }
         ensures { result ≡ slice_index_or self.now frame None }
@@ -70,8 +70,8 @@ impl KernelBlocks {
         self.orders[frame.0 as usize]
     }
 
-    /// The lowest frame, of so many of the table from one on, where a block starts. A step for 64
-    /// frames.
+    /// Returns the lowest frame at which a block starts, among the `count` frames from `first` on.
+    /// Takes one step per 64 frames.
     pub fn lowest(&self, first: u32, count: u32) -> Option<Frame>
         requires within { first + count ≤ length self.now }
         requires small { first + count ≤ 2 ^ 20 }
@@ -81,7 +81,7 @@ impl KernelBlocks {
         self.starts.lowest(first, first + count)
     }
 
-    /// A block of an order starts at a frame, or none does.
+    /// Sets the order of the block that starts at the frame; `None` if none does.
     fn put_order(&mut self, frame: Frame, order: Option<u8>)
         requires { frame < length self.old }
         ensures { self.new ≡ slice_set self.old frame order }
@@ -90,8 +90,8 @@ impl KernelBlocks {
         self.orders[frame.0 as usize] = order;
     }
 
-    /// A block of an order, which is below 256, begins at a frame of the table, or ends there. One
-    /// delta.
+    /// Begins a block of this order at the frame, or ends one if `order` is `None`. The order must
+    /// be below 256. Notes one delta.
     pub fn set(&mut self, frame: Frame, order: Option<Order>, tape: &mut Tape)
         requires frame { frame < length self.old }
         requires small { IfSome order (λ order. order < 256) }
@@ -106,8 +106,8 @@ impl KernelBlocks {
         tape.note(Delta::Kernel { frame, was, now });
     }
 
-    /// Does the opposite of a delta of a layout with as many frames as the table; one of another
-    /// layer changes nothing.
+    /// Undoes a delta of a layout with as many frames as the table. A delta of another layer
+    /// changes nothing.
     pub fn back(&mut self, delta: Delta)
         requires { (l : LayoutParts) × (length self.old ≡ frame_count l) × IsDeltaOf l delta }
         ensures { self.new ≡ kernel_undo delta self.old }
@@ -118,7 +118,7 @@ impl KernelBlocks {
     }
 }
 
-/// An order, which is below 256, in one byte as a delta has it, if there is one.
+/// Returns the order in one byte, as deltas have it. The order must be below 256.
 pub fn short_order(order: Option<Order>) -> Option<u8>
     requires { IfSome order (λ order. order < 256) }
     ensures { result ≡ order }

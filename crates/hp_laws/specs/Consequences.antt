@@ -1,4 +1,4 @@
--- What is said of a frame in the consequences of placement.
+-- Properties of a frame that the consequences of placement use.
 use Rattle.std.specs.Prelude.{◌≡◌, ℕ, ◌+◌, ◌^◌, ◌<◌, ◌≤◌, ◌||◌, true, Some}
 use Rattle.hp_units.specs.declared.rows.Class.{Class}
 use Rattle.hp_units.specs.declared.rows.Zone.{Zone}
@@ -8,12 +8,12 @@ use Rattle.hp_units.specs.Memory.{FreeAreas, Memory, free_list, row_of}
 use Rattle.hp_units.specs.FreeAreas.{is_on}
 use Rattle.hp_units.specs.Rows.{is_claimed_by, is_going, is_online}
 
--- the frame is one of the block's of an order that starts at a frame
+-- the frame is one of the block of this order that starts at `first`
 pub record IsFrameOf (frame order first : ℕ) : Type 0 where
   pub low : first ≤ frame
   pub high : frame < first + 2 ^ order
 
--- a free block has the frame: one on the list of some class and order
+-- the frame is in a free block, one on the list of some class and order
 pub record IsInFreeBlock (a : FreeAreas) (frame : ℕ) : Type 0 where
   pub class : Class
   pub order : ℕ
@@ -21,22 +21,22 @@ pub record IsInFreeBlock (a : FreeAreas) (frame : ℕ) : Type 0 where
   pub on : is_on first (free_list a class order) ≡ true
   pub within : IsFrameOf frame order first
 
--- the frame lies in a block that the operation is taking offline
+-- the frame is in a block that the operation is taking offline
 pub record IsGoingFor (l : LayoutParts) (s : Memory) (op frame : ℕ) : Type 0 where
   pub claimed : is_claimed_by op (row_of s.blocks (block_of l frame)) ≡ true
   pub going : is_going (row_of s.blocks (block_of l frame)) ≡ true
 
--- it lies in such a block and is in use: no free block has it
+-- the frame is in such a block and in use: it is in no free block
 pub record IsFrameInUse (l : LayoutParts) (s : Memory) (op frame : ℕ) : Type 0 where
   pub going : IsGoingFor l s op frame
   pub not_free : IsInFreeBlock s.free.areas frame → ⊥
 
--- it is the lowest of these frames
+-- the frame is the lowest of these
 pub record IsLowestInUse (l : LayoutParts) (s : Memory) (op frame : ℕ) : Type 0 where
   pub here : IsFrameInUse l s op frame
   pub lowest : (other : ℕ) → IsFrameInUse l s op other → frame ≤ other
 
--- the frame lies in a block that is online or going, and so has a zone
+-- the frame is in a block that is online or going, and so has a zone
 pub record IsPluggedIn (l : LayoutParts) (s : Memory) (frame : ℕ) : Type 0 where
   pub zone : (zone : Zone) × ((row_of s.blocks (block_of l frame)).zone ≡ Some zone)
   pub state : (is_online (row_of s.blocks (block_of l frame))

@@ -1,4 +1,5 @@
--- An operation that nothing disturbs between its Begin and its Commit, and the numbers of operations.
+-- An operation that nothing disturbs between its Begin and its Commit, and the numbers of
+-- operations.
 use Rattle.std.specs.Prelude.{◌≡◌, ℕ, ◌<◌, ◌≤◌, Bool, true, false, ◌&&◌, ◌==◌, List, ◌∷◌, ◌++◌, None, map, IfSome}
 use Rattle.std.specs.List.{AllByRecursion, list_any}
 use Rattle.hp_units.specs.declared.events.Event.{Event}
@@ -11,13 +12,13 @@ use Rattle.hp_units.specs.Memory.{Blocks, Memory}
 use Rattle.hp_units.specs.Pages.{page_at}
 use Rattle.hp_laws.specs.Consequences.{IsGoingFor}
 
--- the event drains a processor for an operation
+-- the event drains this processor for the operation
 abbrev pub drains_for : (op cpu : ℕ) → Event → Bool
 drains_for op cpu (DrainFor other drained) = (other == op) && (drained == cpu)
 drains_for op cpu event = false
 
 -- from the operation's Begin on, the steps are its own drains and migrations, with a drain of each
--- processor among them, and in the state that they lead to no frame of the blocks that it takes
+-- processor among them; and in the state that they lead to, no frame of the blocks that it takes
 -- offline holds a page
 pub record IsUndisturbed (l : LayoutParts) (s : Memory) (op : ℕ) (net : List Record) : Type 0 where
   pub earlier : List Record
@@ -29,14 +30,13 @@ pub record IsUndisturbed (l : LayoutParts) (s : Memory) (op : ℕ) (net : List R
   pub drained : (cpu : ℕ) → cpu < l.cpus → list_any (λ r. drains_for op cpu r.event) work ≡ true
   pub moved : (frame : ℕ) → IsGoingFor l s op frame → page_at s.pages frame ≡ None
 
--- the number of the operation that holds a block, if one does, is such a number; and so is that of
--- each that holds a block
+-- the number of the operation that holds a block, if any, has the property; and so for all blocks
 abbrev pub IsHeldBy : (ℕ → Type 0) → Row → Type 0
 IsHeldBy IsNumber row = IfSome row.claim (λ claim. IsNumber claim.op)
 
 abbrev pub AreHeldBy : (ℕ → Type 0) → Blocks → Type 0
 AreHeldBy IsNumber blocks = AllByRecursion (IsHeldBy IsNumber) blocks.rows
 
--- each operation that holds a block has a number up to one
+-- each operation that holds a block has a number up to `last`
 abbrev pub AreClaimedUpTo : ℕ → Blocks → Type 0
 AreClaimedUpTo last blocks = AreHeldBy (λ op. op ≤ last) blocks

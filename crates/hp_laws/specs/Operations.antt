@@ -1,4 +1,4 @@
--- Operations on memory blocks, as the laws speak of them.
+-- Operations on memory blocks, in the terms of the laws.
 use Rattle.std.specs.Prelude.{◌≡◌, ℕ, suc, ◌-◌, Bool, false, List, Some, None, ◌==◌, drop, take, slice_get}
 use Rattle.std.specs.List.{AllByRecursion}
 use Rattle.hp_units.specs.LayoutParts.{LayoutParts}
@@ -14,7 +14,7 @@ use Rattle.hp_units.specs.declared.rows.Wish.{Wish}
 use Rattle.hp_units.specs.declared.rows.Wish.TheVariants.{Off as OffWish, Normal as NormalWish, Movable as MovableWish}
 use Rattle.hp_units.specs.declared.rows.Zone.TheVariants.{Normal as NormalZone, Movable as MovableZone}
 
--- the record at a place of the steps begins an operation for a plan; its serial is the operation's number
+-- the step at this index begins an operation for the plan; its serial is the operation's number
 pub record BeginsAt (steps : List Record) (place : ℕ) (b : Record) (plan : List Item) : Type 0 where
   pub here : slice_get steps place ≡ Some b
   pub opens : b.event ≡ Begin plan
@@ -25,7 +25,7 @@ ends op (Commit other) = other == op
 ends op (Cancel other) = other == op
 ends op event = false
 
--- no step after a place ends the operation
+-- no step after this index ends the operation
 abbrev pub IsOpenBehind : (op place : ℕ) → List Record → Type 0
 IsOpenBehind op place steps = AllByRecursion (λ r. ends op r.event ≡ false) (drop (suc place) steps)
 
@@ -36,11 +36,11 @@ state_before l base before h r = value_of l base (take (r.serial - before - 1) h
 abbrev pub state_behind : LayoutParts → Memory → ℕ → List Record → Record → Memory
 state_behind l base before h r = value_of l base (take (r.serial - before) h)
 
--- the row of each block of a plan is as told of its item
+-- the row of each block of a plan is the one given for its item
 abbrev pub RowsAre : Memory → List Item → (Item → Row) → Type 0
 RowsAre s plan row = AllByRecursion (λ item. row_of s.blocks item.block ≡ row item) plan
 
--- the row that a wish asks for
+-- the row of a block that got its wish
 abbrev pub wished_row : Wish → Row
 wished_row OffWish = offline_row
 wished_row NormalWish = record { state = OnlineState; zone = Some NormalZone; claim = None }

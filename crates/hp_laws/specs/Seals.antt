@@ -1,4 +1,4 @@
--- Histories that follow one another, as seals have them: each begins with the state that the one
+-- Histories that follow one another, as seals make them: each begins with the state that the one
 -- before it leads to, and its serials go on from there.
 use Rattle.std.specs.Prelude.{ℕ, ◌+◌, ◌-◌, if◌then◌else◌, List, [], ◌∷◌, ◌++◌, fold, length, nat_lt, take}
 use Rattle.hp_units.specs.LayoutParts.{LayoutParts}
@@ -6,7 +6,7 @@ use Rattle.hp_units.specs.Memory.{Memory}
 use Rattle.hp_units.specs.History.{IsLegal, net_of, value_of}
 use Rattle.hp_units.specs.declared.replies.Record.{Record}
 
--- each is legal over the state that those before it lead to, after all their records
+-- each history is legal from the state that those before it lead to, after all their records
 abbrev pub AreLegal : LayoutParts → Memory → ℕ → List (List Record) → Type 0
 AreLegal l base before [] = Unit {0}
 AreLegal l base before (h ∷ later) =
@@ -16,12 +16,12 @@ AreLegal l base before (h ∷ later) =
 abbrev pub value_of_all : LayoutParts → Memory → List (List Record) → Memory
 value_of_all l base histories = fold (λ s h. value_of l s h) base histories
 
--- the steps that are not undone, of one history after another
+-- the steps that are not undone, history after history
 abbrev pub net_of_all : List (List Record) → List Record
 net_of_all [] = []
 net_of_all (h ∷ later) = net_of h ++ net_of_all later
 
--- the state after so many of their records; a seal is no record and changes no state
+-- the state after `count` of their records; a seal is no record and changes no state
 abbrev pub state_at : LayoutParts → Memory → List (List Record) → ℕ → Memory
 state_at l base [] count = base
 state_at l base (h ∷ later) count =

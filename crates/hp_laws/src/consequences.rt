@@ -1,5 +1,5 @@
-//! What follows from a state being well placed. Each is a function that does nothing; what it
-//! ensures is the law.
+//! What follows from a state being well placed. Each law is the contract of a function with an
+//! empty body.
 ghost use Rattle.std.specs.Prelude.{◌≡◌, ℕ, ◌^◌, ◌<◌, ◌≤◌, ◌↔◌, true, Some, List, ◌∷◌, ◌++◌, [], is_none, length};
 ghost use Rattle.std.specs.List.{list_all};
 ghost use Rattle.hp_units.specs.Arithmetic.{block_of, frame_count};
@@ -21,7 +21,7 @@ ghost use Rattle.hp_units.specs.declared.rows.Pool.{Pool};
 ghost use Rattle.hp_units.specs.declared.rows.Zone.TheVariants.{Normal as NormalZone};
 ghost use Rattle.hp_laws.specs.Consequences.{IsFrameOf, IsFrameInUse, IsLowestInUse, IsPluggedIn};
 
-/// A frame on a processor's list lies in a block of the zone of the list's pool (own rule).
+/// A frame on a processor's list is in a block of the zone of the list's pool.
 pub fn cached_frames_lie_in_zone()
     ensures state { (l : LayoutParts) (s : Memory) (cpu : ℕ) (pool : Pool) (frame : ℕ) → IsWellPlaced l s
         → is_on frame (cached_list s.free cpu pool) ≡ true
@@ -32,8 +32,8 @@ pub fn cached_frames_lie_in_zone()
         → (row_of (value_of l base h).blocks (block_of l frame)).zone ≡ Some (zone_of_pool pool) }
 {}
 
-/// A frame in use lies in a block that is online or going offline, and so has a zone: a frame of
-/// the kernel's in zone Normal, a frame that holds a page in either zone (own rule).
+/// A frame in use is in a block that is online or going offline, and so has a zone. A frame of a
+/// kernel block is in zone Normal; a frame that holds a page is in either zone.
 pub fn frames_in_use_have_zone()
     ensures kernel { (l : LayoutParts) (s : Memory) (first order frame : ℕ) → IsWellPlaced l s
         → kernel_order s first ≡ Some order → IsFrameOf frame order first
@@ -50,8 +50,8 @@ pub fn frames_in_use_have_zone()
         → IsPluggedIn l (value_of l base h) frame }
 {}
 
-/// A free list has no more blocks than there are frames, and a processor's list no more frames;
-/// there are at most 2^20 frames (own rule).
+/// A free list has at most as many blocks as there are frames, and a processor's list at most as
+/// many frames. There are at most 2^20 frames.
 pub fn lists_are_short()
     ensures free { (l : LayoutParts) (s : Memory) (class : Class) (order : ℕ) → IsLayout l → IsWellPlaced l s
         → length (free_list s.free.areas class order) ≤ frame_count l }
@@ -66,10 +66,10 @@ pub fn lists_are_short()
     ensures frames { (l : LayoutParts) → IsLayout l → frame_count l ≤ 2 ^ 20 }
 {}
 
-/// A Commit by a processor of the layout is refused as NotFree exactly where some frame of a block
-/// that its operation takes offline is in no free block, and the refusal names the lowest such
-/// frame; it is done exactly where the operation is live and there is none (Linux, memory hotplug:
-/// offlining; own rule).
+/// A Commit by a processor of the layout is refused as NotFree exactly if some frame of a block
+/// that its operation takes offline is in no free block. The refusal names the lowest such frame.
+/// The Commit is done exactly if the operation is live and there is no such frame (Linux, memory
+/// hotplug: offlining).
 pub fn commits_need_free_frames()
     ensures lowest { (l : LayoutParts) (s : Memory) (serial cpu op frame : ℕ) → IsLayout l → IsWellPlaced l s
         → cpu < l.cpus

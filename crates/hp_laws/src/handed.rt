@@ -1,4 +1,4 @@
-//! The law of the frames that are handed out. It is a function that does nothing; what it ensures is the law.
+//! The law of the frames that are handed out, as the contract of a function with an empty body.
 ghost use Rattle.std.specs.Prelude.{◌≡◌, ℕ, false, List, [], ◌∷◌, ◌++◌, Some};
 ghost use Rattle.hp_units.specs.Arithmetic.{block_of};
 ghost use Rattle.hp_units.specs.Contents.{handed_frame};
@@ -10,9 +10,9 @@ ghost use Rattle.hp_units.specs.Rows.{is_going};
 ghost use Rattle.hp_units.specs.declared.replies.Record.{Record};
 ghost use Rattle.hp_units.specs.declared.replies.Reply.TheVariants.{Moved};
 
-/// A frame that a record hands out, to the kernel, to a page that is mapped or to one that moves,
-/// lies in no block that was offline or absent just before it; one that a page moves to lies in no
-/// block that was going (own rule).
+/// A frame that a record hands out is in no block that was offline or absent just before it,
+/// whether it goes to the kernel, to a newly mapped page or to a page that moves. A frame to which
+/// a page moves is in no block that was going.
 pub fn handed_frames_are_plugged()
     ensures plugged { (l : LayoutParts) (base : Memory) (before : ℕ) (h : List Record) (r : Record)
         (frame : ℕ)

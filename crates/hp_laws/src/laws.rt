@@ -1,4 +1,4 @@
-//! The laws of undo and Cancel. Each is a function that does nothing; what it ensures is the law.
+//! The laws of undo and Cancel. Each law is the contract of a function with an empty body.
 ghost use Rattle.std.specs.Prelude.{◌≡◌, ℕ, ◌+◌, ◌-◌, ◌≤◌, false, List, [], ◌∷◌, ◌++◌, Some, length, take, slice_get};
 ghost use Rattle.hp_units.specs.Memory.{Memory};
 ghost use Rattle.hp_units.specs.LayoutParts.{LayoutParts};
@@ -8,7 +8,7 @@ ghost use Rattle.hp_units.specs.declared.plans.Item.{Item};
 ghost use Rattle.hp_units.specs.declared.replies.Record.{Record};
 ghost use Rattle.hp_units.specs.declared.replies.Reply.TheVariants.{Restored};
 
-/// An undo that is not refused leaves the state that the steps up to its serial lead to (own rule).
+/// An undo that is not refused leaves the state that the steps up to its serial lead to.
 pub fn undone_state()
     ensures { (l : LayoutParts) (base : Memory) (serial : ℕ) (h : List Record) (r : Record)
         → r.event ≡ UndoAfter serial
@@ -16,8 +16,8 @@ pub fn undone_state()
         → value_of l base (h ++ r ∷ []) ≡ run l base (steps_until serial (net_of h)) }
 {}
 
-/// A Cancel that restores leaves the state that was there just before its operation's Begin, whose
-/// record has the operation's number as its serial (own rule).
+/// A Cancel that restores leaves the state just before its operation's Begin, whose record has the
+/// operation's number as its serial.
 pub fn restored_state()
     ensures { (l : LayoutParts) (base : Memory) (before op : ℕ) (h : List Record) (r : Record)
         → IsLegal l base before (h ++ r ∷ [])
@@ -28,8 +28,8 @@ pub fn restored_state()
         × (value_of l base (h ++ r ∷ []) ≡ value_of l base (take (op - before - 1) h)) }
 {}
 
-/// Each prefix of the steps is what some undo keeps, and its state was there just before the step
-/// that comes after it (own rule).
+/// Each prefix of the steps is what some undo keeps, and its state is the one just before the step
+/// that follows it.
 pub fn earlier_states()
     ensures prefix { (l : LayoutParts) (base : Memory) (before k : ℕ) (h : List Record)
         → IsLegal l base before h

@@ -1,5 +1,5 @@
-//! The law of an offline that nothing disturbs. Each is a function that does nothing; what it
-//! ensures is the law.
+//! The law of an offline that nothing disturbs. Each law is the contract of a function with an
+//! empty body.
 ghost use Rattle.std.specs.Prelude.{◌≡◌, ℕ, ◌+◌, ◌<◌, false, List, [], ◌∷◌, ◌++◌, length};
 ghost use Rattle.hp_units.specs.Boot.{boot_memory};
 ghost use Rattle.hp_units.specs.History.{IsLegal, net_of, value_of};
@@ -12,12 +12,13 @@ ghost use Rattle.hp_units.specs.declared.replies.Record.{Record};
 ghost use Rattle.hp_units.specs.declared.replies.Reply.TheVariants.{Done};
 ghost use Rattle.hp_laws.specs.Offline.{AreClaimedUpTo, IsUndisturbed};
 
-/// A Commit by a processor of the layout is done where the steps from its operation's Begin on are
-/// the operation's own drains and migrations, each processor was drained among them, and no frame
-/// of the blocks that it takes offline holds a page: after the state at the start, after any base
-/// state in which the operation's number is not in use, and so after any in which the operations
-/// that hold blocks have numbers up to that of the last record before it (Linux, memory hotplug:
-/// offlining; own rule).
+/// A Commit by a processor of the layout is done if three things hold: from its operation's Begin
+/// on, all steps are the operation's own drains and migrations; each processor was drained among
+/// them; and no frame of the blocks that it takes offline holds a page.
+///
+/// This holds after the state at boot, and after any base state in which the operation's number is
+/// not in use. So it holds after any base in which the operations that hold blocks have numbers up
+/// to that of the last record before it (Linux, memory hotplug: offlining).
 pub fn undisturbed_offline_commits()
     ensures boot { (l : LayoutParts) (op : ℕ) (h : List Record) (r : Record) → IsLayout l
         → IsLegal l (boot_memory l) 0 (h ++ r ∷ []) → r.event ≡ Commit op → r.cpu < l.cpus
@@ -35,8 +36,8 @@ pub fn undisturbed_offline_commits()
 {}
 
 /// The operations that hold blocks after a legal history have numbers up to that of its last
-/// record, where those of its base state have numbers up to that of the last record before it; so
-/// no greater number is in use, and none is at the start (own rule).
+/// record, if those of its base state have numbers up to that of the last record before it. So no
+/// greater number is in use, and none is at boot.
 pub fn operations_are_numbered()
     ensures boot { (l : LayoutParts) → AreClaimedUpTo 0 (boot_memory l).blocks }
     ensures history { (l : LayoutParts) (base : Memory) (before : ℕ) (h : List Record)

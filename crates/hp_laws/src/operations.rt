@@ -1,4 +1,5 @@
-//! The laws of operations on memory blocks. Each is a function that does nothing; what it ensures is the law.
+//! The laws of operations on memory blocks. Each law is the contract of a function
+//! with an empty body.
 ghost use Rattle.std.specs.Prelude.{◌≡◌, ℕ, false, List, [], ◌∷◌, ◌++◌};
 ghost use Rattle.hp_laws.specs.Operations.{BeginsAt, IsOpenBehind, RowsAre, state_before, state_behind, wished_row};
 ghost use Rattle.hp_units.specs.History.{IsLegal, is_refused, net_of, value_of};
@@ -10,8 +11,8 @@ ghost use Rattle.hp_units.specs.declared.events.Event.TheVariants.{Cancel, Commi
 ghost use Rattle.hp_units.specs.declared.plans.Item.{Item};
 ghost use Rattle.hp_units.specs.declared.replies.Record.{Record};
 
-/// A Begin that is not undone claims each block of its plan, and as long as no Commit and no Cancel
-/// of its operation follows, the rows of these blocks are those that it left (own rule).
+/// A Begin that is not undone claims each block of its plan. While no Commit and no Cancel of its
+/// operation follows, the rows of these blocks stay as it left them.
 pub fn operations_hold_their_rows()
     ensures claimed { (l : LayoutParts) (base : Memory) (before : ℕ) (h : List Record) (place : ℕ)
         (b : Record) (plan : List Item)
@@ -28,8 +29,8 @@ pub fn operations_hold_their_rows()
 {}
 
 /// A Commit that is not refused gives each block of its operation's plan its wish, all in this one
-/// step: just before it their rows are still those that the Begin left (Linux, memory hotplug:
-/// offlining; own rule).
+/// step. Just before it, their rows are still those that the Begin left (Linux, memory hotplug:
+/// offlining).
 pub fn commits_grant_wishes()
     ensures held { (l : LayoutParts) (base : Memory) (before : ℕ) (h : List Record) (r : Record) (place : ℕ)
         (b : Record) (plan : List Item)
@@ -46,9 +47,8 @@ pub fn commits_grant_wishes()
         → RowsAre (value_of l base (h ++ r ∷ [])) plan (λ item. wished_row item.wish) }
 {}
 
-/// A Cancel that is not refused, whether it restores or releases, gives each block of its
-/// operation's plan the row that it had just before the Begin (Linux, memory hotplug: undo_isolate;
-/// own rule).
+/// A Cancel that is not refused gives each block of its operation's plan the row that it had just
+/// before the Begin, whether the Cancel restores or releases (Linux, memory hotplug: undo_isolate).
 pub fn cancels_give_rows_back()
     ensures { (l : LayoutParts) (base : Memory) (before : ℕ) (h : List Record) (r : Record) (place : ℕ)
         (b : Record) (plan : List Item)

@@ -1,4 +1,5 @@
-//! The laws of placement and of contents. Each is a function that does nothing; what it ensures is the law.
+//! The laws of placement and of contents. Each law is the contract of a function
+//! with an empty body.
 ghost use Rattle.std.specs.Prelude.{◌≡◌, ℕ, ◌+◌, ◌≤◌, true, List, ◌==◌, if◌then◌else◌};
 ghost use Rattle.std.specs.Option.{option_map};
 ghost use Rattle.hp_units.specs.Arithmetic.{block_of};
@@ -16,27 +17,26 @@ ghost use Rattle.hp_units.specs.declared.events.Event.TheVariants.{Migrate};
 ghost use Rattle.hp_units.specs.declared.replies.Record.{Record};
 ghost use Rattle.hp_units.specs.declared.replies.Reply.TheVariants.{Moved};
 
-/// The state that a machine starts in is well placed (own rule).
+/// The state that a machine starts in is well placed.
 pub fn boot_is_well_placed()
     ensures { (l : LayoutParts) → IsLayout l → IsWellPlaced l (boot_memory l) }
 {}
 
-/// Each step of a well placed state leads to a well placed state, whatever the event and the
-/// processor (own rule).
+/// Each step from a well placed state leads to a well placed state, whatever the event and the
+/// processor.
 pub fn steps_keep_placement()
     ensures { (l : LayoutParts) (s : Memory) (serial cpu : ℕ) (event : Event) → IsLayout l → IsWellPlaced l s
         → IsWellPlaced l (step l s serial cpu event).memory }
 {}
 
-/// The numbers in a well placed state are those of its layout: frames, orders and words, and how
-/// many lists, kinds, pages and rows there are. That is what each step needs of the state that it
-/// works on (own rule).
+/// The numbers in a well placed state are within its layout: frames, orders and words, and the
+/// numbers of lists, kinds, pages and rows. Each step needs this of its state.
 pub fn well_placed_states_fit_their_layout()
     ensures { (l : LayoutParts) (s : Memory) → IsLayout l → IsWellPlaced l s → IsMemoryOf l s }
 {}
 
-/// Each history from a well placed base state leads to a well placed state, and so does each from
-/// the state at the start (own rule).
+/// Each history from a well placed base state leads to a well placed state, and so does each
+/// history from boot.
 pub fn histories_keep_placement()
     ensures base { (l : LayoutParts) (base : Memory) (h : List Record) → IsLayout l → IsWellPlaced l base
         → IsWellPlaced l (value_of l base h) }
@@ -45,7 +45,7 @@ pub fn histories_keep_placement()
 {}
 
 /// In a well placed state a free frame, in the areas or on a processor's list, holds no page and is
-/// not in use by the kernel, and a frame of an offline or absent block is in no other place (own rule).
+/// not in use by the kernel. A frame of an offline or absent block is in no other place.
 pub fn free_frames_are_not_in_use()
     ensures free { (l : LayoutParts) (s : Memory) (frame : ℕ) → IsWellPlaced l s
         → 1 ≤ free_places s.free.areas frame + cached_places s.free frame
@@ -56,8 +56,9 @@ pub fn free_frames_are_not_in_use()
         + kernel_places s frame ≡ 0 }
 {}
 
-/// A migration gives the page at its old frame the new one and leaves each other page where it is; it
-/// changes no word of any page, so that the words follow the table (Linux, memory hotplug: migration).
+/// A migration gives the page at its old frame the new one, and leaves each other page where it is.
+/// It changes no word of any page, so the words follow the table (Linux, memory hotplug:
+/// migration).
 pub fn migrations_move_no_word()
     ensures words { (l : LayoutParts) (s : Memory) (serial cpu op : ℕ)
         → (step l s serial cpu (Migrate op)).memory.pages.contents ≡ s.pages.contents }
@@ -67,8 +68,8 @@ pub fn migrations_move_no_word()
         ≡ option_map (λ frame. if frame == from then to else frame) (frame_at s.pages owner page) }
 {}
 
-/// The contents of the pages are what Map, Unmap and Write of the net make of the base state's: no
-/// drain, migration, operation or block changes them (own rule).
+/// The contents of the pages are what the net's Map, Unmap and Write make of those of the base
+/// state. No drain, migration, operation or block changes them.
 pub fn contents_follow_net()
     ensures { (l : LayoutParts) (base : Memory) (before : ℕ) (h : List Record) → IsLegal l base before h
         → (value_of l base h).pages.contents ≡ contents_of_net l base.pages.contents (net_of h) }

@@ -1,5 +1,5 @@
 //! The laws of operations over histories that follow one another: an operation may begin in one of
-//! them and end in a later one. Each is a function that does nothing; what it ensures is the law.
+//! them and end in a later one. Each law is the contract of a function with an empty body.
 ghost use Rattle.std.specs.Prelude.{◌≡◌, ℕ, false, List, [], ◌∷◌, ◌++◌};
 ghost use Rattle.hp_laws.specs.Operations.{BeginsAt, IsOpenBehind, RowsAre, wished_row};
 ghost use Rattle.hp_laws.specs.Seals.{AreLegal, net_of_all, state_just_after, state_just_before, value_of_all};
@@ -12,9 +12,9 @@ ghost use Rattle.hp_units.specs.declared.events.Event.TheVariants.{Cancel, Commi
 ghost use Rattle.hp_units.specs.declared.plans.Item.{Item};
 ghost use Rattle.hp_units.specs.declared.replies.Record.{Record};
 
-/// A Begin that is not undone claims each block of its plan, and as long as no Commit and no Cancel
-/// of its operation follows, the rows of these blocks are those that it left, whether the history
-/// was sealed in between or not (own rule).
+/// A Begin that is not undone claims each block of its plan. While no Commit and no Cancel of its
+/// operation follows, the rows of these blocks stay as it left them, even if the history is sealed
+/// in between.
 pub fn operations_hold_across_seals()
     ensures claimed { (l : LayoutParts) (base : Memory) (before : ℕ) (hs : List (List Record)) (place : ℕ)
         (b : Record) (plan : List Item)
@@ -30,8 +30,8 @@ pub fn operations_hold_across_seals()
 {}
 
 /// A Commit that is not refused gives each block of its operation's plan its wish, all in this one
-/// step, wherever before it the operation began: just before it their rows are still those that the
-/// Begin left (Linux, memory hotplug: offlining; own rule).
+/// step, in whichever history the operation began. Just before it, their rows are still those that
+/// the Begin left (Linux, memory hotplug: offlining).
 pub fn commits_grant_across_seals()
     ensures held { (l : LayoutParts) (base : Memory) (before : ℕ) (hs : List (List Record)) (h : List Record)
         (r : Record) (place : ℕ) (b : Record) (plan : List Item)
@@ -48,9 +48,9 @@ pub fn commits_grant_across_seals()
         → RowsAre (value_of_all l base (hs ++ (h ++ r ∷ []) ∷ [])) plan (λ item. wished_row item.wish) }
 {}
 
-/// A Cancel that is not refused, whether it restores or releases, gives each block of its
-/// operation's plan the row that it had just before the Begin, wherever before it the operation
-/// began (Linux, memory hotplug: undo_isolate; own rule).
+/// A Cancel that is not refused gives each block of its operation's plan the row that it had just
+/// before the Begin, whether it restores or releases, and in whichever history the operation began
+/// (Linux, memory hotplug: undo_isolate).
 pub fn cancels_give_back_across_seals()
     ensures { (l : LayoutParts) (base : Memory) (before : ℕ) (hs : List (List Record)) (h : List Record)
         (r : Record) (place : ℕ) (b : Record) (plan : List Item)

@@ -1,4 +1,4 @@
--- The free areas and the processors' lists together: what taking frames from them answers, changes and notes.
+-- The free areas and the processors' lists together: what taking frames returns, changes and notes.
 use Rattle.std.specs.Prelude.{ℕ, zero, suc, ◌≡◌, ◌+◌, ◌%◌, ◌^◌, ◌<◌, ◌≤◌, Option, None, Some, IfSome}
 use Rattle.hp_units.specs.declared.rows.Pool.TheVariants.{Nu as NuPool, Nm as NmPool, Mm as MmPool}
 use Rattle.std.specs.Option.{option_or}
@@ -15,7 +15,7 @@ use Rattle.hp_units.specs.Placement.{covered}
 use Rattle.hp_cpus.specs.Cpus.{AreTogether, frames_of, places_among}
 use Rattle.hp_layers.specs.declared.frames.Frames.{Frames}
 
--- the part of the state
+-- this part of the state
 abbrev pub free_of : Frames → FreeFrames
 free_of f = frames_of f.buddy.areas f.cpus
 
@@ -27,9 +27,9 @@ places_of f frame = places_among f.buddy.areas f.cpus frame
 abbrev pub IsTidy : Frames → Type 0
 IsTidy f = AreTogether f.cpus f.buddy
 
--- ---- how many deltas a call may note in this state (own rule)
+-- ---- how many deltas a call may note in this state
 
--- a frame for the kernel, and one for a page: one delta where the processor's first list has a frame
+-- a frame for the kernel, and one for a page: one delta if the processor's first list has a frame
 abbrev pub kernel_frame_bound : LayoutParts → FreeFrames → (cpu : ℕ) → ℕ
 kernel_frame_bound l fs cpu = take_one_bound l fs cpu NuPool
 
@@ -43,22 +43,22 @@ kernel_block_bound l fs cpu (suc below) = steal_bound l
 
 -- ---- what taking a block does
 
--- a movable frame of zone Normal: from the list, and else stolen
+-- a movable frame of zone Normal: from the list, otherwise stolen
 abbrev pub normal_frame : LayoutParts → FreeFrames → ℕ → Option Handed
 normal_frame l fs cpu =
     option_or (take_one l fs cpu NmPool) (handed_from fs (steal_block l fs.areas Movable 0))
 
--- the answer and the frames are those of the rule
+-- the returned frame and the free frames are those of the rule
 abbrev pub HandsOut : Option Handed → (old new : FreeFrames) → Option ℕ → Type 0
 HandsOut None old new answer = (answer ≡ None) × (new ≡ old)
 HandsOut (Some handed) old new answer = (answer ≡ Some handed.frame) × (new ≡ handed.free)
 
--- a block of an order lies within the layout, and left the free blocks and the lists
+-- the block is within the layout, and has left the free blocks and the lists
 pub record HasLeft (old new : Frames) (order first : ℕ) : Type 0 where
   pub within : first + 2 ^ order ≤ frame_count old.cpus.layout
   pub places : (other : ℕ) → places_of old other ≡ places_of new other + covered other order first
 
--- a block was handed out as a rule says, or none, and then nothing changed
+-- a block was handed out by the rule; or none was, and nothing changed
 pub record IsTaken (wanted : Option Handed) (order most : ℕ) (old new : Frames) (was now : TapeValue)
     (answer : Option ℕ) : Type 0 where
   pub handed : HandsOut wanted (free_of old) (free_of new) answer
@@ -68,28 +68,28 @@ pub record IsTaken (wanted : Option Handed) (order most : ℕ) (old new : Frames
   pub block : IfSome answer (HasLeft old new order)
   pub notes : NotesFree old.cpus.layout most was now (free_of new) (free_of old)
 
--- ---- what giving a block back does (own rule)
+-- ---- what giving a block back does
 
--- a block of an order that may come back: it lies within the layout at a multiple of its size, and
--- none of its frames is free or on a list
+-- the block may be given back: it is within the layout at a multiple of its size, and none of its
+-- frames is free or on a list
 pub record MayReturn (f : Frames) (order first : ℕ) : Type 0 where
   pub in_order : order ≤ f.cpus.layout.order
   pub aligned : first % 2 ^ order ≡ 0
   pub within : first + 2 ^ order ≤ frame_count f.cpus.layout
   pub nowhere : (other : ℕ) → first ≤ other → other < first + 2 ^ order → places_of f other ≡ 0
 
--- a single frame by the processor's list, any other block straight to the areas
+-- a single frame to the processor's list, any other block straight to the areas
 abbrev pub given_back : LayoutParts → FreeFrames → ℕ → Zone → (frame order : ℕ) → FreeFrames
 given_back l fs cpu zone frame zero = put_one l fs cpu zone frame
 given_back l fs cpu zone frame (suc below) =
     record fs { areas = give_block l fs.areas zone frame (suc below) }
 
--- how many deltas that may note in this state
+-- how many deltas giving it back may note in this state
 abbrev pub give_back_bound : LayoutParts → FreeFrames → (cpu : ℕ) → Zone → (frame order : ℕ) → ℕ
 give_back_bound l fs cpu zone frame zero = put_one_bound l fs cpu zone frame
 give_back_bound l fs cpu zone frame (suc below) = give_bound l
 
--- a block came back as a rule says
+-- a block was given back by the rule
 pub record IsGiven (wanted : FreeFrames) (most : ℕ) (old new : Frames) (was now : TapeValue) : Type 0 where
   pub given : free_of new ≡ wanted
   pub layout : new.cpus.layout ≡ old.cpus.layout

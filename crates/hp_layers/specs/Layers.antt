@@ -1,4 +1,4 @@
--- All layers together: the state that they keep, and what each step does to them and notes.
+-- All layers together: their state, and what each step does to them and notes.
 use Rattle.std.specs.Prelude.{ℕ, ◌≡◌, ◌≤◌, List, ◌++◌, length}
 use Rattle.std.specs.List.{AllByRecursion}
 use Rattle.hp_units.specs.LayoutParts.{LayoutParts, IsLayout}
@@ -18,7 +18,7 @@ use Rattle.hp_layers.specs.Frames.{free_of}
 
 -- ---- the state in the layers
 
--- the frame view that the layers keep
+-- the frame view of the layers
 abbrev pub view_of : Layers → FrameView
 view_of m =
     record { free = free_of m.frames; pages = m.pages.pages; kernel = m.kernel; blocks = m.blocks.blocks }
@@ -39,7 +39,7 @@ pub record AreOfOneLayout (m : Layers) : Type 0 where
   pub kernel : length m.kernel ≡ frame_count m.layout
   pub blocks : m.blocks.layout ≡ m.layout
 
--- they keep the frame view of a well placed state
+-- the layers have the frame view of a well placed state
 pub record ArePlaced (m : Layers) : Type 0 where
   pub one : AreOfOneLayout m
   pub placed : IsWellPlaced m.layout (state_of m)
@@ -47,7 +47,7 @@ pub record ArePlaced (m : Layers) : Type 0 where
 
 -- ---- what a step does
 
--- the layers keep a state now
+-- the layers now have the state `s`
 pub record AreLedTo (old : Layers) (s : Memory) (new : Layers) : Type 0 where
   pub one : AreOfOneLayout new
   pub layout : new.layout ≡ old.layout
@@ -57,11 +57,11 @@ pub record AreLedTo (old : Layers) (s : Memory) (new : Layers) : Type 0 where
 abbrev pub IsOfMemory : Delta → Type 0
 IsOfMemory delta = Unit {0}
 
--- a call on all layers notes at most so many deltas, and they lead back
+-- a call on all layers notes at most `most` deltas, and they lead back
 abbrev pub NotesView : LayoutParts → ℕ → (was now : TapeValue) → (later earlier : FrameView) → Type 0
 NotesView l most was now later earlier = Notes IsOfMemory Fits undo l most was now later earlier
 
--- a step's deltas stand after those that were there: at most so many, of the layout, and they lead back
+-- a step's deltas come after those on the tape: at most `most`, of the layout, and they lead back
 pub record AreNoted (l : LayoutParts) (most : ℕ) (was now : List Delta)
     (later earlier : FrameView) : Type 0 where
   pub deltas : List Delta
@@ -70,7 +70,8 @@ pub record AreNoted (l : LayoutParts) (most : ℕ) (was now : List Delta)
   pub numbers : AllByRecursion (IsDeltaOf l) deltas
   pub lead : LeadBack Fits undo deltas later earlier
 
--- an event was answered: the layers keep the state of the answer, the reply is its, and its deltas are noted
+-- an event was carried out: the layers have the defined state, the reply is the defined one, and
+-- the deltas are noted
 pub record IsAnswered (old : Layers) (event : Event) (answered : Answered) (new : Layers)
     (was now : List Delta) (given : Reply) : Type 0 where
   pub led : AreLedTo old answered.memory new

@@ -1,4 +1,4 @@
--- What operations on memory blocks do to the layers, and how much of it a plan asks for.
+-- What operations on memory blocks do to the layers, and how many blocks a plan claims.
 use Rattle.std.specs.Prelude.{ℕ, zero, suc, ◌≡◌, ◌+◌, List, IfSome, None, is_some, if◌then◌else◌}
 use Rattle.hp_units.specs.declared.plans.Item.{Item}
 use Rattle.hp_units.specs.Memory.{Blocks, Memory, row_of}
@@ -8,7 +8,7 @@ use Rattle.hp_layers.specs.declared.layers.Layers.{Layers}
 use Rattle.hp_layers.specs.Frames.{IsTidy}
 use Rattle.hp_layers.specs.Layers.{AreOfOneLayout, NotesView, state_of, view_of}
 
--- the free frames and the rows are those of a state now, and nothing else changed
+-- the free frames and the rows are those of the state `s`, and nothing else changed
 pub record IsReworked (m : Layers) (s : Memory) (most : ℕ) (new : Layers) (was now : TapeValue) : Type 0 where
   pub one : AreOfOneLayout new
   pub layout : new.layout ≡ m.layout
@@ -18,15 +18,15 @@ pub record IsReworked (m : Layers) (s : Memory) (most : ℕ) (new : Layers) (was
   pub state : state_of new ≡ s
   pub notes : NotesView m.layout most was now (view_of new) (view_of m)
 
--- no operation holds a block, if a plan has a wish for it
+-- if the plan has a wish for the block, no operation holds it
 abbrev pub IsHeldByNone : List Item → Blocks → ℕ → Type 0
 IsHeldByNone plan bs block = IfSome (wish_of plan block) (λ wish. (row_of bs block).claim ≡ None)
 
--- no operation holds a block that a plan has a wish for
+-- no operation holds a block for which the plan has a wish
 abbrev pub AreHeldByNone : List Item → Blocks → Type 0
 AreHeldByNone plan bs = (block : ℕ) → IsHeldByNone plan bs block
 
--- 1 if a plan has a wish for a block, and how many of the blocks below one it has a wish for
+-- 1 if the plan has a wish for the block, and for how many of the blocks below a number it has one
 abbrev pub claimed_at : List Item → ℕ → ℕ
 claimed_at plan block = if is_some (wish_of plan block) then 1 else 0
 

@@ -1,11 +1,11 @@
--- Which layer a delta is of, and its opposite on that layer alone.
+-- Which layer a delta belongs to.
 use Rattle.hp_tape.specs.declared.deltas.Delta.{Delta}
 use Rattle.hp_tape.specs.declared.deltas.Delta.TheVariants.{Link, Unlink, Kind as KindDelta, Kernel as KernelDelta, Map as MapDelta, Swap, Word as WordDelta, LargeWord, Filled, Emptied, Row as RowDelta, Auto as AutoDelta}
 use Rattle.hp_tape.specs.declared.deltas.ListId.TheVariants.{Area, Cpu}
 use Rattle.hp_layers.specs.declared.parts.Part.{Part}
 use Rattle.hp_layers.specs.declared.parts.Part.TheVariants.{Areas, Lists, Pages, Kernel, Blocks}
 
--- the layer that a delta is of
+-- the layer that a delta belongs to
 abbrev pub part_of : Delta → Part
 part_of (Link (Area class order) frame after) = Areas
 part_of (Link (Cpu pool cpu) frame after) = Lists

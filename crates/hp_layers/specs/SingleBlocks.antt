@@ -1,11 +1,11 @@
--- What becomes of a memory block that is added.
+-- What an added memory block becomes.
 use Rattle.std.specs.Prelude.{Option, None, Some}
 use Rattle.hp_units.specs.declared.rows.Auto.{Auto}
 use Rattle.hp_units.specs.declared.rows.Auto.TheVariants.{Offline, Online, OnlineKernel, OnlineMovable}
 use Rattle.hp_units.specs.declared.rows.Zone.{Zone}
 use Rattle.hp_units.specs.declared.rows.Zone.TheVariants.{Normal, Movable}
 
--- the zone that it goes online in at once; none where it stays offline (Linux, memory hotplug:
+-- the zone in which it goes online at once; None if it stays offline (Linux, memory hotplug:
 -- auto_online_blocks)
 abbrev pub added_zone : Auto → Option Zone
 added_zone Offline = None

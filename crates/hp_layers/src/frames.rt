@@ -33,7 +33,7 @@ pub struct Frames {
 }
 
 impl Frames {
-    /// Equal areas and lists.
+    /// Returns a copy.
     pub(crate) fn copy(&self, alloc: Global) -> Result<Frames, AllocError>
         ensures { IfOk result (λ frames. frames ≡ self.now) }
     {
@@ -42,7 +42,7 @@ impl Frames {
         Ok(Frames { buddy, cpus })
     }
 
-    /// How many deltas taking a block for the kernel may note now.
+    /// Returns how many deltas taking a kernel block may note in this state.
     pub(crate) fn kernel_block_room(&self, layout: &Layout, cpu: Cpu, order: Order) -> usize
         requires cpu { cpu < self.now.cpus.layout.cpus }
         ensures { result ≡ kernel_block_bound layout.now (free_of self.now) cpu order }
@@ -54,7 +54,7 @@ impl Frames {
         }
     }
 
-    /// How many deltas taking a frame for a page may note now.
+    /// Returns how many deltas taking a frame for a page may note in this state.
     pub(crate) fn page_frame_room(&self, layout: &Layout, cpu: Cpu) -> usize
         requires cpu { cpu < self.now.cpus.layout.cpus }
         ensures { result ≡ page_frame_bound layout.now (free_of self.now) cpu }
@@ -62,7 +62,7 @@ impl Frames {
         self.take_one_room(layout, cpu, Pool::Mm)
     }
 
-    /// How many deltas taking a frame of a processor's list may note now.
+    /// Returns how many deltas taking a frame from a processor's list may note in this state.
     fn take_one_room(&self, layout: &Layout, cpu: Cpu, pool: Pool) -> usize
         requires cpu { cpu < self.now.cpus.layout.cpus }
         ensures { result ≡ take_one_bound layout.now (free_of self.now) cpu pool }
@@ -74,8 +74,8 @@ impl Frames {
         }
     }
 
-    /// A block for the kernel: of order 0 by the processor's list, of a greater order straight from
-    /// the areas.
+    /// Takes a block for the kernel: from the processor's list if the order is 0, otherwise
+    /// straight from the areas.
     pub(crate) fn kernel_block(&mut self, cpu: Cpu, order: Order, tape: &mut Tape) -> Option<Frame>
         requires cpu { cpu < self.old.cpus.layout.cpus }
         requires order { order ≤ self.old.cpus.layout.order }
@@ -96,7 +96,7 @@ impl Frames {
         }
     }
 
-    /// A frame for the kernel: from the processor's list, and else a stolen one.
+    /// Takes a frame for the kernel: from the processor's list, otherwise a stolen one.
     fn kernel_frame(&mut self, cpu: Cpu, tape: &mut Tape) -> Option<Frame>
         requires cpu { cpu < self.old.cpus.layout.cpus }
         requires layout { IsLayout self.old.cpus.layout }
@@ -112,7 +112,7 @@ impl Frames {
         }
     }
 
-    /// A frame for an owner's page: from the processor's lists, and else a stolen one.
+    /// Takes a frame for an owner's page: from the processor's lists, otherwise a stolen one.
     pub(crate) fn page_frame(&mut self, cpu: Cpu, tape: &mut Tape) -> Option<Frame>
         requires cpu { cpu < self.old.cpus.layout.cpus }
         requires layout { IsLayout self.old.cpus.layout }
@@ -128,7 +128,7 @@ impl Frames {
         }
     }
 
-    /// A movable frame of zone Normal: from the processor's list, and else a stolen one.
+    /// Takes a movable frame of zone Normal: from the processor's list, otherwise a stolen one.
     fn normal_frame(&mut self, cpu: Cpu, tape: &mut Tape) -> Option<Frame>
         requires cpu { cpu < self.old.cpus.layout.cpus }
         requires layout { IsLayout self.old.cpus.layout }
@@ -144,7 +144,7 @@ impl Frames {
         }
     }
 
-    /// The frame that a page moves to: straight from the areas, and else a stolen one.
+    /// Takes a frame for a page to move to: straight from the areas, otherwise a stolen one.
     pub(crate) fn migration_target(&mut self, tape: &mut Tape) -> Option<Frame>
         requires tidy { IsTidy self.old }
         requires room { HasRoom tape.old (steal_bound self.old.cpus.layout) }
@@ -161,7 +161,7 @@ impl Frames {
         self.steal(Mobility::Movable, Order(0), tape)
     }
 
-    /// How many deltas a block that comes back may note now.
+    /// Returns how many deltas giving a block back may note in this state.
     pub(crate) fn give_back_room(
         &self,
         layout: &Layout,
@@ -183,7 +183,7 @@ impl Frames {
         }
     }
 
-    /// How many deltas a single frame that comes back may note now.
+    /// Returns how many deltas giving a single frame back may note in this state.
     fn put_one_room(&self, layout: &Layout, cpu: Cpu, zone: Zone, frame: Frame) -> usize
         requires cpu { cpu < self.now.cpus.layout.cpus }
         requires frame { frame < frame_count layout.now }
@@ -201,7 +201,8 @@ impl Frames {
         }
     }
 
-    /// A block comes back: a single frame by the processor's list, any other block straight to the areas.
+    /// Gives a block back: a single frame to the processor's list, any other block
+    /// straight to the areas.
     pub(crate) fn give_back(
         &mut self,
         cpu: Cpu,
@@ -226,7 +227,7 @@ impl Frames {
         }
     }
 
-    /// A block comes back straight to the areas.
+    /// Gives a block straight back to the areas.
     pub(crate) fn give(&mut self, zone: Zone, frame: Frame, order: Order, tape: &mut Tape)
         requires tidy { IsTidy self.old }
         requires block { MayReturn self.old order frame }
@@ -238,7 +239,7 @@ impl Frames {
         self.buddy.give(zone, frame, order, tape);
     }
 
-    /// The pageblocks of a memory block of the layout become isolated, or are so no more, by rising number.
+    /// Isolates the pageblocks of a memory block, or releases them, in rising order.
     pub(crate) fn move_block(
         &mut self,
         layout: &Layout,
@@ -264,7 +265,7 @@ impl Frames {
         }
     }
 
-    /// A pageblock of the layout becomes isolated, or is so no more.
+    /// Isolates a pageblock, or releases it.
     fn move_pageblock(&mut self, zone: Zone, isolated: bool, pageblock: Pageblock, tape: &mut Tape)
         requires pageblock { pageblock < pageblock_count self.old.cpus.layout }
         requires tidy { IsTidy self.old }
@@ -278,8 +279,8 @@ impl Frames {
         self.buddy.move_pageblock(zone, pageblock, isolated, tape);
     }
 
-    /// The pageblocks of a memory block of the layout, of which no frame is free or on a list, go
-    /// to the back of their zone's list.
+    /// Adds the pageblocks of a memory block at the back of their zone's list. None of its frames
+    /// may be free or on a list.
     pub(crate) fn add_block(&mut self, layout: &Layout, zone: Zone, block: Block, tape: &mut Tape)
         requires same { self.old.cpus.layout ≡ layout.now }
         requires block { block < layout.now.blocks }
@@ -299,8 +300,8 @@ impl Frames {
         }
     }
 
-    /// A whole pageblock of the layout, of which no frame is free or on a list, goes to the back of
-    /// its zone's list.
+    /// Adds a whole pageblock at the back of its zone's list. None of its frames may be
+    /// free or on a list.
     fn add_pageblock(&mut self, layout: &Layout, zone: Zone, pageblock: Pageblock, tape: &mut Tape)
         requires same { self.old.cpus.layout ≡ layout.now }
         requires pageblock { pageblock < pageblock_count layout.now }
@@ -318,7 +319,7 @@ impl Frames {
         self.buddy.add_pageblock(zone, pageblock, tape);
     }
 
-    /// How many deltas giving a processor's lists back may note now.
+    /// Returns how many deltas draining a processor's lists may note in this state.
     pub(crate) fn drain_room(&self, layout: &Layout, cpu: Cpu) -> usize
         requires { cpu < self.now.cpus.layout.cpus }
         ensures { result ≡ drain_bound layout.now (free_of self.now) cpu }
@@ -329,7 +330,7 @@ impl Frames {
         (nu + nm + mm) * (layout.order() as usize + 2)
     }
 
-    /// All that a processor's lists hold is given back.
+    /// Gives all frames on a processor's lists back to the areas.
     pub(crate) fn drain(&mut self, cpu: Cpu, tape: &mut Tape)
         requires cpu { cpu < self.old.cpus.layout.cpus }
         requires tidy { IsTidy self.old }
@@ -340,7 +341,7 @@ impl Frames {
         self.cpus.drain(cpu, &mut self.buddy, tape);
     }
 
-    /// The front frame of a processor's list, which is refilled if it is empty.
+    /// Takes the front frame of a processor's list, which is refilled first if it is empty.
     fn take_one(&mut self, cpu: Cpu, pool: Pool, tape: &mut Tape) -> Option<Frame>
         requires cpu { cpu < self.old.cpus.layout.cpus }
         requires tidy { IsTidy self.old }
@@ -352,7 +353,7 @@ impl Frames {
         self.cpus.take_one(cpu, pool, &mut self.buddy, tape)
     }
 
-    /// A block straight from the areas, past the processors' lists.
+    /// Takes a block straight from the areas, past the processors' lists.
     fn take(&mut self, class: Class, order: Order, tape: &mut Tape) -> Option<Frame>
         requires order { order ≤ self.old.cpus.layout.order }
         requires tidy { IsTidy self.old }
@@ -364,7 +365,7 @@ impl Frames {
         self.buddy.take(class, order, tape)
     }
 
-    /// A block stolen from the other mobility.
+    /// Steals a block from the other mobility.
     fn steal(&mut self, wanted: Mobility, order: Order, tape: &mut Tape) -> Option<Frame>
         requires order { order ≤ self.old.cpus.layout.order }
         requires tidy { IsTidy self.old }
@@ -377,7 +378,7 @@ impl Frames {
     }
 }
 
-/// How many deltas a batch of single frames, and one more, may note.
+/// Returns how many deltas a batch of single frames, and one frame more, may note.
 fn batch_room(layout: &Layout) -> usize
     ensures is { result ≡ batch_bound layout.now }
     ensures small { result ≤ 2 ^ 20 }

@@ -28,22 +28,22 @@ use hp_tape::{Delta, Tape};
 use hp_units::{Frame, Layout, Zone, block_of};
 use std::alloc::{AllocError, Global};
 
-/// All layers of a memory. Each may be any one of its kind: that they are of one layout
-/// (`AreOfOneLayout`) and keep a well placed state (`ArePlaced`) is what the calls ask for.
+/// All layers of a memory. The type does not tie them together: the calls require that they are of
+/// one layout (`AreOfOneLayout`) and that their state is well placed (`ArePlaced`).
 pub struct Layers {
-    /// The layout that all of them are of.
+    /// The layout of all layers.
     pub layout: Layout,
     /// The free areas and the processors' lists.
     pub frames: Frames,
     /// The owners' pages.
     pub pages: Pages,
-    /// The order of the kernel's block that starts at each frame.
+    /// The order of the kernel block that starts at each frame.
     pub kernel: KernelBlocks,
     /// The rows of the memory blocks.
     pub blocks: Blocks,
 }
 
-/// A function of its own, so that no proof of a caller takes the fields apart.
+/// Keeps callers from proving again how each field is dropped.
 impl Drop for Layers {
     fn drop(self) {
         let Layers {
@@ -57,7 +57,7 @@ impl Drop for Layers {
 }
 
 impl Layers {
-    /// Equal layers. An error is out of memory.
+    /// Returns a copy.
     pub fn copy(&self, alloc: Global) -> Result<Layers, AllocError>
         ensures { IfOk result (λ m. m ≡ self.now) }
     {
@@ -70,8 +70,8 @@ impl Layers {
         })
     }
 
-    /// Undoes what stands on a tape after its first `mark` deltas, latest first, and takes it off. It
-    /// takes no memory.
+    /// Undoes the deltas on a tape after its first `mark`, latest first, and takes them off the
+    /// tape. Allocates nothing.
     pub fn unwind(&mut self, tape: &mut Tape, mark: usize)
         requires one { AreOfOneLayout self.old }
         requires mark { mark ≤ length tape.old.deltas }
@@ -91,7 +91,7 @@ impl Layers {
         }
     }
 
-    /// Does the opposite of a delta of the layout that fits.
+    /// Undoes one delta, which must fit and be of the layout.
     #[inline(always)]
     fn back(&mut self, delta: Delta)
         requires one { AreOfOneLayout self.old }
@@ -110,7 +110,8 @@ impl Layers {
         }
     }
 
-    /// The zone of the memory block that a frame of the layout lies in; Normal where it has none.
+    /// Returns the zone of the memory block that contains the frame, or Normal if
+    /// the block has none.
     fn zone_of(&self, frame: Frame) -> Zone
         requires frame { IsFrame self.now.layout frame }
         requires one { AreOfOneLayout self.now }

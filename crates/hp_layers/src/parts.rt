@@ -1,10 +1,10 @@
-//! Which layer a delta is of.
+//! Which layer a delta belongs to.
 ghost use Rattle.std.specs.Prelude.{◌≡◌};
 ghost use Rattle.hp_layers.specs.Parts.{part_of};
 
 use hp_tape::{Delta, ListId};
 
-/// A layer, or the table of the kernel's blocks.
+/// A layer.
 #[derive(Clone, Copy, PartialEq, Eq, Drop)]
 pub(crate) enum Part {
     /// The free areas.
@@ -13,13 +13,13 @@ pub(crate) enum Part {
     Lists,
     /// The owners' pages.
     Pages,
-    /// The kernel's blocks.
+    /// The kernel blocks.
     Kernel,
     /// The rows of the memory blocks.
     Blocks,
 }
 
-/// The layer that a delta is of.
+/// Returns the layer that a delta belongs to.
 pub(crate) fn part_of(delta: &Delta) -> Part
     ensures { result ≡ part_of delta.now }
 {

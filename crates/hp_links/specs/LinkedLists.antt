@@ -10,7 +10,7 @@ pub record LinkedLists : Type 0 where
 abbrev pub list_at : LinkedLists → ℕ → List ℕ
 list_at links list = slice_index_or links.lists list []
 
--- the same lists, but for this one
+-- the same lists, except this one
 abbrev pub with_list : LinkedLists → ℕ → List ℕ → LinkedLists
 with_list links list frames = record links { lists = slice_set links.lists list frames }
 
@@ -31,7 +31,7 @@ abbrev pub first : List ℕ → Option ℕ
 first [] = None
 first (x ∷ xs) = Some x
 
--- the last frame, or what stands before the first one
+-- the last frame, or `before` if the list is empty
 abbrev pub last_from : Option ℕ → List ℕ → Option ℕ
 last_from before [] = before
 last_from before (x ∷ xs) = last_from (Some x) xs
@@ -39,7 +39,7 @@ last_from before (x ∷ xs) = last_from (Some x) xs
 abbrev pub last : List ℕ → Option ℕ
 last xs = last_from None xs
 
--- the frames without this one
+-- the list without this frame
 abbrev pub without : ℕ → List ℕ → List ℕ
 without frame [] = []
 without frame (x ∷ xs) = cond (x == frame) xs (x ∷ without frame xs)
@@ -48,28 +48,28 @@ without frame (x ∷ xs) = cond (x == frame) xs (x ∷ without frame xs)
 abbrev pub off_lists : ℕ → LinkedLists → LinkedLists
 off_lists frame links = record links { lists = map (without frame) links.lists }
 
--- what stands before a frame, where `before` stands before the first one
+-- the frame before this one, or `before` if this one is the first
 abbrev pub predecessor_from : Option ℕ → ℕ → List ℕ → Option ℕ
 predecessor_from before frame [] = None
 predecessor_from before frame (x ∷ xs) = cond (x == frame) before (predecessor_from (Some x) frame xs)
 
--- the frame that stands before a frame
+-- the frame before this one
 abbrev pub predecessor : ℕ → List ℕ → Option ℕ
 predecessor frame xs = predecessor_from None frame xs
 
--- the frame that stands after a frame
+-- the frame after this one
 abbrev pub successor : ℕ → List ℕ → Option ℕ
 successor frame [] = None
 successor frame (x ∷ xs) = cond (x == frame) (first xs) (successor frame xs)
 
--- the frames with one more, after `after`, or in front
+-- the list with one more frame, after `after` or at the front
 abbrev pub with_behind : Option ℕ → ℕ → List ℕ → List ℕ
 with_behind None frame xs = frame ∷ xs
 with_behind (Some after) frame [] = []
 with_behind (Some after) frame (x ∷ xs) =
     cond (x == after) (x ∷ frame ∷ xs) (x ∷ with_behind (Some after) frame xs)
 
--- each frame is on at most one list, and there once
+-- each frame is on at most one list, and only once there
 pub record IsApart (links : LinkedLists) : Type 0 where
   pub in_range : (list frame : ℕ) → IsOn links list frame → frame < links.frame_count
   pub one_list : (list other frame : ℕ) → IsOn links list frame → IsOn links other frame → list ≡ other

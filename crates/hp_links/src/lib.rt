@@ -1,5 +1,7 @@
-//! Many doubly linked lists of frames in one table: each change takes the same short time and no
-//! memory.
+//! Many doubly linked lists of frames in one table. Each change takes constant time and
+//! allocates nothing.
+//!
+//! Read specs/LinkedLists first, then specs/Rings for how the lists are stored.
 #![tactic(auto)]
 
 mod links;

@@ -1,3 +1,4 @@
+//! Lists of frames by number, each frame on at most one of them.
 ghost use Rattle.std.specs.Prelude.{◌≡◌, ℕ, ◌<◌, ◌+◌, ◌^◌, ◌∷◌, ◌++◌, [], None, Some, IfOk, IfSome, IfNone, length, replicate};
 ghost use Rattle.std.specs.Option.{ForSome};
 ghost use Rattle.hp_links.specs.LinkedLists.{list_at, with_list, IsOn, IsListed, IsUnlisted, IsApart, first, last, without, off_lists, predecessor, successor, with_behind};
@@ -26,7 +27,7 @@ impl Model for Links {
 }
 
 impl Links {
-    /// All lists empty, by two allocations, however many frames and lists there are.
+    /// Creates the lists, all empty. Allocates twice, whatever the number of frames and lists.
     pub fn new(alloc: Global, frames: u32, lists: u32) -> Result<Links, AllocError>
         requires { frames + lists < 2 ^ 32 }
         ensures { IfOk result (λ links. links ≡ record { frame_count = frames; lists = replicate lists [] }) }
@@ -35,7 +36,7 @@ impl Links {
         Ok(Links { rings })
     }
 
-    /// Equal lists, by two allocations. An error is out of memory.
+    /// Returns a copy. Allocates twice.
     pub fn copy(&self, alloc: Global) -> Result<Links, AllocError>
         ensures { IfOk result (λ links. links ≡ self.now) }
     {
@@ -43,7 +44,7 @@ impl Links {
         Ok(Links { rings })
     }
 
-    /// The first frame of a list.
+    /// Returns the first frame of a list.
     pub fn front(&self, list: ListNumber) -> Option<Frame>
         requires { list < length self.now.lists }
         ensures { result ≡ first (list_at self.now list) }
@@ -52,7 +53,7 @@ impl Links {
         self.rings.frame_at(self.rings.next(head))
     }
 
-    /// The last frame of a list.
+    /// Returns the last frame of a list.
     pub fn last(&self, list: ListNumber) -> Option<Frame>
         requires { list < length self.now.lists }
         ensures { result ≡ last (list_at self.now list) }
@@ -61,7 +62,7 @@ impl Links {
         self.rings.frame_at(self.rings.prev(head))
     }
 
-    /// How many frames a list has.
+    /// Returns the number of frames on a list. Takes constant time.
     pub fn len(&self, list: ListNumber) -> u32
         requires { list < length self.now.lists }
         ensures { result ≡ length (list_at self.now list) }
@@ -69,7 +70,7 @@ impl Links {
         self.rings.len(list)
     }
 
-    /// The list that a frame is on.
+    /// Returns the list that the frame is on.
     pub fn list_of(&self, frame: Frame) -> Option<ListNumber>
         requires { frame < self.now.frame_count }
         ensures on { (list : ℕ) → IsOn self.now list frame → result ≡ Some list }
@@ -81,7 +82,7 @@ impl Links {
         self.rings.list(place_of(frame))
     }
 
-    /// The frame after a frame on its list.
+    /// Returns the frame after this one on its list.
     pub fn next(&self, frame: Frame) -> Option<Frame>
         requires { frame < self.now.frame_count }
         ensures on { (list : ℕ) → IsOn self.now list frame
@@ -95,7 +96,7 @@ impl Links {
         self.rings.frame_at(self.rings.next(place))
     }
 
-    /// The frames of a list, front first.
+    /// Returns the frames of a list, front first.
     pub fn list(&self, alloc: Global, list: ListNumber) -> Result<Vec<Frame>, AllocError>
         requires { list < length self.now.lists }
         ensures { IfOk result (λ frames. frames.items ≡ list_at self.now list) }
@@ -109,7 +110,7 @@ impl Links {
         Ok(frames)
     }
 
-    /// Puts a frame that is on no list in front of a list.
+    /// Puts a frame, which is on no list, at the front of a list.
     pub fn push_front(&mut self, list: ListNumber, frame: Frame)
         requires list_in { list < length self.old.lists }
         requires frame_in { frame < self.old.frame_count }
@@ -121,7 +122,7 @@ impl Links {
         self.rings.insert(list, head, place_of(frame), after);
     }
 
-    /// Puts a frame that is on no list after a list.
+    /// Puts a frame, which is on no list, at the back of a list.
     pub fn push_back(&mut self, list: ListNumber, frame: Frame)
         requires list_in { list < length self.old.lists }
         requires frame_in { frame < self.old.frame_count }
@@ -133,7 +134,7 @@ impl Links {
         self.rings.insert(list, before, place_of(frame), head);
     }
 
-    /// Takes a frame off its list, and answers the frame that stood before it.
+    /// Takes a frame off its list and returns the frame before it, if any.
     pub fn unlink(&mut self, frame: Frame) -> Option<Frame>
         requires { IsListed self.old frame }
         ensures before { (list : ℕ) → IsOn self.old list frame
@@ -143,7 +144,7 @@ impl Links {
             → self.new ≡ with_list self.old list (without frame (list_at self.old list)) }
         ensures free { IsUnlisted self.new frame }
 
-        // What `relink_after` needs to undo this, and that it does.
+        // What `relink_after` needs to undo this call:
         ensures before_on { (list : ℕ) → IsOn self.old list frame
             → ForSome result (λ before. IsOn self.new list before) }
         ensures undone { (list : ℕ) → IsOn self.old list frame
@@ -157,7 +158,7 @@ impl Links {
         self.rings.frame_at(before)
     }
 
-    /// Puts a frame after another one of a list.
+    /// Puts a frame after another one on a list.
     fn insert_behind(&mut self, list: ListNumber, frame: Frame, after: Frame)
         requires frame_in { frame < self.old.frame_count }
         requires free { IsUnlisted self.old frame }
@@ -170,8 +171,8 @@ impl Links {
         self.rings.insert(list, before, place_of(frame), next);
     }
 
-    /// Puts a frame after `after`, or in front where that is `None`. It undoes an `unlink` that
-    /// answered `after`.
+    /// Puts a frame after `after`, or at the front if `after` is `None`. Undoes an `unlink` that
+    /// returned `after`.
     pub fn relink_after(&mut self, list: ListNumber, frame: Frame, after: Option<Frame>)
         requires list_in { list < length self.old.lists }
         requires frame_in { frame < self.old.frame_count }

@@ -1,7 +1,7 @@
 //! Numbers of lists.
 use std::marker::Model;
 
-/// A list of a table, by its number from 0.
+/// The number of a list in a table, from 0 on.
 #[derive(Clone, Copy, PartialEq, Eq)]
 pub struct ListNumber(pub u32);
 

@@ -1,4 +1,4 @@
-//! The table of the rings: each list is closed to a ring by a place of its own, its head.
+//! The table behind the lists. Each list is closed to a ring by an entry of its own, its head.
 
 ghost use Rattle.std.specs.Prelude.{◌≡◌, ◌<◌, ◌+◌, ◌^◌, Some, vec_len};
 ghost use Rattle.hp_links.specs.Rings.{list_of_code};
@@ -7,24 +7,25 @@ use crate::list_number::ListNumber;
 use hp_units::Frame;
 use std::alloc::{AllocError, Global};
 
-/// The place of a frame in the table.
+/// Returns the index of a frame in the table.
 pub fn place_of(frame: Frame) -> u32
     ensures { result ≡ frame }
 {
     frame.0
 }
 
-/// A place in the table: a frame's, or a head's. One on no list, and the head of an empty list, is
-/// its own neighbour.
+/// An entry of the table: a frame's, or a head's. A frame on no list, and the head of an empty
+/// list, is its own neighbour.
 #[derive(Clone, Copy)]
 pub struct Node {
     pub next: u32,
     pub prev: u32,
-    /// One more than the number of the list that the frame is on; 0 at a head, and on no list.
+    /// One more than the number of the list that the frame is on. 0 for a head, and for
+    /// a frame on no list.
     pub list: u32,
 }
 
-/// The list that a place's code tells.
+/// Returns the list that an entry's code means.
 fn list_of_code(code: u32) -> Option<ListNumber>
     ensures { result ≡ list_of_code code }
 {
@@ -35,7 +36,7 @@ fn list_of_code(code: u32) -> Option<ListNumber>
     }
 }
 
-/// The code of a list.
+/// Returns the code of a list.
 fn code_of(list: ListNumber) -> u32
     requires { list + 1 < 2 ^ 32 }
     ensures { list_of_code result ≡ Some list }
@@ -43,7 +44,7 @@ fn code_of(list: ListNumber) -> u32
     list.0 + 1
 }
 
-/// The frames' places, and after them the heads.
+/// The entries of the frames, and after them those of the heads.
 #[derive(Drop)]
 pub struct Rings {
     pub frames: u32,
@@ -64,7 +65,7 @@ impl Node {
         Node::ring(place)
     }
 
-    /// A ring of one place.
+    /// Creates an entry that is its own neighbour.
     fn ring(place: u32) -> Self
         ensures { result ≡ alone_at place }
     {
@@ -90,6 +91,7 @@ impl Rings {
     ghost use Rattle.std.specs.Prelude.{◌≡◌, ◌≢◌, ◌<◌, ◌+◌, ◌-◌, ◌^◌, replicate, None, Some, IfOk, slice_index, slice_set, vec_len};
     ghost use Rattle.hp_links.specs.Rings.{Inserts, Removes, IsAlone, frame_at, table};
 
+    /// Creates a table in which every list is empty.
     pub fn new(alloc: Global, frames: u32, lists: u32) -> Result<Self, AllocError>
         requires { frames + lists < 2 ^ 32 }
         ensures frames { IfOk result (λ rings. rings.frames ≡ frames) }
@@ -105,7 +107,7 @@ impl Rings {
         })
     }
 
-    /// An equal table.
+    /// Returns a copy.
     pub fn copy(&self, alloc: Global) -> Result<Self, AllocError>
         ensures frames { IfOk result (λ rings. rings.frames ≡ self.now.frames) }
         ensures nodes { IfOk result (λ rings. rings.nodes.items ≡ self.now.nodes.items) }
@@ -120,6 +122,7 @@ impl Rings {
         })
     }
 
+    /// Returns the index of a list's head.
     pub fn head(&self, list: ListNumber) -> u32
         requires { list < vec_len self.now.lens }
         ensures { result ≡ self.now.frames + list }
@@ -127,6 +130,7 @@ impl Rings {
         self.frames + list.0
     }
 
+    /// Returns the entry after this one.
     #[tactic(auto, unfolding(crate::specs::Rings::table))]
     pub fn next(&self, place: u32) -> u32
         requires { place < vec_len self.now.nodes }
@@ -135,6 +139,7 @@ impl Rings {
         self.nodes[place as usize].next
     }
 
+    /// Returns the entry before this one.
     #[tactic(auto, unfolding(crate::specs::Rings::table))]
     pub fn prev(&self, place: u32) -> u32
         requires { place < vec_len self.now.nodes }
@@ -143,6 +148,7 @@ impl Rings {
         self.nodes[place as usize].prev
     }
 
+    /// Returns the list that the entry's frame is on.
     #[tactic(auto, unfolding(crate::specs::Rings::table))]
     pub fn list(&self, place: u32) -> Option<ListNumber>
         requires { place < vec_len self.now.nodes }
@@ -151,7 +157,7 @@ impl Rings {
         list_of_code(self.nodes[place as usize].list)
     }
 
-    /// The frame at a place, and none at a head.
+    /// Returns the frame at this index, or `None` for a head.
     pub fn frame_at(&self, place: u32) -> Option<Frame>
         ensures { result ≡ frame_at self.now.frames place }
     {
@@ -162,6 +168,7 @@ impl Rings {
         }
     }
 
+    /// Returns the number of frames on a list.
     pub fn len(&self, list: ListNumber) -> u32
         requires { list < vec_len self.now.lens }
         ensures { result ≡ slice_index self.now.lens.items list }
@@ -169,7 +176,7 @@ impl Rings {
         self.lens[list.0 as usize]
     }
 
-    /// Puts a frame between two neighbours, which are one place where the list is empty.
+    /// Puts a frame between two neighbours. In an empty list both are the head.
     pub fn insert(&mut self, list: ListNumber, before: u32, frame: u32, after: u32)
         requires list_in { list < vec_len self.old.lens }
         requires before_in { before < vec_len self.old.nodes }

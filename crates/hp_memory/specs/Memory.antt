@@ -1,4 +1,4 @@
--- What a contract sees of a machine's memory, and what it is to be led back.
+-- What a contract sees of a machine's memory, and what is needed to lead it back.
 use Rattle.std.specs.Prelude.{List}
 use Rattle.std.specs.List.{AllByRecursion}
 use Rattle.hp_units.specs.LayoutParts.{LayoutParts}
@@ -13,7 +13,8 @@ pub record MemoryValue : Type 0 where
   pub layout : LayoutParts
   pub state : Memory
 
--- the deltas lead from the frame view of one state back to that of an earlier one, which is well placed
+-- the deltas lead from one state's frame view back to that of an earlier state,
+-- which is well placed
 pub record LeadsBack (l : LayoutParts) (deltas : List Delta) (later earlier : Memory) : Type 0 where
   pub placed : IsWellPlaced l earlier
   pub numbers : AllByRecursion (IsDeltaOf l) deltas

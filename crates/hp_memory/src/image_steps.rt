@@ -9,7 +9,7 @@ use hp_tape::Tape;
 use hp_units::{Cpu, Event, Reply, Serial};
 use std::alloc::{AllocError, Global};
 
-/// What a step makes of an Image.
+/// The result of a step on an Image.
 #[derive(Drop)]
 pub struct ImageStep {
     /// The state after the step.
@@ -18,9 +18,11 @@ pub struct ImageStep {
     pub reply: Reply,
 }
 
-/// One step of the definitions from an Image, whose state must be well placed, to another. A Cancel
-/// is the release here, and an UndoAfter does nothing, as in `Memory::step`. An error is out of
-/// memory.
+/// Carries out one step of the definitions from an Image, whose state must be well
+/// placed, to a new Image.
+///
+/// A Cancel only releases here, and an UndoAfter does nothing, as in `Memory::step`. Both Images
+/// are converted whole, so this costs much more than `Memory::step`.
 pub fn step_of_image(
     alloc: Global,
     image: &Image,
@@ -40,7 +42,7 @@ pub fn step_of_image(
     step_into_image(alloc, &mut memory, serial, cpu, event)
 }
 
-/// One step of a memory, and the Image of its state after it.
+/// Carries out one step of a memory, and returns the Image of its state after it.
 fn step_into_image(
     alloc: Global,
     memory: &mut Memory,

@@ -1,4 +1,4 @@
-//! The layers of an Image, and an Image of the layers.
+//! Converts an Image to layers, and layers to an Image.
 ghost use Rattle.std.specs.Prelude.{◌≡◌, IfOk};
 ghost use Rattle.hp_units.specs.LayoutParts.{IsLayout};
 ghost use Rattle.hp_units.specs.Placement.{IsWellPlaced};
@@ -12,7 +12,7 @@ use hp_layers::{Frames, Layers};
 use hp_plain::Image;
 use std::alloc::{AllocError, Global};
 
-/// The layers of an Image whose state is well placed.
+/// Returns the layers of an Image whose state is well placed.
 pub(crate) fn layers_of(alloc: Global, image: &Image) -> Result<Layers, AllocError>
     requires placed { IsWellPlaced image.now.layout image.now.memory }
     ensures placed { IfOk result ArePlaced }
@@ -34,14 +34,14 @@ pub(crate) fn layers_of(alloc: Global, image: &Image) -> Result<Layers, AllocErr
     })
 }
 
-/// The layout of every Image is within the limits.
+/// Called for its contract: the layout of every Image is within its limits.
 fn keeps_limits(image: &Image)
     ensures { IsLayout image.now.layout }
 {
     let _ = image.layout().order();
 }
 
-/// An Image of the layers' state.
+/// Returns the layers' state as an Image.
 pub(crate) fn image_of(alloc: Global, layers: &Layers) -> Result<Image, AllocError>
     requires placed { ArePlaced layers.now }
     ensures { IfOk result

@@ -1,12 +1,12 @@
 //! The memory of a machine: boot, one step of any event, and the way back.
 //!
-//! It owns `Memory`, the layers of hp_layers that always keep a well placed state, so that no call
-//! needs a condition on it. Its layers come from an Image, and an Image from them (`images`);
-//! `image_steps` makes a step from an Image to an Image. It keeps no history and no record: whoever
-//! calls it keeps the tape, and remembers where each step's deltas end.
+//! The crate owns `Memory`: the layers of hp_layers with an invariant that their state is well
+//! placed, so that no call needs a condition on it. Layers are made from an Image, and an Image
+//! from layers (`images`); `image_steps` makes a step from an Image to an Image. It keeps no
+//! history and no records: the caller keeps the tape, and remembers where each step's deltas end.
 //!
-//! Read first: `memory` (what a caller sees), then hp_layers' specs/Layers (what a step leaves and
-//! notes).
+//! Read first: `memory` (what a caller sees), then specs/Layers of hp_layers (what a step leaves
+//! and notes).
 #![tactic(auto)]
 
 mod image_steps;

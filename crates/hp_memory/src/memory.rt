@@ -39,7 +39,7 @@ impl Model for Memory {
 }
 
 impl Memory {
-    /// The state at boot. An error is out of memory.
+    /// Creates the memory at boot.
     pub fn boot(alloc: Global, layout: &Layout) -> Result<Memory, AllocError>
         ensures { IfOk result
             (λ memory. memory ≡ record { layout = layout.now; state = boot_memory layout.now }) }
@@ -48,7 +48,7 @@ impl Memory {
         Memory::from_image(alloc, &image)
     }
 
-    /// The layers of a well placed state. An error is out of memory.
+    /// Creates a memory with the state of an Image, which must be well placed.
     pub fn from_image(alloc: Global, image: &Image) -> Result<Memory, AllocError>
         requires placed { IsWellPlaced image.now.layout image.now.memory }
         ensures { IfOk result
@@ -58,7 +58,7 @@ impl Memory {
         Ok(Memory { layers })
     }
 
-    /// The state, as an Image of its own. An error is out of memory.
+    /// Returns the state as an Image.
     pub fn image(&self, alloc: Global) -> Result<Image, AllocError>
         ensures { IfOk result
             (λ image. image ≡ record { layout = self.now.layout; memory = self.now.state }) }
@@ -66,7 +66,7 @@ impl Memory {
         image_of(alloc, &self.layers)
     }
 
-    /// An equal memory. An error is out of memory.
+    /// Returns a copy.
     pub fn copy(&self, alloc: Global) -> Result<Memory, AllocError>
         ensures { IfOk result (λ copy. copy ≡ self.now) }
     {
@@ -74,23 +74,25 @@ impl Memory {
         Ok(Memory { layers })
     }
 
-    /// The layout.
+    /// Returns the layout.
     pub fn layout(&self) -> &Layout
         ensures { result.now ≡ self.now.layout }
     {
         &self.layers.layout
     }
 
-    /// Whether an operation is live: whether it holds a memory block (own rule).
+    /// Returns whether the operation is live, which means that it holds a memory block.
     pub fn is_live(&self, op: Serial) -> bool
         ensures { result ≡ is_live self.now.state.blocks op }
     {
         self.layers.blocks.is_live(op)
     }
 
-    /// One step of the definitions: what the step did to the layers is noted on the tape, after the
-    /// deltas that are there. A Cancel is the release here, and an UndoAfter does nothing. It takes
-    /// its memory before it changes anything; an error is out of memory.
+    /// Carries out one step of the definitions, and notes what it did to the layers on the tape,
+    /// after the deltas there.
+    ///
+    /// A Cancel only releases here, and an UndoAfter does nothing. All memory is allocated before
+    /// anything changes.
     pub fn step(
         &mut self,
         alloc: Global,
@@ -113,8 +115,8 @@ impl Memory {
         self.layers.step(alloc, serial, cpu, event, tape)
     }
 
-    /// Undoes the steps whose deltas stand on a tape after its first `mark`: does the opposites of
-    /// those deltas, latest first, and takes them off the tape. It takes no memory.
+    /// Undoes the steps whose deltas come after the first `mark` on the tape: undoes these deltas,
+    /// latest first, and takes them off the tape. Allocates nothing.
     pub fn back(&mut self, tape: &mut Tape, mark: usize)
         requires mark { mark ≤ length tape.old.deltas }
         requires leads { (s : State)
@@ -128,7 +130,7 @@ impl Memory {
         self.layers.unwind(tape, mark);
     }
 
-    /// Its state is well placed.
+    /// Called for its contract: the state is well placed.
     pub fn is_placed(&self)
         ensures placed { IsWellPlaced self.now.layout self.now.state }
         ensures layout { IsLayout self.now.layout }

@@ -1,4 +1,4 @@
--- Numbers as words: in decimal, with no sign and no leading zeros (own rule).
+-- Numbers as words: in decimal, without a sign and without leading zeros.
 use Rattle.std.specs.Prelude.{◌≡◌, ◌↔◌, ℕ, ◌^◌, ◌<◌, ◌≤◌, ◌&&◌, ◌||◌, ◌==◌, List, length, slice_index, Bool, not, Option, Some, None, nat_lt, if◌then◌else◌}
 use Rattle.std.specs.Fmt.{decimal}
 use Rattle.std.specs.Str.{all_ascii_digits}
@@ -12,16 +12,16 @@ is_bare word = not (slice_index word 0 == 43) && (nat_lt (length word) 2 || not 
 abbrev pub is_digits : List ℕ → Bool
 is_digits word = all_ascii_digits word && nat_lt 0 (length word)
 
--- the number that digits are, where it is below 2 ^ bits
+-- the number that the digits are, if it is below 2 ^ bits
 unfoldable pub digits_in : ℕ → List ℕ → Option ℕ
 digits_in bits word =
     if is_digits word && nat_lt (digits_value 10 word) (2 ^ bits) then Some (digits_value 10 word) else None
 
--- the number that a word is: digits with no leading zero, below 2 ^ bits
+-- the number that the word is: digits without a leading zero, below 2 ^ bits
 unfoldable pub number_of : ℕ → List ℕ → Option ℕ
 number_of bits word = if is_bare word then digits_in bits word else None
 
--- a word is a number just where it is the number's decimal digits, and the number fits
+-- a word is a number exactly if it is the number's decimal digits, and the number fits
 abbrev pub NumbersAreSpelled : Type 0
 NumbersAreSpelled =
     (bits : ℕ) (word : List ℕ) (n : ℕ) → bits ≤ 64

@@ -1,15 +1,16 @@
--- What a number counts, in the signatures of the definitions: each is the number itself, and costs
+-- What a number counts, for the signatures of the definitions. Each is the number itself, and costs
 -- a proof nothing.
 use Rattle.std.specs.Prelude.{ℕ, ◌*◌, ◌/◌, ◌^◌}
 
--- a page frame (Gorman, chapter 2), and the order of a block of 2^order frames (Knuth, volume 1, section 2.5)
+-- a page frame (Gorman, chapter 2), and the order of a block of 2^order frames (Knuth, volume 1,
+-- section 2.5)
 abbrev pub Frame : Type 0
 Frame = ℕ
 
 abbrev pub Order : Type 0
 Order = ℕ
 
--- a pageblock (own rule), and a memory block (Linux, memory hotplug: memory block)
+-- a pageblock, and a memory block (Linux, memory hotplug: memory block)
 abbrev pub Pageblock : Type 0
 Pageblock = ℕ
 
@@ -26,10 +27,10 @@ Owner = ℕ
 abbrev pub Page : Type 0
 Page = ℕ
 
--- the serial of a record, which also names the operation that its Begin opens (own rule)
+-- the serial of a record; that of a Begin also names its operation
 abbrev pub Serial : Type 0
 Serial = ℕ
 
--- the first frame of the block of an order that a frame lies in (Knuth, volume 1, section 2.5)
+-- the first frame of the block of this order that contains the frame (Knuth, volume 1, section 2.5)
 abbrev pub ancestor : Frame → Order → Frame
 ancestor frame order = frame / 2 ^ order * 2 ^ order

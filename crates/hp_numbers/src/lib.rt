@@ -1,6 +1,6 @@
-//! The numbers of frames, blocks, processors, owners, pages and records, numbers as words, and
-//! texts: what the vocabulary of the memory machine, hp_units, is made of. It passes all of them
-//! on, so its users need not name this crate. Read `numbers` first.
+//! Numbers of frames, blocks, processors, owners, pages and records, numbers as words, and texts:
+//! what hp_units, the vocabulary of the memory machine, is made of. hp_units re-exports all of it,
+//! so its users need not name this crate. Read `numbers` first.
 #![tactic(auto)]
 
 pub mod number_words;

@@ -1,16 +1,16 @@
-//! Numbers as words.
+//! Parsing numbers from words.
 ghost use Rattle.std.specs.Prelude.{◌≡◌};
 ghost use Rattle.hp_numbers.specs.NumberWords.{NumbersAreSpelled, is_bare as bare, number_of};
 
-/// No sign, and no 0 before another digit.
+/// Returns whether the word has no sign and no leading zero.
 fn is_bare(word: &str) -> bool
     ensures { result ≡ bare word.now }
 {
     !word.starts_with('+') && (word.len() < 2 || !word.starts_with('0'))
 }
 
-/// The number below 2^32 that a word is in decimal, with no sign and no leading zeros; None for any
-/// other word (own rule).
+/// Parses a decimal number below 2^32, without a sign and without leading zeros. Returns `None` for
+/// any other word.
 #[tactic(auto, using(crate::proofs::NumbersParsed::parsed, crate::proofs::NumbersParsed::refused))]
 pub fn number32(word: &str) -> Option<u32>
     ensures { result ≡ number_of 32 word.now }
@@ -21,8 +21,8 @@ pub fn number32(word: &str) -> Option<u32>
     word.parse::<u32>().ok()
 }
 
-/// The number below 2^64 that a word is in decimal, with no sign and no leading zeros; None for any
-/// other word (own rule).
+/// Parses a decimal number below 2^64, without a sign and without leading zeros. Returns `None` for
+/// any other word.
 #[tactic(auto, using(crate::proofs::NumbersParsed::parsed, crate::proofs::NumbersParsed::refused))]
 pub fn number64(word: &str) -> Option<u64>
     ensures { result ≡ number_of 64 word.now }
@@ -33,7 +33,7 @@ pub fn number64(word: &str) -> Option<u64>
     word.parse::<u64>().ok()
 }
 
-/// A word is a number just where it is the number's decimal digits, and the number fits.
+/// A word is a number exactly if it is the number's decimal digits, and the number fits.
 pub fn numbers_are_spelled()
     ensures { NumbersAreSpelled }
 {}

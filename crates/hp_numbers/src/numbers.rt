@@ -1,10 +1,10 @@
-//! Numbers of things. A contract sees each as the number itself.
+//! Numbers of things, each with a type of its own. A contract sees the number itself.
 ghost use Rattle.std.specs.Prelude.{◌≡◌, ℕ, ◌<◌};
 ghost use Rattle.hp_numbers.specs.Numbers.{ancestor};
 
 use std::marker::Model;
 
-/// A page frame, counted from 0, at most 2^20 of them (Gorman, chapter 2).
+/// A page frame, counted from 0. There are at most 2^20 (Gorman, chapter 2).
 #[derive(Clone, Copy, PartialEq, Eq)]
 pub struct Frame(pub u32);
 
@@ -17,7 +17,7 @@ impl Model for Frame {
 }
 
 impl Frame {
-    /// The first frame of the block of an order that the frame lies in (Knuth, volume 1,
+    /// Returns the first frame of the block of this order that contains the frame (Knuth, volume 1,
     /// section 2.5). The order is below 32.
     pub fn ancestor(self, order: Order) -> Frame
         requires { order < 32 }
@@ -28,7 +28,8 @@ impl Frame {
     }
 }
 
-/// The order of a block of 2^order frames, 0 to 10 in a layout (Knuth, volume 1, section 2.5).
+/// The order of a block of 2^order frames. In a layout it is 0 to 10 (Knuth, volume 1, section
+/// 2.5).
 #[derive(Clone, Copy, PartialEq, Eq)]
 pub struct Order(pub u32);
 
@@ -40,7 +41,7 @@ impl Model for Order {
     ghost inverse = { λ n. record { 0 = n } };
 }
 
-/// A pageblock, counted from 0: one block of the greatest order (own rule).
+/// A pageblock, counted from 0: one block of the greatest order.
 #[derive(Clone, Copy, PartialEq, Eq)]
 pub struct Pageblock(pub u32);
 
@@ -52,7 +53,8 @@ impl Model for Pageblock {
     ghost inverse = { λ n. record { 0 = n } };
 }
 
-/// A memory block, counted from 0: the unit that goes online and offline (Linux guide, Memory Hot(Un)Plug).
+/// A memory block, counted from 0: the unit that goes online and offline (Linux guide, Memory
+/// Hot(Un)Plug).
 #[derive(Clone, Copy, PartialEq, Eq)]
 pub struct Block(pub u32);
 
@@ -100,8 +102,8 @@ impl Model for Page {
     ghost inverse = { λ n. record { 0 = n } };
 }
 
-/// The serial of a record, counted from 1 and never used again. An operation is named by the serial
-/// of its Begin (own rule).
+/// The serial of a record, counted from 1 and never reused. The serial of a Begin also names its
+/// operation.
 #[derive(Clone, Copy, Debug, PartialEq, Eq, PartialOrd)]
 pub struct Serial(pub u64);
 

@@ -1,11 +1,11 @@
-//! Texts that contracts see as their bytes.
+//! A text that contracts see as its bytes.
 ghost use Rattle.std.specs.Prelude.{◌≡◌, IfOk, string_bytes};
 
 use std::alloc::{AllocError, Global};
 use std::hash::{Hash, Hasher};
 use std::marker::Model;
 
-/// A text, equal and hashed by its bytes.
+/// A text, compared and hashed by its bytes.
 #[derive(Drop)]
 pub struct Text {
     text: String,
@@ -55,21 +55,21 @@ impl Hash for Text {
 }
 
 impl Text {
-    /// The text of a string, with no memory taken.
+    /// Wraps a string. Allocates nothing.
     pub fn new(text: String) -> Text
         ensures { result ≡ string_bytes text }
     {
         Text { text }
     }
 
-    /// The text as a string slice.
+    /// Returns the text as a string slice.
     pub fn as_str(&self) -> &str
         ensures { result.now ≡ self.now }
     {
         self.text.as_str()
     }
 
-    /// An equal text.
+    /// Returns a copy.
     pub fn copy(&self, alloc: Global) -> Result<Text, AllocError>
         ensures { IfOk result (λ text. text ≡ self.now) }
     {

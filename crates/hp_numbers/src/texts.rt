@@ -1,4 +1,4 @@
-//! How numbers of things are written: in decimal.
+//! Printing numbers of things, in decimal.
 ghost use Rattle.std.specs.Prelude.{Some};
 ghost use Rattle.std.specs.Fmt.{decimal};
 

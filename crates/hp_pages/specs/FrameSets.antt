@@ -2,7 +2,7 @@
 use Rattle.std.specs.Prelude.{◌≡◌, ℕ, ◌/◌, ◌%◌, ◌<◌, ◌≤◌, Bool, true, false, List, Option, Some, None, ◌==◌, slice_index}
 use Rattle.std.specs.Int.{bit_at}
 
--- whether a frame is in a set: 64 frames a word, the lowest bit first (own rule)
+-- the frame is in the set: 64 frames per word, lowest bit first
 abbrev pub has : List ℕ → ℕ → Bool
 has words frame = bit_at (slice_index words (frame / 64)) (frame % 64) == 1
 
@@ -11,7 +11,7 @@ abbrev pub bit_of : Bool → ℕ
 bit_of true = 1
 bit_of false = 0
 
--- a number is the lowest that passes a test, from one number on and before another
+-- `found` is the lowest number that passes the test, with first <= found < past
 pub record IsLowest (p : ℕ → Bool) (first past found : ℕ) : Type 0 where
   pub low : first ≤ found
   pub high : found < past

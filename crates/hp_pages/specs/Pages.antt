@@ -1,4 +1,4 @@
--- What a contract sees of the layer of pages, and what its calls do to it.
+-- What a contract sees of the layer of pages, and what its calls do.
 use Rattle.std.specs.Prelude.{◌≡◌, ℕ, ◌≤◌, ◌==◌, ◌&&◌, Bool, false, not, List, [], Option, Some, None, IfSome, is_some, length, map, option_map, slice_index, slice_index_or, slice_set, unwrap_or, if◌then◌else◌}
 use Rattle.std.specs.List.{AllByRecursion}
 use Rattle.std.specs.Option.{option_and_then, option_map_or}
@@ -18,7 +18,7 @@ pub record PagesValue : Type 0 where
   pub layout : LayoutParts
   pub pages : PageFrames
 
--- the numbers are those of the layout: each call keeps this, the opposite of a delta too (own rule)
+-- the numbers are within the layout; every call keeps this, even the undoing of a delta
 pub record ArePageFramesOf (l : LayoutParts) (v : PageFrames) : Type 0 where
   pub owners : length v.table ≡ l.owners
   pub pages : AllByRecursion (λ row. length row ≡ l.pages) v.table
@@ -31,13 +31,13 @@ pub record IsNeeded (v : PageFrames) (frame : ℕ) (words : List ℕ) : Type 0 w
   pub held : holders v.table frame ≡ 1
   pub some : is_blank words ≡ false
 
--- a frame holds at most one page, and only the frame of a page has a buffer, where a word of the
--- page is not 0: each call but the opposite of a delta keeps this (own rule)
+-- a frame holds at most one page, and has a buffer only if a word of its page is not 0; every call
+-- keeps this, except the undoing of a delta
 pub record AreSettled (v : PageFrames) : Type 0 where
   pub once : (frame : ℕ) → holders v.table frame ≤ 1
   pub buffers : (frame : ℕ) → IfSome (buffer_of v frame) (IsNeeded v frame)
 
--- the table, the buffers and the zeros as the layer has them
+-- the table, the buffers and the zeros as the layer stores them
 pub record AreLayerOf (l : LayoutParts) (t : TableValue) (buffers : List (Option (List ℕ)))
     (words_of_none : List ℕ) : Type 0 where
   pub frames : t.frames ≡ frame_count l
@@ -48,9 +48,9 @@ pub record AreLayerOf (l : LayoutParts) (t : TableValue) (buffers : List (Option
   pub zeros : words_of_none ≡ fresh_words l
   pub few_words : l.words ≤ 512
 
--- ---- what the calls answer and do (own rule)
+-- ---- what the calls return and do
 
--- the words in a frame: those of its buffer, and zeros where it has none
+-- the words in a frame: those of its buffer, or zeros without one
 abbrev pub words_in : LayoutParts → PageFrames → (frame : ℕ) → List ℕ
 words_in l v frame = unwrap_or (buffer_of v frame) (fresh_words l)
 
@@ -77,7 +77,8 @@ unmap_from v owner page frame =
 abbrev pub unmap_frame : PageFrames → (owner page : ℕ) → PageFrames
 unmap_frame v owner page = option_map_or (unmap_from v owner page) (entry_of v.table owner page) v
 
--- one word changes in a frame, and in a page's frame; a frame keeps a buffer only where a word is not 0
+-- one word changes in a frame, and in a page's frame; a frame keeps a buffer only
+-- while a word is not 0
 abbrev pub write_at : LayoutParts → PageFrames → (frame index value : ℕ) → PageFrames
 write_at l v frame index value = with_buffer v frame (buffer_for (slice_set (words_in l v frame) index value))
 
@@ -105,8 +106,8 @@ abbrev pub prepared_for : LayoutParts → PageFrames → (owner page index value
 prepared_for l v owner page index value =
     prepared_at l v index value (unwrap_or (entry_of v.table owner page) 0)
 
--- the buffers of two frames change places, and a page moves from one frame to another (Linux,
--- memory hotplug: migration)
+-- the buffers of two frames are swapped, and a page moves from one frame to another (Linux, memory
+-- hotplug: migration)
 abbrev pub swap_buffers : PageFrames → (a b : ℕ) → PageFrames
 swap_buffers v a b = with_buffer (with_buffer v a (buffer_of v b)) b (buffer_of v a)
 

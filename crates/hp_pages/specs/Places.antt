@@ -1,29 +1,29 @@
--- How many pages a frame holds, and which, told by a sum.
+-- How many pages a frame holds, and which, by a sum of places.
 use Rattle.std.specs.Prelude.{◌≡◌, ℕ, zero, suc, ◌+◌, ◌-◌, ◌*◌, ◌^◌, ◌<◌, ◌≤◌, List, [], ◌∷◌, Option, Some, None, IfSome, length, count_by, nat_lt, slice_index, slice_set, sum_by, if◌then◌else◌}
 use Rattle.std.specs.List.{AllByRecursion}
 use Rattle.hp_units.specs.Memory.{entry_of}
 use Rattle.hp_units.specs.Pages.{holds}
 use Rattle.hp_pages.specs.FrameSets.{has}
 
--- how many pages of a table a frame holds (own rule)
+-- how many pages of a table a frame holds
 abbrev pub holders : List (List (Option ℕ)) → ℕ → ℕ
 holders table frame = sum_by (λ row. count_by (holds frame) row) table
 
--- the frame that an entry's code tells: 0 is none, and any other one more than the frame
+-- the frame that a code means: 0 is none, any other code is the frame plus one
 abbrev pub frame_of_code : ℕ → Option ℕ
 frame_of_code zero = None
 frame_of_code (suc frame) = Some frame
 
--- ---- the place of a page: counted from 1, an owner's pages in a row (own rule)
+-- ---- the place of a page: counted from 1, owner after owner
 
 abbrev pub place_of : (pages owner page : ℕ) → ℕ
 place_of pages owner page = 1 + owner * pages + page
 
--- the place where an entry is a frame, else nothing
+-- the place if the entry is the frame, otherwise 0
 abbrev pub held : ℕ → Option ℕ → ℕ → ℕ
 held frame entry place = if holds frame entry then place else 0
 
--- the sum of the places at which a frame is in a row, whose first entry has a place, and in a table
+-- the sum of the places at which a frame is in a row, which begins at a place; and in a table
 abbrev pub row_sum : (place : ℕ) → List (Option ℕ) → (frame : ℕ) → ℕ
 row_sum place [] frame = 0
 row_sum place (entry ∷ row) frame = held frame entry place + row_sum (place + 1) row frame
@@ -35,7 +35,7 @@ table_sum pages place (row ∷ table) frame =
 
 -- ---- the sums of all frames
 
--- a place is added to the sum of an entry's frame, and taken from it
+-- the place is added to the sum of the entry's frame; it is subtracted
 abbrev pub joined : List ℕ → Option ℕ → (place : ℕ) → List ℕ
 joined sums None place = sums
 joined sums (Some frame) place = slice_set sums frame (slice_index sums frame + place)
@@ -44,7 +44,7 @@ abbrev pub left : List ℕ → Option ℕ → (place : ℕ) → List ℕ
 left sums None place = sums
 left sums (Some frame) place = slice_set sums frame (slice_index sums frame - place)
 
--- a place may be added to a frame's sum, and taken from it
+-- the place may be added to the frame's sum; it may be subtracted
 pub record CanJoin (sums : List ℕ) (place frame : ℕ) : Type 0 where
   pub frame_in : frame < length sums
   pub fits : slice_index sums frame + place < 2 ^ 64
@@ -53,20 +53,20 @@ pub record CanLeave (sums : List ℕ) (place frame : ℕ) : Type 0 where
   pub frame_in : frame < length sums
   pub among : place ≤ slice_index sums frame
 
--- a bit for each frame whose sum isn't 0
+-- a bit for each frame whose sum is not 0
 pub record AreMarked (sums words : List ℕ) : Type 0 where
   pub small : length sums ≤ 2 ^ 20
   pub room : length sums < 64 * length words
   pub marked : (frame : ℕ) → frame < length sums → has words frame ≡ nat_lt 0 (slice_index sums frame)
 
--- ---- a table of so many frames, with rows of so many pages
+-- ---- a table by owner and page
 
 pub record TableValue : Type 0 where
   pub frames : ℕ
   pub pages : ℕ
   pub rows : List (List (Option ℕ))
 
--- the numbers of a table
+-- the numbers of a table are within their limits
 pub record IsTable (t : TableValue) : Type 0 where
   pub frames : t.frames ≤ 2 ^ 20
   pub some_pages : 1 ≤ t.pages

@@ -8,7 +8,7 @@ use std::alloc::{AllocError, Global};
 use std::marker::Model;
 use std::mem::replace;
 
-/// For each frame its buffer of words, if it has one.
+/// Each frame's buffer of words, if it has one.
 #[derive(Drop)]
 pub(crate) struct Buffers {
     frames: Vec<Option<Words>>,
@@ -23,7 +23,7 @@ impl Model for Buffers {
 }
 
 impl Buffers {
-    /// So many frames without a buffer.
+    /// Creates the entries of `count` frames without a buffer.
     pub(crate) fn none(alloc: Global, count: u32) -> Result<Buffers, AllocError>
         ensures { IfOk result (λ buffers. buffers ≡ replicate count None) }
     {
@@ -34,7 +34,7 @@ impl Buffers {
         Ok(Buffers { frames })
     }
 
-    /// Equal buffers.
+    /// Returns a copy.
     pub(crate) fn copy(&self, alloc: Global) -> Result<Buffers, AllocError>
         ensures { IfOk result (λ buffers. buffers ≡ self.now) }
     {
@@ -45,7 +45,7 @@ impl Buffers {
         Ok(Buffers { frames })
     }
 
-    /// The words of a frame, if it has a buffer.
+    /// Returns the words of a frame, if it has a buffer.
     pub(crate) fn words(&self, frame: Frame) -> Option<&[u64]>
         requires { frame < length self.now }
         ensures { option_map (λ words. words.now) result ≡ slice_index_or self.now frame None }
@@ -64,7 +64,7 @@ impl Buffers {
         self.frames[frame.0 as usize] = Some(words);
     }
 
-    /// Takes a frame's buffer away, if it has one.
+    /// Takes a frame's buffer away and returns it, if there is one.
     pub(crate) fn take(&mut self, frame: Frame) -> Option<Words>
         requires { frame < length self.old }
         ensures taken { result ≡ slice_index_or self.old frame None }
@@ -73,7 +73,7 @@ impl Buffers {
         replace(&mut self.frames[frame.0 as usize], None)
     }
 
-    /// Drops a frame's buffer, if it has one.
+    /// Drops a frame's buffer, if there is one.
     pub(crate) fn clear(&mut self, frame: Frame)
         requires { frame < length self.old }
         ensures { self.new ≡ slice_set self.old frame None }
@@ -81,7 +81,7 @@ impl Buffers {
         self.frames[frame.0 as usize] = None;
     }
 
-    /// Lets the buffers of two frames change places; no word is copied.
+    /// Swaps the buffers of two frames. No word is copied.
     pub(crate) fn swap(&mut self, a: Frame, b: Frame)
         requires a { a < length self.old }
         requires b { b < length self.old }
@@ -91,7 +91,7 @@ impl Buffers {
         self.frames.swap(a.0 as usize, b.0 as usize);
     }
 
-    /// Changes one word of a frame, if it has a buffer.
+    /// Writes one word of a frame, if it has a buffer.
     pub(crate) fn set_word(&mut self, frame: Frame, index: u32, value: u64)
         requires frame { frame < length self.old }
         requires index { IfSome (slice_index_or self.old frame None) (λ words. index < length words) }
@@ -104,14 +104,14 @@ impl Buffers {
     }
 }
 
-/// Whether words are all 0. A page of such words needs no buffer.
+/// Returns whether all words are 0. A page of such words needs no buffer.
 pub fn is_blank(words: &[u64]) -> bool
     ensures { result ≡ is_blank words.now }
 {
     words.iter().all(|word| *word == 0)
 }
 
-/// Whether words are all 0 but for one, which may be any.
+/// Returns whether all words are 0, except possibly the one at `index`.
 pub(crate) fn is_blank_beside(words: &[u64], index: u32) -> bool
     requires { index < length words.now }
     ensures { result ≡ is_blank (slice_set words.now index 0) }
@@ -120,7 +120,7 @@ pub(crate) fn is_blank_beside(words: &[u64], index: u32) -> bool
     is_blank(&words[..at]) && is_blank(&words[at + 1..])
 }
 
-/// The words of a new page of a layout. Takes memory for them.
+/// Creates the words of a new page, all 0.
 pub(crate) fn zeros(alloc: Global, layout: &Layout) -> Result<Words, AllocError>
     ensures { IfOk result (λ words. words ≡ fresh_words layout.now) }
 {

@@ -1,4 +1,4 @@
-//! A set of frames, as a bitmap that is searched by words.
+//! A set of frames: a bitmap that is searched word by word.
 ghost use Rattle.std.specs.Prelude.{◌≡◌, ℕ, ◌*◌, ◌<◌, ◌≤◌, ◌^◌, ◌/◌, ◌+◌, ◌==◌, IfOk, length, replicate, slice_index, if◌then◌else◌};
 ghost use Rattle.std.specs.Int.{bit_at};
 ghost use Rattle.hp_pages.specs.FrameSets.{FindsLowest, bit_of, has};
@@ -7,9 +7,10 @@ use hp_units::Frame;
 use std::alloc::{AllocError, Global};
 use std::marker::Model;
 
-/// A set of frames: 64 frames a word, the lowest bit first. Its value is the list of its words;
-/// `has` of the definitions tells whether a frame is in it. No call but `none` and `copy` takes
-/// memory.
+/// A set of frames, as a bitmap of 64 frames per word, lowest bit first. Only `none`
+/// and `copy` allocate.
+///
+/// A contract sees the list of words; `has` of specs/FrameSets means that a frame is in the set.
 #[derive(Drop)]
 pub struct FrameSet {
     words: Vec<u64>,
@@ -24,7 +25,7 @@ impl Model for FrameSet {
 }
 
 impl FrameSet {
-    /// No frame of so many. An error is out of memory.
+    /// Creates an empty set for frames below `frames`.
     pub fn none(alloc: Global, frames: u32) -> Result<FrameSet, AllocError>
         ensures none { IfOk result (λ set. set ≡ replicate (frames / 64 + 1) 0) }
     {
@@ -32,7 +33,7 @@ impl FrameSet {
         Ok(FrameSet { words })
     }
 
-    /// An equal set. An error is out of memory.
+    /// Returns a copy.
     pub fn copy(&self, alloc: Global) -> Result<FrameSet, AllocError>
         ensures { IfOk result (λ set. set ≡ self.now) }
     {
@@ -40,7 +41,7 @@ impl FrameSet {
         Ok(FrameSet { words })
     }
 
-    /// Puts a frame in or takes it out.
+    /// Puts the frame in if `is_in` is true, or takes it out.
     pub fn set(&mut self, frame: Frame, is_in: bool)
         requires { frame < 64 * length self.old }
         ensures len { length self.new ≡ length self.old }
@@ -50,7 +51,8 @@ impl FrameSet {
         self.words[at] = with_bit(self.words[at], frame.0 % 64, is_in);
     }
 
-    /// The lowest frame of the set from one frame on and before another. A step for 64 frames.
+    /// Returns the lowest frame in the set with first <= frame < past. Takes one
+    /// step per 64 frames.
     pub fn lowest(&self, first: u32, past: u32) -> Option<Frame>
         requires within { past ≤ 64 * length self.now }
         requires small { past ≤ 2 ^ 20 }
@@ -71,8 +73,8 @@ impl FrameSet {
         None
     }
 
-    /// The first word of the set from one on and before another that has a frame; where none has,
-    /// the greater of the two.
+    /// Returns the index of the first word that is not 0, at or after `first` and before `past`. If
+    /// there is none, returns the greater of the two.
     fn skip_empty(&self, first: u32, past: u32) -> u32
         requires within { past ≤ length self.now }
         requires small { first + past < 2 ^ 32 }
@@ -88,7 +90,7 @@ impl FrameSet {
     }
 }
 
-/// A word with one bit set or cleared, counted from the lowest.
+/// Returns the word with one bit set or cleared. Bits are counted from the lowest.
 fn with_bit(word: u64, at: u32, is_in: bool) -> u64
     requires { at < 64 }
     ensures { (i : ℕ) → i < 64 → bit_at result i ≡ (if i == at then bit_of is_in else bit_at word i) }
@@ -97,7 +99,7 @@ fn with_bit(word: u64, at: u32, is_in: bool) -> u64
     if is_in { word | bit } else { word & !bit }
 }
 
-/// The lowest bit of a word that is 1, from one bit on.
+/// Returns the lowest bit that is 1, at or after `from`.
 fn lowest_bit(word: u64, from: u32) -> Option<u32>
     requires { from < 64 }
     ensures { FindsLowest (λ i. bit_at word i == 1) from 64 result }

@@ -1,5 +1,5 @@
-//! What a well placed state gives the calls of the pages. The law is a function that does nothing;
-//! what it ensures is the law.
+//! What a well placed state guarantees to the calls of the pages, as the contract of a function
+//! with an empty body.
 ghost use Rattle.hp_units.specs.LayoutParts.{IsLayout, LayoutParts};
 ghost use Rattle.hp_units.specs.Memory.{Memory};
 ghost use Rattle.hp_units.specs.Placement.{IsWellPlaced};
@@ -7,7 +7,7 @@ ghost use Rattle.hp_tape.specs.Deltas.{page_frames_of};
 ghost use Rattle.hp_pages.specs.Pages.{ArePageFramesOf, AreSettled};
 
 /// In a well placed state no frame holds two pages, exactly the frames of pages have words, and all
-/// numbers are those of the layout: what each call asks of the pages (own rule).
+/// numbers are within the layout. Each call requires this of the pages.
 pub fn well_placed_pages_are_settled()
     ensures settled { (l : LayoutParts) (s : Memory) → IsLayout l → IsWellPlaced l s
         → AreSettled (page_frames_of l s.pages) }

@@ -1,5 +1,7 @@
-//! The owners' pages: which frame holds each page, which page each frame holds, and the words of each
-//! mapped frame.
+//! The owners' pages: which frame holds each page, which page each frame holds, and the words of
+//! each mapped frame.
+//!
+//! Read specs/Pages first, then specs/Places for how a frame finds its page.
 #![tactic(auto)]
 
 mod buffers;

@@ -1,4 +1,4 @@
-//! Owners' pages and their words.
+//! The layer of the owners' pages and their words.
 ghost use Rattle.std.specs.Prelude.{◌≡◌, ◌≢◌, ◌+◌, ◌<◌, ◌≤◌, [], IfOk, IfSome, IsSome, None, Some, find, is_some, length, option_map, slice_index, slice_set, unwrap_or};
 ghost use Rattle.std.specs.List.{range_with_len};
 ghost use Rattle.hp_units.specs.Arithmetic.{IsFrame, frame_count};
@@ -19,9 +19,10 @@ use std::marker::Model;
 
 mod back;
 
-/// The owners' pages of a layout: the frame of each page, and the words of each mapped frame. A
-/// page whose words are all 0 has no buffer: one page of zeros serves all of them. No call but
-/// `new`, `copy` and `prepare` takes memory.
+/// The owners' pages of a layout: each page's frame, and the words of each mapped frame.
+///
+/// A page whose words are all 0 has no buffer; one page of zeros serves all of these. Only `new`,
+/// `copy` and `prepare` allocate.
 pub struct Pages {
     layout: Layout,
     table: Table,
@@ -29,7 +30,7 @@ pub struct Pages {
     zeros: Words,
 }
 
-/// A function of its own, so that no proof of a caller takes the fields apart.
+/// Keeps callers from proving again how each field is dropped.
 impl Drop for Pages {
     fn drop(self) {
         let Pages {
@@ -52,7 +53,7 @@ impl Model for Pages {
     ghost invariant = { λ p. AreLayerOf p.layout p.table p.buffers p.zeros };
 }
 
-/// What a write of a word needs, made before anything changes.
+/// What a write of a word needs, allocated before anything changes.
 #[derive(Drop)]
 pub enum PreparedWrite {
     /// A buffer of zeros for a frame without one.
@@ -62,7 +63,7 @@ pub enum PreparedWrite {
 }
 
 impl Pages {
-    /// The pages of a layout, none mapped.
+    /// Creates the pages of a layout, none mapped.
     pub fn new(alloc: Global, layout: &Layout) -> Result<Pages, AllocError>
         ensures empty { IfOk result (λ p.
             p ≡ record { layout = layout.now; pages = page_frames_of layout.now (empty_pages layout.now) }) }
@@ -77,7 +78,7 @@ impl Pages {
         })
     }
 
-    /// Equal pages. An error is out of memory.
+    /// Returns a copy.
     pub fn copy(&self, alloc: Global) -> Result<Pages, AllocError>
         ensures { IfOk result (λ pages. pages ≡ self.now) }
     {
@@ -93,7 +94,7 @@ impl Pages {
         })
     }
 
-    /// The frame that holds a page of the layout, if it is mapped.
+    /// Returns the frame that holds a page, if it is mapped.
     pub fn frame_at(&self, owner: Owner, page: Page) -> Option<Frame>
         requires owner { owner < self.now.layout.owners }
         requires page { page < self.now.layout.pages }
@@ -103,7 +104,7 @@ impl Pages {
         self.table.frame_at(owner, page)
     }
 
-    /// The page that a frame of the layout holds, if it holds one.
+    /// Returns the page that a frame holds, if any. Takes constant time.
     pub fn page_at(&self, frame: Frame) -> Option<(Owner, Page)>
         requires frame { IsFrame self.now.layout frame }
         requires once { holders self.now.pages.table frame ≤ 1 }
@@ -113,7 +114,8 @@ impl Pages {
         self.table.page_at(frame)
     }
 
-    /// The lowest mapped frame of so many frames from one on, all of the layout. A step for 64 frames.
+    /// Returns the lowest mapped frame among the `count` frames from `first` on. Takes one step per
+    /// 64 frames.
     pub fn lowest_mapped(&self, first: Frame, count: u32) -> Option<Frame>
         requires { first + count ≤ frame_count self.now.layout }
         ensures { result
@@ -122,7 +124,7 @@ impl Pages {
         self.table.lowest(first.0, count)
     }
 
-    /// The words of a page of the layout, if it is mapped.
+    /// Returns the words of a page, if it is mapped.
     pub fn words(&self, owner: Owner, page: Page) -> Option<&[u64]>
         requires owner { owner < self.now.layout.owners }
         requires page { page < self.now.layout.pages }
@@ -136,7 +138,7 @@ impl Pages {
         }
     }
 
-    /// The words in a frame of the layout: zeros where it has no buffer.
+    /// Returns the words in a frame: zeros if it has no buffer.
     fn words_in(&self, frame: Frame) -> &[u64]
         requires { IsFrame self.now.layout frame }
         ensures words { result.now ≡ words_in self.now.layout self.now.pages frame }
@@ -148,7 +150,7 @@ impl Pages {
         }
     }
 
-    /// One word of a mapped page of the layout; words are counted from 0.
+    /// Returns one word of a mapped page. Words are counted from 0.
     pub fn read(&self, owner: Owner, page: Page, index: u32) -> u64
         requires owner { owner < self.now.layout.owners }
         requires page { page < self.now.layout.pages }
@@ -161,7 +163,7 @@ impl Pages {
         words[index as usize]
     }
 
-    /// Maps an unmapped page of the layout to a frame that holds no page; its words are 0. One delta.
+    /// Maps an unmapped page to a frame that holds no page, with all words 0. Notes one delta.
     pub fn map(&mut self, owner: Owner, page: Page, frame: Frame, tape: &mut Tape)
         requires owner { owner < self.old.layout.owners }
         requires page { page < self.old.layout.pages }
@@ -180,8 +182,8 @@ impl Pages {
         tape.note(Delta::of_page(owner, page, change));
     }
 
-    /// Unmaps a mapped page of the layout; its frame is answered, and the frame's buffer, if it has
-    /// one, moves into the tape. One or two deltas.
+    /// Unmaps a mapped page and returns its frame. The frame's buffer, if it has one, moves into
+    /// the tape. Notes one or two deltas.
     pub fn unmap(&mut self, owner: Owner, page: Page, tape: &mut Tape) -> Frame
         requires owner { owner < self.old.layout.owners }
         requires page { page < self.old.layout.pages }
@@ -200,7 +202,7 @@ impl Pages {
         frame
     }
 
-    /// The buffer of a frame of the layout, if it has one, moves into the tape.
+    /// Moves the frame's buffer, if it has one, into the tape.
     fn empty(&mut self, frame: Frame, tape: &mut Tape)
         requires frame { IsFrame self.old.layout frame }
         requires room { HasRoom tape.old 1 }
@@ -213,7 +215,7 @@ impl Pages {
         }
     }
 
-    /// A page of the layout loses its frame, which has no buffer.
+    /// Clears the entry of a page whose frame has no buffer.
     fn clear_entry(&mut self, owner: Owner, page: Page, frame: Frame, tape: &mut Tape)
         requires owner { owner < self.old.layout.owners }
         requires page { page < self.old.layout.pages }
@@ -230,9 +232,10 @@ impl Pages {
         tape.note(Delta::of_page(owner, page, change));
     }
 
-    /// What a write of a word to a mapped page of the layout needs: a buffer of zeros, where its frame
-    /// has none and the value is not 0, and else the delta of the word. Takes memory for it; an
-    /// error is out of memory.
+    /// Prepares a write of a word to a mapped page: allocates what `write` needs.
+    ///
+    /// That is a buffer of zeros if the page's frame has none and the value is not 0, otherwise the
+    /// word's delta.
     pub fn prepare(
         &self,
         alloc: Global,
@@ -257,8 +260,10 @@ impl Pages {
         Ok(PreparedWrite::Change(change))
     }
 
-    /// Changes one word of a mapped page of the layout; words are counted from 0. It takes no memory, but
-    /// what was prepared for it. One delta, and none where the word of a frame without a buffer stays 0.
+    /// Writes one word of a mapped page. Words are counted from 0. Allocates nothing beyond what
+    /// was prepared.
+    ///
+    /// Notes one delta, or none if a word of a frame without a buffer stays 0.
     pub fn write(
         &mut self,
         owner: Owner,
@@ -288,7 +293,7 @@ impl Pages {
         }
     }
 
-    /// The first word that is not 0 comes into a frame of the layout without a buffer, with one of zeros.
+    /// Gives a frame without a buffer one of zeros, and writes its first word that is not 0.
     fn fill(&mut self, frame: Frame, words: Words, index: u32, value: u64, tape: &mut Tape)
         requires frame { IsFrame self.old.layout frame }
         requires index { index < self.old.layout.words }
@@ -308,8 +313,8 @@ impl Pages {
         tape.note(Delta::Filled { index, frame, now });
     }
 
-    /// A word changes in a frame of the layout, which has a buffer unless the word stays 0. A
-    /// buffer whose words are all 0 then moves into the tape, as it was.
+    /// Writes a word of a frame that has a buffer, unless the word stays 0. If all its words are 0
+    /// then, the old buffer moves into the tape.
     fn overwrite(&mut self, frame: Frame, index: u32, value: u64, change: Delta, tape: &mut Tape)
         requires frame { IsFrame self.old.layout frame }
         requires index { index < self.old.layout.words }
@@ -330,7 +335,7 @@ impl Pages {
         }
     }
 
-    /// A word changes in the buffer of a frame of the layout.
+    /// Writes a word in a frame's buffer.
     fn set_word(&mut self, frame: Frame, index: u32, value: u64, change: Delta, tape: &mut Tape)
         requires frame { IsFrame self.old.layout frame }
         requires index { index < self.old.layout.words }
@@ -346,8 +351,8 @@ impl Pages {
         tape.note(change);
     }
 
-    /// Moves the page at one frame of the layout to another that holds none; the buffers change
-    /// places, and no word is copied (Linux guide, Memory Hot(Un)Plug: migration). Two deltas.
+    /// Moves the page at one frame to another frame, which holds no page. The buffers are swapped,
+    /// and no word is copied (Linux guide, Memory Hot(Un)Plug: migration). Notes two deltas.
     pub fn move_page(&mut self, from: Frame, to: Frame, tape: &mut Tape)
         requires from { IsFrame self.old.layout from }
         requires to { IsFrame self.old.layout to }

@@ -1,4 +1,4 @@
-//! For each frame the sum of the places of its pages.
+//! The page of each frame, as a sum of places.
 ghost use Rattle.std.specs.Prelude.{◌≡◌, ◌+◌, ◌<◌, ◌≤◌, ◌^◌, IfOk, IfSome, length, nat_lt, replicate, slice_index, slice_set};
 ghost use Rattle.hp_pages.specs.FrameSets.{FindsLowest};
 ghost use Rattle.hp_pages.specs.Places.{CanJoin, CanLeave, joined, left};
@@ -8,9 +8,11 @@ use hp_units::Frame;
 use std::alloc::{AllocError, Global};
 use std::marker::Model;
 
-/// For each frame the sum of the places, counted from 1, of the pages that it holds: 0 where it
-/// holds none, and the place of its page where it holds one. A sum, since the opposite of a delta
-/// may leave a frame to two pages for a while, and then to either.
+/// For each frame the sum of the places of its pages, counted from 1: 0 if it holds no page, and
+/// its page's place if it holds one.
+///
+/// It is a sum because undoing a delta may leave a frame to two pages for a while,
+/// and then to either.
 #[derive(Drop)]
 pub(crate) struct PlaceSums {
     sums: Vec<u64>,
@@ -29,7 +31,7 @@ impl Model for PlaceSums {
 }
 
 impl PlaceSums {
-    /// Frames without pages, at most 2^20.
+    /// Creates the sums of `frames` frames without pages. There may be at most 2^20 frames.
     pub(crate) fn none(alloc: Global, frames: u32) -> Result<PlaceSums, AllocError>
         requires { frames ≤ 2 ^ 20 }
         ensures { IfOk result (λ sums. sums ≡ replicate frames 0) }
@@ -39,7 +41,7 @@ impl PlaceSums {
         Ok(PlaceSums { sums, mapped })
     }
 
-    /// Equal sums.
+    /// Returns a copy.
     pub(crate) fn copy(&self, alloc: Global) -> Result<PlaceSums, AllocError>
         ensures { IfOk result (λ sums. sums ≡ self.now) }
     {
@@ -48,7 +50,7 @@ impl PlaceSums {
         Ok(PlaceSums { sums, mapped })
     }
 
-    /// The sum of a frame.
+    /// Returns the sum of a frame.
     pub(crate) fn at(&self, frame: Frame) -> u64
         requires { frame < length self.now }
         ensures { result ≡ slice_index self.now frame }
@@ -56,7 +58,7 @@ impl PlaceSums {
         self.sums[frame.0 as usize]
     }
 
-    /// Adds the place of a page that a frame gets, if it gets one.
+    /// Adds a page's place to the sum of the frame that it gets, if any.
     pub(crate) fn join(&mut self, frame: Option<Frame>, place: u64)
         requires { IfSome frame (CanJoin self.old place) }
         ensures { self.new ≡ joined self.old frame place }
@@ -66,7 +68,7 @@ impl PlaceSums {
         }
     }
 
-    /// Takes off the place of a page that leaves a frame, if it was at one.
+    /// Subtracts a page's place from the sum of the frame that it leaves, if any.
     pub(crate) fn leave(&mut self, frame: Option<Frame>, place: u64)
         requires { IfSome frame (CanLeave self.old place) }
         ensures { self.new ≡ left self.old frame place }
@@ -85,7 +87,8 @@ impl PlaceSums {
         self.mapped.set(frame, sum != 0);
     }
 
-    /// The lowest frame with pages, from one frame on and before another. A step for 64 frames.
+    /// Returns the lowest frame with a page, with first <= frame < past. Takes one
+    /// step per 64 frames.
     pub(crate) fn lowest(&self, first: u32, past: u32) -> Option<Frame>
         requires { past ≤ length self.now }
         ensures { FindsLowest (λ frame. nat_lt 0 (slice_index self.now frame)) first past result }

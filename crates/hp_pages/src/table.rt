@@ -11,8 +11,8 @@ use hp_units::{Frame, Owner, Page};
 use std::alloc::{AllocError, Global};
 use std::marker::Model;
 
-/// The frames of one owner's pages: each is 0 where the page is not mapped, and else one more than
-/// the number of its frame. Four bytes a page, since most calls wait for this table.
+/// The frames of one owner's pages, as codes: 0 for a page that is not mapped, and its frame plus
+/// one otherwise. A code takes four bytes, since most calls wait for this table.
 #[derive(Drop)]
 struct PageRow {
     codes: Vec<u32>,
@@ -28,7 +28,7 @@ impl Model for PageRow {
 }
 
 impl PageRow {
-    /// So many pages, none mapped.
+    /// Creates the entries of `pages` pages, none mapped.
     fn empty(alloc: Global, pages: u32) -> Result<PageRow, AllocError>
         ensures { IfOk result (λ row. row ≡ replicate pages None) }
     {
@@ -36,7 +36,7 @@ impl PageRow {
         Ok(PageRow { codes })
     }
 
-    /// An equal row.
+    /// Returns a copy.
     fn copy(&self, alloc: Global) -> Result<PageRow, AllocError>
         ensures { IfOk result (λ row. row ≡ self.now) }
     {
@@ -44,7 +44,7 @@ impl PageRow {
         Ok(PageRow { codes })
     }
 
-    /// The frame of a page, if it is mapped.
+    /// Returns the frame of a page, if it is mapped.
     fn at(&self, page: Page) -> Option<Frame>
         requires { page < length self.now }
         ensures { result ≡ slice_index_or self.now page None }
@@ -62,7 +62,7 @@ impl PageRow {
     }
 }
 
-/// The codes of so many pages, none mapped.
+/// Returns the codes of `pages` pages, none mapped.
 fn no_codes(alloc: Global, pages: u32) -> Result<Vec<u32>, AllocError>
     ensures { IfOk result (λ codes. codes.items ≡ replicate pages 0) }
 {
@@ -70,7 +70,7 @@ fn no_codes(alloc: Global, pages: u32) -> Result<Vec<u32>, AllocError>
     Ok(codes)
 }
 
-/// The frame that a page's code tells.
+/// Returns the frame that a code means.
 fn frame_of_code(code: u32) -> Option<Frame>
     ensures { result ≡ frame_of_code code }
 {
@@ -81,7 +81,7 @@ fn frame_of_code(code: u32) -> Option<Frame>
     }
 }
 
-/// The code of a page's frame.
+/// Returns the code of a page's frame.
 fn code_of(frame: Option<Frame>) -> u32
     requires { IfSome frame (λ frame. frame < 2 ^ 20) }
     ensures { frame_of_code result ≡ frame }
@@ -99,7 +99,7 @@ pub(crate) struct Table {
     sums: PlaceSums,
 }
 
-/// A function of its own, so that no proof of a caller takes the fields apart.
+/// Keeps callers from proving again how each field is dropped.
 impl Drop for Table {
     fn drop(self) {
         let Table {
@@ -123,8 +123,8 @@ impl Model for Table {
 }
 
 impl Table {
-    /// So many owners with so many pages, none mapped, and so many frames: at most 64, 2^16 and
-    /// 2^20, and at least one page.
+    /// Creates a table with no page mapped. There may be at most 64 owners, 1 to 2^16 pages per
+    /// owner and at most 2^20 frames.
     pub(crate) fn empty(
         alloc: Global,
         owners: u32,
@@ -143,7 +143,7 @@ impl Table {
         Ok(Table { pages, rows, sums })
     }
 
-    /// An equal table.
+    /// Returns a copy.
     pub(crate) fn copy(&self, alloc: Global) -> Result<Table, AllocError>
         ensures { IfOk result (λ t. t ≡ self.now) }
     {
@@ -156,7 +156,7 @@ impl Table {
         })
     }
 
-    /// The frame of a page, if it is mapped.
+    /// Returns the frame of a page, if it is mapped.
     pub(crate) fn frame_at(&self, owner: Owner, page: Page) -> Option<Frame>
         requires owner { owner < length self.now.rows }
         requires page { page < self.now.pages }
@@ -166,7 +166,7 @@ impl Table {
         self.rows[owner.0 as usize].at(page)
     }
 
-    /// The page that a frame holds, where it holds at most one.
+    /// Returns the page that a frame holds. The frame must not hold more than one.
     pub(crate) fn page_at(&self, frame: Frame) -> Option<(Owner, Page)>
         requires frame { frame < self.now.frames }
         requires once { holders self.now.rows frame ≤ 1 }
@@ -185,8 +185,9 @@ impl Table {
         ))
     }
 
-    /// Gives a page a frame, or none, in place of the one that it has, or none. It reads no entry: the
-    /// place of one is seldom in a cache.
+    /// Changes a page's frame from `was` to `now`; `None` means not mapped.
+    ///
+    /// Reads no entry, because entries are seldom in a cache.
     pub(crate) fn set(&mut self, owner: Owner, page: Page, was: Option<Frame>, now: Option<Frame>)
         requires owner { owner < length self.old.rows }
         requires page { page < self.old.pages }
@@ -203,7 +204,8 @@ impl Table {
         self.sums.join(now, place);
     }
 
-    /// The lowest frame with a page, of so many frames from one on. A step for 64 frames.
+    /// Returns the lowest frame with a page among the `count` frames from `first` on. Takes one
+    /// step per 64 frames.
     pub(crate) fn lowest(&self, first: u32, count: u32) -> Option<Frame>
         requires { first + count ≤ self.now.frames }
         ensures { result
@@ -212,7 +214,7 @@ impl Table {
         self.sums.lowest(first, first + count)
     }
 
-    /// The place of a page, counted from 1.
+    /// Returns the place of a page, counted from 1.
     fn place(&self, owner: Owner, page: Page) -> u64
         requires owner { owner < length self.now.rows }
         requires page { page < self.now.pages }
@@ -222,7 +224,7 @@ impl Table {
     }
 }
 
-/// So many rows of so many pages, none mapped.
+/// Returns the entries of `owners` owners with `pages` pages each, none mapped.
 fn empty_rows(alloc: Global, owners: u32, pages: u32) -> Result<Vec<PageRow>, AllocError>
     ensures { IfOk result (λ rows. rows.items ≡ replicate owners (replicate pages None)) }
 {
@@ -233,7 +235,7 @@ fn empty_rows(alloc: Global, owners: u32, pages: u32) -> Result<Vec<PageRow>, Al
     Ok(rows)
 }
 
-/// Equal rows.
+/// Returns copies of the rows.
 fn copy_of_rows(alloc: Global, rows: &[PageRow]) -> Result<Vec<PageRow>, AllocError>
     ensures { IfOk result (λ copy. copy.items ≡ rows.now) }
 {

@@ -1,4 +1,5 @@
--- Marks that count in how many places each frame is, and what each part of a well placed state is asked.
+-- Marks that count in how many places each frame is, and what a well placed state
+-- requires of each part.
 use Rattle.std.specs.Prelude.{◌≡◌, ℕ, zero, suc, ◌+◌, ◌<◌, ◌≤◌, true, false, List, Option, None, Some, slice_index_or, if◌then◌else◌, IfSome, count_by}
 use Rattle.std.specs.List.{enumerate_from}
 use Rattle.std.specs.Option.{option_map_or}
@@ -14,11 +15,12 @@ use Rattle.hp_units.specs.Placement.{IsBlockOf, IsKernelAt, IsPage, IsRow, class
 
 -- ---- marks
 
--- the mark of a frame: in how many places it is; a number beyond the layout is in one, as if offline
+-- the mark of a frame: in how many places it is. A number outside the layout is in
+-- one, as if offline
 abbrev pub mark_of : List ℕ → Frame → ℕ
 mark_of marks frame = slice_index_or marks frame 1
 
--- each frame is in some more places
+-- each frame is in this many more places
 pub record AreMarked (old new : List ℕ) (places : Frame → ℕ) : Type 0 where
   pub adds : (frame : Frame) → mark_of new frame ≡ mark_of old frame + places frame
 
@@ -27,17 +29,17 @@ pub record IsTwice (old : List ℕ) (places : Frame → ℕ) : Type 0 where
   pub frame : Frame
   pub twice : 2 ≤ mark_of old frame + places frame
 
--- the row of a block, an offline one past the last
+-- the row of a block, or an offline one past the last
 abbrev pub row_in : List Row → Block → Row
 row_in rows block = slice_index_or rows block offline_row
 
--- 1 for a frame of an offline or absent block, and 0 otherwise
+-- 1 for a frame of an offline or absent block, 0 otherwise
 abbrev pub unplugged : LayoutParts → List Row → Frame → ℕ
 unplugged l rows frame = if is_unplugged (row_in rows (block_of l frame)) then 1 else 0
 
--- ---- what each part is asked
+-- ---- what is required of each part
 
--- the free blocks of a class and an order, and those of all
+-- of the free blocks of a class and an order, and of all free blocks
 abbrev pub IsListPlaced : LayoutParts → List Kind → List Row → Class → Order → List Frame → Type 0
 IsListPlaced l kinds rows class order frames = (first : Frame) → is_on first frames ≡ true
     → IsBlockOf l (class_at l kinds rows) class order first
@@ -55,7 +57,7 @@ abbrev pub AreListsJoined : LayoutParts → FreeAreas → Type 0
 AreListsJoined l a = (class : Class) (order : Order) → order < l.order
     → IsListJoined (free_list a class order) order
 
--- the frames on a processor's list of a pool, and those on all
+-- of the frames on a processor's list of a pool, and of those on all lists
 abbrev pub IsPoolPlaced : LayoutParts → List Kind → List Row → Pool → List Frame → Type 0
 IsPoolPlaced l kinds rows pool frames = (frame : Frame) → is_on frame frames ≡ true
     → pool_at l kinds rows (pageblock_of l frame) ≡ Some pool
@@ -64,12 +66,12 @@ abbrev pub ArePoolsPlaced : LayoutParts → FreeFrames → List Row → Type 0
 ArePoolsPlaced l fs rows = (cpu : Cpu) (pool : Pool)
     → IsPoolPlaced l fs.areas.kinds rows pool (cached_list fs cpu pool)
 
--- the kernel's blocks
+-- of the kernel blocks
 abbrev pub IsKernelPlaced : LayoutParts → List Row → List (Option Order) → Type 0
 IsKernelPlaced l rows kernel = (first : Frame)
     → IfSome (slice_index_or kernel first None) (IsKernelAt l rows first)
 
--- a pageblock's kind, and all kinds
+-- of a pageblock's kind, and of all kinds
 pub record IsKind (kind : Kind) (row : Row) : Type 0 where
   pub mobility : kind.mobility ≡ Unmovable → row.zone ≡ Some NormalZone
   pub isolated : kind.isolated ≡ is_going row
@@ -77,24 +79,24 @@ pub record IsKind (kind : Kind) (row : Row) : Type 0 where
 abbrev pub AreKinds : LayoutParts → List Kind → List Row → Type 0
 AreKinds l kinds rows = (pageblock : Pageblock) → IsKind (kind_at kinds pageblock) (row_at l rows pageblock)
 
--- all rows
+-- of all rows
 abbrev pub AreRows : List Row → Type 0
 AreRows rows = (block : Block) → IsRow (row_in rows block)
 
--- the pages of an owner, and all pages
+-- of the pages of an owner, and of all pages
 abbrev pub AreOwnersPages : LayoutParts → Pages → Owner → Type 0
 AreOwnersPages l ps owner = (page : Page) → IsPage l (frame_at ps owner page) (words_at ps owner page)
 
 abbrev pub ArePages : LayoutParts → Pages → Type 0
 ArePages l ps = (owner : Owner) → AreOwnersPages l ps owner
 
--- the pool of a number, the last one past it
+-- the pool with this number; any greater number gives the last pool
 abbrev pub pool_numbered : ℕ → Pool
 pool_numbered zero = NuPool
 pool_numbered (suc zero) = NmPool
 pool_numbered (suc (suc n)) = MmPool
 
--- in how many of the kernel's blocks a frame is: of the one that starts at a frame, and of all
+-- in how many kernel blocks a frame is: of the one that starts at `first`, and of all
 abbrev pub kernel_covered : (frame first : Frame) → Option Order → ℕ
 kernel_covered frame first entry =
     if option_map_or (λ order. covers frame order first) entry false then 1 else 0
@@ -104,7 +106,7 @@ kernel_counts kernel frame =
     count_by (λ entry. option_map_or (λ order. covers frame order entry.0) entry.1 false)
     (enumerate_from 0 kernel)
 
--- the lists, the kernel's blocks and the pages are where they may be, and each number is in one place
+-- the lists, the kernel blocks and the pages are where they may be, and each number is in one place
 pub record ArePlacedOnce (l : LayoutParts) (s : Memory) : Type 0 where
   pub free : AreListsPlaced l s.free.areas s.blocks.rows
   pub cached : ArePoolsPlaced l s.free s.blocks.rows

@@ -1,4 +1,5 @@
-//! The single frames on processors' lists: each in the list of its pool, and in no other place.
+//! Tests of the single frames on processors' lists: each must be on a list of its pool, and in no
+//! other place.
 ghost use Rattle.std.specs.Prelude.{◌≡◌, ◌==◌, MatchBool, Some, count_by};
 ghost use Rattle.hp_units.specs.Arithmetic.{pageblock_of};
 ghost use Rattle.hp_units.specs.Placement.{pool_at};
@@ -8,7 +9,7 @@ use crate::marks::Marks;
 use crate::rows::{kind_of, row_at};
 use hp_units::{Frame, Kind, Layout, Order, Pool, Row, pageblock_of};
 
-/// The pool of a number, 0 to 2; the last one past it.
+/// Returns the pool with this number, 0 to 2. Any greater number gives the last pool.
 pub fn pool_numbered(number: u32) -> Pool
     ensures { result ≡ pool_numbered number }
 {
@@ -19,8 +20,8 @@ pub fn pool_numbered(number: u32) -> Pool
     }
 }
 
-/// Returns whether the frames on a list of a pool are where they may be, and marks them; a frame
-/// that is marked already makes it false.
+/// Returns whether the frames on a list of a pool are where they may be, and marks them. Returns
+/// false if a frame is already marked.
 pub fn place_pool(
     layout: &Layout,
     kinds: &[Kind],
@@ -46,7 +47,7 @@ pub fn place_pool(
     true
 }
 
-/// Returns whether the single frames of a frame's pageblock are of a pool.
+/// Returns whether single frames of the frame's pageblock belong to the pool.
 fn is_of_pool(layout: &Layout, kinds: &[Kind], rows: &[Row], pool: Pool, frame: Frame) -> bool
     ensures { MatchBool result
         (pool_at layout.now kinds.now rows.now (pageblock_of layout.now frame) ≡ Some pool)

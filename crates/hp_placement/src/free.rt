@@ -1,4 +1,4 @@
-//! The free blocks: each aligned, in the list of its class, and in no other place.
+//! Tests of the free blocks: each must be aligned, on the list of its class, and in no other place.
 ghost use Rattle.std.specs.Prelude.{◌≡◌, ◌≤◌, MatchBool, Some};
 ghost use Rattle.hp_units.specs.Arithmetic.{pageblock_of};
 ghost use Rattle.hp_units.specs.Placement.{IsBlockOf, class_at, list_places};
@@ -9,7 +9,7 @@ use crate::rows::{kind_of, row_at};
 use hp_units::{Class, Frame, Kind, Layout, Order, Row, pageblock_of};
 
 /// Returns whether the free blocks of a class and an order are where they may be, and marks their
-/// frames; a frame that is marked already makes it false.
+/// frames. Returns false if a frame is already marked.
 pub fn place_list(
     layout: &Layout,
     kinds: &[Kind],
@@ -37,7 +37,7 @@ pub fn place_list(
     true
 }
 
-/// Returns whether a free block of a class and an order may start at a frame.
+/// Returns whether a free block of this class and order may start at the frame.
 fn is_block_of(
     layout: &Layout,
     kinds: &[Kind],
@@ -54,7 +54,7 @@ fn is_block_of(
     first.0.is_multiple_of(1 << order.0) && is_of_class(layout, kinds, rows, class, first)
 }
 
-/// Returns whether the free blocks of a frame's pageblock are of a class.
+/// Returns whether free blocks of the frame's pageblock belong to the class.
 fn is_of_class(layout: &Layout, kinds: &[Kind], rows: &[Row], class: Class, frame: Frame) -> bool
     ensures { MatchBool result
         (class_at layout.now kinds.now rows.now (pageblock_of layout.now frame) ≡ Some class)

@@ -1,4 +1,4 @@
-//! The first frames of free blocks: no block's buddy is free too.
+//! The test that no free block's buddy is free too.
 ghost use Rattle.std.specs.Prelude.{◌≡◌, ◌<◌, ◌≤◌, IfOk, MatchBool, true, if◌then◌else◌, length, slice_index_or, ℕ, ◌↔◌};
 ghost use Rattle.hp_units.specs.Arithmetic.{frame_count};
 ghost use Rattle.hp_units.specs.FreeAreas.{is_on};
@@ -8,7 +8,8 @@ use hp_units::{Frame, Layout, Order, buddy};
 use std::alloc::{AllocError, Global};
 use std::marker::Model;
 
-/// For each frame the number of the latest list that has a free block there, and 0 before any has.
+/// For each frame, the number of the latest list with a free block that starts there, or 0
+/// if there was none.
 #[derive(Drop)]
 pub struct Heads {
     frames: Vec<u8>,
@@ -23,7 +24,7 @@ impl Model for Heads {
 }
 
 impl Heads {
-    /// Returns heads of a layout's frames, each 0.
+    /// Creates the table for a layout's frames, each 0.
     pub fn new(alloc: Global, layout: &Layout) -> Result<Heads, AllocError>
         ensures length { IfOk result (λ heads. length heads ≡ frame_count layout.now) }
         ensures zero { IfOk result (λ heads. (frame : ℕ) → slice_index_or heads frame 0 ≡ 0) }
@@ -44,8 +45,8 @@ impl Heads {
         }
     }
 
-    /// Returns whether no block of a list has its buddy on the list, whose number the first frames of
-    /// its blocks have.
+    /// Returns whether no block of a list has its buddy on the list. The first frames of the list's
+    /// blocks must be set to `number`.
     pub fn is_joined(&self, frames: &[Frame], order: Order, number: u8) -> bool
         requires order { order ≤ 10 }
         requires heads { (frame : ℕ) → (slice_index_or self.now frame 0 ≡ number)
@@ -60,7 +61,7 @@ impl Heads {
         true
     }
 
-    /// Returns the number of the latest list that has a free block at a frame.
+    /// Returns the number of the latest list with a free block at the frame.
     fn at(&self, frame: Frame) -> u8
         ensures { result ≡ slice_index_or self.now frame 0 }
     {

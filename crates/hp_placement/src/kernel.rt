@@ -1,4 +1,4 @@
-//! The kernel's blocks: each aligned, in zone Normal, and in no other place.
+//! Tests of the kernel blocks: each must be aligned, in zone Normal, and in no other place.
 ghost use Rattle.std.specs.Prelude.{◌≡◌, ◌≤◌, IfSome, IsTrue, MatchBool, length};
 ghost use Rattle.hp_units.specs.Arithmetic.{frame_count};
 ghost use Rattle.hp_units.specs.Placement.{IsKernelAt};
@@ -8,8 +8,8 @@ use crate::marks::Marks;
 use crate::rows::row_at;
 use hp_units::{Frame, Layout, Order, Row, Zone, pageblock_of};
 
-/// Returns whether the kernel's blocks are where they may be, and marks their frames; a frame that
-/// is marked already makes it false.
+/// Returns whether the kernel blocks are where they may be, and marks their frames. Returns false
+/// if a frame is already marked.
 pub fn place_kernel(
     layout: &Layout,
     kernel: &[Option<Order>],
@@ -31,7 +31,7 @@ pub fn place_kernel(
     true
 }
 
-/// Returns whether a kernel's block, if there is one, may start at a frame, and marks its frames.
+/// Returns whether a kernel block, if there is one, may start at the frame, and marks its frames.
 fn place_entry(
     layout: &Layout,
     rows: &[Row],
@@ -51,7 +51,7 @@ fn place_entry(
     }
 }
 
-/// Returns whether a kernel's block of an order may start at a frame.
+/// Returns whether a kernel block of this order may start at the frame.
 fn is_kernel_at(layout: &Layout, rows: &[Row], first: Frame, order: Order) -> bool
     ensures order { IsTrue result → order ≤ 10 }
     ensures is { MatchBool result (IsKernelAt layout.now rows.now first order)

@@ -1,10 +1,10 @@
-//! What a well placed state is asked, part by part: tests over plain slices, and marks that count in
-//! how many places each frame is.
+//! The tests for a well placed state, part by part: over plain slices, with marks that count in how
+//! many places each frame is.
 //!
-//! `marks` has the marks, `rows` the tests of rows and kinds, and `free`, `cached`, `kernel` and
-//! `pages` those of the places, which mark their frames; `heads` says whether a free block's buddy is
-//! free too. hp_plain's Image puts them together. Read hp_units' specs Placement first, and then
-//! `marks`.
+//! `marks` has the marks, `rows` the tests of rows and kinds. `free`, `cached`, `kernel` and
+//! `pages` test the places and mark their frames; `heads` tests whether a free block's buddy is
+//! free too. The Image of hp_plain puts them together. Read specs/Placement of hp_units first, and
+//! then `marks`.
 #![tactic(auto)]
 
 mod cached;

@@ -8,7 +8,7 @@ use hp_units::{Block, Frame, Layout, Order, Row, State, block_of};
 use std::alloc::{AllocError, Global};
 use std::marker::Model;
 
-/// In how many places each frame of a layout is: none or one.
+/// In how many places each frame of a layout is so far: none or one.
 #[derive(Drop)]
 pub struct Marks {
     frames: Vec<u8>,
@@ -23,7 +23,8 @@ impl Model for Marks {
 }
 
 impl Marks {
-    /// Returns marks of the frames in offline and absent blocks, one byte per frame.
+    /// Creates the marks, with the frames of offline and absent blocks marked. Takes
+    /// one byte per frame.
     pub fn of_unplugged(alloc: Global, layout: &Layout, rows: &[Row]) -> Result<Marks, AllocError>
         requires { length rows.now ≡ layout.now.blocks }
         ensures { IfOk result
@@ -37,8 +38,8 @@ impl Marks {
         Ok(Marks { frames })
     }
 
-    /// Marks the frames of a block; returns false at the first one that is marked or is not in the
-    /// layout.
+    /// Marks the frames of a block. Stops and returns false at the first that is already marked or
+    /// outside the layout.
     pub(crate) fn mark(&mut self, order: Order, first: Frame) -> bool
         requires { order ≤ 10 }
         ensures { MatchBool result (AreMarked self.old self.new (λ frame. covered frame order first))
@@ -53,7 +54,7 @@ impl Marks {
         true
     }
 
-    /// Marks one frame; returns false if it is marked or is not in the layout.
+    /// Marks one frame. Returns false if it is already marked or outside the layout.
     fn set(&mut self, number: usize) -> bool
         ensures { MatchBool result
             (AreMarked self.old self.new (λ frame. if frame == number then 1 else 0))
@@ -66,7 +67,7 @@ impl Marks {
         true
     }
 
-    /// Returns whether each frame is marked.
+    /// Returns whether all frames are marked.
     pub fn are_all_set(&self) -> bool
         ensures { MatchBool result ((frame : ℕ) → mark_of self.now frame ≡ 1)
             (((frame : ℕ) → mark_of self.now frame ≡ 1) → ⊥) }
@@ -80,7 +81,7 @@ impl Marks {
     }
 }
 
-/// Returns whether a block is offline or absent, as one beyond the layout is.
+/// Returns whether a block is offline or absent. A block outside the layout counts as offline.
 fn is_unplugged(rows: &[Row], block: Block) -> bool
     ensures { result ≡ is_unplugged (row_in rows.now block) }
 {

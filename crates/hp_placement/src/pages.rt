@@ -1,4 +1,5 @@
-//! Owners' pages: each with a frame and words or with neither, and in no other place.
+//! The test of an owner's page: it must have both a frame and words or neither, and its frame be in
+//! no other place.
 ghost use Rattle.std.specs.Prelude.{MatchBool, if◌then◌else◌};
 ghost use Rattle.std.specs.Option.{option_map};
 ghost use Rattle.hp_units.specs.Pages.{holds};
@@ -8,8 +9,8 @@ ghost use Rattle.hp_placement.specs.Placing.{AreMarked, IsTwice};
 use crate::marks::Marks;
 use hp_units::{Frame, Layout, Order};
 
-/// Returns whether a page has a frame and words or neither, and marks the frame; a frame that
-/// is marked already makes it false.
+/// Returns whether a page has both a frame and words or neither, and marks the frame. Returns false
+/// if the frame is already marked.
 pub fn place_page(
     layout: &Layout,
     marks: &mut Marks,

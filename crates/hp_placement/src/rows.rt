@@ -1,4 +1,4 @@
-//! The rows of memory blocks, and the kinds of pageblocks.
+//! Tests of the memory blocks' rows and the pageblocks' kinds.
 ghost use Rattle.std.specs.Prelude.{◌≡◌, MatchBool, length};
 ghost use Rattle.hp_units.specs.Arithmetic.{pageblock_count};
 ghost use Rattle.hp_units.specs.Placement.{IsRow, kind_at, row_at};
@@ -6,7 +6,7 @@ ghost use Rattle.hp_placement.specs.Placing.{AreKinds, AreRows, IsKind, row_in};
 
 use hp_units::{Block, Kind, Layout, Mobility, Pageblock, Row, State, Zone};
 
-/// Returns the row of a block; an offline one past the last.
+/// Returns the row of a block, or an offline one past the last.
 pub(crate) fn row_of(rows: &[Row], block: Block) -> Row
     ensures { result ≡ row_in rows.now block }
 {
@@ -16,7 +16,7 @@ pub(crate) fn row_of(rows: &[Row], block: Block) -> Row
     }
 }
 
-/// Returns the kind of a pageblock; a movable one, not isolated, past the last.
+/// Returns the kind of a pageblock, or movable and not isolated past the last.
 pub(crate) fn kind_of(kinds: &[Kind], pageblock: Pageblock) -> Kind
     ensures { result ≡ kind_at kinds.now pageblock }
 {
@@ -33,7 +33,7 @@ pub(crate) fn row_at(layout: &Layout, rows: &[Row], pageblock: Pageblock) -> Row
     row_of(rows, Block(pageblock.0 / layout.pageblocks()))
 }
 
-/// Returns whether the row of each block is one that a block may have.
+/// Returns whether each block's row is valid.
 pub fn are_rows(rows: &[Row]) -> bool
     ensures { MatchBool result (AreRows rows.now) (AreRows rows.now → ⊥) }
 {
@@ -45,7 +45,7 @@ pub fn are_rows(rows: &[Row]) -> bool
     true
 }
 
-/// Returns whether a block may have a row.
+/// Returns whether a row is valid.
 fn is_row(row: &Row) -> bool
     ensures { MatchBool result (IsRow row.now) (IsRow row.now → ⊥) }
 {
@@ -61,7 +61,7 @@ fn is_row(row: &Row) -> bool
     }
 }
 
-/// Returns whether the kind of each pageblock fits its block's row.
+/// Returns whether each pageblock's kind fits its block's row.
 pub fn are_kinds(layout: &Layout, kinds: &[Kind], rows: &[Row]) -> bool
     requires kinds { length kinds.now ≡ pageblock_count layout.now }
     requires rows { length rows.now ≡ layout.now.blocks }
@@ -78,7 +78,7 @@ pub fn are_kinds(layout: &Layout, kinds: &[Kind], rows: &[Row]) -> bool
     true
 }
 
-/// Returns whether the kind of a pageblock fits its block's row.
+/// Returns whether a pageblock's kind fits its block's row.
 fn is_kind(kind: Kind, row: &Row) -> bool
     ensures { MatchBool result (IsKind kind row.now) (IsKind kind row.now → ⊥) }
 {

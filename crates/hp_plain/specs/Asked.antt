@@ -1,4 +1,4 @@
--- What an event of a processor that there is answers, and does.
+-- The reply to an event of a processor of the layout, and its effect.
 use Rattle.std.specs.Prelude.{ℕ, List}
 use Rattle.hp_units.specs.declared.events.Event.{Event}
 use Rattle.hp_units.specs.declared.events.Event.TheVariants.{Begin}
@@ -9,10 +9,10 @@ use Rattle.hp_units.specs.Memory.{Memory}
 use Rattle.hp_units.specs.Refusals.{event_refusals, plan_refusals}
 use Rattle.hp_units.specs.Step.{Answered, answer}
 
--- the answer to an event whose step doesn't read its serial, of a processor that is in the layout
+-- the reply to an event of a processor of the layout, if its step does not read its serial
 abbrev pub asked : LayoutParts → Memory → (cpu : ℕ) → Event → Answered
 asked l s cpu event = answer l s 0 cpu event (first_some (event_refusals l s cpu event))
 
--- the answer to a Begin of a processor that is in the layout
+-- the reply to a Begin of a processor of the layout
 abbrev pub opened : LayoutParts → Memory → (serial : ℕ) → List Item → Answered
 opened l s serial plan = answer l s serial 0 (Begin plan) (first_some (plan_refusals l s plan))

@@ -1,4 +1,4 @@
--- What a contract sees of an Image, and what setting one part of it makes.
+-- What a contract sees of an Image, and the effect of setting one part of it.
 use Rattle.std.specs.Prelude.{◌+◌, ◌^◌, ◌<◌, ◌≤◌, ◌≡◌, [], ◌∷◌, ◌++◌, Some, length}
 use Rattle.hp_units.specs.LayoutParts.{LayoutParts}
 use Rattle.hp_units.specs.Arithmetic.{IsFrame, frame_count, pageblock_count}
@@ -14,7 +14,7 @@ pub record Pictured : Type 0 where
   pub layout : LayoutParts
   pub memory : Memory
 
--- the numbers of a part are the layout's
+-- the numbers of a part are within the layout
 abbrev pub IsPartOf : LayoutParts → Part → Type 0
 IsPartOf l (Free class order frame) = (order ≤ l.order) × (frame + 2 ^ order ≤ frame_count l)
 IsPartOf l (Cached cpu pool frame) = (cpu < l.cpus) × IsFrame l frame
@@ -31,7 +31,7 @@ IsListed (Free class order frame) = Unit {0}
 IsListed (Cached cpu pool frame) = Unit {0}
 IsListed part = ⊥
 
--- the state with one part set, a list's frame at the back (own rule)
+-- the state with one part set; a frame for a list goes to its back
 abbrev pub with_part : Memory → Part → Memory
 with_part s (Free class order frame) = with_areas s (with_back s.free.areas class order frame)
 with_part s (Cached cpu pool frame) =

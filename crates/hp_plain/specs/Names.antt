@@ -1,4 +1,4 @@
--- The variants of the rows' enums under names of their own, passed on from one place. Declares nothing.
+-- Short names for the variants of the rows' enums, re-exported from one place. Declares nothing.
 pub use Rattle.hp_units.specs.declared.rows.Boot.TheVariants.{Offline as OfflineBoot, Absent as AbsentBoot}
 pub use Rattle.hp_units.specs.declared.rows.Boot.{Boot}
 pub use Rattle.hp_units.specs.declared.rows.Class.{Class}

@@ -11,7 +11,7 @@ use Rattle.hp_units.specs.Refusals.{kernel_frame_in}
 use Rattle.hp_units.specs.Rows.{is_claimed, is_off, is_offline, is_online}
 use Rattle.hp_units.specs.declared.plans.Item.{Item}
 
--- a block that isn't in the layout stands in the plan
+-- the plan names a block outside the layout
 abbrev pub names_no_block : LayoutParts → List Item → Bool
 names_no_block l plan = list_any (λ item. nat_le l.blocks item.block) plan
 
@@ -20,7 +20,8 @@ abbrev pub blocks_in : List ℕ → List Item → List ℕ
 blocks_in before [] = before
 blocks_in before (item ∷ items) = blocks_in (item.block ∷ before) items
 
--- the last two refusals of a plan: of a block that is to go online, and of one that is to go offline
+-- the last two refusals of a plan: for a block that is to go online, and for one
+-- that is to go offline
 abbrev pub change_refusals : LayoutParts → Memory → List Item → List (Option Refusal)
 change_refusals l s plan =
     option_map (λ item. NotOffline item.block)
@@ -28,14 +29,14 @@ change_refusals l s plan =
     ∷ option_map HoldsUnmovable (first_some (map (kernel_frame_in l s) plan))
     ∷ []
 
--- those and the refusal of a block that is to go offline and isn't online
+-- those, and the refusal for a block that is to go offline but is not online
 abbrev pub state_refusals : LayoutParts → Memory → List Item → List (Option Refusal)
 state_refusals l s plan =
     option_map (λ item. NotOnline item.block)
     (find (λ item. is_off item.wish && not (is_online (row_of s.blocks item.block))) plan)
     ∷ change_refusals l s plan
 
--- the refusals of a plan whose blocks are in the layout, each once
+-- the refusals of a plan that names only blocks of the layout, each once
 abbrev pub claim_refusals : LayoutParts → Memory → List Item → List (Option Refusal)
 claim_refusals l s plan =
     option_map (λ item. Busy item.block) (find (λ item. is_claimed (row_of s.blocks item.block)) plan)

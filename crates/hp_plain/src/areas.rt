@@ -1,4 +1,4 @@
-//! The free areas: free blocks by class and order, and the kind of each pageblock.
+//! The free areas as plain lists, with the kind of each pageblock.
 ghost use Rattle.std.specs.Prelude.{◌≡◌, ◌≢◌, ◌+◌, ◌*◌, ◌<◌, IfOk, MatchBool, OnErr, OnOk, length};
 ghost use Rattle.hp_units.specs.Boot.{empty_areas};
 ghost use Rattle.hp_units.specs.FreeAreas.{with_back};
@@ -11,8 +11,8 @@ use hp_units::{Class, Frame, Kind, Layout, Order, Pageblock};
 use std::alloc::{AllocError, Global};
 use std::marker::Model;
 
-/// The free areas as plain lists (Gorman, chapter 6: `free_area`): a list's number is five times
-/// its order and the number of its class.
+/// The free areas as plain lists (Gorman, chapter 6: `free_area`). The index of a list is five
+/// times its order plus the index of its class.
 #[derive(Drop)]
 pub(crate) struct Areas {
     lists: Vec<FrameList>,
@@ -28,8 +28,7 @@ impl Model for Areas {
 }
 
 impl Areas {
-    /// Areas with nothing free, and every pageblock movable and not isolated (own rule). An error is
-    /// out of memory.
+    /// Creates areas with nothing free, and every pageblock movable and not isolated.
     pub(crate) fn empty(alloc: Global, layout: &Layout) -> Result<Areas, AllocError>
         ensures value { IfOk result (λ areas. areas ≡ empty_areas layout.now) }
         ensures layout { IfOk result (AreFreeAreasOf layout.now) }
@@ -40,7 +39,7 @@ impl Areas {
         Ok(Areas { lists, kinds })
     }
 
-    /// Equal areas. An error is out of memory.
+    /// Returns a copy.
     pub(crate) fn copy(&self, alloc: Global) -> Result<Areas, AllocError>
         ensures { IfOk result (λ areas. areas ≡ self.now) }
     {
@@ -49,21 +48,21 @@ impl Areas {
         Ok(Areas { lists, kinds })
     }
 
-    /// Whether other areas have the same lists and the same kinds.
+    /// Returns whether both have the same lists and the same kinds.
     pub(crate) fn same(&self, other: &Areas) -> bool
         ensures { MatchBool result (self.now ≡ other.now) (self.now ≢ other.now) }
     {
         same_lists(&self.lists, &other.lists) && same_kinds(&self.kinds, &other.kinds)
     }
 
-    /// The kind of each pageblock, by rising number (own rule).
+    /// Returns the kind of each pageblock.
     pub(crate) fn kinds(&self) -> &[Kind]
         ensures { result.now ≡ self.now.kinds }
     {
         self.kinds.as_slice()
     }
 
-    /// A pageblock gets a kind.
+    /// Sets the kind of a pageblock.
     pub(crate) fn set_kind(&mut self, pageblock: Pageblock, kind: Kind)
         requires { pageblock < length self.old.kinds }
         ensures { self.new ≡ with_kind self.old pageblock kind }
@@ -71,8 +70,8 @@ impl Areas {
         self.kinds[pageblock.0 as usize] = kind;
     }
 
-    /// The free blocks of 2^order frames of a class by their first frames, front first; none past
-    /// the greatest order (Gorman, chapter 6: `free_area`).
+    /// Returns the free blocks of a class and an order by their first frames, front first. The list
+    /// is empty above the greatest order (Gorman, chapter 6: `free_area`).
     pub(crate) fn free_list(&self, class: Class, order: Order) -> &[Frame]
         ensures { result.now ≡ free_list self.now class order }
     {
@@ -82,7 +81,7 @@ impl Areas {
         }
     }
 
-    /// One more free block at the back of its list. After an error nothing has changed.
+    /// Adds a free block at the back of its list. If memory runs out, nothing changes.
     pub(crate) fn add_back(
         &mut self,
         class: Class,
@@ -97,14 +96,14 @@ impl Areas {
     }
 }
 
-/// The number of the list of a class and an order.
+/// Returns the index of the list of a class and an order.
 fn list_number(class: Class, order: Order) -> usize
     ensures { result ≡ 5 * order + class_index class }
 {
     5 * order.0 as usize + class.index() as usize
 }
 
-/// Whether the kinds are the same.
+/// Returns whether both have the same kinds.
 fn same_kinds(kinds: &[Kind], others: &[Kind]) -> bool
     ensures { MatchBool result (kinds.now ≡ others.now) (kinds.now ≢ others.now) }
 {

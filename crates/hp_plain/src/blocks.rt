@@ -1,4 +1,4 @@
-//! The row of each memory block, and what a block that is added becomes.
+//! The row of each memory block, and what an added block becomes.
 ghost use Rattle.std.specs.Prelude.{◌≡◌, ◌≢◌, MatchBool, ◌<◌, IfOk, length, slice_get};
 ghost use Rattle.hp_units.specs.Boot.{empty_blocks};
 ghost use Rattle.hp_units.specs.Memory.{with_row};
@@ -9,7 +9,7 @@ use hp_units::{Auto, Block, Layout, Row, State};
 use std::alloc::{AllocError, Global};
 use std::marker::Model;
 
-/// The rows of all memory blocks, by rising number.
+/// The row of each memory block, and what an added block becomes.
 #[derive(Drop)]
 pub(crate) struct Blocks {
     rows: Vec<Row>,
@@ -25,8 +25,8 @@ impl Model for Blocks {
 }
 
 impl Blocks {
-    /// All blocks of the layout offline, unclaimed, and an added block to stay offline (own rule).
-    /// An error is out of memory.
+    /// Creates the rows of a layout's blocks, all offline and unclaimed. An added
+    /// block stays offline.
     pub(crate) fn empty(alloc: Global, layout: &Layout) -> Result<Blocks, AllocError>
         ensures { IfOk result (λ blocks. blocks ≡ empty_blocks layout.now) }
     {
@@ -42,7 +42,7 @@ impl Blocks {
         })
     }
 
-    /// Equal rows. An error is out of memory.
+    /// Returns a copy.
     pub(crate) fn copy(&self, alloc: Global) -> Result<Blocks, AllocError>
         ensures { IfOk result (λ blocks. blocks ≡ self.now) }
     {
@@ -53,28 +53,28 @@ impl Blocks {
         })
     }
 
-    /// Whether other rows are the same, and what a block that is added becomes.
+    /// Returns whether both have the same rows, and added blocks become the same.
     pub(crate) fn same(&self, other: &Blocks) -> bool
         ensures { MatchBool result (self.now ≡ other.now) (self.now ≢ other.now) }
     {
         same_rows(&self.rows, &other.rows) && self.auto == other.auto
     }
 
-    /// The row of a memory block; none for a block past the last one.
+    /// Returns the row of a memory block, or `None` past the last block.
     pub(crate) fn row(&self, block: Block) -> Option<Row>
         ensures { result ≡ slice_get self.now.rows block }
     {
         self.rows.get(block.0 as usize).copied()
     }
 
-    /// The rows of all memory blocks, by rising number.
+    /// Returns the rows of all memory blocks.
     pub(crate) fn rows(&self) -> &[Row]
         ensures { result.now ≡ self.now.rows }
     {
         self.rows.as_slice()
     }
 
-    /// Sets the row of a memory block, whose number is below the count of rows (own rule).
+    /// Sets the row of a memory block. The block's number must be below the number of rows.
     pub(crate) fn set_row(&mut self, block: Block, row: Row)
         requires { block < length self.old.rows }
         ensures { self.new ≡ with_row self.old block row }
@@ -82,14 +82,14 @@ impl Blocks {
         self.rows[block.0 as usize] = row;
     }
 
-    /// What a memory block that is added becomes (Linux, memory hotplug: auto_online_blocks).
+    /// Returns what an added memory block becomes (Linux, memory hotplug: auto_online_blocks).
     pub(crate) fn auto(&self) -> Auto
         ensures { result ≡ self.now.auto }
     {
         self.auto
     }
 
-    /// Sets what a memory block that is added becomes (Linux, memory hotplug: auto_online_blocks).
+    /// Sets what an added memory block becomes (Linux, memory hotplug: auto_online_blocks).
     pub(crate) fn set_auto(&mut self, auto: Auto)
         ensures { self.new ≡ record self.old { auto = auto } }
     {
@@ -97,7 +97,7 @@ impl Blocks {
     }
 }
 
-/// Whether the rows are the same.
+/// Returns whether both have the same rows.
 fn same_rows(rows: &[Row], others: &[Row]) -> bool
     ensures { MatchBool result (rows.now ≡ others.now) (rows.now ≢ others.now) }
 {

@@ -1,4 +1,4 @@
-//! The free frames: the free areas, and each processor's lists of single frames in front of them.
+//! The free frames as plain lists: the free areas, and each processor's lists of single frames.
 ghost use Rattle.std.specs.Prelude.{◌≡◌, ◌≢◌, ◌+◌, ◌*◌, ◌^◌, ◌<◌, ◌≤◌, [], ◌∷◌, ◌++◌, IfOk, MatchBool, OnErr, OnOk, length};
 ghost use Rattle.hp_units.specs.Arithmetic.{IsFrame, frame_count};
 ghost use Rattle.hp_units.specs.Boot.{empty_areas, empty_cached};
@@ -14,15 +14,15 @@ use hp_units::{Block, Class, Cpu, Frame, Kind, Layout, Mobility, Order, Pagebloc
 use std::alloc::{AllocError, Global};
 use std::marker::Model;
 
-/// The free frames: the free areas, and in front of them each processor's lists of single frames,
-/// one a pool (Gorman, chapter 6: per-cpu lists). A list's number is three times its processor's,
-/// and its pool's.
+/// The free areas, and in front of them each processor's lists of single frames, one per pool
+/// (Gorman, chapter 6: per-cpu lists). The index of a list is three times its processor plus the
+/// index of its pool.
 pub(crate) struct FreeFrames {
     areas: Areas,
     cached: Vec<FrameList>,
 }
 
-/// A function of its own, so that no proof of a caller takes the fields apart.
+/// Keeps callers from proving again how each field is dropped.
 impl Drop for FreeFrames {
     fn drop(self) {
         let FreeFrames {
@@ -41,8 +41,8 @@ impl Model for FreeFrames {
 }
 
 impl FreeFrames {
-    /// Nothing free, nothing on the processors' lists, and every pageblock movable and not isolated
-    /// (own rule). An error is out of memory.
+    /// Creates free frames with nothing free, nothing on the processors' lists, and every pageblock
+    /// movable and not isolated.
     #[tactic(auto, using(crate::proofs::EmptyFrames::empty_of))]
     pub(crate) fn empty(alloc: Global, layout: &Layout) -> Result<FreeFrames, AllocError>
         ensures value { IfOk result
@@ -54,7 +54,7 @@ impl FreeFrames {
         Ok(FreeFrames { areas, cached })
     }
 
-    /// Equal free frames. An error is out of memory.
+    /// Returns a copy.
     pub(crate) fn copy(&self, alloc: Global) -> Result<FreeFrames, AllocError>
         ensures { IfOk result (λ free. free ≡ self.now) }
     {
@@ -63,22 +63,22 @@ impl FreeFrames {
         Ok(FreeFrames { areas, cached })
     }
 
-    /// Whether other free frames have the same areas and the same processors' lists, in order.
+    /// Returns whether both have the same areas and the same processors' lists, in order.
     pub(crate) fn same(&self, other: &FreeFrames) -> bool
         ensures { MatchBool result (self.now ≡ other.now) (self.now ≢ other.now) }
     {
         self.areas.same(&other.areas) && same_lists(&self.cached, &other.cached)
     }
 
-    /// The free areas.
+    /// Returns the free areas.
     pub(crate) fn areas(&self) -> &Areas
         ensures { result.now ≡ self.now.areas }
     {
         &self.areas
     }
 
-    /// The single frames on a processor's list of a pool, front first; none for a processor that
-    /// isn't there (Gorman, chapter 6: per-cpu lists).
+    /// Returns the single frames on a processor's list of a pool, front first. The list is empty
+    /// for a processor outside the layout (Gorman, chapter 6: per-cpu lists).
     pub(crate) fn cached_list(&self, cpu: Cpu, pool: Pool) -> &[Frame]
         ensures { result.now ≡ cached_list self.now cpu pool }
     {
@@ -89,9 +89,10 @@ impl FreeFrames {
         }
     }
 
-    /// The pageblocks of a memory block, whose number is below the layout's count, become movable
-    /// free blocks of the greatest order, by rising number at the back of the zone's list (Linux,
-    /// memory hotplug: onlining; the order is an own rule). After an error some of them are.
+    /// Adds all pageblocks of a memory block as movable free blocks of the greatest order, in
+    /// rising order at the back of the zone's list (Linux, memory hotplug: onlining; the order is
+    /// this model's choice). The block's number must be below the layout's. If memory runs out,
+    /// some of them are added.
     pub(crate) fn add_block(
         &mut self,
         layout: &Layout,
@@ -107,8 +108,8 @@ impl FreeFrames {
         add_block(&mut self.areas, layout, zone, block)
     }
 
-    /// One more free block of 2^order frames, which all lie in the layout, at the back of its
-    /// class's list (own rule). After an error nothing has changed.
+    /// Adds a free block at the back of its class's list. All its frames must be in the layout. If
+    /// memory runs out, nothing changes.
     #[tactic(auto, using(crate::proofs::FramesInLayout::class_below, crate::proofs::FramesInLayout::of_back))]
     pub(crate) fn add_free(
         &mut self,
@@ -128,8 +129,8 @@ impl FreeFrames {
         self.areas.add_back(class, order, frame)
     }
 
-    /// One more frame of the layout at the back of a list of one of its processors (own rule).
-    /// After an error nothing has changed.
+    /// Adds a frame of the layout at the back of a processor's list. If memory runs
+    /// out, nothing changes.
     pub(crate) fn add_cached(
         &mut self,
         layout: &Layout,
@@ -148,7 +149,7 @@ impl FreeFrames {
         self.cached[3 * cpu.0 as usize + pool.index() as usize].push_back(frame)
     }
 
-    /// Sets the kind of a pageblock, whose number is below the count of the kinds (own rule).
+    /// Sets the kind of a pageblock. Its number must be below the number of kinds.
     pub(crate) fn set_kind(&mut self, pageblock: Pageblock, kind: Kind)
         requires { pageblock < length self.old.areas.kinds }
         ensures { self.new ≡ record self.old { areas = with_kind self.old.areas pageblock kind } }
@@ -157,7 +158,7 @@ impl FreeFrames {
     }
 }
 
-/// The pageblocks of a memory block go to the backs of their lists (own rule).
+/// Adds the pageblocks of a memory block at the backs of their lists.
 fn add_block(areas: &mut Areas, layout: &Layout, zone: Zone, block: Block) -> Result<(), AllocError>
     requires layout { AreFreeAreasOf layout.now areas.old }
     requires block { block < layout.now.blocks }

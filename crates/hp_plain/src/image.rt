@@ -20,7 +20,7 @@ use hp_units::{
 use std::alloc::{AllocError, Global};
 use std::marker::Model;
 
-/// A layout, and a whole state of it as plain lists. Its numbers are always those of the layout.
+/// A layout with a whole state of it, as plain lists. All numbers in it are within the layout.
 pub struct Image {
     layout: Layout,
     free: FreeFrames,
@@ -29,7 +29,7 @@ pub struct Image {
     blocks: Blocks,
 }
 
-/// A function of its own, so that no proof of a caller takes the fields apart.
+/// Keeps callers from proving again how each field is dropped.
 impl Drop for Image {
     fn drop(self) {
         let Image {
@@ -58,8 +58,8 @@ impl Model for Image {
 }
 
 impl Image {
-    /// The state at boot: all blocks as the layout says, by rising number, and nothing in use
-    /// (Linux, memory hotplug: boot memory; own rule).
+    /// Creates the state at boot: each block as the layout gives it, in rising order, and nothing
+    /// in use (Linux, memory hotplug: boot memory).
     #[tactic(auto, unfolding(hp_units::specs::Boot::boot_memory))]
     pub fn boot(alloc: Global, layout: &Layout) -> Result<Image, AllocError>
         ensures layout { IfOk result (λ image. image.layout ≡ layout.now) }
@@ -73,7 +73,7 @@ impl Image {
         Ok(image)
     }
 
-    /// The state with all blocks offline and all else empty (own rule).
+    /// Creates the state with all blocks offline and everything else empty.
     pub fn empty(alloc: Global, layout: &Layout) -> Result<Image, AllocError>
         ensures layout { IfOk result (λ image. image.layout ≡ layout.now) }
         ensures memory { IfOk result (λ image. image.memory ≡ empty_memory layout.now) }
@@ -92,7 +92,7 @@ impl Image {
         })
     }
 
-    /// An equal Image.
+    /// Returns a copy.
     pub fn copy(&self, alloc: Global) -> Result<Image, AllocError>
         ensures { IfOk result (λ image. image ≡ self.now) }
     {
@@ -110,7 +110,7 @@ impl Image {
         })
     }
 
-    /// Whether another Image has the same state.
+    /// Returns whether both have the same state.
     pub fn same(&self, other: &Image) -> bool
         ensures { MatchBool result (self.now.memory ≡ other.now.memory) (self.now.memory ≢ other.now.memory) }
     {
@@ -120,8 +120,9 @@ impl Image {
             && self.blocks.same(&other.blocks)
     }
 
-    /// Sets one part, a list's frame at the back. An error is out of memory, of which only a list
-    /// takes any; then the Image is as before.
+    /// Sets one part of the state. A frame for a list goes to its back.
+    ///
+    /// Only a part for a list allocates. If memory runs out, nothing changes.
     pub fn add(&mut self, part: Part) -> Result<(), AllocError>
         requires { IsPartOf self.old.layout part }
         ensures ok { OnOk result (self.new ≡ record self.old { memory = with_part self.old.memory part }) }
@@ -149,63 +150,65 @@ impl Image {
         Ok(())
     }
 
-    /// The layout.
+    /// Returns the layout.
     pub fn layout(&self) -> &Layout
         ensures { result.now ≡ self.now.layout }
     {
         &self.layout
     }
 
-    /// The order of the kernel's block that starts at a frame; none where no such block does.
+    /// Returns the order of the kernel block that starts at the frame, if any.
     pub fn kernel_at(&self, frame: Frame) -> Option<Order>
         ensures { result ≡ kernel_order self.now.memory frame }
     {
         self.kernel.get(frame.0 as usize).copied().flatten()
     }
 
-    /// The kind of a pageblock; none for a pageblock that isn't in the layout.
+    /// Returns the kind of a pageblock, or `None` outside the layout.
     pub fn kind(&self, pageblock: Pageblock) -> Option<Kind>
         ensures { result ≡ slice_get self.now.memory.free.areas.kinds pageblock }
     {
         self.free.areas().kinds().get(pageblock.0 as usize).copied()
     }
 
-    /// The row of a memory block; none for a block that isn't in the layout.
+    /// Returns the row of a memory block, or `None` outside the layout.
     pub fn row(&self, block: Block) -> Option<Row>
         ensures { result ≡ slice_get self.now.memory.blocks.rows block }
     {
         self.blocks.row(block)
     }
 
-    /// What a memory block that is added becomes at once.
+    /// Returns what an added memory block becomes.
     pub fn auto(&self) -> Auto
         ensures { result ≡ self.now.memory.blocks.auto }
     {
         self.blocks.auto()
     }
 
-    /// The free blocks of 2^order frames of a class, front first; none past the greatest order.
+    /// Returns the free blocks of a class and an order, front first. The list is empty above the
+    /// greatest order.
     pub fn list(&self, class: Class, order: Order) -> &[Frame]
         ensures { result.now ≡ free_list self.now.memory.free.areas class order }
     {
         self.free.areas().free_list(class, order)
     }
 
-    /// A processor's list of a pool, front first; none for a processor that isn't in the layout.
+    /// Returns a processor's list of a pool, front first. The list is empty for a processor outside
+    /// the layout.
     pub fn cpu_list(&self, cpu: Cpu, pool: Pool) -> &[Frame]
         ensures { result.now ≡ cached_list self.now.memory.free cpu pool }
     {
         self.free.cached_list(cpu, pool)
     }
 
-    /// The frame that holds an owner's page; none where the page isn't mapped.
+    /// Returns the frame that holds an owner's page, or `None` if the page is not mapped.
     pub fn frame_at(&self, owner: Owner, page: Page) -> Option<Frame>
         ensures { result ≡ frame_at self.now.memory.pages owner page }
     {
         self.pages.frame_at(owner, page)
     }
 
-    /// The words of an owner's page; none where the page isn't mapped.
+    /// Returns the words of an owner's page, or `None` if the page is not mapped.
     pub fn words(&self, owner: Owner, page: Page) -> Option<&[u64]>
         ensures { option_map (λ words. words.now) result ≡ words_at self.now.memory.pages owner page }
     {
@@ -213,7 +216,7 @@ impl Image {
     }
 }
 
-/// Whether the kernel's blocks are the same.
+/// Returns whether both have the same kernel blocks.
 fn same_orders(kernel: &[Option<Order>], others: &[Option<Order>]) -> bool
     ensures { MatchBool result (kernel.now ≡ others.now) (kernel.now ≢ others.now) }
 {

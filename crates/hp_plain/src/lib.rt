@@ -1,10 +1,10 @@
-//! A whole state as a value: an `Image` of plain lists, copied, compared, read, and made by setting
-//! one part after another.
+//! A whole state as a value: an `Image` of plain lists that can be copied, compared, read, and
+//! built by setting one part after another.
 //!
-//! `frames` owns the free areas and the processors' lists, with `areas` and `lists` below it, `blocks`
-//! the rows of memory blocks, `pages` the owners' pages and their words, and `image` puts them and the
-//! kernel's blocks together. `placement` tests whether a state is well placed. Nothing here is a step
-//! of a machine. Read `image` first.
+//! `frames` owns the free areas and the processors' lists, with `areas` and `lists` below it,
+//! `blocks` the rows of memory blocks, `pages` the owners' pages and their words. `image` puts them
+//! and the kernel blocks together, and `placement` tests whether a state is well placed. Nothing
+//! here is a step of a machine. Read `image` first.
 #![tactic(auto)]
 
 mod areas;

@@ -1,4 +1,4 @@
-//! Lists of frames.
+//! A list of frames.
 ghost use Rattle.std.specs.Prelude.{◌≡◌, IfOk, [], ◌∷◌, ◌++◌, OnErr, OnOk};
 
 pub(crate) mod many;
@@ -36,7 +36,7 @@ impl PartialEq for FrameList {
 }
 
 impl FrameList {
-    /// A list without frames.
+    /// Creates an empty list. Allocates nothing.
     pub(crate) fn new(alloc: Global) -> FrameList
         ensures { result ≡ [] }
     {
@@ -45,14 +45,14 @@ impl FrameList {
         }
     }
 
-    /// The frames in order.
+    /// Returns the frames in order.
     pub(crate) fn as_slice(&self) -> &[Frame]
         ensures { result.now ≡ self.now }
     {
         self.frames.as_slice()
     }
 
-    /// An equal list. An error is out of memory.
+    /// Returns a copy.
     pub(crate) fn copy(&self, alloc: Global) -> Result<FrameList, AllocError>
         ensures { IfOk result (λ list. list ≡ self.now) }
     {
@@ -60,7 +60,7 @@ impl FrameList {
         Ok(FrameList { frames })
     }
 
-    /// One more frame at the back. After an error nothing has changed.
+    /// Adds a frame at the back. If memory runs out, nothing changes.
     pub(crate) fn push_back(&mut self, frame: Frame) -> Result<(), AllocError>
         ensures value { OnOk result (self.new ≡ self.old ++ frame ∷ []) }
         ensures err { OnErr result (self.new ≡ self.old) }

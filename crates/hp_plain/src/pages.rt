@@ -37,7 +37,7 @@ impl PartialEq for OwnerFrames {
 }
 
 impl OwnerFrames {
-    /// So many pages, none mapped.
+    /// Creates the entries of `pages` pages, none mapped.
     fn empty(alloc: Global, pages: u32) -> Result<OwnerFrames, AllocError>
         ensures { IfOk result (λ frames. frames ≡ replicate pages None) }
     {
@@ -45,7 +45,7 @@ impl OwnerFrames {
         Ok(OwnerFrames { pages })
     }
 
-    /// Equal frames.
+    /// Returns a copy.
     fn copy(&self, alloc: Global) -> Result<OwnerFrames, AllocError>
         ensures { IfOk result (λ frames. frames ≡ self.now) }
     {
@@ -53,7 +53,7 @@ impl OwnerFrames {
         Ok(OwnerFrames { pages })
     }
 
-    /// The frame of a page, if it is mapped.
+    /// Returns the frame of a page, if it is mapped.
     fn at(&self, page: Page) -> Option<Frame>
         ensures { result ≡ slice_index_or self.now page None }
     {
@@ -99,7 +99,7 @@ impl PartialEq for OwnerWords {
 }
 
 impl OwnerWords {
-    /// So many pages, none with words.
+    /// Creates the entries of `pages` pages, none with words.
     fn empty(alloc: Global, pages: u32) -> Result<OwnerWords, AllocError>
         ensures { IfOk result (λ words. words ≡ replicate pages None) }
     {
@@ -110,7 +110,7 @@ impl OwnerWords {
         Ok(OwnerWords { pages: empty })
     }
 
-    /// Equal words.
+    /// Returns a copy.
     fn copy(&self, alloc: Global) -> Result<OwnerWords, AllocError>
         ensures { IfOk result (λ words. words ≡ self.now) }
     {
@@ -121,7 +121,7 @@ impl OwnerWords {
         Ok(OwnerWords { pages })
     }
 
-    /// The words of a page, if it is mapped.
+    /// Returns the words of a page, if it is mapped.
     fn at(&self, page: Page) -> Option<&[u64]>
         ensures { option_map (λ words. words.now) result ≡ slice_index_or self.now page None }
     {
@@ -146,7 +146,7 @@ pub(crate) struct Pages {
     contents: Vec<OwnerWords>,
 }
 
-/// A function of its own, so that no proof of a caller takes the fields apart.
+/// Keeps callers from proving again how each field is dropped.
 impl Drop for Pages {
     fn drop(self) {
         let Pages {
@@ -165,7 +165,7 @@ impl Model for Pages {
 }
 
 impl Pages {
-    /// No page of the layout's owners mapped (own rule). An error is out of memory.
+    /// Creates the pages of a layout's owners, none mapped.
     pub(crate) fn empty(alloc: Global, layout: &Layout) -> Result<Pages, AllocError>
         ensures { IfOk result (λ pages. pages ≡ empty_pages layout.now) }
     {
@@ -174,7 +174,7 @@ impl Pages {
         Ok(Pages { table, contents })
     }
 
-    /// Equal pages. An error is out of memory.
+    /// Returns a copy.
     pub(crate) fn copy(&self, alloc: Global) -> Result<Pages, AllocError>
         ensures { IfOk result (λ pages. pages ≡ self.now) }
     {
@@ -183,15 +183,15 @@ impl Pages {
         Ok(Pages { table, contents })
     }
 
-    /// Whether other pages have the same frames and the same words.
+    /// Returns whether both have the same frames and the same words.
     pub(crate) fn same(&self, other: &Pages) -> bool
         ensures { MatchBool result (self.now ≡ other.now) (self.now ≢ other.now) }
     {
         same_table(&self.table, &other.table) && same_contents(&self.contents, &other.contents)
     }
 
-    /// The frame that holds an owner's page; none where the page isn't mapped or isn't there (own
-    /// rule).
+    /// Returns the frame that holds an owner's page, or `None` if the page is not mapped or outside
+    /// the layout.
     pub(crate) fn frame_at(&self, owner: Owner, page: Page) -> Option<Frame>
         ensures { result ≡ frame_at self.now owner page }
     {
@@ -199,7 +199,8 @@ impl Pages {
         frames.at(page)
     }
 
-    /// The words of an owner's page; none where the page isn't mapped or isn't there (own rule).
+    /// Returns the words of an owner's page, or `None` if the page is not mapped or
+    /// outside the layout.
     pub(crate) fn words_at(&self, owner: Owner, page: Page) -> Option<&[u64]>
         ensures { option_map (λ words. words.now) result ≡ words_at self.now owner page }
     {
@@ -207,8 +208,7 @@ impl Pages {
         words.at(page)
     }
 
-    /// An owner's page, of numbers below the counts, is mapped to a frame, with its words (own
-    /// rule).
+    /// Maps an owner's page to a frame, with its words. The numbers must be in range.
     pub(crate) fn map(&mut self, owner: Owner, page: Page, frame: Frame, words: Words)
         requires owner { owner < length self.old.table }
         requires page { page < length (slice_index_or self.old.table owner []) }
@@ -221,7 +221,7 @@ impl Pages {
     }
 }
 
-/// So many owners with so many pages, none mapped.
+/// Returns the frames of `owners` owners with `pages` pages each, none mapped.
 fn empty_table(alloc: Global, owners: u32, pages: u32) -> Result<Vec<OwnerFrames>, AllocError>
     ensures { IfOk result (λ table. table.items ≡ replicate owners (replicate pages None)) }
 {
@@ -232,7 +232,7 @@ fn empty_table(alloc: Global, owners: u32, pages: u32) -> Result<Vec<OwnerFrames
     Ok(table)
 }
 
-/// So many owners with so many pages, none with words.
+/// Returns the words of `owners` owners with `pages` pages each, none with words.
 fn empty_contents(alloc: Global, owners: u32, pages: u32) -> Result<Vec<OwnerWords>, AllocError>
     ensures { IfOk result (λ contents. contents.items ≡ replicate owners (replicate pages None)) }
 {
@@ -243,7 +243,7 @@ fn empty_contents(alloc: Global, owners: u32, pages: u32) -> Result<Vec<OwnerWor
     Ok(contents)
 }
 
-/// An equal table.
+/// Returns a copy of the table.
 fn copy_of_table(alloc: Global, table: &[OwnerFrames]) -> Result<Vec<OwnerFrames>, AllocError>
     ensures { IfOk result (λ copy. copy.items ≡ table.now) }
 {
@@ -254,7 +254,7 @@ fn copy_of_table(alloc: Global, table: &[OwnerFrames]) -> Result<Vec<OwnerFrames
     Ok(copy)
 }
 
-/// Equal contents.
+/// Returns a copy of the contents.
 fn copy_of_contents(alloc: Global, contents: &[OwnerWords]) -> Result<Vec<OwnerWords>, AllocError>
     ensures { IfOk result (λ copy. copy.items ≡ contents.now) }
 {
@@ -265,14 +265,14 @@ fn copy_of_contents(alloc: Global, contents: &[OwnerWords]) -> Result<Vec<OwnerW
     Ok(copy)
 }
 
-/// Whether the tables are the same.
+/// Returns whether both tables are equal.
 fn same_table(table: &[OwnerFrames], others: &[OwnerFrames]) -> bool
     ensures { MatchBool result (table.now ≡ others.now) (table.now ≢ others.now) }
 {
     table == others
 }
 
-/// Whether the contents are the same.
+/// Returns whether both contents are equal.
 fn same_contents(contents: &[OwnerWords], others: &[OwnerWords]) -> bool
     ensures { MatchBool result (contents.now ≡ others.now) (contents.now ≢ others.now) }
 {

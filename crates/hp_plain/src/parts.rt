@@ -6,26 +6,26 @@ use hp_units::{
 /// One entry of a state, to be set in an `Image`.
 #[derive(Drop)]
 pub enum Part {
-    /// A free block of 2^order frames, at the back of its class's list.
+    /// A free block of 2^order frames, for the back of its class's list.
     Free {
         class: Class,
         order: Order,
         frame: Frame,
     },
-    /// A single frame, at the back of a processor's list.
+    /// A single frame, for the back of a processor's list.
     Cached {
         cpu: Cpu,
         pool: Pool,
         frame: Frame,
     },
-    /// An owner's page: its frame, and as many words as the layout has in a frame.
+    /// An owner's page: its frame, and as many words as a frame of the layout has.
     Mapped {
         owner: Owner,
         page: Page,
         frame: Frame,
         words: Words,
     },
-    /// A kernel's block of 2^order frames by its first frame.
+    /// A kernel block of 2^order frames, by its first frame.
     Kernel {
         frame: Frame,
         order: Order,
@@ -40,7 +40,7 @@ pub enum Part {
         block: Block,
         row: Row,
     },
-    /// What a memory block that is added becomes.
+    /// What an added memory block becomes.
     Auto {
         auto: Auto,
     },

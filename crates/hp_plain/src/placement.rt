@@ -1,4 +1,4 @@
-//! The places of a state, one part after another: whether each may be where it is, with the frames
+//! The test of a state's places, part by part: each must be allowed where it is, and its frames are
 //! marked. hp_placement has the tests of single blocks, frames and pages.
 ghost use Rattle.std.specs.Prelude.{◌≡◌, ◌+◌, ◌*◌, ◌<◌, [], IfOk, MatchBool, count_by, length, slice_index_or, ℕ};
 ghost use Rattle.hp_units.specs.Arithmetic.{frame_count};
@@ -15,8 +15,8 @@ use hp_placement::{Heads, Marks, place_list, place_page, place_pool, pool_number
 use hp_units::{Class, Cpu, Layout, Order, Owner, Page};
 use std::alloc::{AllocError, Global};
 
-/// Returns whether the free blocks are where they may be, and marks their frames; a frame that is
-/// marked already makes it false.
+/// Returns whether the free blocks are where they may be, and marks their frames. Returns false if
+/// a frame is already marked.
 pub(crate) fn place_free(layout: &Layout, areas: &Areas, blocks: &Blocks, marks: &mut Marks) -> bool
     requires { length areas.now.lists ≡ 5 * (layout.now.order + 1) }
     ensures { MatchBool result
@@ -38,8 +38,8 @@ pub(crate) fn place_free(layout: &Layout, areas: &Areas, blocks: &Blocks, marks:
     true
 }
 
-/// Returns whether the frames on processors' lists are where they may be, and marks them; a frame
-/// that is marked already makes it false.
+/// Returns whether the frames on processors' lists are where they may be, and marks them. Returns
+/// false if a frame is already marked.
 pub(crate) fn place_cached(
     layout: &Layout,
     free: &FreeFrames,
@@ -65,8 +65,8 @@ pub(crate) fn place_cached(
     true
 }
 
-/// Returns whether each page has a frame and words or neither, and marks the frames; a frame that is
-/// marked already makes it false.
+/// Returns whether each page has both a frame and words or neither, and marks the frames. Returns
+/// false if a frame is already marked.
 pub(crate) fn place_pages(layout: &Layout, pages: &Pages, marks: &mut Marks) -> bool
     requires { ArePagesOf layout.now pages.now }
     ensures { MatchBool result
@@ -81,7 +81,8 @@ pub(crate) fn place_pages(layout: &Layout, pages: &Pages, marks: &mut Marks) -> 
     true
 }
 
-/// Returns whether each page of an owner has a frame and words or neither, and marks the frames.
+/// Returns whether each page of one owner has both a frame and words or neither,
+/// and marks the frames.
 fn place_owner(layout: &Layout, pages: &Pages, marks: &mut Marks, owner: Owner) -> bool
     requires pages { ArePagesOf layout.now pages.now }
     requires owner { owner < layout.now.owners }
@@ -111,8 +112,8 @@ pub(crate) fn are_joined(alloc: Global, layout: &Layout, areas: &Areas) -> Resul
     Ok(are_joined_by(&mut heads, layout, areas))
 }
 
-/// Returns whether no free block's buddy is free too, by the first frames of free blocks, of which
-/// none is set before.
+/// Returns the same, by way of the table of free blocks' first frames, in which
+/// nothing may be set yet.
 fn are_joined_by(heads: &mut Heads, layout: &Layout, areas: &Areas) -> bool
     requires areas { AreFreeAreasOf layout.now areas.now }
     requires length { length heads.old ≡ frame_count layout.now }

@@ -42,8 +42,8 @@ unnumbered r = record { serial = 0; event = r.event; reply = r.reply }
 abbrev pub exchanges : (cpu : ℕ) → List Record → List Receipt
 exchanges cpu news = map unnumbered (receipts_of cpu news)
 
--- no later Cancel can drop any of these steps: whether an operation is
--- sole depends on later steps only
+-- no later Cancel can drop any of these steps: whether an operation is sole depends
+-- on later steps only
 abbrev pub IsClosed : List Record → Type 0
 IsClosed steps =
     (op : ℕ) (tail : List Record)

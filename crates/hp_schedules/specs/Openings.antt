@@ -40,8 +40,8 @@ abbrev pub after_cancel : {S : Type 0} → (op : ℕ) → List (OpeningWith S) �
 after_cancel op [] = []
 after_cancel op (o ∷ os) = if o.op == op then os else []
 
--- how a record changes them: a refusal or a read does nothing; a step that is no
--- operation's work ends them all
+-- how a record changes them: a refusal or a read does nothing; a step that is no operation's work
+-- ends them all
 abbrev pub change_by : Event → Change
 change_by (Read owner page index) = Stays
 change_by (Begin plan) = Begins

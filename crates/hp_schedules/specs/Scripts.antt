@@ -30,8 +30,8 @@ abbrev pub once : Event → List Receipt → Option Event
 once event [] = Some event
 once event (r ∷ rs) = None
 
--- the next event of a line after its own receipts; None if it is finished.
--- A plan's line is a driver's run
+-- the next event of a line after its own receipts; None if it is finished. A plan's line is a
+-- driver's run
 abbrev pub line_next : (cpus op : ℕ) → Line → List Receipt → Option Event
 line_next cpus op (Ask event) receipts = once event receipts
 line_next cpus op (Own work) receipts = once (work_of op work) receipts

@@ -11,8 +11,8 @@ use hp_ops::Driver;
 use hp_units::{Event, Record, Serial};
 use std::alloc::{AllocError, Global};
 
-/// A processor's position in its script: its line, the operation that it began last, and
-/// the driver of the line's plan.
+/// A processor's position in its script: its line, the operation that it began last, and the driver
+/// of the line's plan.
 ///
 /// The driver is unused on a line without a plan.
 #[derive(Clone, Copy, Drop)]
@@ -70,8 +70,8 @@ impl Cursor {
         Cursor::new(cpus, lines, self.line + 1, self.op).asked(alloc, lines)
     }
 
-    /// Returns the next call of the current line, or `None` if the
-    /// line is finished or there is none.
+    /// Returns the next call of the current line, or `None` if the line is
+    /// finished or there is none.
     fn asked(&self, alloc: Global, lines: &[Line]) -> Result<Option<Request>, AllocError>
         ensures { IfOk result (IsAsked self.now lines.now) }
     {

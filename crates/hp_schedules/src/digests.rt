@@ -38,8 +38,8 @@ pub fn learn(
     }
 }
 
-/// Returns the hash of how a schedule ends: of the replies to `processors`
-/// processors and of the blocks' rows.
+/// Returns the hash of how a schedule ends: of the replies to `processors` processors and of the
+/// blocks' rows.
 #[tactic(auto, unfolding(crate::specs::Digests::digest_of))]
 pub(crate) fn digest_of(processors: u32, records: &[Record], blocks: &[Row]) -> u64
     ensures { result ≡ digest_of (outcome_with processors records.now blocks.now) }

@@ -141,8 +141,8 @@ impl Chains {
         }
     }
 
-    /// Returns the entry that made a chain, or `None` if the chain is
-    /// empty or there is no such number.
+    /// Returns the entry that made a chain, or `None` if the chain is empty or there
+    /// is no such number.
     fn entry(&self, number: usize) -> Option<&Exchange>
         ensures some { IfSome result (λ entry. IsMadeOf exchange_below at_end self.now number entry.now) }
         ensures none { IfNone result ((xs : List Receipt) → slice_get self.now number ≡ Some xs → xs ≡ []) }

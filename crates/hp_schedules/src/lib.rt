@@ -1,10 +1,10 @@
 //! Scripts, schedules and their outcomes, without a machine.
 //!
-//! A script is what one processor calls, line after line. A schedule says whose call comes next; it
-//! is complete when all scripts are finished. The crate owns scripts and positions in them, the
-//! parts that a search is split into, outcomes and how many schedules lead to each, the number of
-//! interleavings, the numbers by which a walk compares transcripts, and which schedules continue
-//! alike. It makes no calls: hp_explore walks the schedules.
+//! A script is what one processor calls, line after line. A schedule gives the processor of each
+//! call, in order; it is complete when all scripts are finished. The crate owns scripts and
+//! positions in them, the parts that a search is split into, outcomes and how many schedules lead
+//! to each, the number of interleavings, the numbers by which a walk compares transcripts, and
+//! which schedules continue alike. It makes no calls: hp_explore walks the schedules.
 //!
 //! Read specs/Scripts first, then specs/Schedules, specs/Outcomes and specs/Ends.
 #![tactic(auto)]

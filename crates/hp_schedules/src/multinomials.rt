@@ -14,8 +14,8 @@ pub enum HowMany {
     Exactly(u64),
     /// More than the limit.
     MoreThanLimit,
-    /// Unknown: a script carries a plan, whose calls only a search can count, or the
-    /// scripts have 2^64 lines or more.
+    /// Unknown: a script carries a plan, whose calls only a search can count, or the scripts have
+    /// 2^64 lines or more.
     Unknown,
 }
 
@@ -43,8 +43,8 @@ pub fn interleavings_of(
 
 /// Returns how many calls a complete schedule has: one per line.
 ///
-/// Returns `None` if a script carries a plan, whose calls only a search can count, or
-/// if the number is 2^64 or more.
+/// Returns `None` if a script carries a plan, whose calls only a search can count, or if the number
+/// is 2^64 or more.
 pub fn call_count(alloc: Global, scripts: &[Script]) -> Result<Option<u64>, AllocError>
     ensures { IfOk result (IsCallCount scripts.now) }
 {

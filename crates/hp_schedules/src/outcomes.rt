@@ -66,8 +66,8 @@ impl Outcome {
         Outcome { replies, blocks }
     }
 
-    /// Returns each processor's replies, from processor 0 on. The number of an
-    /// opened operation is always 0 there.
+    /// Returns each processor's replies, from processor 0 on. The number of an opened operation is
+    /// always 0 there.
     pub fn replies(&self) -> &[Answers]
         ensures { result.now ≡ self.now.replies }
     {
@@ -75,8 +75,8 @@ impl Outcome {
         answers.as_slice()
     }
 
-    /// Returns each memory block's row, from block 0 on. A row never names the
-    /// operation that holds the block.
+    /// Returns each memory block's row, from block 0 on. A row never names the operation that holds
+    /// the block.
     pub fn blocks(&self) -> &[Row]
         ensures { result.now ≡ self.now.blocks }
     {
@@ -157,7 +157,7 @@ fn answers_to(alloc: Global, cpu: Cpu, records: &[Record]) -> Result<Answers, Al
 
 /// Returns the reply with 0 in place of the number of an opened operation.
 ///
-/// That number only depends on how many calls came before, so it must not tell outcomes apart.
+/// That number is only the number of calls before, so it must not tell outcomes apart.
 pub(crate) fn told(reply: &Reply) -> Reply
     ensures { result ≡ told reply.now }
 {

@@ -1,5 +1,5 @@
-//! Parts of a search: disjoint sets of schedules, told apart by their first calls.
-//! Each can be searched on its own.
+//! Parts of a search: disjoint sets of schedules, told apart by their first calls. Each can be
+//! searched on its own.
 ghost use Rattle.std.specs.Prelude.{◌≡◌, ◌↔◌, ◌<◌, ◌≤◌, ◌+◌, ◌*◌, ◌%◌, IfSome, IsSome, IsTrue, false, length, take};
 ghost use Rattle.hp_schedules.specs.Parts.{IsOfPart, IsOn, part_number};
 ghost use Rattle.hp_schedules.specs.Schedules.{schedule_of};
@@ -77,8 +77,8 @@ impl Part {
         self.calls
     }
 
-    /// Returns whether the schedule of these records belongs to the
-    /// part, for `processors` processors.
+    /// Returns whether the schedule of these records belongs to the part, for `processors`
+    /// processors.
     pub fn is_of(&self, processors: u32, records: &[Record]) -> bool
         ensures { IsTrue result ↔ IsOfPart processors self.now (schedule_of records.now) }
     {
@@ -89,8 +89,8 @@ impl Part {
     /// Returns whether the place just reached by a call belongs to another part. The records must
     /// be at least `calls` long.
     ///
-    /// Places with more calls than that need no test, since the walk never
-    /// continues from another part's place.
+    /// Places with more calls than that need no test, since the walk never continues from another
+    /// part's place.
     pub fn leaves_out(&self, processors: u32, records: &[Record]) -> bool
         requires long { self.now.calls ≤ length records.now }
         requires on { IsOn processors self.now (schedule_of records.now) }

@@ -29,8 +29,8 @@ pub enum Line {
     Ask(Event),
     /// Works on the operation that the processor began last.
     Own(Work),
-    /// Lets the driver carry out a plan with at most `turns` migrations. The driver's
-    /// calls count as the processor's.
+    /// Lets the driver carry out a plan with at most `turns` migrations. The driver's calls count
+    /// as the processor's.
     Carry { plan: Plan, turns: u32 },
 }
 

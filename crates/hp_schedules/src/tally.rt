@@ -200,8 +200,8 @@ impl Tally {
         Ok(counts)
     }
 
-    /// Replaces `shares` by what each end counts more than in `earlier`. An end
-    /// that is new since then counted 0.
+    /// Replaces `shares` by what each end counts more than in `earlier`. An end that is new since
+    /// then counted 0.
     pub fn since(&self, earlier: &[u64], shares: &mut Vec<Share>) -> Result<(), AllocError>
         requires { AreNoMore earlier.now self.now.ends }
         ensures { OnOk result (AreSince earlier.now self.now.ends shares.new.items) }

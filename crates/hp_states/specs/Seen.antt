@@ -57,8 +57,8 @@ key_in keys width place = slice_range keys (place * width) (place * width + widt
 abbrev pub width_of : Setting → ℕ
 width_of g = 2 * length g.scripts + 2
 
--- the key of a place, and its shares among these ends; the history has room
--- for all that continues from it
+-- the key of a place, and its shares among these ends; the history has room for all
+-- that continues from it
 pub record IsRow (g : Setting) (ends : List Ending) (s : StandingValue) (key : List ℕ)
     (shares : List Share) : Type 0 where
   pub seen : SeenValue
@@ -74,8 +74,8 @@ abbrev pub IsRowAmong : (keys : List ℕ) → (rows : List (List Share)) → (ke
 IsRowAmong keys rows key shares =
     (i : ℕ) × (slice_get rows i ≡ Some shares) × (key_in keys (length key) i ≡ key)
 
--- the kept places are right for these ends; and if any are to be kept, no
--- script undoes steps by their serials
+-- the kept places are right for these ends; and if any are to be kept, no script undoes steps by
+-- their serials
 pub record IsMemo (g : Setting) (ends : List Ending) (memo : MemoValue) : Type 0 where
   pub all : (i : ℕ) (shares : List Share) → slice_get memo.rows i ≡ Some shares
       → IsRow g ends memo.standing (key_in memo.keys (width_of g) i) shares

@@ -19,8 +19,8 @@ pub record IsAt (g : Setting) (p : StepsValue) : Type 0 where
   pub played : plays g (schedule_of p.records) ≡ Some p.records
   pub state : p.state ≡ value_of g.layout g.base (g.start ++ p.records)
 
--- the complete schedules before a place of the walk, and those up to
--- the last that continues from it
+-- the complete schedules before a place of the walk, and those up to the last
+-- that continues from it
 abbrev pub Before : Setting → List ℕ → List ℕ → OutcomeValue → Type 0
 Before g place s x = IsBefore s place × EndsWith g s x
 
@@ -50,8 +50,8 @@ BeforeInPart g part place s x = IsBefore s place × EndsInPart g part s x
 abbrev pub ThroughInPart : Setting → PartValue → List ℕ → List ℕ → OutcomeValue → Type 0
 ThroughInPart g part place s x = (IsBefore s place ⊎ Extends s place) × EndsInPart g part s x
 
--- the history has room for each call of the part's search before a
--- place, and for each at it or later
+-- the history has room for each call of the part's search before a place, and for
+-- each at it or later
 abbrev pub HasPartRoomBefore : Setting → PartValue → List ℕ → Type 0
 HasPartRoomBefore g part place =
     (s : List ℕ) (h : HasNoRoom g s) → ComesTo (length g.scripts) part s
@@ -86,8 +86,8 @@ abbrev pub IsNotedAtEnd : (is_end : Bool) → (processors : ℕ) → StepsValue 
 IsNotedAtEnd true processors p old new = IsEndNoted processors p old new
 IsNotedAtEnd false processors p old new = new ≡ old
 
--- the processors below `below` have no call to make after the new
--- records; or some processor has one
+-- the processors below `below` have no call to make after the new records; or
+-- some processor has one
 abbrev pub IsOverBelow : Setting → List Record → (below : ℕ) → Bool → Type 0
 IsOverBelow g news below true = (cpu : ℕ) → cpu < below → next_call g cpu news ≡ None
 IsOverBelow g news below false = (cpu : ℕ) × (event : Event) × (next_call g cpu news ≡ Some event)

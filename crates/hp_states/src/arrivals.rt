@@ -90,8 +90,8 @@ fn enter<W: Watch>(
     Ok(Entry::Open(frame))
 }
 
-/// Adds the shares to the tally. If the tally has no room for all of
-/// them, the place is to be walked.
+/// Adds the shares to the tally. If the tally has no room for all of them, the
+/// place is to be walked.
 fn add_shares<W: Watch>(tally: &mut Tally, shares: &[Share], watch: &mut W) -> Entry
     requires { AreAtEnds (length tally.old.ends) shares.now }
     ensures ok { IsAdded tally.old.ends shares.now tally.new.ends result }
@@ -105,8 +105,8 @@ fn add_shares<W: Watch>(tally: &mut Tally, shares: &[Share], watch: &mut W) -> E
     Entry::Counted
 }
 
-/// Counts the schedule that led to this place, if `is_end` says that it
-/// ends here and belongs to the part.
+/// Counts the schedule that led to this place if `is_end` is true: then it ends here and
+/// belongs to the part.
 pub fn note<W: Watch>(
     alloc: Global,
     records: &[Record],

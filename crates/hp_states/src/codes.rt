@@ -11,8 +11,8 @@ use std::marker::Model;
 
 /// A table that interns states: it stores each state's code and gives it a number, from 0 on.
 ///
-/// A search compares and keeps these numbers in place of whole states. The contract sees
-/// the table as the list of codes.
+/// A search compares and keeps these numbers in place of whole states. The contract sees the table
+/// as the list of codes.
 pub struct Codes {
     written: Code,
     texts: Texts,

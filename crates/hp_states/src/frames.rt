@@ -53,8 +53,8 @@ impl Frame {
         }
     }
 
-    /// Creates a frame that keeps the counts, unless there are too many
-    /// ends: it holds one count per end.
+    /// Creates a frame that keeps the counts, unless there are too many ends: it holds
+    /// one count per end.
     pub(crate) fn keeping(alloc: Global, tally: &Tally) -> Result<Frame, AllocError>
         ensures { IfOk result (IsFresh tally.now.ends) }
     {

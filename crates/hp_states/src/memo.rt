@@ -63,8 +63,8 @@ impl Drop for Memo {
 }
 
 impl Memo {
-    /// Creates an empty memo for a walk at the beginning of the scripts. With
-    /// `is_on` false, no place is ever kept.
+    /// Creates an empty memo for a walk at the beginning of the scripts. With `is_on` false, no
+    /// place is ever kept.
     ///
     /// `is_closed` states that no Cancel can drop a step that led there.
     pub fn start(
@@ -122,11 +122,11 @@ impl Memo {
         }
     }
 
-    /// Gives the state at the place a number, writes the place's key,
-    /// and returns whether it has one.
+    /// Gives the state at the place a number, writes the place's key, and returns
+    /// whether it has one.
     ///
-    /// It has none if places are not kept, or if it is unknown which
-    /// operations a Cancel can take back.
+    /// It has none if places are not kept, or if it is unknown which operations a
+    /// Cancel can take back.
     pub(crate) fn come_to(
         &mut self,
         alloc: Global,
@@ -154,8 +154,8 @@ impl Memo {
         self.standing.key(positions, processors, &mut self.key)
     }
 
-    /// Writes the key of the place where the walk is, after `come_to`,
-    /// and returns whether it has one.
+    /// Writes the key of the place where the walk is, after `come_to`, and returns
+    /// whether it has one.
     pub(crate) fn write_key(
         &mut self,
         positions: &Positions,
@@ -175,8 +175,8 @@ impl Memo {
         self.standing.key(positions, processors, &mut self.key)
     }
 
-    /// Returns the shares of a place with the key written last, if it is
-    /// the newest place with its hash.
+    /// Returns the shares of a place with the key written last, if it is the newest
+    /// place with its hash.
     pub(crate) fn shares(&self) -> Option<&[Share]>
         ensures { IfSome result (λ shares. IsRowAmong self.now.keys self.now.rows self.now.key shares.now) }
     {

@@ -178,7 +178,7 @@ fn page_words(memory: &Memory, owner: Owner, page: Page) -> Option<&[u64]>
     memory.pages().words(owner, page)
 }
 
-/// Appends for each frame the order of the kernel's block that starts there, if any.
+/// Appends for each frame the order of the kernel block that starts there, if any.
 fn put_kernel(code: &mut Code, memory: &Memory) -> Result<(), AllocError>
     requires { IsShaped memory.now.layout memory.now.state }
     ensures { OnOk result (code.new ≡ code.old ++ flat_map option_code memory.now.state.kernel) }

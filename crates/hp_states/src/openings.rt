@@ -11,8 +11,8 @@ use indexmap::IndexMap;
 use std::alloc::{AllocError, Global};
 use std::marker::Model;
 
-/// An operation in front of the list numbered `below`, with the number
-/// of the state before its Begin.
+/// An operation in front of the list numbered `below`, with the number of the
+/// state before its Begin.
 #[derive(Clone, Copy, Drop)]
 pub(crate) struct Entry {
     op: Serial,
@@ -84,8 +84,8 @@ impl Openings {
         }
     }
 
-    /// Returns the number of the list after a Begin in state `from`, or `None` if
-    /// the list or the state is unknown.
+    /// Returns the number of the list after a Begin in state `from`, or `None` if the list or the
+    /// state is unknown.
     fn after_begin(
         &mut self,
         was: Option<usize>,
@@ -106,8 +106,8 @@ impl Openings {
         Ok(Some(number))
     }
 
-    /// Returns the number of the list `below` with this operation in front, and
-    /// adds that list if it is not found.
+    /// Returns the number of the list `below` with this operation in front, and adds that list if
+    /// it is not found.
     fn in_front(&mut self, op: Serial, state: usize, below: usize) -> Result<usize, AllocError>
         requires { below < length self.old }
         ensures kept { KeepNumbers self.old self.new }
@@ -185,8 +185,8 @@ impl Openings {
         0
     }
 
-    /// Returns the entry that made a list, or `None` if the list is
-    /// empty or there is no such number.
+    /// Returns the entry that made a list, or `None` if the list is empty or there
+    /// is no such number.
     fn entry(&self, number: usize) -> Option<&Entry>
         ensures some { IfSome result (λ entry. IsEntryOf self.now number entry.now) }
         ensures none { IfNone result ((os : List NumberedOpening)

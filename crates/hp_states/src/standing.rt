@@ -24,8 +24,8 @@ pub(crate) struct Stop {
     state: Option<usize>,
 }
 
-/// The numbers of the place where a walk is, and of each place before it,
-/// from the beginning of the scripts.
+/// The numbers of the place where a walk is, and of each place before it, from the
+/// beginning of the scripts.
 pub(crate) struct Standing {
     codes: Codes,
     openings: Openings,
@@ -120,8 +120,8 @@ impl Standing {
         self.exchanges.go_back(cpu);
     }
 
-    /// Gives the current state a number, unless it is unknown which
-    /// operations a Cancel can take back.
+    /// Gives the current state a number, unless it is unknown which operations a
+    /// Cancel can take back.
     pub(crate) fn number_state(&mut self, alloc: Global, memory: &Memory) -> Result<(), AllocError>
         ensures kept { KeepMeanings self.old self.new }
         ensures here { (g : Setting) (news : List NewRecord) → memory.now ≡ memory_at g news
@@ -166,8 +166,8 @@ impl Standing {
         self.push_parts(positions, processors, key)
     }
 
-    /// Appends each processor's part of a key and returns whether all of it fits. If
-    /// not, `key` holds a part of it.
+    /// Appends each processor's part of a key and returns whether all of it fits. If not, `key`
+    /// holds a part of it.
     #[inline(always)]
     fn push_parts(
         &self,
@@ -195,8 +195,8 @@ impl Standing {
     }
 }
 
-/// Returns the number of the list at the beginning: the empty list if the
-/// history is closed, otherwise unknown.
+/// Returns the number of the list at the beginning: the empty list if the history is closed,
+/// otherwise unknown.
 fn first_number(is_closed: bool) -> Option<usize>
     ensures { result ≡ cond is_closed (Some 0) None }
 {

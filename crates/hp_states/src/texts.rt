@@ -67,8 +67,8 @@ impl Texts {
 
     /// Returns the number of `text` if it is the newest string with its hash.
     ///
-    /// An older string with the same hash is not looked for: a collision costs a
-    /// second copy, never a wrong number.
+    /// An older string with the same hash is not looked for: a collision costs a second copy, never
+    /// a wrong number.
     fn found(&self, digest: u64, text: &[u8]) -> Option<usize>
         ensures { IfSome result (λ n. slice_get self.now n ≡ Some text.now) }
     {

@@ -1,4 +1,4 @@
--- The greatest number of deltas of a layer's call, and of a step.
+-- The maximum number of deltas of a layer's call, and of a step.
 use Rattle.std.specs.Prelude.{ℕ, ◌+◌, ◌*◌, ◌^◌, List, [], ◌∷◌, length, nat_le, if◌then◌else◌}
 use Rattle.hp_units.specs.declared.rows.Pool.TheVariants.{Nu as NuPool, Nm as NmPool, Mm as MmPool}
 use Rattle.hp_units.specs.declared.events.Event.{Event}
@@ -10,7 +10,7 @@ use Rattle.hp_units.specs.declared.rows.Pool.{Pool}
 use Rattle.hp_units.specs.declared.rows.Zone.{Zone}
 use Rattle.hp_units.specs.Rows.{blocks_of}
 
--- ---- of the layers' calls (own rule)
+-- ---- of the layers' calls
 
 -- taking a block, giving one back, and stealing one
 abbrev pub take_bound : LayoutParts → ℕ
@@ -26,11 +26,11 @@ steal_bound l = l.order + 2
 abbrev pub move_bound : LayoutParts → ℕ
 move_bound l = 1 + 2 * 2 ^ l.order
 
--- a batch of single frames that move between the areas and a processor's list, and one frame more
+-- a batch of single frames between the areas and a processor's list, and one frame more
 abbrev pub batch_bound : LayoutParts → ℕ
 batch_bound l = l.batch * (l.order + 2) + 1
 
--- one frame from a processor's list: one delta where the list has a frame, else a refill
+-- one frame from a processor's list: one delta if the list has a frame, otherwise a refill
 abbrev pub take_one_from : LayoutParts → List ℕ → ℕ
 take_one_from l [] = batch_bound l
 take_one_from l (frame ∷ frames) = 1
@@ -38,8 +38,8 @@ take_one_from l (frame ∷ frames) = 1
 abbrev pub take_one_bound : LayoutParts → FreeFrames → (cpu : ℕ) → Pool → ℕ
 take_one_bound l fs cpu pool = take_one_from l (cached_list fs cpu pool)
 
--- one frame back: straight to the areas where its pageblock is isolated, else one delta where no
--- spill follows
+-- one frame back: straight to the areas if its pageblock is isolated; otherwise
+-- one delta, or a spill
 abbrev pub put_one_bound : LayoutParts → FreeFrames → (cpu : ℕ) → Zone → (frame : ℕ) → ℕ
 put_one_bound l fs cpu zone frame =
     let kind = kind_of fs.areas (pageblock_of l frame) in
@@ -47,19 +47,19 @@ put_one_bound l fs cpu zone frame =
     else (if nat_le (length (cached_list fs cpu (pool_of zone kind.mobility)) + 1) l.high then 1 else
     batch_bound l)
 
--- how many frames are in a processor's lists
+-- how many frames are on a processor's lists
 abbrev pub cached_frames : FreeFrames → ℕ → ℕ
 cached_frames fs cpu =
     length (cached_list fs cpu NuPool) + length (cached_list fs cpu NmPool)
     + length (cached_list fs cpu MmPool)
 
--- all that a processor's lists hold goes back to the areas
+-- all frames on a processor's lists go back to the areas
 abbrev pub drain_bound : LayoutParts → FreeFrames → (cpu : ℕ) → ℕ
 drain_bound l fs cpu = cached_frames fs cpu * (l.order + 2)
 
--- ---- of the events (own rule)
+-- ---- of the events
 
--- for a block that is isolated or released, for one that goes offline or comes, and for one that goes online
+-- a block that is isolated or released; one that goes offline or is added; one that goes online
 abbrev pub moved_block_bound : LayoutParts → ℕ
 moved_block_bound l = 1 + l.pageblocks * (1 + 2 * 2 ^ l.order)
 
@@ -69,7 +69,7 @@ committed_block_bound l = 1 + 2 * l.pageblocks
 abbrev pub online_bound : LayoutParts → ℕ
 online_bound l = 1 + l.pageblocks
 
--- the bound of each event (own rule)
+-- the bound of each event
 abbrev pub delta_bound : LayoutParts → Memory → Event → ℕ
 delta_bound l s (KernelAlloc order) = l.batch * (l.order + 2) + 3
 delta_bound l s (KernelFree frame) = l.batch * (l.order + 2) + 2

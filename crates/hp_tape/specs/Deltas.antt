@@ -1,5 +1,5 @@
--- What a delta undoes, and the state as the journal sees it: with the words of a page in a buffer
--- of its frame.
+-- What a delta undoes, and the state as the journal sees it: the words of a page are in a buffer of
+-- its frame.
 use Rattle.std.specs.Prelude.{◌≡◌, ◌<◌, ◌≤◌, ℕ, ◌^◌, length, IfSome, Bool, true, false, not, ◌&&◌, List, [], ◌∷◌, Option, Some, None, ◌==◌, map, nat_lt, replicate, slice_get, slice_index_or, slice_set, unwrap_or, if◌then◌else◌}
 use Rattle.std.specs.List.{list_all}
 use Rattle.std.specs.Option.{option_map, option_map_or, option_and_then}
@@ -16,9 +16,9 @@ use Rattle.hp_units.specs.Memory.{FreeAreas, FreeFrames, Pages, Blocks, Memory, 
 use Rattle.hp_units.specs.FreeAreas.{is_on, without}
 use Rattle.hp_units.specs.Pages.{page_at, words_at}
 
--- ---- the state with words by frame (own rule)
+-- ---- the state with words by frame
 
--- the table of pages, and the buffer of words that a frame has
+-- the table of pages, and each frame's buffer of words
 pub record PageFrames : Type 0 where
   pub table : List (List (Option ℕ))
   pub buffers : List (Option (List ℕ))
@@ -42,7 +42,7 @@ is_blank words = list_all (λ word. word == 0) words
 abbrev pub buffer_for : List ℕ → Option (List ℕ)
 buffer_for words = if is_blank words then None else Some words
 
--- a frame has its page's words in a buffer where one of them is not 0, and no other frame has a buffer
+-- a frame has a buffer with its page's words if one of them is not 0; no other frame has a buffer
 abbrev pub page_frames_of : LayoutParts → Pages → PageFrames
 page_frames_of l ps = record {
   table = ps.table;
@@ -57,14 +57,14 @@ frame_view_of l s =
 
 -- ---- the delta of a word
 
--- a word in a frame that was and is below 2^32, or any other
+-- the short form if the word was and is below 2^32, otherwise the long form
 abbrev pub word_delta : (frame index was now : ℕ) → Delta
 word_delta frame index was now =
     if nat_lt was (2 ^ 32) && nat_lt now (2 ^ 32)
     then WordDelta index frame was now
     else LargeWord index frame (record { was = was; now = now })
 
--- ---- the opposite of a delta, on each part of the state (own rule)
+-- ---- undoing a delta, on each part of the state
 
 -- a list with a frame put after another, or at the front
 abbrev pub put_behind : Option ℕ → ℕ → List ℕ → List ℕ
@@ -120,7 +120,7 @@ undo delta v = record {
   blocks = blocks_undo delta v.blocks;
 }
 
--- the opposite of each delta, latest first
+-- undoes each delta, latest first
 abbrev pub undo_all : {S : Type 0} → (Delta → S → S) → List Delta → S → S
 undo_all one [] v = v
 undo_all one (delta ∷ deltas) v = one delta (undo_all one deltas v)
@@ -128,9 +128,9 @@ undo_all one (delta ∷ deltas) v = one delta (undo_all one deltas v)
 abbrev pub back : List Delta → FrameView → FrameView
 back deltas v = undo_all undo deltas v
 
--- ---- a delta fits a state: the state is as the delta left it, as far as the delta tells (own rule)
+-- ---- a delta fits a state: the state is as the delta left it, as far as the delta records it
 
--- a frame stands after another on a list, or at its front
+-- a frame is next after another on a list, or at its front
 abbrev pub is_behind : Option ℕ → ℕ → List ℕ → Bool
 is_behind after frame [] = false
 is_behind None frame (first ∷ frames) = first == frame
@@ -156,16 +156,16 @@ FitsCached (Unlink (Cpu pool cpu) frame after) fs =
     may_go_behind fs.cached after frame (cached_list fs cpu pool) ≡ true
 FitsCached delta fs = Unit {0}
 
--- of the free areas and the processors' lists together
+-- the same for the free areas and the processors' lists together
 abbrev pub FitsFree : Delta → FreeFrames → Type 0
 FitsFree delta fs = FitsAreas delta fs.areas × FitsCached delta fs
 
--- the frame of a new page has no buffer
+-- the frame of a newly mapped page has no buffer
 abbrev pub IsFresh : FrameChange → PageFrames → Type 0
 IsFresh (Mapped frame) v = buffer_of v frame ≡ None
 IsFresh change v = Unit {0}
 
--- a buffer's words are 0 but for one
+-- all words of a buffer are 0 except one
 abbrev pub HasOneWord : (index value : ℕ) → Option (List ℕ) → Type 0
 HasOneWord index value None = ⊥
 HasOneWord index value (Some words) = words ≡ slice_set (replicate (length words) 0) index value
@@ -202,7 +202,7 @@ abbrev pub AllFit : {S : Type 0} → (Delta → S → Type 0) → (Delta → S �
 AllFit Fit one [] v = Unit {0}
 AllFit Fit one (delta ∷ deltas) v = AllFit Fit one deltas v × Fit delta (undo_all one deltas v)
 
--- the numbers of a list, and of a delta, are in the layout (own rule)
+-- the numbers of a list, and of a delta, are within the layout
 abbrev pub IsListOf : LayoutParts → ListId → Type 0
 IsListOf l (Area class order) = order ≤ l.order
 IsListOf l (Cpu pool cpu) = cpu < l.cpus
@@ -223,23 +223,23 @@ IsDeltaOf l (Emptied frame words) = IsFrame l frame × (length words ≡ l.words
 IsDeltaOf l (RowDelta change) = change.block < l.blocks
 IsDeltaOf l (AutoDelta was now) = Unit {0}
 
--- ---- whose delta it is (own rule)
+-- ---- to which part of the state a delta belongs
 
--- of the free areas: of their lists, and of the pageblocks' kinds
+-- the free areas: their lists, and the pageblocks' kinds
 abbrev pub IsOfAreas : Delta → Type 0
 IsOfAreas (Link (Area class order) frame after) = Unit {0}
 IsOfAreas (Unlink (Area class order) frame after) = Unit {0}
 IsOfAreas (KindDelta pageblock was now) = Unit {0}
 IsOfAreas delta = ⊥
 
--- of the free areas and the processors' lists: of any list, and of the pageblocks' kinds
+-- the free areas and the processors' lists: any list, and the pageblocks' kinds
 abbrev pub IsOfFree : Delta → Type 0
 IsOfFree (Link list frame after) = Unit {0}
 IsOfFree (Unlink list frame after) = Unit {0}
 IsOfFree (KindDelta pageblock was now) = Unit {0}
 IsOfFree delta = ⊥
 
--- of the owners' pages
+-- the owners' pages
 abbrev pub IsOfPages : Delta → Type 0
 IsOfPages (MapDelta owner page change) = Unit {0}
 IsOfPages (Swap a b) = Unit {0}
@@ -249,7 +249,7 @@ IsOfPages (Filled index frame now) = Unit {0}
 IsOfPages (Emptied frame words) = Unit {0}
 IsOfPages delta = ⊥
 
--- of the rows of the memory blocks
+-- the rows of the memory blocks
 abbrev pub IsOfBlocks : Delta → Type 0
 IsOfBlocks (RowDelta change) = Unit {0}
 IsOfBlocks (AutoDelta was now) = Unit {0}

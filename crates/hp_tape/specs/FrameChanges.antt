@@ -1,4 +1,4 @@
--- The frame of an owner's page before and after a change (own rule).
+-- The frame of an owner's page before and after a change.
 use Rattle.std.specs.Prelude.{ℕ, Option, None, Some}
 use Rattle.hp_tape.specs.declared.frame_changes.FrameChange.{FrameChange}
 use Rattle.hp_tape.specs.declared.frame_changes.FrameChange.TheVariants.{Mapped, Unmapped, Moved}

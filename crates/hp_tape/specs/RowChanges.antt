@@ -1,4 +1,4 @@
--- The rows that a packed change of a row stands for (own rule).
+-- The rows that a packed change of a row represents.
 use Rattle.std.specs.Prelude.{◌≡◌, ℕ, Option, None, Some}
 use Rattle.hp_units.specs.declared.rows.Row.{Row}
 use Rattle.hp_units.specs.declared.rows.Claim.{Claim}
@@ -28,7 +28,7 @@ claim_in OffPart op = Some (record { op = op; wish = Off })
 claim_in NormalWish op = Some (record { op = op; wish = Normal })
 claim_in MovableWish op = Some (record { op = op; wish = Movable })
 
--- two claims are not of different operations
+-- the two claims are not of different operations
 abbrev pub AreOfOneOperation : Option Claim → Option Claim → Type 0
 AreOfOneOperation (Some before) (Some after) = before.op ≡ after.op
 AreOfOneOperation before after = Unit {0}

@@ -6,23 +6,23 @@ use Rattle.hp_units.specs.Memory.{FreeAreas, FreeFrames, Blocks}
 use Rattle.hp_tape.specs.declared.deltas.Delta.{Delta}
 use Rattle.hp_tape.specs.Deltas.{PageFrames, undo_all, AllFit, IsDeltaOf, IsOfAreas, IsOfFree, IsOfPages, IsOfBlocks, FitsAreas, areas_undo, FitsFree, free_undo, FitsPages, pages_undo, FitsBlocks, blocks_undo}
 
--- for how many deltas there is room, and those noted, oldest first
+-- the room, in deltas, and the deltas noted, oldest first
 pub record TapeValue : Type 0 where
   pub room : ℕ
   pub deltas : List Delta
 
--- there is room for so many more deltas
+-- there is room for `more` deltas
 abbrev pub HasRoom : TapeValue → ℕ → Type 0
 HasRoom tape more = length tape.deltas + more ≤ tape.room
 
--- deltas lead from a layer's later part of the state back to the earlier one, latest first, and
--- each fits when its turn comes
+-- the deltas lead from a layer's later state back to the earlier one, latest first, and each fits
+-- when its turn comes
 pub record LeadBack {S : Type 0} (Fit : Delta → S → Type 0) (one : Delta → S → S) (deltas : List Delta)
     (later earlier : S) : Type 0 where
   pub fit : AllFit Fit one deltas later
   pub back : undo_all one deltas later ≡ earlier
 
--- a call notes at most so many deltas, of its layer and of the layout, and they lead back from what
+-- a call notes at most `most` deltas, of its layer and of the layout, and they lead back from what
 -- it leaves to what it found
 pub record Notes {S : Type 0} (Own : Delta → Type 0) (Fit : Delta → S → Type 0) (one : Delta → S → S)
     (l : LayoutParts) (most : ℕ) (was now : TapeValue) (later earlier : S) : Type 0 where
@@ -33,7 +33,7 @@ pub record Notes {S : Type 0} (Own : Delta → Type 0) (Fit : Delta → S → Ty
   pub numbers : AllByRecursion (IsDeltaOf l) deltas
   pub lead : LeadBack Fit one deltas later earlier
 
--- of the free areas, the free frames, the pages and the rows
+-- the same for the free areas, the free frames, the pages and the rows
 abbrev pub NotesAreas : LayoutParts → ℕ → (was now : TapeValue) → (later earlier : FreeAreas) → Type 0
 NotesAreas l most was now later earlier = Notes IsOfAreas FitsAreas areas_undo l most was now later earlier
 

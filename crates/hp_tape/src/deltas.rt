@@ -1,4 +1,4 @@
-//! What was done to the state, so that it can be undone.
+//! Small changes of the state, each with what undoes it.
 ghost use Rattle.std.specs.Prelude.{◌≡◌, ◌<◌, ◌^◌, IfOk, IsOk};
 ghost use Rattle.hp_tape.specs.Deltas.{word_delta};
 ghost use Rattle.hp_tape.specs.declared.deltas.Delta.TheVariants.{Map as MapDelta};
@@ -16,12 +16,12 @@ use std::mem::size_of;
 pub enum ListId {
     /// The free blocks of a class and an order, 0 to 10.
     Area { class: Class, order: u8 },
-    /// The single frames of a pool in a processor's list; processors are 0 to 63.
+    /// The single frames of a pool on a processor's list. Processors are 0 to 63.
     Cpu { pool: Pool, cpu: u8 },
 }
 
 impl ListId {
-    /// The list of the free blocks of a class and an order.
+    /// Returns the list of the free blocks of a class and an order.
     pub fn of_area(class: Class, order: Order) -> ListId
         requires { order < 256 }
         ensures { result ≡ Area class order }
@@ -30,7 +30,7 @@ impl ListId {
         ListId::Area { class, order }
     }
 
-    /// The list of a pool and a processor.
+    /// Returns the list of a pool and a processor.
     pub fn of_cpu(pool: Pool, cpu: Cpu) -> ListId
         requires { cpu < 256 }
         ensures { result ≡ CpuList pool cpu }
@@ -40,9 +40,10 @@ impl ListId {
     }
 }
 
-/// One small change of the state, with what its opposite needs (own rule). None holds a list of
-/// frames or a state. Orders, processors, owners, pages and places of words take one or two bytes,
-/// frames and pageblocks four.
+/// One small change of the state, with what undoing it needs.
+///
+/// No delta holds a list of frames or a state. Orders, processors, owners, pages and indexes of
+/// words take one or two bytes, frames and pageblocks four.
 #[derive(Drop)]
 pub enum Delta {
     /// A frame was put after another, or at the front.
@@ -51,7 +52,7 @@ pub enum Delta {
         frame: Frame,
         after: Option<Frame>,
     },
-    /// A frame left its place after another, or at the front.
+    /// A frame left its position after another, or at the front.
     Unlink {
         list: ListId,
         frame: Frame,
@@ -63,46 +64,46 @@ pub enum Delta {
         was: Kind,
         now: Kind,
     },
-    /// A kernel's block of an order, 0 to 10, began or ended at a frame.
+    /// A kernel block of an order, 0 to 10, began or ended at a frame.
     Kernel {
         frame: Frame,
         was: Option<u8>,
         now: Option<u8>,
     },
-    /// A page, 0 to 65535, of an owner, 0 to 63, got a frame, lost it or changed it.
+    /// A page, 0 to 65535, of an owner, 0 to 63, was mapped, unmapped or moved.
     Map {
         owner: u8,
         page: u16,
         change: FrameChange,
     },
-    /// The buffers of two frames changed places.
+    /// The buffers of two frames were swapped.
     Swap {
         a: Frame,
         b: Frame,
     },
-    /// One word in the buffer of a frame changed, and was and is below 2^32; words are counted from
-    /// 0, and a frame has at most 512.
+    /// One word in a frame's buffer changed, and was and is below 2^32. Words are counted from 0,
+    /// and a frame has at most 512.
     Word {
         index: u16,
         frame: Frame,
         was: u32,
         now: u32,
     },
-    /// One word in the buffer of a frame changed, and was or is 2^32 or more.
+    /// One word in a frame's buffer changed, and was or is 2^32 or more.
     LargeWord {
         index: u16,
         frame: Frame,
         change: WordChange,
     },
-    /// A frame without a buffer got one, with the first word of its page that is not 0 in it; words
-    /// are counted from 0.
+    /// A frame without a buffer got one, which holds the first word of its page that is not 0.
+    /// Words are counted from 0.
     Filled {
         index: u16,
         frame: Frame,
         now: u64,
     },
-    /// The buffer of a frame moved into the journal: its page was unmapped, or its last word that was not 0
-    /// became 0.
+    /// A frame's buffer moved into the journal: its page was unmapped, or its last word that was
+    /// not 0 became 0.
     Emptied {
         frame: Frame,
         words: Words,
@@ -116,14 +117,14 @@ pub enum Delta {
     },
 }
 
-/// Bytes of a delta decide what a journal costs (own rule).
+/// The size of a delta decides what a journal costs.
 const _: () = prove!(size_of::<Delta>() <= 16);
 
-/// The least value of a word that takes more than four bytes.
+/// The smallest word that needs more than four bytes.
 const LARGE: u64 = 1 << 32;
 
 impl Delta {
-    /// What became of an owner's page.
+    /// Creates the delta of an owner's page.
     pub fn of_page(owner: Owner, page: Page, change: FrameChange) -> Delta
         requires owner { owner < 256 }
         requires page { page < 65536 }
@@ -138,8 +139,8 @@ impl Delta {
         }
     }
 
-    /// The change of a word, counted from 0, in the buffer of a frame. Takes memory only where one of
-    /// its values is 2^32 or more; an error is out of memory.
+    /// Creates the delta of a word, counted from 0, in a frame's buffer. Allocates only if one of
+    /// the values is 2^32 or more.
     pub fn of_word(
         alloc: Global,
         frame: Frame,
@@ -169,7 +170,7 @@ impl Delta {
         })
     }
 
-    /// An equal delta. Takes memory for the words that it holds, if it holds any; an error is out of memory.
+    /// Returns a copy. Allocates for the words that the delta holds, if any.
     pub fn copy(&self, alloc: Global) -> Result<Delta, AllocError>
         ensures { IfOk result (λ copy. copy ≡ self.now) }
     {

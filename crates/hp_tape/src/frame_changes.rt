@@ -1,22 +1,22 @@
-//! What became of an owner's page.
+//! A change of an owner's page.
 ghost use Rattle.std.specs.Prelude.{◌≡◌};
 ghost use Rattle.hp_tape.specs.FrameChanges.{frame_before};
 
 use hp_units::Frame;
 
-/// What became of an owner's page (own rule).
+/// A change of an owner's page.
 #[derive(Clone, Copy, PartialEq, Eq, Drop)]
 pub enum FrameChange {
-    /// It got a frame.
+    /// It got this frame.
     Mapped(Frame),
-    /// It lost its frame.
+    /// It lost this frame.
     Unmapped(Frame),
-    /// It moved from a frame to another.
+    /// It moved from one frame to another.
     Moved { was: Frame, now: Frame },
 }
 
 impl FrameChange {
-    /// The frame of the page before, if it had one.
+    /// Returns the frame before the change, if the page had one.
     pub fn before(self) -> Option<Frame>
         ensures { result ≡ frame_before self }
     {

@@ -1,4 +1,6 @@
-//! Deltas: what steps did to the state, so that it can be undone, and how many each step may note.
+//! Deltas, the small changes by which a step is undone, and how many of them each step may note.
+//!
+//! Read specs/Deltas first, then specs/Tapes and specs/Bounds.
 #![tactic(auto)]
 
 mod deltas;

@@ -1,4 +1,4 @@
-//! The rows of a memory block before and after a change, in a form short enough for a delta.
+//! A memory block's rows before and after a change, packed to fit a delta.
 ghost use Rattle.std.specs.Prelude.{◌≡◌, ◌<◌, ℕ, IfSome};
 ghost use Rattle.std.specs.Int.{w64, from_le_bytes};
 ghost use Rattle.hp_tape.specs.RowChanges.{AreOfOneOperation, claim_in, row_in, zone_in};
@@ -6,8 +6,8 @@ ghost use Rattle.hp_tape.specs.RowChanges.{AreOfOneOperation, claim_in, row_in, 
 use hp_units::{Block, Claim, Row, Serial, State, Wish, Zone};
 use std::marker::Model;
 
-/// A change of a memory block's row, with the rows before and after it, in 15 bytes (own rule). A
-/// contract sees the rows themselves.
+/// A memory block's rows before and after a change, in 15 bytes. A contract sees the rows
+/// themselves.
 #[derive(Drop)]
 pub struct RowChange {
     block: u8,
@@ -30,8 +30,8 @@ impl Model for RowChange {
 }
 
 impl RowChange {
-    /// A change of a memory block, of which there are at most 256, from a row to another. Where an
-    /// operation holds the block in both, it is the same one.
+    /// Packs a change from one row to another. The block's number is below 256. If both rows have a
+    /// claim, it must be the same operation's.
     pub fn new(block: Block, before: &Row, after: &Row) -> RowChange
         requires block { block < 256 }
         requires one { AreOfOneOperation before.now.claim after.now.claim }
@@ -45,7 +45,7 @@ impl RowChange {
         }
     }
 
-    /// An equal change.
+    /// Returns a copy.
     pub(crate) fn copy(&self) -> RowChange
         ensures { result ≡ self.now }
     {
@@ -57,21 +57,21 @@ impl RowChange {
         }
     }
 
-    /// The memory block.
+    /// Returns the memory block.
     pub fn block(&self) -> Block
         ensures { result ≡ self.now.block }
     {
         Block(u32::from(self.block))
     }
 
-    /// The row before the change.
+    /// Returns the row before the change.
     pub fn before(&self) -> Row
         ensures { result ≡ self.now.before }
     {
         self.before.row(op_in(self.op))
     }
 
-    /// The row after the change.
+    /// Returns the row after the change.
     pub fn after(&self) -> Row
         ensures { result ≡ self.now.after }
     {
@@ -79,7 +79,7 @@ impl RowChange {
     }
 }
 
-/// A memory block's row in 3 bytes, without the number of the operation that holds the block.
+/// A memory block's row in 3 bytes, without the number of its claim's operation.
 #[derive(Clone, Copy, Drop)]
 struct PackedRow {
     state: State,
@@ -183,14 +183,14 @@ impl WishPart {
     }
 }
 
-/// The operation's number that bytes are, lowest first.
+/// Returns the operation's number from its bytes, lowest first.
 fn op_in(bytes: [u8; 8]) -> Serial
     ensures { result ≡ from_le_bytes w64 bytes }
 {
     Serial(u64::from_le_bytes(bytes))
 }
 
-/// The number of the operation that one of two claims is of, and 0 where there is none.
+/// Returns the number of the operation that either claim names, or 0 if there is no claim.
 fn one_op(before: Option<Claim>, after: Option<Claim>) -> u64
     requires { AreOfOneOperation before after }
     ensures before { IfSome before (λ claim. claim.op ≡ result) }

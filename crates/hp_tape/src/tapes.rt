@@ -6,7 +6,7 @@ use crate::deltas::Delta;
 use std::alloc::{AllocError, Global};
 use std::marker::Model;
 
-/// Deltas, oldest first, and room for more: noting takes no memory.
+/// Deltas, oldest first, with room for more. Noting a delta never allocates.
 #[derive(Drop)]
 pub struct Tape {
     deltas: Vec<Delta>,
@@ -22,7 +22,7 @@ impl Model for Tape {
 }
 
 impl Tape {
-    /// A tape with room for `n` deltas and none noted.
+    /// Creates an empty tape with room for `n` deltas.
     pub fn with_room(alloc: Global, n: usize) -> Result<Tape, AllocError>
         ensures room { IfOk result (λ tape. tape.room ≡ n) }
         ensures none { IfOk result (λ tape. tape.deltas ≡ []) }
@@ -31,7 +31,7 @@ impl Tape {
         Ok(Tape { deltas })
     }
 
-    /// A tape of equal deltas, with room for no more. An error is out of memory.
+    /// Returns a copy, without room for more deltas.
     pub fn copy(&self, alloc: Global) -> Result<Tape, AllocError>
         ensures deltas { IfOk result (λ copy. copy.deltas ≡ self.now.deltas) }
         ensures room { IfOk result (λ copy. copy.room ≡ length self.now.deltas) }
@@ -45,9 +45,9 @@ impl Tape {
     }
 
     /// Makes room for `n` more deltas. The room grows by a factor, so that many small calls copy
-    /// each delta few times.
+    /// each delta only a few times.
     ///
-    /// Fails only where that room was missing, and then the tape is as before.
+    /// Fails only if room was missing, and then the tape is as before.
     pub fn reserve(&mut self, n: usize) -> Result<(), AllocError>
         ensures deltas { self.new.deltas ≡ self.old.deltas }
         ensures room { OnOk result (HasRoom self.new n) }
@@ -58,7 +58,7 @@ impl Tape {
         self.deltas.reserve(n)
     }
 
-    /// Notes one more delta, for which there is room.
+    /// Notes a delta. There must be room for it.
     pub fn note(&mut self, delta: Delta)
         requires { length self.old.deltas < self.old.room }
         ensures room { self.new.room ≡ self.old.room }
@@ -67,7 +67,7 @@ impl Tape {
         self.deltas.push_reserved(delta);
     }
 
-    /// Takes the latest delta out.
+    /// Removes the latest delta and returns it.
     pub fn latest(&mut self) -> Option<Delta>
         ensures latest { MatchOption result ((self.old.deltas ≡ []) × (self.new.deltas ≡ []))
             (λ delta. self.old.deltas ≡ self.new.deltas ++ delta ∷ []) }
@@ -76,21 +76,21 @@ impl Tape {
         self.deltas.pop()
     }
 
-    /// The deltas, oldest first.
+    /// Returns the deltas, oldest first.
     pub fn as_slice(&self) -> &[Delta]
         ensures { result.now ≡ self.now.deltas }
     {
         self.deltas.as_slice()
     }
 
-    /// How many deltas are noted.
+    /// Returns how many deltas are noted.
     pub fn len(&self) -> usize
         ensures { result ≡ length self.now.deltas }
     {
         self.deltas.len()
     }
 
-    /// Gives back the room that no delta uses: all of it where there is none.
+    /// Frees the room that no delta uses: all of it if the tape is empty.
     pub fn trim(&mut self)
         ensures deltas { self.new.deltas ≡ self.old.deltas }
         ensures room { self.new.room ≤ self.old.room }

@@ -1,11 +1,10 @@
-//! A word before and after a change, in a place of its own.
+//! A word before and after a change, in a box.
 ghost use Rattle.std.specs.Prelude.{◌≡◌, IfOk};
 
 use std::alloc::{AllocError, Global};
 use std::marker::Model;
 
-/// A word before and after a change, in a place of its own, so that a delta has 8 bytes of it (own
-/// rule).
+/// A word before and after a change. It is boxed, so that it takes 8 bytes of a delta.
 #[derive(Drop)]
 pub struct WordChange {
     words: Box<WasAndNow>,
@@ -26,7 +25,7 @@ impl Model for WordChange {
 }
 
 impl WordChange {
-    /// A change of a word, for which it takes memory. An error is out of memory.
+    /// Creates the change of a word. Allocates its box.
     pub(crate) fn new(alloc: Global, was: u64, now: u64) -> Result<WordChange, AllocError>
         ensures { IfOk result (λ change. change ≡ record { was = was; now = now }) }
     {
@@ -34,21 +33,21 @@ impl WordChange {
         Ok(WordChange { words })
     }
 
-    /// An equal change. An error is out of memory.
+    /// Returns a copy. Allocates its box.
     pub(crate) fn copy(&self, alloc: Global) -> Result<WordChange, AllocError>
         ensures { IfOk result (λ change. change ≡ self.now) }
     {
         WordChange::new(alloc, self.was(), self.now())
     }
 
-    /// The word before the change.
+    /// Returns the word before the change.
     pub fn was(&self) -> u64
         ensures { result ≡ self.now.was }
     {
         self.words.was
     }
 
-    /// The word after the change.
+    /// Returns the word after the change.
     pub fn now(&self) -> u64
         ensures { result ≡ self.now.now }
     {

@@ -1,5 +1,5 @@
--- What one run of a plan's driver is: each event follows from the receipts so far, and the end from
--- all of them.
+-- One run of a plan's driver: each event follows from the receipts so far, and the
+-- end from all of them.
 use Rattle.std.specs.Prelude.{◌≡◌, ℕ, ◌+◌, Bool, true, false, List, [], ◌∷◌, ◌++◌, Option, Some, None, nat_lt, count_by, fold, if◌then◌else◌}
 use Rattle.std.specs.List.{last_or}
 use Rattle.std.specs.Option.{option_map_or, option_and_then}
@@ -14,17 +14,17 @@ is_migrate event = false
 abbrev pub tried : List Receipt → ℕ
 tried receipts = count_by (λ r. is_migrate r.event) receipts
 
--- where a migration would be next, or a cancel once so many were tried
+-- a migration, or a cancel once `turns` migrations were tried
 abbrev pub migrate_or_cancel : (turns : ℕ) (op : Serial) → List Receipt → Event
 migrate_or_cancel turns op receipts = if nat_lt (tried receipts) turns then Migrate op else Cancel op
 
--- the drain of a round for a processor, or after the last one a turn
+-- the drain of this processor in a round; after the last processor, a migration or a cancel
 abbrev pub next_drain : (cpus turns : ℕ) (op : Serial) (cpu : Cpu) → List Receipt → Event
 next_drain cpus turns op cpu receipts =
     if nat_lt cpu cpus then DrainFor op cpu else migrate_or_cancel turns op receipts
 
--- the event after one that was answered, if the run goes on: after Opened, NoFrame and NotFree a
--- round of drains, after a full round and Moved a turn, and after NothingToMove a commit (own rule)
+-- the event after a call and its reply, if the run goes on: after Opened, NoFrame and NotFree a
+-- round of drains; after a full round and after Moved a migration; after NothingToMove a commit
 abbrev pub next_after : (cpus turns : ℕ) → List Receipt → Event → Reply → Option Event
 next_after cpus turns receipts (Begin plan) (Opened op) = Some (next_drain cpus turns op 0 receipts)
 next_after cpus turns receipts (DrainFor op cpu) Done = Some (next_drain cpus turns op (cpu + 1) receipts)
@@ -50,7 +50,7 @@ cause_after cause event reply = cause
 abbrev pub cause_of : List Receipt → Option Refusal
 cause_of receipts = fold (λ cause r. cause_after cause r.event r.reply) None receipts
 
--- the end that the last answer makes (own rule)
+-- the end that follows from the last reply
 abbrev pub end_after : Option Refusal → Event → Reply → Option OpEnd
 end_after cause (Begin plan) (Refused refusal) = Some (EndsRefused refusal)
 end_after cause event (Refused NoOp) = Some EndsUndone
@@ -71,14 +71,14 @@ abbrev pub operation_of : List Receipt → Option Serial
 operation_of [] = None
 operation_of (r ∷ rs) = opened_by r.reply
 
--- each receipt, after the earlier ones, has the event that is next
+-- each receipt has the event that was next after the earlier ones
 abbrev pub AllNext : (cpus turns : ℕ) → List Item → List Receipt → List Receipt → Type 0
 AllNext cpus turns plan earlier [] = Unit {0}
 AllNext cpus turns plan earlier (r ∷ rs) =
     (next_event cpus turns plan earlier ≡ Some r.event) × AllNext cpus turns plan (earlier ++ r ∷ []) rs
 
--- the end that receipts and the fault of the last call make: a fault where an event was still to
--- come (own rule)
+-- the end that follows from the receipts and the last call's fault; a fault means that an event was
+-- still to come
 abbrev pub Ends : List Receipt → Option Event → Option CallFault → OpEnd → Type 0
 Ends receipts (Some event) (Some fault) end = end ≡ EndsLeft (operation_of receipts) fault
 Ends receipts (Some event) None end = ⊥

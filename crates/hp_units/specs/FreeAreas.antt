@@ -9,26 +9,26 @@ use Rattle.hp_numbers.specs.Numbers.{ancestor}
 use Rattle.hp_units.specs.Arithmetic.{buddy, pageblock_of}
 use Rattle.hp_units.specs.Memory.{FreeAreas, free_list, with_free_list, kind_of, with_kind, usable_class, isolated_class}
 
--- the areas after a block was taken or stolen, and its first frame
+-- the areas after a block was taken or stolen, and the block's first frame
 pub record Taken : Type 0 where
   pub areas : FreeAreas
   pub frame : Frame
 
--- whether a list has a frame, and the list without it
+-- whether a list contains a frame, and the list without it
 abbrev pub is_on : Frame → List Frame → Bool
 is_on frame frames = list_any (λ other. other == frame) frames
 
 abbrev pub without : Frame → List Frame → List Frame
 without frame frames = filter (λ other. not (other == frame)) frames
 
--- the class that the free blocks of a pageblock have, by its block's zone and its kind (own rule)
+-- the class of a pageblock's free blocks, by its zone and its kind
 abbrev pub class_of_kind : Zone → Kind → Class
 class_of_kind zone kind = if kind.isolated then isolated_class zone else usable_class zone kind.mobility
 
 abbrev pub class_of : LayoutParts → FreeAreas → Zone → Frame → Class
 class_of l a zone frame = class_of_kind zone (kind_of a (pageblock_of l frame))
 
--- a free block at the front of a list, and at its back; a list without a free block
+-- a free block added at the front of a list, or at its back; a list without a free block
 abbrev pub with_front : FreeAreas → Class → Order → Frame → FreeAreas
 with_front a class order frame = with_free_list a class order (frame ∷ free_list a class order)
 
@@ -38,35 +38,35 @@ with_back a class order frame = with_free_list a class order (free_list a class 
 abbrev pub without_free : FreeAreas → Class → Order → Frame → FreeAreas
 without_free a class order frame = with_free_list a class order (without frame (free_list a class order))
 
--- an order if its list has a block, and otherwise another answer
+-- an order if its list has a block, otherwise another result
 abbrev pub order_or : List Frame → Order → Option Order → Option Order
 order_or [] order other = other
 order_or (frame ∷ frames) order other = Some order
 
--- the least order from the first on, of so many orders, at which a class has a free block (Knuth,
--- volume 1, section 2.5, reservation)
+-- the least of `count` orders from `first` on at which a class has a free block (Knuth, volume 1,
+-- section 2.5, reservation)
 abbrev pub least_order : FreeAreas → Class → (first : Order) (count : ℕ) → Option Order
 least_order a class first zero = None
 least_order a class first (suc count) =
     order_or (free_list a class first) first (least_order a class (suc first) count)
 
--- the greatest of so many orders from the first on at which a class has a free block (Gorman,
--- chapter 6: fallback takes the largest block)
+-- the greatest of `count` orders from `first` on at which a class has a free block (Gorman, chapter
+-- 6: fallback takes the largest block)
 abbrev pub greatest_order : FreeAreas → Class → (first : Order) (count : ℕ) → Option Order
 greatest_order a class first zero = None
 greatest_order a class first (suc count) =
     order_or (free_list a class (first + count)) (first + count) (greatest_order a class first count)
 
--- the areas with the upper halves that a block leaves when it is split down by so many orders to
--- the last one: one half of each of these orders, at the front of its list (Knuth, volume 1,
+-- the areas with the upper halves that are left when a block is split down by `count` orders to the
+-- order `last`: one half at each of these orders, at the front of its list (Knuth, volume 1,
 -- section 2.5, reservation)
 abbrev pub with_halves : FreeAreas → Class → (frame : Frame) (last : Order) (count : ℕ) → FreeAreas
 with_halves a class frame last zero = a
 with_halves a class frame last (suc count) =
     with_front (with_halves a class frame (suc last) count) class last (frame + 2 ^ last)
 
--- the first of the frames on a class's list of an order leaves, and what is left of its block over
--- the order wanted is put on the lists of a class
+-- the first of these frames leaves a class's list, and what its block has above the wanted order is
+-- put on the lists of the class `rest`
 abbrev pub take_first : FreeAreas → (class rest : Class) → (order wanted : Order) → List Frame → Option Taken
 take_first a class rest order wanted [] = None
 take_first a class rest order wanted (frame ∷ frames) =
@@ -79,39 +79,40 @@ take_first a class rest order wanted (frame ∷ frames) =
 abbrev pub take_front : FreeAreas → (class rest : Class) → (order wanted : Order) → Option Taken
 take_front a class rest order wanted = take_first a class rest order wanted (free_list a class order)
 
--- the front block of the least order that serves, split down to the order wanted; none if no order serves
--- (Knuth, volume 1, section 2.5, reservation; which end of the list is own)
+-- the front block of the least order that is large enough, split down to the wanted order;
+-- None if no order is (Knuth, volume 1, section 2.5, reservation; which end of the list is
+-- this model's choice)
 unfoldable pub take_block : LayoutParts → FreeAreas → Class → Order → Option Taken
 take_block l a class wanted =
     option_and_then (λ order. take_front a class class order wanted)
     (least_order a class wanted (l.order + 1 - wanted))
 
--- the order that a free block joins up to, from an order on, looking at so many orders:
--- the least at which its buddy isn't free, or else the last (Knuth, volume 1, section 2.5, liberation)
+-- the order up to which a free block joins, looking at `count` orders: the least at which its buddy
+-- is not free, or else the last (Knuth, volume 1, section 2.5, liberation)
 abbrev pub join_order : FreeAreas → Class → (frame : Frame) (order : Order) (count : ℕ) → Order
 join_order a class frame order zero = order
 join_order a class frame order (suc count) =
     let joined = join_order a class frame (suc order) count in
     if is_on (buddy (ancestor frame order) order) (free_list a class order) then joined else order
 
--- the areas without the frame's buddies of so many orders, from an order on (Knuth, volume 1,
--- section 2.5, liberation)
+-- the areas without the frame's buddies of `count` orders (Knuth, volume 1, section 2.5,
+-- liberation)
 abbrev pub without_buddies : FreeAreas → Class → (frame : Frame) (order : Order) (count : ℕ) → FreeAreas
 without_buddies a class frame order zero = a
 without_buddies a class frame order (suc count) =
     without_free (without_buddies a class frame order count) class (order + count)
     (buddy (ancestor frame (order + count)) (order + count))
 
--- a block comes back: it joins with its buddies as far as they are free in the class that its
--- pageblock shows, and goes to the front of its list (Knuth, volume 1, section 2.5, liberation;
--- that a pageblock isn't crossed is own)
+-- a block comes back: it joins with its buddies while they are free in its pageblock's class, and
+-- goes to the front of its list (Knuth, volume 1, section 2.5, liberation; that it never joins
+-- across pageblocks is this model's choice)
 unfoldable pub give_block : LayoutParts → FreeAreas → Zone → (frame : Frame) (order : Order) → FreeAreas
 give_block l a zone frame order =
     let class = class_of l a zone frame in
     let joined = join_order a class frame order (l.order - order) in
     with_front (without_buddies a class frame order (joined - order)) class joined (ancestor frame joined)
 
--- the mobility that is stolen from (own rule)
+-- the mobility to steal from
 abbrev pub other_mobility : Mobility → Mobility
 other_mobility Unmovable = Movable
 other_mobility Movable = Unmovable
@@ -124,8 +125,8 @@ with_mobility l mobility taken =
           (record (kind_of taken.areas (pageblock_of l taken.frame)) { mobility = mobility });
     }
 
--- the front block of an order of the other mobility: a whole pageblock takes the mobility wanted,
--- and then its rest does; otherwise the rest stays where it was
+-- the front block of an order of the other mobility. A whole pageblock changes to the wanted
+-- mobility, and the rest of the block with it; otherwise the rest stays where it was
 abbrev pub steal_front : LayoutParts → FreeAreas → Mobility → (order wanted : Order) → Option Taken
 steal_front l a mobility order wanted =
     let from = usable_class NormalZone (other_mobility mobility) in
@@ -134,8 +135,8 @@ steal_front l a mobility order wanted =
     (take_front a from (usable_class NormalZone mobility) order wanted)
     else take_front a from from order wanted
 
--- a block for a mobility of zone Normal, stolen from the other mobility: of the greatest order that has one
--- (Gorman, chapter 6: fallback; the rule is own)
+-- a block for a mobility of zone Normal, stolen from the other mobility's greatest order that has
+-- one (Gorman, chapter 6: fallback; the exact rule is this model's)
 unfoldable pub steal_block : LayoutParts → FreeAreas → Mobility → Order → Option Taken
 steal_block l a mobility wanted =
     option_and_then (λ order. steal_front l a mobility order wanted)

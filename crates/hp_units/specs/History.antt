@@ -1,6 +1,6 @@
--- Whole histories: which steps count, the state that they lead to, and which histories there can
--- be. A history is the list of records since a base state, oldest first, and `before` is the number
--- of all earlier records.
+-- Whole histories: which steps count, the state that they lead to, and which histories are
+-- possible. A history is the list of records since a base state, oldest first; `before` is the
+-- number of all earlier records.
 use Rattle.std.specs.Prelude.{ℕ, ◌≡◌, ◌+◌, Bool, true, false, ◌||◌, if◌then◌else◌, List, [], ◌∷◌, ◌++◌, Option, Some, None, length, take, map, filter, count_by, fold, nat_lt, nat_le, slice_get}
 use Rattle.hp_numbers.specs.Numbers.{Cpu, Serial}
 use Rattle.hp_units.specs.Names.{Event, Read, Cancel, UndoAfter, Reply, Restored, Undone, Refused, NoCpu, Gone, Record}
@@ -11,7 +11,7 @@ use Rattle.hp_units.specs.Step.{step}
 
 -- ---- what an event does to the list of steps
 
--- it only reads, it undoes the steps above a serial, it cancels an operation, or it is a step
+-- it only reads, undoes the steps above a serial, cancels an operation, or is a step
 pub data Effect : Type 0 where
   Looks : Effect
   Undoes : (serial : Serial) → Effect
@@ -24,7 +24,7 @@ effect_of (UndoAfter serial) = Undoes serial
 effect_of (Cancel op) = Cancels op
 effect_of event = Acts
 
--- whether an event only reads
+-- the event only reads
 abbrev pub is_look : Event → Bool
 is_look event = looks (effect_of event)
   where
@@ -34,7 +34,7 @@ is_look event = looks (effect_of event)
     looks (Cancels op) = false
     looks Acts = false
 
--- whether a reply is a refusal, and whether it says that an earlier state is back
+-- the reply is a refusal; the reply reports that an earlier state is back
 abbrev pub is_refused : Reply → Bool
 is_refused (Refused refusal) = true
 is_refused reply = false
@@ -44,7 +44,7 @@ goes_back (Undone count) = true
 goes_back Restored = true
 goes_back reply = false
 
--- ---- the net: the steps that are not dropped (own rule)
+-- ---- the net: the steps that are not dropped
 
 -- the steps up to a serial, and how many are above it
 unfoldable pub steps_until : Serial → List Record → List Record
@@ -53,13 +53,13 @@ steps_until serial net = filter (λ r. nat_le r.serial serial) net
 unfoldable pub count_above : Serial → List Record → ℕ
 count_above serial net = count_by (λ r. nat_lt serial r.serial) net
 
--- the steps before a place, or with one more where there is no such place
+-- the steps before this index; with one more if there is no such index
 abbrev pub cut_or_add : List Record → Record → Option ℕ → List Record
 cut_or_add net r (Some place) = take place net
 cut_or_add net r None = net ++ r ∷ []
 
--- the net after one more record that was not refused, by the effect of its event: a sole Cancel
--- drops its operation's steps
+-- the net after one more record that was not refused, by its effect. A Cancel of a sole operation
+-- drops the operation's steps
 abbrev pub net_with_effect : List Record → Record → Effect → List Record
 net_with_effect net r Looks = net
 net_with_effect net r (Undoes serial) = steps_until serial net
@@ -70,13 +70,13 @@ net_with_effect net r Acts = net ++ r ∷ []
 unfoldable pub net_with : List Record → Record → List Record
 net_with net r = if is_refused r.reply then net else net_with_effect net r (effect_of r.event)
 
--- the steps of a history that are not dropped, by its last record (own rule)
+-- the steps that are not dropped by the end of the history
 unfoldable pub net_of : List Record → List Record
 net_of history = fold net_with [] history
 
--- ---- the value: the state that the net leads to (own rule)
+-- ---- the value: the state that the net leads to
 
--- the steps, one after another
+-- runs the steps, one after another
 unfoldable pub run : LayoutParts → Memory → List Record → Memory
 run l s [] = s
 run l s (r ∷ steps) = run l (step l s r.serial r.cpu r.event).memory steps
@@ -84,15 +84,15 @@ run l s (r ∷ steps) = run l (step l s r.serial r.cpu r.event).memory steps
 unfoldable pub value_of : LayoutParts → Memory → List Record → Memory
 value_of l base history = run l base (net_of history)
 
--- ---- which histories there can be (own rule)
+-- ---- which histories are possible
 
--- the reply to a Cancel: one that the step doesn't refuse restores if its operation is sole
+-- the reply to a Cancel: Restored if it is not refused and its operation is sole
 abbrev pub cancel_reply : Reply → Option ℕ → Reply
 cancel_reply reply None = reply
 cancel_reply reply (Some place) = if is_refused reply then reply else Restored
 
--- the reply to an undo of the steps above a serial, when the number of earlier records and the last
--- serial are known
+-- the reply to an undo of the steps above a serial, given the number of earlier records and the
+-- last serial
 abbrev pub undo_reply : (before last : Serial) → List Record → Serial → Reply
 undo_reply before last net serial =
     if nat_lt last serial || nat_lt serial before then Refused Gone else Undone (count_above serial net)
@@ -113,13 +113,13 @@ reply_of l base before earlier cpu event =
     effect_reply l before (before + length earlier) (net_of earlier) (value_of l base earlier)
     (before + length earlier + 1) cpu event (effect_of event)
 
--- a record may stand after the earlier ones
+-- the record can follow the earlier ones
 pub record Follows (l : LayoutParts) (base : Memory) (before : ℕ) (earlier : List Record)
     (r : Record) : Type 0 where
   pub serial : r.serial ≡ before + length earlier + 1
   pub reply : r.reply ≡ reply_of l base before earlier r.cpu r.event
 
--- the history of a machine since its base state: each record may stand after those before it
+-- the history is possible: each record can follow those before it
 abbrev pub IsLegal : LayoutParts → Memory → ℕ → List Record → Type 0
 IsLegal l base before history =
     (at : ℕ) (r : Record) → slice_get history at ≡ Some r → Follows l base before (take at history) r

@@ -1,4 +1,4 @@
--- The numbers in a state are those of its layout: what each operation needs of the state that it
+-- The numbers in a state are within its layout, as each operation needs it of the state that it
 -- works on. Every well placed state is such a state.
 use Rattle.std.specs.Prelude.{◌≡◌, ◌+◌, ◌*◌, ◌^◌, ◌≤◌, true, List, Option, None, length, slice_index_or, IfSome}
 use Rattle.std.specs.List.{AllByRecursion}
@@ -10,22 +10,22 @@ use Rattle.hp_units.specs.Memory.{FreeAreas, FreeFrames, Pages, Blocks, Memory, 
 use Rattle.hp_units.specs.FreeAreas.{is_on}
 use Rattle.hp_units.specs.Pages.{frame_at, words_at}
 
--- a list for each class and order, a kind for each pageblock, and each free block lies within the
--- frames (own rule)
+-- a list per class and order, a kind per pageblock, and each free block within the frames
 pub record AreFreeAreasOf (l : LayoutParts) (a : FreeAreas) : Type 0 where
   pub lists : length a.lists ≡ 5 * (l.order + 1)
   pub kinds : length a.kinds ≡ pageblock_count l
   pub free : (class : Class) (order : Order) (first : Frame) → is_on first (free_list a class order) ≡ true
       → first + 2 ^ order ≤ frame_count l
 
--- and three lists of frames for each processor
+-- in addition, three lists of frames per processor
 pub record AreFreeFramesOf (l : LayoutParts) (fs : FreeFrames) : Type 0 where
   pub areas : AreFreeAreasOf l fs.areas
   pub lists : length fs.cached ≡ 3 * l.cpus
   pub cached : (cpu : Cpu) (pool : Pool) (frame : Frame) → is_on frame (cached_list fs cpu pool) ≡ true
       → IsFrame l frame
 
--- each owner has the layout's pages, at frames and with as many words as the layout says
+-- each owner has the layout's number of pages, each at a frame and with the
+-- layout's number of words
 pub record ArePagesOf (l : LayoutParts) (ps : Pages) : Type 0 where
   pub owners : length ps.table ≡ l.owners
   pub pages : AllByRecursion (λ row. length row ≡ l.pages) ps.table
@@ -35,12 +35,12 @@ pub record ArePagesOf (l : LayoutParts) (ps : Pages) : Type 0 where
   pub words : (owner : Owner) (page : Page)
       → IfSome (words_at ps owner page) (λ words. length words ≡ l.words)
 
--- the kernel's blocks are of orders that there are
+-- kernel blocks have orders of the layout
 pub record AreKernelBlocksOf (l : LayoutParts) (kernel : List (Option Order)) : Type 0 where
   pub frames : length kernel ≡ frame_count l
   pub orders : (first : Frame) → IfSome (slice_index_or kernel first None) (λ order. order ≤ l.order)
 
--- a row for each memory block
+-- a row per memory block
 pub record AreBlocksOf (l : LayoutParts) (bs : Blocks) : Type 0 where
   pub rows : length bs.rows ≡ l.blocks
 

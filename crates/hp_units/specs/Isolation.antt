@@ -1,4 +1,4 @@
--- Whole pageblocks: taken out of use and put back, added, and removed.
+-- Isolating whole pageblocks and putting them back, adding and removing them.
 use Rattle.std.specs.Prelude.{zero, suc, ◌+◌, ◌*◌, Bool, not, ◌++◌, filter, fold, ◌==◌}
 use Rattle.hp_numbers.specs.Numbers.{Order, Pageblock, Block}
 use Rattle.hp_units.specs.Names.{Zone, Movable, Class}
@@ -7,8 +7,7 @@ use Rattle.hp_units.specs.Arithmetic.{pageblock_size, pageblock_of, pageblocks_o
 use Rattle.hp_units.specs.Memory.{FreeAreas, free_list, with_free_list, kind_of, with_kind, plain_kind, usable_class, isolated_class}
 use Rattle.hp_units.specs.FreeAreas.{is_on, class_of_kind, with_back, without_free}
 
--- the free blocks of one order in a pageblock go, by rising number, to the back of another class's
--- list (own rule)
+-- a pageblock's free blocks of one order move, in rising order, to the back of another class's list
 abbrev pub move_free : LayoutParts → FreeAreas → (from to : Class) → (pageblock : Pageblock) (order : Order)
     → FreeAreas
 move_free l a from to pageblock order =
@@ -18,15 +17,15 @@ move_free l a from to pageblock order =
     with_free_list left to order
     (free_list left to order ++ filter (λ frame. is_on frame frames) (frames_of_pageblock l pageblock))
 
--- the same at each order below one
+-- the same at each order below this one
 abbrev pub move_free_below : LayoutParts → FreeAreas → (from to : Class)
     → (pageblock : Pageblock) (order : Order) → FreeAreas
 move_free_below l a from to pageblock zero = a
 move_free_below l a from to pageblock (suc order) =
     move_free l (move_free_below l a from to pageblock order) from to pageblock order
 
--- a pageblock becomes isolated, or is so no more, and its free blocks change their class (Linux,
--- memory hotplug: offlining; the order is own)
+-- a pageblock becomes isolated or usable again, and its free blocks change their class (Linux,
+-- memory hotplug: offlining; the order is this model's choice)
 unfoldable pub move_pageblock : LayoutParts → Zone → Bool → FreeAreas → Pageblock → FreeAreas
 move_pageblock l zone isolated a pageblock =
     let kind = kind_of a pageblock in
@@ -34,11 +33,11 @@ move_pageblock l zone isolated a pageblock =
     with_kind (move_free_below l a (class_of_kind zone kind) (class_of_kind zone moved) pageblock
     (l.order + 1)) pageblock moved
 
--- the same for each pageblock of a memory block, by rising number (own rule)
+-- the same for each pageblock of a memory block, in rising order
 abbrev pub move_block : LayoutParts → Zone → Bool → FreeAreas → Block → FreeAreas
 move_block l zone isolated a block = fold (move_pageblock l zone isolated) a (pageblocks_of l block)
 
--- a whole pageblock goes to the back of its zone's list (own rule)
+-- a whole pageblock goes to the back of its zone's list
 abbrev pub add_pageblock : LayoutParts → Zone → FreeAreas → Pageblock → FreeAreas
 add_pageblock l zone a pageblock =
     with_back a (usable_class zone Movable) l.order (pageblock * pageblock_size l)

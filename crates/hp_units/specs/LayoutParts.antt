@@ -1,4 +1,4 @@
--- How much of everything a machine has.
+-- The sizes of a machine.
 use Rattle.std.specs.Prelude.{◌≡◌, ℕ, ◌*◌, ◌^◌, ◌≤◌, Bool, not, ◌&&◌, List, [], ◌∷◌, length, Option, ◌==◌, nat_le}
 use Rattle.std.specs.List.{list_any, range_with_len}
 use Rattle.std.specs.Bool.{then_some}
@@ -7,7 +7,7 @@ use Rattle.hp_units.specs.declared.layouts.LayoutFault.{LayoutFault}
 use Rattle.hp_units.specs.declared.layouts.LayoutFault.TheVariants.{BadOrder, BadPageblocks, BadBlocks, TooManyFrames, BadCpus, BadMarks, BadOwners, BadPages, BadWords, BadLimit, BadBoot}
 use Rattle.hp_units.specs.declared.rows.Boot.{Boot}
 
--- the parts of a layout (own rule)
+-- the parts of a layout
 pub record LayoutParts : Type 0 where
   pub order : ℕ
   pub pageblocks : ℕ
@@ -21,7 +21,7 @@ pub record LayoutParts : Type 0 where
   pub history : ℕ
   pub boot : List Boot
 
--- the parts are within their limits (own rule)
+-- the parts are within their limits
 pub record IsLayout (l : LayoutParts) : Type 0 where
   pub order : l.order ≤ 10
   pub pageblocks : (k : ℕ) × (k ≤ 6) × (l.pageblocks ≡ 2 ^ k)
@@ -43,15 +43,15 @@ pub record IsLayout (l : LayoutParts) : Type 0 where
   pub history : l.history ≤ 2 ^ 24
   pub boot : length l.boot ≡ l.blocks
 
--- a number lies between two
+-- a number is within two bounds
 abbrev pub is_within : (low high n : ℕ) → Bool
 is_within low high n = nat_le low n && nat_le n high
 
--- a number of pageblocks in a memory block: a power of two up to 64
+-- a valid number of pageblocks per memory block: a power of two up to 64
 abbrev pub is_pageblock_count : ℕ → Bool
 is_pageblock_count n = list_any (λ k. n == 2 ^ k) (range_with_len 0 7)
 
--- the faults of a layout in their order: of its frames, of its processors, and of the rest (own rule)
+-- the faults of a layout in their order: of its frames, of its processors, and of the rest
 abbrev pub frame_fault : LayoutParts → Option LayoutFault
 frame_fault l = first_some (
     then_some (not (is_within 0 10 l.order)) BadOrder
@@ -75,6 +75,6 @@ owner_fault l = first_some (
     ∷ then_some (not (length l.boot == l.blocks)) BadBoot
     ∷ [])
 
--- the first fault of the parts of a layout (own rule)
+-- the first fault of a layout
 abbrev pub layout_fault : LayoutParts → Option LayoutFault
 layout_fault l = first_some (frame_fault l ∷ processor_fault l ∷ owner_fault l ∷ [])

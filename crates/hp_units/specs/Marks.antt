@@ -1,11 +1,11 @@
--- What undo and Cancel have to know of a step: its serial, and whether it begins an operation or is
+-- What undo and Cancel need to know of a step: its serial, and whether it begins an operation or is
 -- one of its own drains and migrations.
 use Rattle.std.specs.Prelude.{ℕ, suc, ◌==◌, Bool, true, false, if◌then◌else◌, ◌&&◌, List, [], ◌∷◌, Option, Some, None}
 use Rattle.std.specs.Option.{option_map}
 use Rattle.hp_numbers.specs.Numbers.{Serial}
 use Rattle.hp_units.specs.Names.{Event, Begin, DrainFor, Migrate, Mark, Opens, Works, Other, Tag, Record}
 
--- the mark of an event (own rule)
+-- the mark of an event
 abbrev pub mark_of : Event → Mark
 mark_of (Begin plan) = Opens
 mark_of (DrainFor op cpu) = Works op
@@ -16,7 +16,7 @@ mark_of event = Other
 abbrev pub tag_of : Record → Tag
 tag_of r = record { serial = r.serial; mark = mark_of r.event }
 
--- whether a mark is that of a Begin, and whether it is that of an operation's own work
+-- the mark is that of a Begin; it is that of the operation's own work
 abbrev pub is_opening : Mark → Bool
 is_opening Opens = true
 is_opening (Works op) = false
@@ -36,8 +36,8 @@ abbrev pub holds_only_own_work : Serial → List Tag → Bool
 holds_only_own_work op [] = true
 holds_only_own_work op (t ∷ ts) = is_work_of op t.mark && holds_only_own_work op ts
 
--- the place of the operation's Begin, if after it there is nothing but the operation's own work:
--- the operation is sole (own rule)
+-- the index of the operation's Begin if only the operation's own work follows it: then the
+-- operation is sole
 unfoldable pub sole_at : Serial → List Tag → Option ℕ
 sole_at op [] = None
 sole_at op (t ∷ ts) =

@@ -1,34 +1,34 @@
--- The state of the machine's memory, as plain lists, with the readers and writers of each part. A
--- reader answers nothing, or the state of an offline block, for a number that isn't in the layout,
--- and a writer changes nothing there.
+-- The state of the machine's memory, as plain lists, with the readers and writers of each part. For
+-- a number outside the layout, a reader returns nothing or the state of an offline block, and a
+-- writer changes nothing.
 use Rattle.std.specs.Prelude.{ℕ, zero, suc, ◌+◌, ◌*◌, false, List, [], Option, None, slice_index_or, slice_set}
 use Rattle.hp_numbers.specs.Numbers.{Frame, Order, Pageblock, Block, Cpu, Owner, Page}
 use Rattle.hp_units.specs.Names.{Zone, NormalZone, MovableZone, Mobility, Unmovable, Movable, Class, Nu, Nm, Mm, IsoN, IsoM, Pool, NuPool, NmPool, MmPool, OfflineState, Auto, Kind, Row}
 
--- the free areas: the free blocks of each class and order, front first, and the kind of each pageblock
+-- the free areas: the free blocks of each class and order, front first, and each pageblock's kind
 -- (Gorman, chapter 6: free_area; Linux, memory hotplug: zones)
 pub record FreeAreas : Type 0 where
   pub lists : List (List Frame)
   pub kinds : List Kind
 
--- the frames that can be handed out: the free areas, and each processor's list for each pool
+-- the frames that can be handed out: the free areas, and each processor's list of each pool
 -- (Gorman, chapter 6: per-cpu lists)
 pub record FreeFrames : Type 0 where
   pub areas : FreeAreas
   pub cached : List (List Frame)
 
--- by owner and page: the frame that holds the page, and the page's words (own rule)
+-- by owner and page: the frame that holds the page, and the page's words
 pub record Pages : Type 0 where
   pub table : List (List (Option Frame))
   pub contents : List (List (Option (List ℕ)))
 
--- the row of each memory block, and what a block that is added becomes (Linux, memory hotplug:
--- state, auto_online_blocks)
+-- each memory block's row, and what an added block becomes (Linux, memory hotplug: state,
+-- auto_online_blocks)
 pub record Blocks : Type 0 where
   pub rows : List Row
   pub auto : Auto
 
--- the whole state; kernel has the order of the kernel's block that starts at a frame
+-- the whole state; `kernel` has by frame the order of the kernel block that starts there
 pub record Memory : Type 0 where
   pub free : FreeFrames
   pub pages : Pages
@@ -44,7 +44,7 @@ class_index Mm = 2
 class_index IsoN = 3
 class_index IsoM = 4
 
--- the class of an index, the last one past it
+-- the class with this index; any greater index gives the last class
 abbrev pub class_numbered : ℕ → Class
 class_numbered zero = Nu
 class_numbered (suc zero) = Nm
@@ -57,30 +57,30 @@ pool_index NuPool = 0
 pool_index NmPool = 1
 pool_index MmPool = 2
 
--- the class that a pool's frames are taken from and given to (own rule)
+-- the class that a pool's frames are taken from and given back to
 abbrev pub class_of_pool : Pool → Class
 class_of_pool NuPool = Nu
 class_of_pool NmPool = Nm
 class_of_pool MmPool = Mm
 
--- the zone of a pool's frames (own rule)
+-- the zone of a pool's frames
 abbrev pub zone_of_pool : Pool → Zone
 zone_of_pool NuPool = NormalZone
 zone_of_pool NmPool = NormalZone
 zone_of_pool MmPool = MovableZone
 
--- the class of free blocks that aren't isolated, by zone and mobility (own rule)
+-- the class of free blocks that are not isolated, by zone and mobility
 abbrev pub usable_class : Zone → Mobility → Class
 usable_class NormalZone Unmovable = Nu
 usable_class NormalZone Movable = Nm
 usable_class MovableZone mobility = Mm
 
--- the class of isolated free blocks of a zone (own rule)
+-- the class of a zone's isolated free blocks
 abbrev pub isolated_class : Zone → Class
 isolated_class NormalZone = IsoN
 isolated_class MovableZone = IsoM
 
--- the pool by zone and mobility (own rule)
+-- the pool of a zone and a mobility
 abbrev pub pool_of : Zone → Mobility → Pool
 pool_of NormalZone Unmovable = NuPool
 pool_of NormalZone Movable = NmPool
@@ -95,7 +95,7 @@ abbrev pub with_free_list : FreeAreas → Class → Order → List Frame → Fre
 with_free_list a class order frames =
     record a { lists = slice_set a.lists (5 * order + class_index class) frames }
 
--- the kind of a pageblock of an offline block (own rule)
+-- the kind of a pageblock in an offline block
 abbrev pub plain_kind : Kind
 plain_kind = record { mobility = Movable; isolated = false }
 
@@ -116,7 +116,7 @@ with_cached_list fs cpu pool frames =
 
 -- ---- the owners' pages
 
--- the entry of a page in a table of rows of pages, and the table with that entry set
+-- a page's entry in a table by owner and page, and the table with another entry
 abbrev pub entry_of : {A : Type 0} → List (List (Option A)) → Owner → Page → Option A
 entry_of table owner page = slice_index_or (slice_index_or table owner []) page None
 
@@ -127,7 +127,7 @@ with_entry table owner page entry =
 
 -- ---- the rows
 
--- an offline row
+-- the row of an offline block
 abbrev pub offline_row : Row
 offline_row = record { state = OfflineState; zone = None; claim = None }
 
@@ -137,7 +137,7 @@ row_of bs block = slice_index_or bs.rows block offline_row
 abbrev pub with_row : Blocks → Block → Row → Blocks
 with_row bs block row = record bs { rows = slice_set bs.rows block row }
 
--- ---- the kernel's blocks
+-- ---- the kernel blocks
 
 abbrev pub kernel_order : Memory → Frame → Option Order
 kernel_order s frame = slice_index_or s.kernel frame None

@@ -1,4 +1,4 @@
--- Where a page of an operation's going blocks moves from, and where to.
+-- From which frame a page of an operation's going blocks moves, and to which.
 use Rattle.std.specs.Prelude.{Option, find, flat_map, is_some}
 use Rattle.std.specs.Option.{option_or}
 use Rattle.hp_numbers.specs.Numbers.{Frame, Serial}
@@ -10,13 +10,13 @@ use Rattle.hp_units.specs.FreeAreas.{Taken, take_block, steal_block}
 use Rattle.hp_units.specs.Pages.{page_at}
 use Rattle.hp_units.specs.Rows.{going_blocks}
 
--- the lowest mapped frame of an operation's going blocks (own rule)
+-- the lowest mapped frame of an operation's going blocks
 abbrev pub migration_source : LayoutParts → Memory → Serial → Option Frame
 migration_source l s op =
     find (λ frame. is_some (page_at s.pages frame))
     (flat_map (frames_of_block l) (going_blocks l s.blocks op))
 
--- the frame that a page moves to, straight from the areas (own rule)
+-- the frame that a page moves to, straight from the areas
 abbrev pub migration_target : LayoutParts → FreeAreas → Option Taken
 migration_target l a =
     option_or (take_block l a Mm 0) (option_or (take_block l a Nm 0) (steal_block l a Movable 0))

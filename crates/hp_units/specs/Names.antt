@@ -1,4 +1,4 @@
--- The variants of the crate's enums under names of their own, passed on from one place. Declares nothing.
+-- Short names for the variants of the crate's enums, re-exported from one place. Declares nothing.
 pub use Rattle.hp_units.specs.declared.rows.Zone.TheVariants.{Normal as NormalZone, Movable as MovableZone}
 pub use Rattle.hp_units.specs.declared.rows.Mobility.TheVariants.{Unmovable, Movable}
 pub use Rattle.hp_units.specs.declared.rows.Class.TheVariants.{Nu, Nm, Mm, IsoN, IsoM}

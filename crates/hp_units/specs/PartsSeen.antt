@@ -1,11 +1,11 @@
--- The parts that a layout is asked for, as a contract sees them, and when each fault of them comes.
+-- The sizes passed to Layout::new as a contract sees them, and when each fault occurs.
 use Rattle.std.specs.Prelude.{◌≡◌, Some, None}
 use Rattle.hp_units.specs.declared.layouts.Parts.{Parts}
 use Rattle.hp_units.specs.declared.layouts.LayoutFault.{LayoutFault}
 use Rattle.hp_units.specs.declared.layouts.LayoutFault.TheVariants.{OutOfMemory}
 use Rattle.hp_units.specs.LayoutParts.{LayoutParts, layout_fault}
 
--- the parts, with the list that their reference points to
+-- the sizes, with the list that their reference points to
 abbrev pub parts_seen : Parts → LayoutParts
 parts_seen p = record {
   order = p.order;
@@ -21,7 +21,7 @@ parts_seen p = record {
   boot = p.boot.now;
 }
 
--- a fault is the first of the parts; out of memory comes only where they have none
+-- the fault is the first of the sizes; OutOfMemory occurs only if they have none
 abbrev pub IsLayoutFault : LayoutParts → LayoutFault → Type 0
 IsLayoutFault l OutOfMemory = layout_fault l ≡ None
 IsLayoutFault l fault = layout_fault l ≡ Some fault

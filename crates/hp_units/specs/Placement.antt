@@ -1,4 +1,5 @@
--- Well placed states: each frame is in exactly one place, and each place agrees with the blocks' rows.
+-- Well placed states: each frame is in exactly one place, and each place agrees
+-- with the blocks' rows.
 use Rattle.std.specs.Prelude.{◌≡◌, ℕ, ◌+◌, ◌*◌, ◌/◌, ◌%◌, ◌^◌, ◌<◌, ◌≤◌, Bool, true, false, ◌&&◌, ◌||◌, List, [], ◌∷◌, Option, Some, None, ◌==◌, nat_lt, nat_le, length, count_by, sum_by, slice_index_or, IfSome, IsSome, if◌then◌else◌}
 use Rattle.std.specs.List.{AllByRecursion, enumerate_from}
 use Rattle.std.specs.Option.{option_map, option_map_or}
@@ -27,16 +28,16 @@ pub record IsShaped (l : LayoutParts) (s : Memory) : Type 0 where
 
 -- ---- in how many places a frame is
 
--- whether a block of an order that starts at a frame has the frame
+-- a block of this order that starts at `first` contains the frame
 abbrev pub covers : (frame : Frame) (order : Order) (first : Frame) → Bool
 covers frame order first = nat_le first frame && nat_lt frame (first + 2 ^ order)
 
--- 1 if a block of an order has the frame, and 0 otherwise
+-- 1 if the block contains the frame, 0 otherwise
 abbrev pub covered : (frame : Frame) (order : Order) (first : Frame) → ℕ
 covered frame order first = if covers frame order first then 1 else 0
 
--- how many blocks on a list of an order have the frame, and on the lists of all classes and orders
--- from one on: a list's number is five times its order, and its class
+-- how many blocks on one list contain the frame, and how many on all lists from a number on; a
+-- list's number is five times its order plus its class
 abbrev pub list_places : (frame : Frame) (order : Order) → List Frame → ℕ
 list_places frame order frames = count_by (covers frame order) frames
 
@@ -59,7 +60,7 @@ kernel_places s frame =
     count_by (λ entry. option_map_or (λ order. covers frame order entry.0) entry.1 false)
     (enumerate_from 0 s.kernel)
 
--- a frame of an offline or absent block is in that place
+-- the place of a frame whose block is offline or absent
 abbrev pub is_unplugged : Row → Bool
 is_unplugged row = is_offline row || is_absent row
 
@@ -71,10 +72,10 @@ places_of l s frame =
     free_places s.free.areas frame + cached_places s.free frame + mapped_places s.pages frame
     + kernel_places s frame + offline_places l s frame
 
--- ---- what a place asks of a frame
+-- ---- what a place demands of a frame
 
--- of a pageblock: its block's row and its kind; the class of its free blocks and the pool of its
--- single frames, none without a zone
+-- a pageblock's row and kind, and the class of its free blocks and the pool of its single frames;
+-- None without a zone
 abbrev pub row_at : LayoutParts → List Row → Pageblock → Row
 row_at l rows pageblock = slice_index_or rows (block_of_pageblock l pageblock) offline_row
 
@@ -89,19 +90,19 @@ abbrev pub pool_at : LayoutParts → List Kind → List Row → Pageblock → Op
 pool_at l kinds rows pageblock =
     option_map (λ zone. pool_of zone (kind_at kinds pageblock).mobility) (row_at l rows pageblock).zone
 
--- a free block of a class and an order
+-- a free block of this class and order
 pub record IsBlockOf (l : LayoutParts) (class_at : Pageblock → Option Class) (class : Class) (order : Order)
     (first : Frame) : Type 0 where
   pub aligned : first % 2 ^ order ≡ 0
   pub class_agrees : class_at (pageblock_of l first) ≡ Some class
 
--- a kernel's block
+-- a kernel block
 pub record IsKernelAt (l : LayoutParts) (rows : List Row) (first : Frame) (order : Order) : Type 0 where
   pub in_order : order ≤ l.order
   pub aligned : first % 2 ^ order ≡ 0
   pub normal : (row_at l rows (pageblock_of l first)).zone ≡ Some NormalZone
 
--- what a row may be: going exactly with a claim of wish Off, any other claim on an offline row, a
+-- a valid row: going exactly with a claim of wish Off; any other claim only on an offline row; a
 -- zone unless offline or absent
 abbrev pub wishes_off : Option Claim → Bool
 wishes_off claim = option_map_or (λ c. is_off c.wish) claim false
@@ -115,7 +116,7 @@ IsRowOf AbsentState zone claim = (zone ≡ None) × (claim ≡ None)
 abbrev pub IsRow : Row → Type 0
 IsRow row = IsRowOf row.state row.zone row.claim
 
--- a page has words exactly where it has a frame, and then the layout's number
+-- a page has words exactly if it has a frame, and then as many as the layout gives
 abbrev pub IsPage : LayoutParts → Option Frame → Option (List ℕ) → Type 0
 IsPage l None None = Unit {0}
 IsPage l None (Some words) = ⊥
@@ -144,7 +145,7 @@ pub record IsInOrder (l : LayoutParts) (s : Memory) : Type 0 where
   pub words : (owner : Owner) (page : Page)
       → IsPage l (frame_at s.pages owner page) (words_at s.pages owner page)
 
--- a well placed state: and each number is in one place, those beyond the layout as if offline (own rule)
+-- a well placed state: each number is in exactly one place, those beyond the layout as if offline
 pub record IsWellPlaced (l : LayoutParts) (s : Memory) : Type 0 where
   pub in_order : IsInOrder l s
   pub once : (frame : Frame) → places_of l s frame ≡ 1

@@ -1,4 +1,4 @@
--- When an event is refused, and as what: the first in its order that applies.
+-- When an event is refused, and why: the first refusal in its order that applies.
 use Rattle.std.specs.Prelude.{ℕ, ◌+◌, ◌*◌, ◌/◌, ◌%◌, Bool, not, ◌&&◌, List, [], ◌∷◌, Option, Some, None, ◌==◌, nat_lt, nat_le, length, find, map, flat_map, is_some, unwrap_or, if◌then◌else◌}
 use Rattle.std.specs.List.{list_any, list_all, range_with_len}
 use Rattle.std.specs.Bool.{then_some}
@@ -19,7 +19,7 @@ use Rattle.hp_units.specs.Rows.{going_blocks, is_absent, is_claimed, is_live, is
 
 -- ---- the frames of free blocks
 
--- a free block of an order starts at the frame; the frame stands in a free block
+-- a free block of this order starts at the frame; the frame is in a free block
 abbrev pub is_free_start : FreeAreas → (order : Order) (frame : Frame) → Bool
 is_free_start a order frame =
     list_any (λ class. is_on frame (free_list a class order)) (Nu ∷ Nm ∷ Mm ∷ IsoN ∷ IsoM ∷ [])
@@ -35,22 +35,22 @@ is_all_free l s block =
     (free_list s.free.areas (isolated_class (zone_of_block s.blocks block)) l.order)) (pageblocks_of l
     block)
 
--- the lowest frame of an operation's going blocks that stands in no free block
+-- the lowest frame of an operation's going blocks that is in no free block
 abbrev pub frame_in_use : LayoutParts → Memory → Serial → Option Frame
 frame_in_use l s op =
     find (λ frame. not (is_in_free_block l s.free.areas frame))
     (flat_map (frames_of_block l) (going_blocks l s.blocks op))
 
--- ---- the refusals of a plan, each of the first item at which it applies
+-- ---- the refusals of a plan, each for the first item to which it applies
 
--- the first block that stood earlier, given those before
+-- the first block that the plan names again, given those named before
 abbrev pub first_repeated : List Block → List Item → Option Block
 first_repeated before [] = None
 first_repeated before (item ∷ plan) =
     let later = first_repeated (item.block ∷ before) plan in
     if is_on item.block before then Some item.block else later
 
--- the lowest first frame of a kernel's block in a block that is to go
+-- the lowest frame at which a kernel block starts, in a block that is to go offline
 abbrev pub kernel_frame_in : LayoutParts → Memory → Item → Option Frame
 kernel_frame_in l s item =
     if is_off item.wish then find (λ frame. is_some (kernel_order s frame)) (frames_of_block l item.block)
@@ -69,28 +69,28 @@ plan_refusals l s plan =
     ∷ option_map HoldsUnmovable (first_some (map (kernel_frame_in l s) plan))
     ∷ []
 
--- ---- the refusals that several events share (own rule)
+-- ---- the refusals that several events share
 
--- of an owner and a page that there aren't, and then others
+-- for an owner or a page that does not exist, followed by others
 abbrev pub page_refusals : LayoutParts → (owner : Owner) (page : Page) → List (Option Refusal)
     → List (Option Refusal)
 page_refusals l owner page others =
     then_some (nat_le l.owners owner) NoOwner ∷ then_some (nat_le l.pages page) NoPage ∷ others
 
--- of a word that is to be read or written
+-- for a word that is to be read or written
 abbrev pub word_refusals : LayoutParts → Memory → (owner : Owner) (page : Page) (index : ℕ)
     → List (Option Refusal)
 word_refusals l s owner page index =
     page_refusals l owner page
     (then_some (nat_le l.words index) NoWord ∷ unless_some (frame_at s.pages owner page) NotMapped ∷ [])
 
--- of a memory block that is to go online or to be removed: it must be offline, and held by no operation
+-- for a memory block that is to go online or to be removed: it must be offline, with no claim
 abbrev pub offline_refusals : LayoutParts → Memory → Block → List (Option Refusal)
 offline_refusals l s block =
     then_some (nat_le l.blocks block) NoBlock ∷ then_some (is_claimed (row_of s.blocks block)) (Busy block)
     ∷ then_some (not (is_offline (row_of s.blocks block))) (NotOffline block) ∷ []
 
--- ---- the refusals of each event in their order, after that of the caller's processor (own rule)
+-- ---- the refusals of each event in their order, after that of the caller's processor
 
 abbrev pub event_refusals : LayoutParts → Memory → Cpu → Event → List (Option Refusal)
 event_refusals l s cpu (KernelAlloc order) =
@@ -126,7 +126,7 @@ event_refusals l s cpu (Probe address) =
 event_refusals l s cpu (Remove block) = offline_refusals l s block
 event_refusals l s cpu (SetAuto auto) = []
 
--- the refusal of an event, if there is one: that of the caller's processor, or else the first of
--- the event's own (own rule)
+-- the refusal of an event, if any: that of the caller's processor, otherwise the first of the
+-- event's own
 unfoldable pub refusal_of : LayoutParts → Memory → Cpu → Event → Option Refusal
 refusal_of l s cpu event = first_some (then_some (nat_le l.cpus cpu) NoCpu ∷ event_refusals l s cpu event)

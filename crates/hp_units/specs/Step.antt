@@ -28,7 +28,7 @@ with_free s free = record s { free = free }
 abbrev pub with_pages : Memory → Pages → Memory
 with_pages s pages = record s { pages = pages }
 
--- the kernel takes a block (Gorman, chapter 6; own rule)
+-- the kernel takes a block (Gorman, chapter 6)
 unfoldable pub kernel_takes : LayoutParts → Memory → (cpu : Cpu) (order : Order) → Answered
 kernel_takes l s cpu order =
     option_map_or (λ handed. record {
@@ -38,8 +38,8 @@ kernel_takes l s cpu order =
     })
     (kernel_block l s.free cpu order) (done s)
 
--- a block of an order comes back: a single frame by the processor's list, any other straight to the
--- areas (Gorman, chapter 6; own rule)
+-- a block comes back: a single frame by way of the processor's list, any other straight to the
+-- areas (Gorman, chapter 6)
 abbrev pub give_back : LayoutParts → Memory → (cpu : Cpu) (frame : Frame) (order : Order) → Memory
 give_back l s cpu frame zero = with_free s (put_one l s.free cpu (zone_of l s frame) frame)
 give_back l s cpu frame (suc below) =
@@ -50,7 +50,7 @@ kernel_gives l s cpu frame =
     option_map_or (λ order. done (give_back l (with_kernel_order s frame None) cpu frame order))
     (kernel_order s frame) (done s)
 
--- a page is mapped, with zeros in it, and unmapped (own rule)
+-- a page is mapped, filled with zeros; and unmapped
 unfoldable pub map_step : LayoutParts → Memory → (cpu : Cpu) (owner : Owner) (page : Page) → Answered
 map_step l s cpu owner page =
     option_map_or (λ handed.
@@ -63,8 +63,7 @@ unmap_step l s cpu owner page =
     (frame_at s.pages owner page) (done s)
 
 -- the page at the lowest mapped frame of the operation's going blocks moves to a frame straight
--- from the areas, and its old frame goes straight back to them (Linux, memory hotplug: migration;
--- own rule)
+-- from the areas, and its old frame goes straight back to them (Linux, memory hotplug: migration)
 unfoldable pub migrate_step : LayoutParts → Memory → Serial → Answered
 migrate_step l s op =
     option_map_or (λ from. option_map_or (λ taken. record {
@@ -75,15 +74,14 @@ migrate_step l s op =
     })
     (migration_target l s.free.areas) (done s)) (migration_source l s op) (done s)
 
--- a block that is there becomes online, as the machine is set to do (Linux, memory hotplug:
--- auto_online_blocks)
+-- an added block goes online if the machine is set so (Linux, memory hotplug: auto_online_blocks)
 abbrev pub auto_online : LayoutParts → Auto → Memory → Block → Memory
 auto_online l OfflineAuto s block = s
 auto_online l OnlineAuto s block = online_block l NormalZone s block
 auto_online l KernelAuto s block = online_block l NormalZone s block
 auto_online l MovableAuto s block = online_block l MovableZone s block
 
--- what an event that isn't refused does (own rule)
+-- what an event that is not refused does
 abbrev pub perform : LayoutParts → Memory → (serial : Serial) (cpu : Cpu) → Event → Answered
 perform l s serial cpu (KernelAlloc order) = kernel_takes l s cpu order
 perform l s serial cpu (KernelFree frame) = kernel_gives l s cpu frame
@@ -108,11 +106,11 @@ perform l s serial cpu (Remove block) =
     done (with_block_row s block (record offline_row { state = AbsentState }))
 perform l s serial cpu (SetAuto auto) = done (record s { blocks = record s.blocks { auto = auto } })
 
--- a refusal leaves the state
+-- a refused event leaves the state as it is
 abbrev pub answer : LayoutParts → Memory → (serial : Serial) (cpu : Cpu) → Event → Option Refusal → Answered
 answer l s serial cpu event (Some refusal) = record { memory = s; reply = Refused refusal }
 answer l s serial cpu event None = perform l s serial cpu event
 
--- one step. UndoAfter is no event of this, and a Cancel here is the release (own rule)
+-- one step. UndoAfter does nothing here, and a Cancel here only releases; History has the rest
 unfoldable pub step : LayoutParts → Memory → (serial : Serial) (cpu : Cpu) → Event → Answered
 step l s serial cpu event = answer l s serial cpu event (refusal_of l s cpu event)

@@ -1,11 +1,11 @@
--- How the machine's words are written.
+-- The machine's words as printed.
 use Rattle.std.specs.Prelude.{ℕ, List, ◌++◌, codes}
 use Rattle.std.specs.Fmt.{decimal}
 use Rattle.hp_units.specs.Names.{Zone, NormalZone, MovableZone, Class, Nu, Nm, Mm, IsoN, IsoM, Pool, NuPool, NmPool, MmPool, Auto, OfflineAuto, OnlineAuto, KernelAuto, MovableAuto, Refusal, NoOwner, NoPage, NoWord, AlreadyMapped, NotMapped, BadOrder, NoFrame, NoSuchFrame, NotKernel, NoCpu, NoBlock, EmptyPlan, Twice, Busy, NotOnline, NotOffline, HoldsUnmovable, NoOp, NothingToMove, NotFree, Gone, BadAddress, NotAbsent, Reply, Done, GivesFrame, Word, Moved, Opened, Restored, Released, Undone, Refused, CallFault, HistoryFull, OutOfMemory}
 use Rattle.hp_units.specs.declared.layouts.LayoutFault.{LayoutFault}
 use Rattle.hp_units.specs.declared.layouts.LayoutFault.TheVariants as fault
 
--- a refusal's name, and its number where it has one
+-- a refusal's name, with its number if it has one
 abbrev pub refusal_text : Refusal → List ℕ
 refusal_text NoOwner = codes "NoOwner"
 refusal_text NoPage = codes "NoPage"
@@ -43,7 +43,7 @@ reply_text Released = codes "released"
 reply_text (Undone count) = codes "undone " ++ decimal count
 reply_text (Refused refusal) = codes "refused " ++ refusal_text refusal
 
--- the name of a fault that left no record, and of a fault of a layout
+-- the name of a fault of a call, and of a fault of a layout
 abbrev pub call_fault_text : CallFault → List ℕ
 call_fault_text HistoryFull = codes "HistoryFull"
 call_fault_text OutOfMemory = codes "OutOfMemory"
@@ -79,7 +79,7 @@ abbrev pub zone_text : Zone → List ℕ
 zone_text NormalZone = codes "normal"
 zone_text MovableZone = codes "movable"
 
--- what a block that is added becomes (Linux, memory hotplug: auto_online_blocks)
+-- what an added block becomes (Linux, memory hotplug: auto_online_blocks)
 abbrev pub auto_text : Auto → List ℕ
 auto_text OfflineAuto = codes "offline"
 auto_text OnlineAuto = codes "online"

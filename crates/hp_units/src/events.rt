@@ -8,96 +8,98 @@ use crate::rows::{Auto, Zone};
 use hp_numbers::{Block, Cpu, Frame, Order, Owner, Page, Serial};
 use std::alloc::{AllocError, Global};
 
-/// One event, made by one processor. Its refusals and what it does are those of the definitions in
-/// specs/Refusals and specs/Step; of an UndoAfter, and of a Cancel that restores, in specs/History.
+/// An event: one request of one processor.
+///
+/// specs/Refusals and specs/Step define its refusals and its effect. specs/History defines them for
+/// an UndoAfter, and for a Cancel that restores.
 #[derive(PartialEq, Drop)]
 pub enum Event {
-    /// The kernel takes a block of 2^order frames: of order 0 from the processor's list, else from
-    /// the free areas (Gorman, chapter 6). Answered with its first frame.
+    /// Takes a block of 2^order frames for the kernel: from the processor's list if the order is 0,
+    /// otherwise from the free areas (Gorman, chapter 6). The reply is its first frame.
     KernelAlloc {
         order: Order,
     },
-    /// The kernel gives back the block that starts at a frame (Gorman, chapter 6; Knuth, volume 1,
+    /// Gives back the kernel block that starts at `frame` (Gorman, chapter 6; Knuth, volume 1,
     /// section 2.5).
     KernelFree {
         frame: Frame,
     },
-    /// An owner's page gets a movable frame, filled with zeros (own rule).
+    /// Maps an owner's page to a movable frame, filled with zeros.
     Map {
         owner: Owner,
         page: Page,
     },
-    /// An owner's page gives its frame back (own rule).
+    /// Unmaps an owner's page and gives its frame back.
     Unmap {
         owner: Owner,
         page: Page,
     },
-    /// One 8-byte word of a mapped page changes; words are counted from 0 (own rule).
+    /// Writes one 8-byte word of a mapped page. Words are counted from 0.
     Write {
         owner: Owner,
         page: Page,
         index: u32,
         value: u64,
     },
-    /// One 8-byte word of a mapped page is answered. It is no step (own rule).
+    /// Reads one 8-byte word of a mapped page; the reply is the word. A read is not a step.
     Read {
         owner: Owner,
         page: Page,
         index: u32,
     },
-    /// A processor's lists go back to the free areas (Gorman, chapter 6).
+    /// Gives all frames on a processor's lists back to the free areas (Gorman, chapter 6).
     Drain {
         cpu: Cpu,
     },
-    /// An offline memory block goes online in a zone (Linux guide, Memory Hot(Un)Plug).
+    /// Takes an offline memory block online in a zone (Linux guide, Memory Hot(Un)Plug).
     Online {
         block: Block,
         zone: Zone,
     },
-    /// An operation begins: it claims the blocks of its plan and isolates those that are to go
-    /// offline (Linux guide; own rule).
+    /// Begins an operation: claims the blocks of its plan, and isolates those that are to go
+    /// offline (Linux guide).
     Begin {
         plan: Plan,
     },
-    /// A drain as a step of an operation (own rule).
+    /// Drains a processor's lists as a step of an operation.
     DrainFor {
         op: Serial,
         cpu: Cpu,
     },
-    /// The page at the lowest mapped frame of an operation's going blocks moves away (Linux guide,
+    /// Moves the page at the lowest mapped frame of the operation's going blocks (Linux guide,
     /// Memory Hot(Un)Plug).
     Migrate {
         op: Serial,
     },
-    /// All blocks of an operation get what its plan wishes, in one step (own rule).
+    /// Gives every block of the operation what its plan wishes, in one step.
     Commit {
         op: Serial,
     },
-    /// An operation ends without a commit (own rule).
+    /// Ends the operation without a commit.
     Cancel {
         op: Serial,
     },
-    /// All steps with a serial above one are undone (own rule).
+    /// Undoes all steps with a serial above this one.
     UndoAfter {
         serial: Serial,
     },
-    /// The absent memory block at a byte address becomes offline, or online where the machine is
-    /// set so (Linux guide: probe, auto_online_blocks).
+    /// Adds the absent memory block at a byte address. It becomes offline, or online if the machine
+    /// is set so (Linux guide: probe, auto_online_blocks).
     Probe {
         address: u64,
     },
-    /// An offline memory block becomes absent (Linux guide, Memory Hot(Un)Plug).
+    /// Removes an offline memory block: it becomes absent (Linux guide, Memory Hot(Un)Plug).
     Remove {
         block: Block,
     },
-    /// What a memory block that is added becomes (Linux guide: auto_online_blocks).
+    /// Sets what an added memory block becomes (Linux guide: auto_online_blocks).
     SetAuto {
         auto: Auto,
     },
 }
 
 impl Event {
-    /// An equal event. An error is out of memory, of which only a Begin's plan takes any.
+    /// Returns a copy. Only the plan of a Begin allocates.
     #[inline(always)]
     pub fn copy(&self, alloc: Global) -> Result<Event, AllocError>
         ensures ok { IfOk result (λ event. event ≡ self.now) }
@@ -149,7 +151,7 @@ impl Event {
         })
     }
 
-    /// Whether the events are the same.
+    /// Returns whether both events are equal.
     pub fn same(&self, other: &Event) -> bool
         ensures { IsTrue result ↔ (self.now ≡ other.now) }
     {

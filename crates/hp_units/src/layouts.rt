@@ -1,4 +1,4 @@
-//! The layout of a machine: how much of everything there is.
+//! The layout of a machine: its sizes, and what each memory block is at boot.
 ghost use Rattle.std.specs.Prelude.{◌≡◌, ◌*◌, ◌<◌, ◌≤◌, None, IfOk, IfErr, OnOk, IsTrue};
 ghost use Rattle.hp_units.specs.Arithmetic.{block_bytes, block_of, block_size, buddy, frame_count, pageblock_count, pageblock_of, pageblock_size};
 ghost use Rattle.hp_units.specs.LayoutParts.{IsLayout, frame_fault, is_pageblock_count, is_within, layout_fault, owner_fault, processor_fault};
@@ -9,63 +9,63 @@ use hp_numbers::{Block, Frame, Order, Pageblock};
 use std::alloc::{AllocError, Global};
 use std::marker::Model;
 
-/// The parts that a layout is asked for.
+/// The sizes from which a layout is made.
 #[derive(Clone, Copy, Drop)]
 pub struct Parts<'a> {
     /// The greatest order, 0 to 10.
     pub order: u64,
-    /// Pageblocks in a memory block: a power of two, 1 to 64.
+    /// Pageblocks per memory block: a power of two, 1 to 64.
     pub pageblocks: u64,
-    /// Memory blocks, 1 to 256; at most 2^20 frames in all.
+    /// Memory blocks, 1 to 256, with at most 2^20 frames in all.
     pub blocks: u64,
     /// Processors, 1 to 64.
     pub cpus: u64,
-    /// Frames that a processor's list is refilled by and spills, 1 to `high`.
+    /// Frames by which a processor's list is refilled and spills, 1 to `high`.
     pub batch: u64,
-    /// Frames that a processor's list holds before it spills, at most 1024.
+    /// Frames that a processor's list can hold before it spills, at most 1024.
     pub high: u64,
     /// Owners, 1 to 64.
     pub owners: u64,
-    /// Pages of each owner, 1 to 65536.
+    /// Pages per owner, 1 to 65536.
     pub pages: u64,
-    /// 8-byte words in a frame, 1 to 512.
+    /// 8-byte words per frame, 1 to 512.
     pub words: u64,
-    /// The greatest number of records of a history, 1 to 16777216.
+    /// The maximum number of records in a history, 1 to 16777216.
     pub history: u64,
-    /// What each memory block is at boot, one entry for each.
+    /// What each memory block is at boot, one entry per block.
     pub boot: &'a [Boot],
 }
 
-/// Why parts are no layout: the first of these that applies.
+/// Why sizes are no layout: the first of these that applies.
 #[derive(Clone, Copy, Debug, PartialEq, Eq, Drop)]
 pub enum LayoutFault {
     /// The order is above 10.
     BadOrder,
-    /// The pageblocks in a memory block are no power of two up to 64.
+    /// The number of pageblocks per memory block is not a power of two up to 64.
     BadPageblocks,
-    /// The memory blocks are not 1 to 256.
+    /// The number of memory blocks is not within 1 to 256.
     BadBlocks,
     /// There are more than 2^20 frames.
     TooManyFrames,
-    /// The processors are not 1 to 64.
+    /// The number of processors is not within 1 to 64.
     BadCpus,
     /// Not 1 <= batch <= high <= 1024.
     BadMarks,
-    /// The owners are not 1 to 64.
+    /// The number of owners is not within 1 to 64.
     BadOwners,
-    /// The pages of an owner are not 1 to 65536.
+    /// The number of pages per owner is not within 1 to 65536.
     BadPages,
-    /// The words of a frame are not 1 to 512.
+    /// The number of words per frame is not within 1 to 512.
     BadWords,
-    /// The history is not 1 to 16777216.
+    /// The limit of the history is not within 1 to 16777216.
     BadLimit,
-    /// There is not one entry for each memory block.
+    /// There is not exactly one boot entry per memory block.
     BadBoot,
-    /// Memory was refused.
+    /// Memory allocation failed.
     OutOfMemory,
 }
 
-/// A layout that is within the limits.
+/// A layout whose sizes are within their limits.
 #[derive(Drop)]
 pub struct Layout {
     order: u32,
@@ -116,7 +116,7 @@ impl Model for Layout {
 }
 
 impl Layout {
-    /// The layout of these parts, or the first fault of them. Out of memory comes last.
+    /// Creates a layout, or returns the first fault of its sizes. Running out of memory comes last.
     pub fn new(alloc: Global, parts: &Parts<'_>) -> Result<Layout, LayoutFault>
         ensures ok { IfOk result (λ layout. layout ≡ parts_seen parts.now) }
         ensures within { OnOk result (layout_fault (parts_seen parts.now) ≡ None) }
@@ -143,7 +143,7 @@ impl Layout {
         })
     }
 
-    /// An equal layout.
+    /// Returns a copy.
     pub fn copy(&self, alloc: Global) -> Result<Layout, AllocError>
         ensures { IfOk result (λ layout. layout ≡ self.now) }
     {
@@ -163,7 +163,7 @@ impl Layout {
         })
     }
 
-    /// The greatest order, 0 to 10.
+    /// Returns the greatest order, 0 to 10.
     pub fn order(&self) -> u32
         ensures is { result ≡ self.now.order }
         ensures layout { IsLayout self.now }
@@ -171,7 +171,7 @@ impl Layout {
         self.order
     }
 
-    /// The number of pageblocks in a memory block, a power of two from 1 to 64.
+    /// Returns the number of pageblocks per memory block, a power of two from 1 to 64.
     pub fn pageblocks(&self) -> u32
         ensures is { result ≡ self.now.pageblocks }
         ensures layout { IsLayout self.now }
@@ -179,7 +179,7 @@ impl Layout {
         self.pageblocks
     }
 
-    /// The number of memory blocks, 1 to 256.
+    /// Returns the number of memory blocks, 1 to 256.
     pub fn blocks(&self) -> u32
         ensures is { result ≡ self.now.blocks }
         ensures layout { IsLayout self.now }
@@ -187,7 +187,7 @@ impl Layout {
         self.blocks
     }
 
-    /// The number of processors, 1 to 64.
+    /// Returns the number of processors, 1 to 64.
     pub fn cpus(&self) -> u32
         ensures is { result ≡ self.now.cpus }
         ensures layout { IsLayout self.now }
@@ -195,7 +195,7 @@ impl Layout {
         self.cpus
     }
 
-    /// How many frames a processor's list is refilled by and spills, 1 to `high`.
+    /// Returns by how many frames a processor's list is refilled and spills, 1 to `high`.
     pub fn batch(&self) -> u32
         ensures is { result ≡ self.now.batch }
         ensures layout { IsLayout self.now }
@@ -203,7 +203,7 @@ impl Layout {
         self.batch
     }
 
-    /// How many frames a processor's list holds before it spills, at most 1024.
+    /// Returns how many frames a processor's list can hold before it spills, at most 1024.
     pub fn high(&self) -> u32
         ensures is { result ≡ self.now.high }
         ensures layout { IsLayout self.now }
@@ -211,7 +211,7 @@ impl Layout {
         self.high
     }
 
-    /// The number of owners, 1 to 64.
+    /// Returns the number of owners, 1 to 64.
     pub fn owners(&self) -> u32
         ensures is { result ≡ self.now.owners }
         ensures layout { IsLayout self.now }
@@ -219,7 +219,7 @@ impl Layout {
         self.owners
     }
 
-    /// The number of pages of each owner, 1 to 65536.
+    /// Returns the number of pages per owner, 1 to 65536.
     pub fn pages(&self) -> u32
         ensures is { result ≡ self.now.pages }
         ensures layout { IsLayout self.now }
@@ -227,7 +227,7 @@ impl Layout {
         self.pages
     }
 
-    /// The number of 8-byte words in a frame, 1 to 512.
+    /// Returns the number of 8-byte words per frame, 1 to 512.
     pub fn words(&self) -> u32
         ensures is { result ≡ self.now.words }
         ensures layout { IsLayout self.now }
@@ -235,7 +235,7 @@ impl Layout {
         self.words
     }
 
-    /// The greatest number of records of a history, 1 to 16777216.
+    /// Returns the maximum number of records in a history, 1 to 16777216.
     pub fn history(&self) -> u64
         ensures is { result ≡ self.now.history }
         ensures layout { IsLayout self.now }
@@ -243,7 +243,7 @@ impl Layout {
         self.history
     }
 
-    /// What each memory block is at boot, by rising number: as many as there are blocks.
+    /// Returns what each memory block is at boot, one entry per block.
     pub fn boot(&self) -> &[Boot]
         ensures is { result.now ≡ self.now.boot }
         ensures layout { IsLayout self.now }
@@ -251,7 +251,7 @@ impl Layout {
         self.boot.as_slice()
     }
 
-    /// The number of frames, at most 2^20.
+    /// Returns the number of frames, at most 2^20.
     pub fn frames(&self) -> u32
         ensures is { result ≡ frame_count self.now }
         ensures layout { IsLayout self.now }
@@ -259,7 +259,7 @@ impl Layout {
         self.blocks * self.block_size()
     }
 
-    /// The number of frames in a pageblock, at most 2^10.
+    /// Returns the number of frames per pageblock, at most 2^10.
     pub fn pageblock_size(&self) -> u32
         ensures is { result ≡ pageblock_size self.now }
         ensures layout { IsLayout self.now }
@@ -267,8 +267,8 @@ impl Layout {
         1 << self.order
     }
 
-    /// The number of frames in a memory block, at most 2^16 (Linux, memory hotplug: a memory block
-    /// is whole pageblocks).
+    /// Returns the number of frames per memory block, at most 2^16 (Linux, memory hotplug: a memory
+    /// block is whole pageblocks).
     pub fn block_size(&self) -> u32
         ensures is { result ≡ block_size self.now }
         ensures layout { IsLayout self.now }
@@ -276,8 +276,8 @@ impl Layout {
         self.pageblocks << self.order
     }
 
-    /// The number of bytes in a memory block, at eight bytes a word: at most 2^28 (Linux, memory
-    /// hotplug: block_size_bytes).
+    /// Returns the number of bytes per memory block, with eight bytes per word: at most 2^28
+    /// (Linux, memory hotplug: block_size_bytes).
     pub fn block_bytes(&self) -> u64
         ensures is { result ≡ block_bytes self.now }
         ensures some { 0 < result }
@@ -285,7 +285,7 @@ impl Layout {
         u64::from(self.block_size()) * u64::from(self.words) * 8
     }
 
-    /// The first frame of a pageblock of the layout.
+    /// Returns the first frame of a pageblock.
     pub fn first_frame(&self, pageblock: Pageblock) -> Frame
         requires { pageblock < pageblock_count self.now }
         ensures { result ≡ pageblock * pageblock_size self.now }
@@ -294,7 +294,7 @@ impl Layout {
     }
 }
 
-/// Whether a number lies between two, both included (own rule).
+/// Returns whether low <= n <= high.
 pub fn is_within(low: u64, high: u64, n: u64) -> bool
     ensures is { result ≡ is_within low high n }
     ensures bound { IsTrue result → n ≤ high }
@@ -302,7 +302,7 @@ pub fn is_within(low: u64, high: u64, n: u64) -> bool
     low <= n && n <= high
 }
 
-/// Whether a memory block may have so many pageblocks: a power of two, 1 to 64 (own rule).
+/// Returns whether `n` is a valid number of pageblocks per memory block: a power of two, 1 to 64.
 pub fn is_pageblock_count(n: u64) -> bool
     ensures is { result ≡ is_pageblock_count n }
     ensures bound { IsTrue result → n ≤ 64 }
@@ -310,7 +310,7 @@ pub fn is_pageblock_count(n: u64) -> bool
     matches!(n, 1 | 2 | 4 | 8 | 16 | 32 | 64)
 }
 
-/// The first fault of the parts, in the order of their limits.
+/// Returns the first fault of the sizes.
 fn first_fault(parts: &Parts<'_>) -> Option<LayoutFault>
     ensures { result ≡ layout_fault (parts_seen parts.now) }
 {
@@ -323,7 +323,7 @@ fn first_fault(parts: &Parts<'_>) -> Option<LayoutFault>
     }
 }
 
-/// The first fault of the frames.
+/// Returns the first fault of the sizes that make up the frames.
 fn frame_fault(parts: &Parts<'_>) -> Option<LayoutFault>
     ensures { result ≡ frame_fault (parts_seen parts.now) }
 {
@@ -342,7 +342,7 @@ fn frame_fault(parts: &Parts<'_>) -> Option<LayoutFault>
     None
 }
 
-/// The first fault of the processors and their lists.
+/// Returns the first fault of the processors and their lists.
 fn processor_fault(parts: &Parts<'_>) -> Option<LayoutFault>
     ensures { result ≡ processor_fault (parts_seen parts.now) }
 {
@@ -355,7 +355,7 @@ fn processor_fault(parts: &Parts<'_>) -> Option<LayoutFault>
     None
 }
 
-/// The first fault of the owners, the history and what the blocks are at boot.
+/// Returns the first fault of the owners, the history and the boot entries.
 fn owner_fault(parts: &Parts<'_>) -> Option<LayoutFault>
     ensures { result ≡ owner_fault (parts_seen parts.now) }
 {
@@ -377,7 +377,7 @@ fn owner_fault(parts: &Parts<'_>) -> Option<LayoutFault>
     None
 }
 
-/// The buddy of a block of an order, below 32, that starts at a frame (Knuth, volume 1, section 2.5).
+/// Returns the buddy of the block at `frame` (Knuth, volume 1, section 2.5). The order is below 32.
 pub fn buddy(frame: Frame, order: Order) -> Frame
     requires { order < 32 }
     ensures { result ≡ buddy frame order }
@@ -385,14 +385,14 @@ pub fn buddy(frame: Frame, order: Order) -> Frame
     Frame(frame.0 ^ (1 << order.0))
 }
 
-/// The pageblock that a frame lies in (own rule).
+/// Returns the pageblock that contains the frame.
 pub fn pageblock_of(layout: &Layout, frame: Frame) -> Pageblock
     ensures { result ≡ pageblock_of layout.now frame }
 {
     Pageblock(frame.0 / (1 << layout.order))
 }
 
-/// The memory block that a frame lies in (own rule).
+/// Returns the memory block that contains the frame.
 pub fn block_of(layout: &Layout, frame: Frame) -> Block
     ensures { result ≡ block_of layout.now frame }
 {

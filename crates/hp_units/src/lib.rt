@@ -1,5 +1,7 @@
-//! The numbers, the layout and the events and replies of the memory machine, and the definitions
-//! that say what each step of it means.
+//! The vocabulary of the memory machine: its layout, events and replies, and the definitions of
+//! what each step does.
+//!
+//! Read specs/Memory and specs/Step first, then specs/History and specs/Placement.
 #![tactic(auto)]
 
 pub mod events;

@@ -1,4 +1,4 @@
-//! What undo and Cancel have to know of a step.
+//! What undo and Cancel need to know of a step.
 ghost use Rattle.std.specs.Prelude.{◌≡◌, ◌&&◌, not};
 ghost use Rattle.hp_units.specs.History.{is_look, is_refused};
 ghost use Rattle.hp_units.specs.Marks.{is_opening, is_work_of, mark_of};
@@ -7,26 +7,26 @@ use crate::events::Event;
 use crate::replies::Reply;
 use hp_numbers::Serial;
 
-/// How a step counts for the operation that it may belong to (own rule).
+/// What a step is to the operation that it may belong to.
 #[derive(Clone, Copy, PartialEq, Eq, Drop)]
 pub enum Mark {
-    /// A Begin: the step's serial is the operation's number.
+    /// It is a Begin: its serial is the operation's number.
     Opens,
-    /// A drain or a migration of the operation `op`.
+    /// It is a drain or a migration of the operation `op`.
     Works { op: Serial },
-    /// Any other step.
+    /// It is any other step.
     Other,
 }
 
 impl Mark {
-    /// Whether it is a Begin's.
+    /// Returns whether the step is a Begin.
     pub fn is_opening(self) -> bool
         ensures { result ≡ is_opening self }
     {
         matches!(self, Mark::Opens)
     }
 
-    /// Whether it is that of the operation's own work.
+    /// Returns whether the step is the operation's own work.
     pub fn is_work_of(self, op: Serial) -> bool
         ensures { result ≡ is_work_of op self }
     {
@@ -46,7 +46,7 @@ pub struct Tag {
     pub mark: Mark,
 }
 
-/// The mark of an event.
+/// Returns the mark of an event.
 pub fn mark_of(event: &Event) -> Mark
     ensures { result ≡ mark_of event.now }
 {
@@ -58,8 +58,8 @@ pub fn mark_of(event: &Event) -> Mark
     }
 }
 
-/// Whether an event that was answered so counts as a step when it is no undo and no restoring
-/// Cancel: it was not refused, and it is no Read.
+/// Returns whether an event with this reply counts as a step: it was not refused, and is not a
+/// Read. Not meant for an undo or a Cancel that restores, which drop steps.
 pub fn is_step(event: &Event, reply: &Reply) -> bool
     ensures { result ≡ (not (is_refused reply.now) && not (is_look event.now)) }
 {

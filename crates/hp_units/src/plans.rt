@@ -6,17 +6,17 @@ use hp_numbers::Block;
 use std::alloc::{AllocError, Global};
 use std::marker::Model;
 
-/// What a plan makes of one memory block.
+/// What a plan wishes for one memory block.
 #[derive(Clone, Copy, PartialEq, Eq, Drop)]
 pub struct Item {
     /// The memory block.
     pub block: Block,
-    /// What becomes of it.
+    /// What it becomes.
     pub wish: Wish,
 }
 
-/// What an operation makes of memory blocks, in the order in which it is checked. The items are in a
-/// place of their own, so that events stay small.
+/// What an operation makes of memory blocks, in the order in which it is checked. The items are
+/// boxed, so that events stay small.
 #[derive(Drop)]
 pub struct Plan {
     items: Box<Vec<Item>>,
@@ -47,8 +47,7 @@ impl PartialEq for Plan {
 }
 
 impl Plan {
-    /// The plan of these items, in a place of its own, for which it takes memory. An error is out
-    /// of memory.
+    /// Creates a plan of these items. Allocates its box.
     pub fn new(alloc: Global, items: Vec<Item>) -> Result<Plan, AllocError>
         ensures { IfOk result (λ plan. plan ≡ items.items) }
     {
@@ -56,14 +55,14 @@ impl Plan {
         Ok(Plan { items })
     }
 
-    /// The items in order.
+    /// Returns the items in order.
     pub fn as_slice(&self) -> &[Item]
         ensures { result.now ≡ self.now }
     {
         self.items.as_slice()
     }
 
-    /// An equal plan.
+    /// Returns a copy.
     #[inline(never)]
     pub fn copy(&self, alloc: Global) -> Result<Plan, AllocError>
         ensures { IfOk result (λ plan. plan ≡ self.now) }
@@ -72,7 +71,7 @@ impl Plan {
         Plan::new(alloc, items)
     }
 
-    /// Whether the plans have the same items in the same order.
+    /// Returns whether both plans have the same items in the same order.
     pub fn same(&self, other: &Plan) -> bool
         ensures { IsTrue result ↔ (self.now ≡ other.now) }
     {
@@ -80,7 +79,7 @@ impl Plan {
     }
 }
 
-/// The 8-byte words of a page, in a place of their own, so that tables of words stay small.
+/// The 8-byte words of a page. They are boxed, so that tables of words stay small.
 #[derive(Drop)]
 pub struct Words {
     words: Box<Vec<u64>>,
@@ -109,8 +108,7 @@ impl PartialEq for Words {
 }
 
 impl Words {
-    /// The words of a vector, in a place of their own, for which it takes memory. An error is out
-    /// of memory.
+    /// Creates the words of a page from a vector. Allocates their box.
     pub fn new(alloc: Global, words: Vec<u64>) -> Result<Words, AllocError>
         ensures { IfOk result (λ page. page ≡ words.items) }
     {
@@ -118,14 +116,14 @@ impl Words {
         Ok(Words { words })
     }
 
-    /// The words in order.
+    /// Returns the words in order.
     pub fn as_slice(&self) -> &[u64]
         ensures { result.now ≡ self.now }
     {
         self.words.as_slice()
     }
 
-    /// Changes one word, counted from 0 and below the number of words.
+    /// Writes one word, counted from 0. The index must be below the number of words.
     pub fn set(&mut self, index: u32, value: u64)
         requires { index < length self.old }
         ensures { self.new ≡ slice_set self.old index value }
@@ -133,7 +131,7 @@ impl Words {
         self.words[index as usize] = value;
     }
 
-    /// Equal words.
+    /// Returns a copy.
     pub fn copy(&self, alloc: Global) -> Result<Words, AllocError>
         ensures { IfOk result (λ words. words ≡ self.now) }
     {
@@ -141,7 +139,7 @@ impl Words {
         Words::new(alloc, words)
     }
 
-    /// Equal words, if there are any. An error is out of memory.
+    /// Returns a copy, if there are words. Without words, never fails.
     pub fn copy_if_any(alloc: Global, words: &Option<Words>) -> Result<Option<Words>, AllocError>
         ensures ok { IfOk result (λ copy. copy ≡ words.now) }
         ensures none { words.now ≡ None → IsOk result }

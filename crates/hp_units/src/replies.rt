@@ -1,11 +1,11 @@
-//! The replies and refusals of the machine, and the records that are made of them.
+//! The machine's replies and refusals, and the records made of them.
 ghost use Rattle.std.specs.Prelude.{◌≡◌, ◌↔◌, IsTrue};
 
 use crate::events::Event;
 use hp_numbers::{Block, Cpu, Frame, Serial};
 
-/// Why an event was refused. A refusal is recorded and changes no state; it is the first of its
-/// event's order that applies.
+/// Why an event was refused: the first refusal in the event's order that applies. A refusal is
+/// recorded, and changes no state.
 #[derive(Clone, Copy, PartialEq, Eq, Drop)]
 pub enum Refusal {
     /// The owner is not in the layout.
@@ -14,17 +14,17 @@ pub enum Refusal {
     NoPage,
     /// The word is not in the layout.
     NoWord,
-    /// The page has a frame already.
+    /// The page already has a frame.
     AlreadyMapped,
     /// The page has no frame.
     NotMapped,
     /// The order is above the layout's greatest.
     BadOrder,
-    /// No frame, or no block of the order, can be had.
+    /// No frame, or no block of this order, is available.
     NoFrame,
     /// The frame is not in the layout.
     NoSuchFrame,
-    /// No kernel's block starts at the frame.
+    /// No kernel block starts at the frame.
     NotKernel,
     /// The processor is not in the layout.
     NoCpu,
@@ -32,7 +32,7 @@ pub enum Refusal {
     NoBlock,
     /// The plan has no items.
     EmptyPlan,
-    /// The block stood earlier in the plan.
+    /// The plan names the block twice.
     Twice { block: Block },
     /// An operation holds the block.
     Busy { block: Block },
@@ -40,47 +40,48 @@ pub enum Refusal {
     NotOnline { block: Block },
     /// The block is not offline.
     NotOffline { block: Block },
-    /// A kernel's block starts at this frame of a block that is to go: the lowest such frame.
+    /// A kernel block starts at this frame of a block that is to go offline. It is the
+    /// lowest such frame.
     Unmovable { frame: Frame },
     /// The operation is not live.
     NoOp,
     /// No frame of the operation's going blocks is mapped.
     NothingToMove,
-    /// The lowest frame of the operation's going blocks that stands in no free block.
+    /// A frame of the operation's going blocks is in no free block. It is the lowest such frame.
     NotFree { frame: Frame },
     /// The serial is above the last one, or below the last one that was sealed.
     Gone,
-    /// The address is no multiple of the bytes of a memory block.
+    /// The address is not a multiple of the size of a memory block in bytes.
     BadAddress,
     /// The block is there already.
     NotAbsent { block: Block },
 }
 
-/// The answer to an event.
+/// The machine's reply to an event.
 #[derive(Clone, Copy, PartialEq, Eq, Drop)]
 pub enum Reply {
-    /// The event was done.
+    /// The event was carried out.
     Done,
     /// The first frame of the block that was taken.
     Frame(Frame),
     /// The word that was read.
     Word(u64),
-    /// The page at `from` is at `to` now.
+    /// The page at `from` has moved to `to`.
     Moved { from: Frame, to: Frame },
-    /// The operation has this number.
+    /// The operation has begun, with this number.
     Opened { op: Serial },
     /// The operation's steps are dropped: the state is that before its Begin.
     Restored,
-    /// The operation ended, and the steps after its Begin stay.
+    /// The operation has ended, and the steps after its Begin stay.
     Released,
-    /// So many steps are undone.
+    /// This many steps are undone.
     Undone { count: u64 },
     /// The event was refused, and changed no state.
     Refused(Refusal),
 }
 
 impl Refusal {
-    /// Whether the refusals are the same.
+    /// Returns whether both refusals are equal.
     pub fn same(self, other: Refusal) -> bool
         ensures { IsTrue result ↔ (self ≡ other) }
     {
@@ -89,7 +90,7 @@ impl Refusal {
 }
 
 impl Reply {
-    /// Whether the replies are the same.
+    /// Returns whether both replies are equal.
     pub fn same(&self, other: &Reply) -> bool
         ensures { IsTrue result ↔ (self.now ≡ other.now) }
     {
@@ -100,13 +101,13 @@ impl Reply {
 /// One entry of the history.
 #[derive(Drop)]
 pub struct Record {
-    /// Its number.
+    /// The record's number.
     pub serial: Serial,
-    /// The caller's processor.
+    /// The processor that made the call.
     pub cpu: Cpu,
-    /// What was asked.
+    /// The request.
     pub event: Event,
-    /// What was answered.
+    /// The reply.
     pub reply: Reply,
 }
 
@@ -115,37 +116,37 @@ pub struct Record {
 pub struct Receipt {
     /// The record's number.
     pub serial: Serial,
-    /// What was asked.
+    /// The request.
     pub event: Event,
-    /// What was answered.
+    /// The reply.
     pub reply: Reply,
 }
 
-/// Why a call left no record: it changed nothing.
+/// Why a call left no record. Such a call changes nothing.
 #[derive(Clone, Copy, PartialEq, Eq, Drop)]
 pub enum CallFault {
-    /// The history holds its limit of records, or the last serial is 2^64 - 1.
+    /// The history is at its limit, or the last serial is 2^64 - 1.
     HistoryFull,
-    /// Memory was refused.
+    /// Memory allocation failed.
     OutOfMemory,
 }
 
-/// How an operation's driver ended.
+/// How a driver's run of an operation ended.
 #[derive(Clone, Copy, PartialEq, Eq, Drop)]
 pub enum OpEnd {
     /// The plan was committed.
     Done,
     /// The Begin was refused.
     Refused(Refusal),
-    /// The operation was cancelled: the last refusal of a migration or a commit, if there was one,
-    /// and whether its steps were dropped.
+    /// The operation was cancelled. `why` is the last refusal of a migration or a commit, if any;
+    /// `restored` is whether its steps were dropped.
     Cancelled {
         why: Option<Refusal>,
         restored: bool,
     },
     /// The operation was no longer live: it was undone, or another caller ended it.
     Undone,
-    /// A call left no record; the operation that was begun, if one was, may still be live.
+    /// A call left no record. If the operation has begun, it may still be live.
     Left {
         op: Option<Serial>,
         fault: CallFault,

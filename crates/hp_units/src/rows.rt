@@ -12,22 +12,22 @@ use hp_numbers::Serial;
 pub enum Zone {
     /// For the kernel and for owners' pages.
     Normal,
-    /// For owners' pages alone.
+    /// For owners' pages only.
     Movable,
 }
 
 /// What a pageblock is used for.
 #[derive(Clone, Copy, PartialEq, Eq, Drop)]
 pub enum Mobility {
-    /// For the kernel's blocks.
+    /// For kernel blocks.
     Unmovable,
     /// For owners' pages.
     Movable,
 }
 
 impl Mobility {
-    /// The mobility that is stolen from where this one has no free block (Gorman, chapter 6:
-    /// fallback; own rule).
+    /// Returns the mobility to steal from when this one has no free block (Gorman, chapter 6:
+    /// fallback).
     pub fn other(self) -> Mobility
         ensures { result ≡ other_mobility self }
     {
@@ -38,18 +38,18 @@ impl Mobility {
     }
 }
 
-/// A pageblock's mobility, and whether nothing is taken from its free blocks.
+/// A pageblock's mobility, and whether it is isolated.
 #[derive(Clone, Copy, PartialEq, Eq, Drop)]
 pub struct Kind {
-    /// What it is used for; it changes only while the whole pageblock is one free block (own rule).
+    /// What the pageblock is used for. It changes only while the whole pageblock is one free block.
     pub mobility: Mobility,
-    /// Whether nothing is taken from its free blocks; a frame of it that waits on a processor's list
-    /// can still be handed out (Linux: MIGRATE_ISOLATE).
+    /// True if nothing is taken from its free blocks. A frame of it on a processor's list can still
+    /// be handed out (Linux: MIGRATE_ISOLATE).
     pub isolated: bool,
 }
 
 impl Kind {
-    /// The kind of a pageblock of an offline memory block: movable and not isolated (own rule).
+    /// Returns the kind of a pageblock in an offline memory block: movable and not isolated.
     pub fn plain() -> Kind
         ensures { result ≡ plain_kind }
     {
@@ -60,7 +60,8 @@ impl Kind {
     }
 }
 
-/// The class of a free block: zone Normal by mobility, zone Movable, and the isolated blocks of each zone.
+/// The class of a free block: its zone and mobility, or that it is isolated. Each class has free
+/// lists of its own.
 #[derive(Clone, Copy, PartialEq, Eq, Drop)]
 pub enum Class {
     /// Zone Normal, mobility Unmovable.
@@ -76,7 +77,7 @@ pub enum Class {
 }
 
 impl Class {
-    /// The number of the class, 0 to 4, among the lists of an order.
+    /// Returns the class's index among the lists of an order, 0 to 4.
     pub fn index(self) -> u32
         ensures is { result ≡ class_index self }
         ensures below { result < 5 }
@@ -90,7 +91,7 @@ impl Class {
         }
     }
 
-    /// The class of a number, 0 to 4; the last one past it.
+    /// Returns the class with this index, 0 to 4. Any greater index gives the last class.
     pub fn numbered(number: u32) -> Class
         ensures { result ≡ class_numbered number }
     {
@@ -103,7 +104,7 @@ impl Class {
         }
     }
 
-    /// The class of the free blocks of a zone and a mobility that are not isolated (own rule).
+    /// Returns the class of a zone's free blocks with this mobility that are not isolated.
     pub fn usable(zone: Zone, mobility: Mobility) -> Class
         ensures { result ≡ usable_class zone mobility }
     {
@@ -114,7 +115,7 @@ impl Class {
         }
     }
 
-    /// The class of the isolated free blocks of a zone (own rule).
+    /// Returns the class of a zone's isolated free blocks.
     pub fn isolated(zone: Zone) -> Class
         ensures { result ≡ isolated_class zone }
     {
@@ -124,7 +125,7 @@ impl Class {
         }
     }
 
-    /// The class of the free blocks of a zone whose pageblock is of a kind (own rule).
+    /// Returns the class of a zone's free blocks in a pageblock of this kind.
     pub fn of_kind(zone: Zone, kind: Kind) -> Class
         ensures { result ≡ class_of_kind zone kind }
     {
@@ -136,7 +137,7 @@ impl Class {
     }
 }
 
-/// The classes that processors keep lists of single frames of (Gorman, chapter 6).
+/// The classes of single frames that each processor keeps lists of (Gorman, chapter 6).
 #[derive(Clone, Copy, PartialEq, Eq, Drop)]
 pub enum Pool {
     /// Zone Normal, mobility Unmovable.
@@ -148,7 +149,7 @@ pub enum Pool {
 }
 
 impl Pool {
-    /// The number of the pool, 0 to 2, among a processor's lists.
+    /// Returns the pool's index among a processor's lists, 0 to 2.
     pub fn index(self) -> u32
         ensures is { result ≡ pool_index self }
         ensures below { result < 3 }
@@ -160,7 +161,7 @@ impl Pool {
         }
     }
 
-    /// The pool of the single frames of a zone and a mobility (own rule).
+    /// Returns the pool of single frames of a zone and a mobility.
     pub fn of_mobility(zone: Zone, mobility: Mobility) -> Pool
         ensures { result ≡ pool_of zone mobility }
     {
@@ -171,7 +172,7 @@ impl Pool {
         }
     }
 
-    /// The class that the pool's frames are taken from and given to (own rule).
+    /// Returns the class that the pool's frames are taken from and given back to.
     pub fn class(self) -> Class
         ensures { result ≡ class_of_pool self }
     {
@@ -182,7 +183,7 @@ impl Pool {
         }
     }
 
-    /// The zone of the pool's frames (own rule).
+    /// Returns the zone of the pool's frames.
     pub fn zone(self) -> Zone
         ensures { result ≡ zone_of_pool self }
     {
@@ -196,18 +197,18 @@ impl Pool {
 /// The state of a memory block (Linux guide, Memory Hot(Un)Plug).
 #[derive(Clone, Copy, PartialEq, Eq, Drop)]
 pub enum State {
-    /// There, and not in use.
+    /// There, but not in use.
     Offline,
     /// In use.
     Online,
-    /// An operation takes it offline.
+    /// Being taken offline by an operation.
     Going,
     /// Not there.
     Absent,
 }
 
 impl State {
-    /// Its number, from 0 to 3 (own rule).
+    /// Returns the state's number, 0 to 3.
     pub fn number(self) -> u8
         ensures { result ≡ state_number self }
     {
@@ -232,7 +233,7 @@ pub enum Wish {
 }
 
 impl Wish {
-    /// Whether the block is to go offline (own rule).
+    /// Returns whether the block is to go offline.
     pub fn is_off(self) -> bool
         ensures { result ≡ is_off self }
     {
@@ -240,28 +241,29 @@ impl Wish {
     }
 }
 
-/// The operation that holds a memory block.
+/// An operation's hold on a memory block.
 #[derive(Clone, Copy, PartialEq, Eq, Drop)]
 pub struct Claim {
     /// The operation's number.
     pub op: Serial,
-    /// What it makes of the block.
+    /// What the operation makes of the block.
     pub wish: Wish,
 }
 
-/// A memory block's row: a zone where it is online or going, and a claim where an operation holds it.
+/// A memory block's row. An online or going block has a zone; a block held by an
+/// operation has a claim.
 #[derive(Clone, Copy, PartialEq, Eq, Drop)]
 pub struct Row {
-    /// Whether the block is in use.
+    /// Whether the block is there and in use.
     pub state: State,
     /// Its zone, unless it is offline or absent.
     pub zone: Option<Zone>,
-    /// The operation that holds it, if one does.
+    /// The operation that holds it, if any.
     pub claim: Option<Claim>,
 }
 
 impl Row {
-    /// A row without zone and claim (own rule).
+    /// Creates a row without zone and claim.
     pub fn bare(state: State) -> Row
         ensures { result ≡ record offline_row { state = state } }
     {
@@ -272,7 +274,7 @@ impl Row {
         }
     }
 
-    /// The row of a block that is online in a zone and held by no operation (own rule).
+    /// Creates the row of a block that is online in a zone, with no claim.
     pub fn online(zone: Zone) -> Row
         ensures { result ≡ record { state = OnlineState; zone = Some zone; claim = None } }
     {
@@ -283,8 +285,8 @@ impl Row {
         }
     }
 
-    /// The row once an operation claims its block for a wish: with wish Off the block is going
-    /// (Linux, memory hotplug: offlining; own rule).
+    /// Returns the row after an operation claims its block. With the wish Off, the block is then
+    /// going (Linux, memory hotplug: offlining).
     pub fn claimed(self, op: Serial, wish: Wish) -> Row
         ensures { result ≡ claimed_row self op wish }
     {
@@ -299,7 +301,7 @@ impl Row {
         }
     }
 
-    /// The row without its claim (own rule).
+    /// Returns the row without its claim.
     pub fn unclaimed(self) -> Row
         ensures { result ≡ record self { claim = None } }
     {
@@ -310,14 +312,14 @@ impl Row {
         }
     }
 
-    /// Whether an operation holds the block (own rule).
+    /// Returns whether an operation holds the block.
     pub fn is_claimed(self) -> bool
         ensures { result ≡ is_claimed self }
     {
         self.claim.is_some()
     }
 
-    /// Whether the operation `op` holds the block (own rule).
+    /// Returns whether the operation `op` holds the block.
     pub fn is_claimed_by(self, op: Serial) -> bool
         ensures { result ≡ is_claimed_by op self }
     {
@@ -327,35 +329,35 @@ impl Row {
         }
     }
 
-    /// Whether the block is in use (Linux, memory hotplug: state online).
+    /// Returns whether the block is in use (Linux, memory hotplug: state online).
     pub fn is_online(self) -> bool
         ensures { result ≡ is_online self }
     {
         matches!(self.state, State::Online)
     }
 
-    /// Whether the block goes offline (Linux, memory hotplug: state going-offline).
+    /// Returns whether the block is going offline (Linux, memory hotplug: state going-offline).
     pub fn is_going(self) -> bool
         ensures { result ≡ is_going self }
     {
         matches!(self.state, State::Going)
     }
 
-    /// Whether the block is there, and not in use (Linux, memory hotplug: state offline).
+    /// Returns whether the block is there but not in use (Linux, memory hotplug: state offline).
     pub fn is_offline(self) -> bool
         ensures { result ≡ is_offline self }
     {
         matches!(self.state, State::Offline)
     }
 
-    /// Whether the block is not there (own rule).
+    /// Returns whether the block is not there.
     pub fn is_absent(self) -> bool
         ensures { result ≡ is_absent self }
     {
         matches!(self.state, State::Absent)
     }
 
-    /// The number of its zone: 0 where it has none, and else 1 or 2 (own rule).
+    /// Returns the zone's number, 1 or 2, or 0 without a zone.
     pub fn zone_number(self) -> u8
         ensures { result ≡ zone_number self.zone }
     {
@@ -380,14 +382,14 @@ pub enum Boot {
     Absent,
 }
 
-/// What a memory block that is added becomes at once (Linux guide: auto_online_blocks).
+/// What an added memory block becomes at once (Linux guide: auto_online_blocks).
 #[derive(Clone, Copy, PartialEq, Eq, Drop)]
 pub enum Auto {
     /// Offline.
     Offline,
     /// Online in zone Normal.
     Online,
-    /// Online in zone Normal, the kernel's.
+    /// Online in zone Normal, the kernel's zone (Linux: online_kernel).
     OnlineKernel,
     /// Online in zone Movable.
     OnlineMovable,

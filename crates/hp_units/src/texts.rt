@@ -1,4 +1,4 @@
-//! How the machine's words are written, as in a scenario's output.
+//! The machine's words as printed, such as in a scenario's output.
 ghost use Rattle.std.specs.Prelude.{Some};
 
 use crate::layouts::LayoutFault;

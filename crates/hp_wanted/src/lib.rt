@@ -1,5 +1,5 @@
-//! The lines that a user wants an end to have: parsing them, matching them, and
-//! checking them against a layout.
+//! The lines that a user wants an end to have: parsing them, matching them, and checking them
+//! against a layout.
 //!
 //! A line is a reply to a processor, or what became of a memory block, in the words in which an end
 //! is printed. hp_explore searches for an end with such lines. This crate searches nothing, prints

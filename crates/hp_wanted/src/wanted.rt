@@ -58,8 +58,8 @@ impl Pattern {
         false
     }
 
-    /// Returns whether one of this processor's replies matches, or one of any
-    /// processor's if `cpu` is `None`.
+    /// Returns whether one of this processor's replies matches, or one of any processor's if `cpu`
+    /// is `None`.
     fn is_answered(&self, all: &[Answers], cpu: Option<Cpu>) -> bool
         ensures { IsTrue result ↔ HasAnswer self.now all.now cpu }
     {

@@ -1,4 +1,4 @@
-//! The small changes of which each call is made, each with its delta.
+//! The small changes that make up each call, each with its delta.
 ghost use Rattle.std.specs.Prelude.{◌≡◌, ℕ, true, ◌≤◌, ◌<◌, None};
 ghost use Rattle.hp_units.specs.Arithmetic.{frame_count, pageblock_count};
 ghost use Rattle.hp_units.specs.FreeAreas.{is_on, with_back, with_front, without_free};
@@ -58,7 +58,7 @@ impl Buddy {
         tape.note(link_delta(class, order, frame, after));
     }
 
-    /// Gives a pageblock a kind.
+    /// Sets the kind of a pageblock.
     pub(super) fn set_kind(&mut self, pageblock: Pageblock, kind: Kind, tape: &mut Tape)
         requires pageblock { pageblock < pageblock_count self.old.layout }
         requires room { HasRoom tape.old 1 }
@@ -72,7 +72,7 @@ impl Buddy {
     }
 }
 
-/// The delta of a free block that was put after another one.
+/// Returns the delta of a free block that was put after another.
 fn link_delta(class: Class, order: Order, frame: Frame, after: Option<Frame>) -> Delta
     requires { order < 256 }
     ensures { result ≡ Link (Area class order) frame after }
@@ -84,7 +84,7 @@ fn link_delta(class: Class, order: Order, frame: Frame, after: Option<Frame>) ->
     }
 }
 
-/// The delta of a free block that left its place after another one.
+/// Returns the delta of a free block that left its position after another.
 fn unlink_delta(class: Class, order: Order, frame: Frame, after: Option<Frame>) -> Delta
     requires { order < 256 }
     ensures { result ≡ Unlink (Area class order) frame after }
@@ -96,7 +96,7 @@ fn unlink_delta(class: Class, order: Order, frame: Frame, after: Option<Frame>) 
     }
 }
 
-/// The delta of a pageblock's kind.
+/// Returns the delta of a pageblock's kind.
 fn kind_delta(pageblock: Pageblock, was: Kind, now: Kind) -> Delta
     ensures { result ≡ KindDelta pageblock was now }
 {

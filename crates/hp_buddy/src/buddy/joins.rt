@@ -1,4 +1,4 @@
-//! Blocks that come back: their buddies leave the lists.
+//! Joining a block that comes back with its buddies.
 ghost use Rattle.std.specs.Prelude.{◌≡◌, ℕ, true, ◌-◌, ◌<◌, ◌≤◌};
 ghost use Rattle.hp_numbers.specs.Numbers.{ancestor};
 ghost use Rattle.hp_units.specs.Arithmetic.{buddy, frame_count};
@@ -12,7 +12,7 @@ use hp_tape::Tape;
 use hp_units::{Class, Frame, Order, Zone, buddy, pageblock_of};
 
 impl Buddy {
-    /// The class that the free blocks of a frame's pageblock have, which lies in a block of the zone.
+    /// Returns the class of the free blocks in the frame's pageblock, which is in this zone.
     pub(super) fn class_of(&self, zone: Zone, frame: Frame) -> Class
         requires { frame < frame_count self.now.layout }
         ensures { result ≡ class_of self.now.layout self.now.areas zone frame }
@@ -20,8 +20,8 @@ impl Buddy {
         Class::of_kind(zone, self.kind(pageblock_of(&self.layout, frame)))
     }
 
-    /// Takes the buddies of a block, which are free at each order from the first one and below the
-    /// last one, off their lists.
+    /// Takes the buddies of a block off their lists. They must be free at each order from `first`
+    /// up to, but not including, `last`.
     pub(super) fn unlink_buddies(
         &mut self,
         class: Class,

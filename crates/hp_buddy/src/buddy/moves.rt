@@ -1,4 +1,4 @@
-//! Pageblocks whose free blocks change their class.
+//! Moving a pageblock's free blocks to another class.
 ghost use Rattle.std.specs.Prelude.{◌≡◌, true, ◌+◌, ◌-◌, ◌*◌, ◌^◌, ◌<◌, ◌≤◌};
 ghost use Rattle.hp_units.specs.Arithmetic.{frame_count, pageblock_count, pageblock_size};
 ghost use Rattle.hp_units.specs.Isolation.{move_free, move_free_below};
@@ -33,7 +33,7 @@ impl Buddy {
         }
     }
 
-    /// Whether a pageblock is one free block of a class.
+    /// Returns whether the pageblock is one free block of the class.
     fn is_one_block(&self, class: Class, pageblock: Pageblock) -> bool
         requires { pageblock < pageblock_count self.now.layout }
         ensures { result ≡ is_on (pageblock * pageblock_size self.now.layout)
@@ -43,7 +43,7 @@ impl Buddy {
         self.is_free(class, order, self.first_frame(pageblock))
     }
 
-    /// Moves a pageblock that is one free block: none of its frames starts another.
+    /// Moves a pageblock that is one free block. No other free block starts at one of its frames.
     fn move_whole(&mut self, from: Class, to: Class, pageblock: Pageblock, tape: &mut Tape)
         requires pageblock { pageblock < pageblock_count self.old.layout }
         requires whole { is_on (pageblock * pageblock_size self.old.layout)
@@ -61,7 +61,7 @@ impl Buddy {
         self.move_block(from, to, order, first, tape);
     }
 
-    /// Moves the free blocks of a pageblock order by order.
+    /// Moves the free blocks of a pageblock, order by order.
     fn move_orders(&mut self, from: Class, to: Class, pageblock: Pageblock, tape: &mut Tape)
         requires pageblock { pageblock < pageblock_count self.old.layout }
         requires apart { AreApart self.old.layout self.old.areas }
@@ -77,7 +77,7 @@ impl Buddy {
         }
     }
 
-    /// How many blocks of an order a pageblock has.
+    /// Returns the number of blocks of an order per pageblock.
     fn blocks_of_order(&self, order: Order) -> u32
         requires { order ≤ self.now.layout.order }
         ensures is { result ≡ 2 ^ (self.now.layout.order - order) }
@@ -86,7 +86,7 @@ impl Buddy {
         1 << (self.layout.order() - order.0)
     }
 
-    /// Moves the free blocks of one order of a pageblock, by rising number: each starts at a
+    /// Moves a pageblock's free blocks of one order, in rising order. Each starts at a
     /// multiple of its size.
     fn move_order(
         &mut self,
@@ -115,7 +115,7 @@ impl Buddy {
         }
     }
 
-    /// Moves the free block that starts at a frame, if there is one of the class and the order.
+    /// Moves the free block of this class and order that starts at the frame, if there is one.
     fn move_block(&mut self, from: Class, to: Class, order: Order, frame: Frame, tape: &mut Tape)
         requires order { order ≤ self.old.layout.order }
         requires frame { frame < frame_count self.old.layout }

@@ -1,4 +1,5 @@
-//! The searches for an order: the least and the greatest that serve, and the one that is joined up to.
+//! Searches for an order: the least and the greatest that has a free block, and the one up to which
+//! a block joins.
 ghost use Rattle.std.specs.Prelude.{◌≡◌, ◌+◌, ◌-◌, ◌<◌, ◌≤◌};
 ghost use Rattle.hp_units.specs.Arithmetic.{frame_count};
 ghost use Rattle.hp_units.specs.FreeAreas.{greatest_order, is_on, join_order, least_order};
@@ -10,7 +11,7 @@ use crate::classes::list_number;
 use hp_units::{Class, Frame, Order, buddy};
 
 impl Buddy {
-    /// Whether a class has a free block of an order at a frame.
+    /// Returns whether the class has a free block of this order at the frame.
     pub(super) fn is_free(&self, class: Class, order: Order, frame: Frame) -> bool
         requires order { order ≤ self.now.layout.order }
         requires frame { frame < frame_count self.now.layout }
@@ -22,7 +23,7 @@ impl Buddy {
         }
     }
 
-    /// The least order, from one up to the layout's, at which a class has a free block.
+    /// Returns the least order, from `first` up, at which the class has a free block.
     pub(super) fn least_order(&self, class: Class, first: Order) -> Option<Order>
         ensures { result ≡ least_order self.now.areas class first (self.now.layout.order + 1 - first) }
     {
@@ -34,7 +35,7 @@ impl Buddy {
         None
     }
 
-    /// The greatest order, from one up to the layout's, at which a class has a free block.
+    /// Returns the greatest order, down to `first`, at which the class has a free block.
     pub(super) fn greatest_order(&self, class: Class, first: Order) -> Option<Order>
         ensures { result ≡ greatest_order self.now.areas class first (self.now.layout.order + 1 - first) }
     {
@@ -46,7 +47,7 @@ impl Buddy {
         None
     }
 
-    /// The order, from one up to the layout's, that a free block joins up to.
+    /// Returns the order, from `first` up, up to which a free block joins.
     pub(super) fn join_order(&self, class: Class, frame: Frame, first: Order) -> Order
         requires first { first ≤ self.now.layout.order }
         requires frame { frame < frame_count self.now.layout }

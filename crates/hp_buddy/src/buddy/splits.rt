@@ -1,4 +1,4 @@
-//! Blocks that are taken: off the front of a list, and split down.
+//! Taking a block off the front of a list, and splitting it down.
 ghost use Rattle.std.specs.Prelude.{◌≡◌, ◌+◌, ◌-◌, ◌<◌, ◌≤◌, None, Some, MatchOption};
 ghost use Rattle.hp_units.specs.FreeAreas.{steal_front, take_front, with_halves};
 ghost use Rattle.hp_tape.specs.Tapes.{HasRoom, NotesAreas};
@@ -13,8 +13,8 @@ use hp_tape::Tape;
 use hp_units::{Class, Frame, Kind, Mobility, Order, Zone, pageblock_of};
 
 impl Buddy {
-    /// Takes the front block of an order and puts what is left of it over the order wanted on the
-    /// lists of a class.
+    /// Takes the front block of an order, and puts what it has above the wanted order on the lists
+    /// of the class `rest`.
     pub(super) fn take_front(
         &mut self,
         class: Class,
@@ -45,8 +45,8 @@ impl Buddy {
         }
     }
 
-    /// Puts the upper halves of a block that is split down from an order to the last one on the
-    /// lists of a class.
+    /// Splits a block down from `order` to `last`, and puts the upper halves on
+    /// the lists of a class.
     fn put_halves(&mut self, class: Class, frame: Frame, last: Order, order: Order, tape: &mut Tape)
         requires last { last ≤ order }
         requires layout { IsLayout self.old.layout }
@@ -64,7 +64,8 @@ impl Buddy {
         }
     }
 
-    /// Takes the front block of an order of the other mobility; a whole pageblock takes the mobility wanted.
+    /// Takes the front block of an order of the other mobility. A whole pageblock changes to the
+    /// wanted mobility.
     pub(super) fn steal_front(
         &mut self,
         mobility: Mobility,
@@ -98,7 +99,7 @@ impl Buddy {
         }
     }
 
-    /// Gives the pageblock of a frame a mobility.
+    /// Sets the mobility of the frame's pageblock.
     fn set_mobility(&mut self, frame: Frame, mobility: Mobility, tape: &mut Tape)
         requires frame { frame < frame_count self.old.layout }
         requires room { HasRoom tape.old 1 }

@@ -1,4 +1,4 @@
-//! Frames that move between a processor's list and the free areas: a refill, a spill and a drain.
+//! Moving frames between a processor's list and the free areas: refill, spill and drain.
 ghost use Rattle.std.specs.Prelude.{◌≡◌, ℕ, ◌+◌, ◌*◌, ◌<◌, ◌≤◌, ◌∷◌, [], length, nat_le, if◌then◌else◌};
 ghost use Rattle.hp_units.specs.FreeAreas.{give_block};
 ghost use Rattle.hp_units.specs.Memory.{with_cached_list};
@@ -14,7 +14,7 @@ use hp_tape::Tape;
 use hp_units::{Cpu, Frame, Order, Pool, Zone};
 
 impl Cpus {
-    /// Gives a frame that is on no list back to the free areas.
+    /// Gives a frame, which is on no list, back to the free areas.
     pub(super) fn give(&self, zone: Zone, frame: Frame, buddy: &mut Buddy, tape: &mut Tape)
         requires together { AreTogether self.now buddy.old }
         requires frame { MayBePut self.now buddy.old frame }
@@ -30,7 +30,7 @@ impl Cpus {
         buddy.give(zone, frame, Order(0), tape);
     }
 
-    /// Puts up to a batch of frames of a pool's class at the back of a list.
+    /// Takes up to a batch of frames of a pool's class to the back of a list.
     pub(super) fn refill(&mut self, cpu: Cpu, pool: Pool, buddy: &mut Buddy, tape: &mut Tape)
         requires cpu { cpu < self.old.layout.cpus }
         requires together { AreTogether self.old buddy.old }
@@ -54,7 +54,8 @@ impl Cpus {
         }
     }
 
-    /// Puts a frame at the front of a list, which gives a batch back if it is then longer than its mark.
+    /// Puts a frame at the front of a list. If the list is then longer than `high`, it gives a
+    /// batch back.
     pub(super) fn put_cached(
         &mut self,
         cpu: Cpu,
@@ -85,7 +86,7 @@ impl Cpus {
         }
     }
 
-    /// Gives the last batch of a list back, the last frame first.
+    /// Gives the last batch of a list back, last frame first.
     fn spill(&mut self, cpu: Cpu, pool: Pool, buddy: &mut Buddy, tape: &mut Tape)
         requires cpu { cpu < self.old.layout.cpus }
         requires together { AreTogether self.old buddy.old }

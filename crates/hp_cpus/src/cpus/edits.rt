@@ -1,4 +1,4 @@
-//! The small changes of the lists of which each call is made, each with its delta.
+//! The small changes of the lists that make up each call, each with its delta.
 ghost use Rattle.std.specs.Prelude.{◌≡◌, ℕ, true, ◌+◌, ◌<◌, ◌≤◌, ◌∷◌, ◌++◌, [], None, Some, MatchOption};
 ghost use Rattle.hp_units.specs.Arithmetic.{frame_count};
 ghost use Rattle.hp_units.specs.FreeAreas.{is_on, without};
@@ -62,7 +62,7 @@ impl Cpus {
         tape.note(link_delta(cpu, pool, frame, after));
     }
 
-    /// Takes the front frame off a list.
+    /// Takes the front frame off a list, if there is one.
     pub(super) fn pop(&mut self, cpu: Cpu, pool: Pool, tape: &mut Tape) -> Option<Frame>
         requires cpu { cpu < self.old.layout.cpus }
         requires within { (frame : ℕ) → frame_count self.old.layout ≤ frame → places_in self.old frame ≡ 0 }
@@ -85,7 +85,7 @@ impl Cpus {
         }
     }
 
-    /// Takes the last frame off a list.
+    /// Takes the last frame off a list, if there is one.
     pub(super) fn pop_last(&mut self, cpu: Cpu, pool: Pool, tape: &mut Tape) -> Option<Frame>
         requires cpu { cpu < self.old.layout.cpus }
         requires within { (frame : ℕ) → frame_count self.old.layout ≤ frame → places_in self.old frame ≡ 0 }
@@ -109,7 +109,7 @@ impl Cpus {
     }
 }
 
-/// The delta of a frame that was put after another one on a processor's list.
+/// Returns the delta of a frame that was put after another on a processor's list.
 fn link_delta(cpu: Cpu, pool: Pool, frame: Frame, after: Option<Frame>) -> Delta
     requires { cpu < 256 }
     ensures { result ≡ Link (CpuList pool cpu) frame after }
@@ -121,7 +121,7 @@ fn link_delta(cpu: Cpu, pool: Pool, frame: Frame, after: Option<Frame>) -> Delta
     }
 }
 
-/// The delta of a frame that left its place after another one on a processor's list.
+/// Returns the delta of a frame that left its position after another on a processor's list.
 fn unlink_delta(cpu: Cpu, pool: Pool, frame: Frame, after: Option<Frame>) -> Delta
     requires { cpu < 256 }
     ensures { result ≡ Unlink (CpuList pool cpu) frame after }

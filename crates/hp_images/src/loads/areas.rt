@@ -1,4 +1,4 @@
-//! The free areas of an Image.
+//! Loading the free areas from an Image.
 ghost use Rattle.std.specs.Prelude.{◌≡◌, ◌<◌, ◌≤◌, [], IfOk, length};
 ghost use Rattle.hp_units.specs.Arithmetic.{pageblock_count};
 ghost use Rattle.hp_units.specs.LayoutParts.{IsLayout};
@@ -12,7 +12,7 @@ use hp_tape::{Delta, ListId};
 use hp_units::{Class, Kind, Order, Pageblock};
 use std::alloc::{AllocError, Global};
 
-/// The free areas of an Image whose state is well placed. An error is out of memory.
+/// Creates the free areas of an Image. Its state must be well placed.
 pub fn buddy_of(alloc: Global, image: &Image) -> Result<Buddy, AllocError>
     requires placed { IsWellPlaced image.now.layout image.now.memory }
     ensures { IfOk result
@@ -24,7 +24,7 @@ pub fn buddy_of(alloc: Global, image: &Image) -> Result<Buddy, AllocError>
     Ok(buddy)
 }
 
-/// The free blocks of an Image come onto empty lists.
+/// Loads the free blocks onto empty lists.
 fn load_lists(buddy: &mut Buddy, image: &Image)
     requires placed { IsWellPlaced image.now.layout image.now.memory }
     requires layout { buddy.old.layout ≡ image.now.layout }
@@ -37,7 +37,7 @@ fn load_lists(buddy: &mut Buddy, image: &Image)
     }
 }
 
-/// The free blocks of a class and an order come onto their list, the last one first.
+/// Loads the free blocks of a class and an order, last one first.
 fn load_list(buddy: &mut Buddy, image: &Image, class: Class, order: Order)
     requires limits { IsLayout image.now.layout }
     requires placed { IsWellPlaced image.now.layout image.now.memory }
@@ -60,7 +60,7 @@ fn load_list(buddy: &mut Buddy, image: &Image, class: Class, order: Order)
     }
 }
 
-/// The kinds of an Image's pageblocks come in.
+/// Loads the kinds of the pageblocks.
 fn load_kinds(buddy: &mut Buddy, image: &Image)
     requires placed { IsWellPlaced image.now.layout image.now.memory }
     requires layout { buddy.old.layout ≡ image.now.layout }
@@ -74,7 +74,7 @@ fn load_kinds(buddy: &mut Buddy, image: &Image)
     }
 }
 
-/// The kind of one pageblock comes in.
+/// Loads the kind of one pageblock.
 fn load_kind(buddy: &mut Buddy, image: &Image, pageblock: Pageblock)
     requires pageblock { pageblock < pageblock_count buddy.old.layout }
     requires size { pageblock < length buddy.old.areas.kinds }

@@ -1,4 +1,4 @@
-//! The kernel's blocks of an Image.
+//! Loading the kernel blocks from an Image.
 ghost use Rattle.std.specs.Prelude.{◌≡◌, ℕ, ◌<◌, None, IfOk, IfSome, length, slice_index_or, slice_set};
 ghost use Rattle.hp_units.specs.Arithmetic.{IsFrame, frame_count};
 ghost use Rattle.hp_units.specs.Memory.{kernel_order};
@@ -9,7 +9,7 @@ use hp_tape::Delta;
 use hp_units::Frame;
 use std::alloc::{AllocError, Global};
 
-/// The kernel's blocks of an Image, each of an order below 256. An error is out of memory.
+/// Creates the kernel blocks of an Image. Their orders must be below 256.
 pub fn kernel_of(alloc: Global, image: &Image) -> Result<KernelBlocks, AllocError>
     requires size { length image.now.memory.kernel ≡ frame_count image.now.layout }
     requires small { (frame : ℕ)
@@ -23,7 +23,7 @@ pub fn kernel_of(alloc: Global, image: &Image) -> Result<KernelBlocks, AllocErro
     Ok(kernel)
 }
 
-/// The block that starts at a frame of an Image comes in, or none.
+/// Loads the block that starts at the frame, if any.
 fn load_block(kernel: &mut KernelBlocks, image: &Image, frame: Frame)
     requires size { length kernel.old ≡ frame_count image.now.layout }
     requires frame { IsFrame image.now.layout frame }

@@ -1,4 +1,4 @@
-//! The owners' pages of an Image.
+//! Loading the owners' pages from an Image.
 ghost use Rattle.std.specs.Prelude.{◌≡◌, ◌<◌, [], None, IfOk, OnOk, length, replicate, slice_index_or, slice_set};
 ghost use Rattle.hp_units.specs.Arithmetic.{IsFrame};
 ghost use Rattle.hp_units.specs.LayoutParts.{IsLayout};
@@ -13,7 +13,7 @@ use hp_tape::{Delta, FrameChange};
 use hp_units::{Frame, Owner, Page, Words};
 use std::alloc::{AllocError, Global};
 
-/// The owners' pages of an Image whose state is well placed. An error is out of memory.
+/// Creates the owners' pages of an Image. Its state must be well placed.
 pub fn pages_of(alloc: Global, image: &Image) -> Result<Pages, AllocError>
     requires placed { IsWellPlaced image.now.layout image.now.memory }
     ensures { IfOk result (λ pages. pages ≡ record {
@@ -27,7 +27,7 @@ pub fn pages_of(alloc: Global, image: &Image) -> Result<Pages, AllocError>
     Ok(pages)
 }
 
-/// The entries of an Image's pages come into an empty table.
+/// Loads the entries of all pages into an empty table.
 fn load_table(pages: &mut Pages, image: &Image)
     requires placed { IsWellPlaced image.now.layout image.now.memory }
     requires layout { pages.old.layout ≡ image.now.layout }
@@ -41,7 +41,7 @@ fn load_table(pages: &mut Pages, image: &Image)
     }
 }
 
-/// The entries of one owner's pages come into an empty row.
+/// Loads the entries of one owner's pages into an empty row.
 fn load_row(pages: &mut Pages, image: &Image, owner: Owner)
     requires placed { IsWellPlaced image.now.layout image.now.memory }
     requires layout { pages.old.layout ≡ image.now.layout }
@@ -59,7 +59,7 @@ fn load_row(pages: &mut Pages, image: &Image, owner: Owner)
     }
 }
 
-/// The entry of one page comes in, where there was none.
+/// Loads the entry of one page, which has none yet.
 fn load_entry(pages: &mut Pages, image: &Image, owner: Owner, page: Page)
     requires limits { IsLayout image.now.layout }
     requires placed { IsWellPlaced image.now.layout image.now.memory }
@@ -79,7 +79,7 @@ fn load_entry(pages: &mut Pages, image: &Image, owner: Owner, page: Page)
     }
 }
 
-/// The words of an Image's pages come into the buffers of their frames. An error is out of memory.
+/// Loads the words of all pages into the buffers of their frames.
 fn load_buffers(alloc: Global, pages: &mut Pages, image: &Image) -> Result<(), AllocError>
     requires placed { IsWellPlaced image.now.layout image.now.memory }
     requires layout { pages.old.layout ≡ image.now.layout }
@@ -97,7 +97,8 @@ fn load_buffers(alloc: Global, pages: &mut Pages, image: &Image) -> Result<(), A
     Ok(())
 }
 
-/// The words of one frame's page come into its buffer, where there is none. Words that are all 0 need none.
+/// Loads the words of one frame's page, if there is one, into its buffer. Words that
+/// are all 0 need none.
 fn load_buffer(
     alloc: Global,
     pages: &mut Pages,

@@ -1,4 +1,4 @@
-//! The processors' lists of an Image.
+//! Loading the processors' lists from an Image.
 ghost use Rattle.std.specs.Prelude.{◌≡◌, ◌<◌, [], IfOk};
 ghost use Rattle.hp_units.specs.LayoutParts.{IsLayout};
 ghost use Rattle.hp_units.specs.Memory.{cached_list};
@@ -13,7 +13,7 @@ use hp_tape::{Delta, ListId};
 use hp_units::{Cpu, Pool};
 use std::alloc::{AllocError, Global};
 
-/// The processors' lists of an Image whose state is well placed. An error is out of memory.
+/// Creates the processors' lists of an Image. Its state must be well placed.
 pub fn cpus_of(alloc: Global, image: &Image) -> Result<Cpus, AllocError>
     requires placed { IsWellPlaced image.now.layout image.now.memory }
     ensures { IfOk result
@@ -24,7 +24,7 @@ pub fn cpus_of(alloc: Global, image: &Image) -> Result<Cpus, AllocError>
     Ok(cpus)
 }
 
-/// The single frames of an Image come onto empty lists.
+/// Loads the single frames onto empty lists.
 fn load_lists(cpus: &mut Cpus, image: &Image)
     requires placed { IsWellPlaced image.now.layout image.now.memory }
     requires layout { cpus.old.layout ≡ image.now.layout }
@@ -36,7 +36,7 @@ fn load_lists(cpus: &mut Cpus, image: &Image)
     }
 }
 
-/// The frames of a processor's list of a pool come onto it, the last one first.
+/// Loads the frames of a processor's list of a pool, last one first.
 fn load_list(cpus: &mut Cpus, image: &Image, cpu: Cpu, pool: Pool)
     requires limits { IsLayout image.now.layout }
     requires placed { IsWellPlaced image.now.layout image.now.memory }
@@ -57,7 +57,7 @@ fn load_list(cpus: &mut Cpus, image: &Image, cpu: Cpu, pool: Pool)
     }
 }
 
-/// The pool of a number, 0 to 2; the last one past it.
+/// Returns the pool with this number, 0 to 2. Any greater number gives the last pool.
 pub(crate) fn pool_numbered(number: u32) -> Pool
     ensures { result ≡ pool_numbered number }
 {

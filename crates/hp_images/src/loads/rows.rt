@@ -1,4 +1,4 @@
-//! The rows of the memory blocks of an Image.
+//! Loading the rows of memory blocks from an Image.
 ghost use Rattle.std.specs.Prelude.{◌≡◌, ◌<◌, IfOk, None};
 ghost use Rattle.hp_units.specs.InLayout.{AreBlocksOf};
 ghost use Rattle.hp_units.specs.Memory.{offline_row, row_of, with_row};
@@ -10,8 +10,7 @@ use hp_tape::{Delta, RowChange};
 use hp_units::{Block, Claim, Row, State};
 use std::alloc::{AllocError, Global};
 
-/// The rows of the memory blocks of an Image, and what a block that is added becomes. An error is out
-/// of memory.
+/// Creates the rows of an Image's memory blocks, with what an added block becomes.
 pub fn blocks_of(alloc: Global, image: &Image) -> Result<Blocks, AllocError>
     requires rows { AreBlocksOf image.now.layout image.now.memory.blocks }
     ensures { IfOk result
@@ -24,7 +23,7 @@ pub fn blocks_of(alloc: Global, image: &Image) -> Result<Blocks, AllocError>
     Ok(blocks)
 }
 
-/// The rows of an Image come into blocks that are offline.
+/// Loads the rows. All blocks are offline before.
 fn load_rows(blocks: &mut Blocks, image: &Image)
     requires layout { blocks.old.layout ≡ image.now.layout }
     requires rows { AreBlocksOf image.now.layout image.now.memory.blocks }
@@ -37,7 +36,7 @@ fn load_rows(blocks: &mut Blocks, image: &Image)
     }
 }
 
-/// The row of one memory block, which no operation holds before, comes in.
+/// Loads the row of one memory block, which has no claim yet.
 fn load_row(blocks: &mut Blocks, image: &Image, block: Block)
     requires block { block < blocks.old.layout.blocks }
     requires few { block < 256 }

@@ -1,4 +1,4 @@
-//! The free areas in an Image.
+//! Adding the free areas to an Image.
 ghost use Rattle.std.specs.Prelude.{◌≡◌, ◌+◌, ◌*◌, ◌<◌, ◌≤◌, [], OnOk, length};
 ghost use Rattle.hp_units.specs.Arithmetic.{pageblock_count};
 ghost use Rattle.hp_units.specs.InLayout.{AreFreeAreasOf};
@@ -11,7 +11,7 @@ use hp_plain::{Image, Part};
 use hp_units::{Class, Order, Pageblock};
 use std::alloc::{AllocError, Global};
 
-/// The free areas come into an Image that has none. An error is out of memory.
+/// Adds the free areas to an Image that has none.
 pub fn put_areas(alloc: Global, image: &mut Image, buddy: &Buddy) -> Result<(), AllocError>
     requires layout { image.old.layout ≡ buddy.now.layout }
     requires within { AreFreeAreasOf buddy.now.layout buddy.now.areas }
@@ -25,7 +25,7 @@ pub fn put_areas(alloc: Global, image: &mut Image, buddy: &Buddy) -> Result<(), 
     put_kinds(image, buddy)
 }
 
-/// The free blocks come onto empty lists.
+/// Adds the free blocks to empty lists.
 fn put_lists(alloc: Global, image: &mut Image, buddy: &Buddy) -> Result<(), AllocError>
     requires layout { image.old.layout ≡ buddy.now.layout }
     requires within { AreFreeAreasOf buddy.now.layout buddy.now.areas }
@@ -47,7 +47,7 @@ fn put_lists(alloc: Global, image: &mut Image, buddy: &Buddy) -> Result<(), Allo
     Ok(())
 }
 
-/// The free blocks of a class and an order come onto their list, which is empty.
+/// Adds the free blocks of a class and an order to their list, which is empty.
 fn put_list(
     alloc: Global,
     image: &mut Image,
@@ -78,7 +78,7 @@ fn put_list(
     Ok(())
 }
 
-/// The kinds of the pageblocks come in.
+/// Adds the kinds of the pageblocks.
 fn put_kinds(image: &mut Image, buddy: &Buddy) -> Result<(), AllocError>
     requires layout { image.old.layout ≡ buddy.now.layout }
     requires within { AreFreeAreasOf buddy.now.layout buddy.now.areas }
@@ -95,7 +95,7 @@ fn put_kinds(image: &mut Image, buddy: &Buddy) -> Result<(), AllocError>
     Ok(())
 }
 
-/// The kind of one pageblock comes in.
+/// Adds the kind of one pageblock.
 fn put_kind(image: &mut Image, buddy: &Buddy, pageblock: Pageblock) -> Result<(), AllocError>
     requires layout { image.old.layout ≡ buddy.now.layout }
     requires pageblock { pageblock < pageblock_count buddy.now.layout }

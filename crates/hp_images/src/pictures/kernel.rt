@@ -1,4 +1,4 @@
-//! The kernel's blocks in an Image.
+//! Adding the kernel blocks to an Image.
 ghost use Rattle.std.specs.Prelude.{◌≡◌, ℕ, ◌<◌, ◌≤◌, None, IfSome, OnOk, length, slice_index_or, slice_set};
 ghost use Rattle.hp_units.specs.Arithmetic.{frame_count};
 ghost use Rattle.hp_images.specs.Tables.{AreCopied};
@@ -8,7 +8,7 @@ use hp_plain::{Image, Part};
 use hp_units::Frame;
 use std::alloc::AllocError;
 
-/// The kernel's blocks come into an Image that has none. An error is out of memory.
+/// Adds the kernel blocks to an Image that has none.
 pub fn put_kernel(image: &mut Image, kernel: &KernelBlocks) -> Result<(), AllocError>
     requires size { length kernel.now ≡ frame_count image.old.layout }
     requires orders { (first : ℕ)
@@ -23,7 +23,7 @@ pub fn put_kernel(image: &mut Image, kernel: &KernelBlocks) -> Result<(), AllocE
     Ok(())
 }
 
-/// The block that starts at a frame comes in, where none starts.
+/// Adds the block that starts at the frame, if any. The Image has none there.
 fn put_block(image: &mut Image, kernel: &KernelBlocks, frame: Frame) -> Result<(), AllocError>
     requires size { length kernel.now ≡ frame_count image.old.layout }
     requires frame { frame < length kernel.now }

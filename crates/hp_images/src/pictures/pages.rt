@@ -1,4 +1,4 @@
-//! The owners' pages in an Image.
+//! Adding the owners' pages to an Image.
 ghost use Rattle.std.specs.Prelude.{◌≡◌, ◌<◌, [], None, OnOk, length, replicate, slice_index_or, slice_set};
 ghost use Rattle.hp_units.specs.Memory.{entry_of, with_entry};
 ghost use Rattle.hp_pages.specs.Pages.{ArePageFramesOf, AreSettled, pages_of, words_of, words_row};
@@ -9,7 +9,7 @@ use hp_plain::{Image, Part};
 use hp_units::{Owner, Page, Words};
 use std::alloc::{AllocError, Global};
 
-/// The owners' pages come into an Image that has none. An error is out of memory.
+/// Adds the owners' pages to an Image that has none.
 pub fn put_pages(alloc: Global, image: &mut Image, pages: &Pages) -> Result<(), AllocError>
     requires layout { image.old.layout ≡ pages.now.layout }
     requires pages { ArePageFramesOf pages.now.layout pages.now.pages }
@@ -27,7 +27,7 @@ pub fn put_pages(alloc: Global, image: &mut Image, pages: &Pages) -> Result<(), 
     Ok(())
 }
 
-/// The pages of one owner come in, of whom there are none.
+/// Adds the pages of one owner, who has none in the Image.
 fn put_row(alloc: Global, image: &mut Image, pages: &Pages, owner: Owner) -> Result<(), AllocError>
     requires layout { image.old.layout ≡ pages.now.layout }
     requires pages { ArePageFramesOf pages.now.layout pages.now.pages }
@@ -56,7 +56,7 @@ fn put_row(alloc: Global, image: &mut Image, pages: &Pages, owner: Owner) -> Res
     Ok(())
 }
 
-/// One page comes in, of which there is no entry.
+/// Adds one page, which has no entry in the Image.
 fn put_page(
     alloc: Global,
     image: &mut Image,

@@ -1,4 +1,4 @@
-//! The processors' lists in an Image.
+//! Adding the processors' lists to an Image.
 ghost use Rattle.std.specs.Prelude.{◌≡◌, ℕ, ◌+◌, ◌*◌, ◌<◌, ◌≤◌, true, [], OnOk, length};
 ghost use Rattle.hp_units.specs.Arithmetic.{IsFrame};
 ghost use Rattle.hp_units.specs.FreeAreas.{is_on};
@@ -13,7 +13,7 @@ use hp_plain::{Image, Part};
 use hp_units::{Cpu, Pool};
 use std::alloc::{AllocError, Global};
 
-/// The processors' lists come into an Image whose lists are empty. An error is out of memory.
+/// Adds the processors' lists to an Image whose lists are empty.
 pub fn put_cpus(alloc: Global, image: &mut Image, cpus: &Cpus) -> Result<(), AllocError>
     requires layout { image.old.layout ≡ cpus.now.layout }
     requires within { (cpu : ℕ) (pool : Pool) (frame : ℕ) → is_on frame (list_of cpus.now cpu pool) ≡ true
@@ -37,7 +37,7 @@ pub fn put_cpus(alloc: Global, image: &mut Image, cpus: &Cpus) -> Result<(), All
     Ok(())
 }
 
-/// The frames of a processor's list of a pool come onto it, where it is empty.
+/// Adds the frames of a processor's list of a pool. The Image's list is empty.
 fn put_list(
     alloc: Global,
     image: &mut Image,

@@ -1,4 +1,4 @@
-//! The rows of the memory blocks in an Image.
+//! Adding the rows of memory blocks to an Image.
 ghost use Rattle.std.specs.Prelude.{◌≡◌, ◌<◌, OnOk};
 ghost use Rattle.hp_units.specs.InLayout.{AreBlocksOf};
 ghost use Rattle.hp_units.specs.Memory.{offline_row, row_of};
@@ -10,8 +10,7 @@ use hp_plain::{Image, Part};
 use hp_units::Block;
 use std::alloc::AllocError;
 
-/// The rows, and what a block that is added becomes, come into an Image whose rows are offline. An
-/// error is out of memory.
+/// Adds the rows, and what an added block becomes, to an Image whose rows are offline.
 pub fn put_blocks(image: &mut Image, blocks: &Blocks) -> Result<(), AllocError>
     requires layout { image.old.layout ≡ blocks.now.layout }
     requires rows { AreBlocksOf blocks.now.layout blocks.now.blocks }
@@ -24,7 +23,7 @@ pub fn put_blocks(image: &mut Image, blocks: &Blocks) -> Result<(), AllocError>
     image.add(Part::Auto { auto })
 }
 
-/// The rows come in by rising number.
+/// Adds the rows in rising order.
 fn put_rows(image: &mut Image, blocks: &Blocks) -> Result<(), AllocError>
     requires layout { image.old.layout ≡ blocks.now.layout }
     requires rows { AreBlocksOf blocks.now.layout blocks.now.blocks }
@@ -40,7 +39,7 @@ fn put_rows(image: &mut Image, blocks: &Blocks) -> Result<(), AllocError>
     Ok(())
 }
 
-/// The row of one memory block comes in.
+/// Adds the row of one memory block.
 fn put_row(image: &mut Image, blocks: &Blocks, block: Block) -> Result<(), AllocError>
     requires layout { image.old.layout ≡ blocks.now.layout }
     requires block { block < blocks.now.layout.blocks }

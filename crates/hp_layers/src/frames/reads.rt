@@ -1,4 +1,4 @@
-//! Whether frames are free: whole memory blocks, and single frames.
+//! Tests whether frames are free: whole memory blocks, and single frames.
 ghost use Rattle.std.specs.Prelude.{◌≡◌, ◌+◌, ◌*◌, ◌<◌, ◌≤◌, ◌==◌, ℕ, true, false, MatchOption};
 ghost use Rattle.std.specs.Option.{option_map_or};
 ghost use Rattle.std.specs.List.{list_all};
@@ -13,8 +13,8 @@ use super::Frames;
 use hp_units::{Block, Class, Frame, Layout, Order, Pageblock, Zone};
 
 impl Frames {
-    /// Whether each pageblock of a memory block is one isolated free block of the zone (Linux,
-    /// memory hotplug: offlining).
+    /// Returns whether each pageblock of a memory block is one isolated free block of the zone
+    /// (Linux, memory hotplug: offlining).
     pub(crate) fn is_all_free(&self, layout: &Layout, zone: Zone, block: Block) -> bool
         requires same { self.now.buddy.layout ≡ layout.now }
         requires block { block < layout.now.blocks }
@@ -32,7 +32,7 @@ impl Frames {
         true
     }
 
-    /// Whether a pageblock is one isolated free block of the zone.
+    /// Returns whether a pageblock is one isolated free block of the zone.
     fn is_isolated_block(&self, layout: &Layout, zone: Zone, pageblock: Pageblock) -> bool
         requires same { self.now.buddy.layout ≡ layout.now }
         requires pageblock { pageblock < pageblock_count layout.now }
@@ -43,7 +43,7 @@ impl Frames {
         self.is_free(Class::isolated(zone), order, Frame(pageblock.0 << order.0))
     }
 
-    /// Whether a free block of a class and an order starts at a frame.
+    /// Returns whether a free block of this class and order starts at the frame.
     fn is_free(&self, class: Class, order: Order, frame: Frame) -> bool
         requires { frame < frame_count self.now.buddy.layout }
         ensures { result ≡ is_on frame (free_list self.now.buddy.areas class order) }
@@ -54,8 +54,8 @@ impl Frames {
         }
     }
 
-    /// How many frames, from a frame to the end of the free block that it stands in; 0 where it
-    /// stands in none.
+    /// Returns how many frames there are from this one to the end of its free block, or
+    /// 0 if it is in none.
     pub(crate) fn free_from(&self, layout: &Layout, frame: Frame) -> u32
         requires same { self.now.buddy.layout ≡ layout.now }
         requires frame { frame < frame_count layout.now }
@@ -73,7 +73,7 @@ impl Frames {
         }
     }
 
-    /// The order of the free block that a frame stands in.
+    /// Returns the order of the free block that contains the frame.
     fn free_order(&self, layout: &Layout, frame: Frame) -> Option<Order>
         requires same { self.now.buddy.layout ≡ layout.now }
         requires frame { frame < frame_count layout.now }
@@ -90,7 +90,7 @@ impl Frames {
         None
     }
 
-    /// Whether a free block of an order starts at a frame.
+    /// Returns whether a free block of this order starts at the frame.
     fn is_free_start(&self, order: Order, frame: Frame) -> bool
         requires { frame < frame_count self.now.buddy.layout }
         ensures { result ≡ is_free_start self.now.buddy.areas order frame }
@@ -99,7 +99,7 @@ impl Frames {
     }
 }
 
-/// Whether a free block's place is among those of an order.
+/// Returns whether the free block has this order.
 fn is_of_order(place: Option<(Class, Order)>, order: Order) -> bool
     ensures { result ≡ option_map_or (λ at. at.1 == order) place false }
 {

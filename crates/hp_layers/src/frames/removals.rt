@@ -1,4 +1,4 @@
-//! Memory blocks that leave the free areas.
+//! Removing memory blocks from the free areas.
 ghost use Rattle.std.specs.Prelude.{◌≡◌, ℕ, ◌*◌, ◌<◌, ◌≢◌, true};
 ghost use Rattle.hp_units.specs.Arithmetic.{pageblock_count, pageblock_size};
 ghost use Rattle.hp_units.specs.FreeAreas.{is_on};
@@ -13,8 +13,8 @@ use hp_tape::Tape;
 use hp_units::{Block, Layout, Pageblock, Zone};
 
 impl Frames {
-    /// The pageblocks of a memory block of the layout, each one isolated free block, leave the
-    /// areas by rising number.
+    /// Removes the pageblocks of a memory block from the areas, in rising order. Each must be one
+    /// isolated free block.
     pub(crate) fn remove_block(
         &mut self,
         layout: &Layout,
@@ -38,7 +38,7 @@ impl Frames {
         }
     }
 
-    /// A pageblock of the layout that is one isolated free block leaves the areas.
+    /// Removes a pageblock, which is one isolated free block, from the areas.
     fn remove_pageblock(
         &mut self,
         layout: &Layout,

@@ -1,4 +1,4 @@
-//! Operations that commit: the blocks that they hold get their wishes, all of them or none.
+//! Committing an operation: all blocks that it holds get their wishes, or none does.
 ghost use Rattle.std.specs.Prelude.{◌≡◌, ℕ, ◌*◌, ◌<◌, true, find, fold, length, slice_index, IfOk, MatchOption, OnErr};
 ghost use Rattle.std.specs.List.{flat_map, list_all};
 ghost use Rattle.std.specs.Option.{option_map};
@@ -24,9 +24,11 @@ use hp_units::{Block, Frame, Refusal, Reply, Row, Serial, State, Wish, Zone};
 use std::alloc::{AllocError, Global};
 
 impl Layers {
-    /// An operation ends as it wished: its going blocks leave the free areas and are offline, and
-    /// the others go online. It is refused while a frame of a going block is in use (Linux, memory
-    /// hotplug: offlining; that it is all or nothing is an own rule).
+    /// Commits an operation: its going blocks leave the free areas and are offline, and the others
+    /// go online.
+    ///
+    /// Refused while a frame of a going block is in use (Linux, memory hotplug: offlining). That it
+    /// is all or nothing is this model's choice.
     #[tactic(auto, using(crate::proofs::Answers::refused))]
     pub(crate) fn commit(
         &mut self,
@@ -54,8 +56,8 @@ impl Layers {
         Ok(Reply::Done)
     }
 
-    /// The frame that keeps the blocks from getting their wishes: where some going one isn't all
-    /// free, the lowest frame in use.
+    /// Returns the frame that keeps the blocks from getting their wishes: the lowest frame in use,
+    /// if some going block is not all free.
     fn frame_not_free(&self, blocks: &[Block]) -> Option<Frame>
         requires one { AreOfOneLayout self.now }
         requires within { (k : ℕ) → k < length blocks.now
@@ -69,7 +71,7 @@ impl Layers {
         Some(self.frame_in_use(blocks).unwrap_or(Frame(0)))
     }
 
-    /// Whether each going one of the blocks is all free.
+    /// Returns whether each going block among these is all free.
     fn are_ready(&self, blocks: &[Block]) -> bool
         requires one { AreOfOneLayout self.now }
         requires within { (k : ℕ) → k < length blocks.now
@@ -84,7 +86,7 @@ impl Layers {
         true
     }
 
-    /// Whether a block is all free, if it is going.
+    /// Returns whether a block is all free, if it is going.
     fn is_ready(&self, block: Block) -> bool
         requires one { AreOfOneLayout self.now }
         requires block { block < self.now.layout.blocks }
@@ -97,7 +99,7 @@ impl Layers {
         self.frames.is_all_free(&self.layout, zone, block)
     }
 
-    /// The lowest frame of the going ones of the blocks that stands in no free block.
+    /// Returns the lowest frame in no free block, among the frames of the going blocks.
     fn frame_in_use(&self, blocks: &[Block]) -> Option<Frame>
         requires one { AreOfOneLayout self.now }
         requires within { (k : ℕ) → k < length blocks.now
@@ -113,7 +115,7 @@ impl Layers {
         None
     }
 
-    /// The lowest frame of a block that stands in no free block, if the block is going.
+    /// Returns the lowest frame of a block in no free block, if the block is going.
     fn frame_in_use_of(&self, block: Block) -> Option<Frame>
         requires one { AreOfOneLayout self.now }
         requires block { block < self.now.layout.blocks }
@@ -126,7 +128,7 @@ impl Layers {
         self.lowest_in_use(block)
     }
 
-    /// The lowest frame of a block that stands in no free block.
+    /// Returns the lowest frame of a block in no free block. Skips free blocks whole.
     fn lowest_in_use(&self, block: Block) -> Option<Frame>
         requires one { AreOfOneLayout self.now }
         requires block { block < self.now.layout.blocks }
@@ -147,7 +149,7 @@ impl Layers {
         None
     }
 
-    /// How many deltas a block of a commit may note.
+    /// Returns how many deltas a block of a commit may note.
     fn committed_block_room(&self) -> usize
         ensures is { result ≡ committed_block_bound self.now.layout }
         ensures layout { IsLayout self.now.layout }
@@ -155,7 +157,7 @@ impl Layers {
         1 + 2 * self.layout.pageblocks() as usize
     }
 
-    /// Blocks of an operation get their wishes, in their order, which is by rising number (own rule).
+    /// Gives blocks of an operation their wishes, in their order, which is rising.
     fn commit_blocks(&mut self, blocks: &[Block], tape: &mut Tape)
         requires placed { ArePlaced self.old }
         requires within { (k : ℕ) → k < length blocks.now
@@ -173,7 +175,7 @@ impl Layers {
         }
     }
 
-    /// A block gets the wish of its claim, if it has one.
+    /// Gives a block the wish of its claim, if it has one.
     fn commit_block(&mut self, block: Block, tape: &mut Tape)
         requires placed { ArePlaced self.old }
         requires block { block < self.old.layout.blocks }
@@ -187,7 +189,7 @@ impl Layers {
         }
     }
 
-    /// What an operation wishes for a block that it holds.
+    /// Returns what the operation that holds a block wishes for it.
     fn wish_of(&self, block: Block) -> Option<Wish>
         requires one { AreOfOneLayout self.now }
         requires block { block < self.now.layout.blocks }
@@ -199,7 +201,7 @@ impl Layers {
         }
     }
 
-    /// A block gets a wish.
+    /// Gives a block a wish.
     #[tactic(auto, using(crate::proofs::Committed::reworked_more))]
     fn grant(&mut self, block: Block, wish: Wish, tape: &mut Tape)
         requires placed { ArePlaced self.old }
@@ -219,7 +221,7 @@ impl Layers {
         }
     }
 
-    /// A block whose pageblocks are isolated free blocks leaves the free areas, and is offline
+    /// Takes a block offline: its pageblocks, which are isolated free blocks, leave the free areas
     /// (Linux, memory hotplug: offlining).
     fn offline_block(&mut self, block: Block, tape: &mut Tape)
         requires one { AreOfOneLayout self.old }

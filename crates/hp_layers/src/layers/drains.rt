@@ -1,4 +1,4 @@
-//! The events that give a processor's lists back, of a processor that is in the layout.
+//! The events that drain a processor's lists. The caller's processor is in the layout.
 ghost use Rattle.std.specs.Prelude.{◌≡◌, IfOk, OnErr};
 ghost use Rattle.hp_units.specs.declared.events.Event.TheVariants.{Drain, DrainFor};
 ghost use Rattle.hp_plain.specs.Asked.{asked};
@@ -10,7 +10,7 @@ use hp_units::{Cpu, Refusal, Reply, Serial};
 use std::alloc::AllocError;
 
 impl Layers {
-    /// A processor's lists are given back.
+    /// Drains a processor's lists.
     #[tactic(auto, using(crate::proofs::Answers::refused))]
     pub(crate) fn drain(&mut self, drained: Cpu, tape: &mut Tape) -> Result<Reply, AllocError>
         requires placed { ArePlaced self.old }
@@ -29,7 +29,7 @@ impl Layers {
         Ok(Reply::Done)
     }
 
-    /// A processor's lists are given back, as a step of an operation (own rule).
+    /// Drains a processor's lists as a step of an operation.
     #[tactic(auto, using(crate::proofs::Answers::refused))]
     pub(crate) fn drain_for(
         &mut self,

@@ -1,4 +1,4 @@
-//! The events of the kernel's blocks, of a processor that is in the layout.
+//! The events of kernel blocks. The caller's processor is in the layout.
 ghost use Rattle.std.specs.Prelude.{◌≡◌, ◌+◌, ◌<◌, IfOk, OnErr};
 ghost use Rattle.hp_units.specs.declared.events.Event.TheVariants.{KernelAlloc, KernelFree};
 ghost use Rattle.hp_plain.specs.Asked.{asked};
@@ -10,7 +10,7 @@ use hp_units::{Cpu, Frame, Order, Refusal, Reply};
 use std::alloc::AllocError;
 
 impl Layers {
-    /// The kernel takes a block.
+    /// Takes a block for the kernel.
     #[tactic(auto, using(crate::proofs::Answers::refused, crate::proofs::Answers::refused_none))]
     pub(crate) fn kernel_alloc(
         &mut self,
@@ -40,7 +40,7 @@ impl Layers {
         }
     }
 
-    /// A block of the kernel comes back.
+    /// Gives a block of the kernel back.
     #[tactic(auto, using(crate::proofs::Answers::refused))]
     pub(crate) fn kernel_free(
         &mut self,

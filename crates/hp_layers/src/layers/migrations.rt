@@ -1,4 +1,4 @@
-//! Pages that move out of blocks which are going offline.
+//! Moving pages out of blocks that are going offline.
 ghost use Rattle.std.specs.Prelude.{◌≡◌, ◌<◌, IfOk, OnErr};
 ghost use Rattle.hp_units.specs.declared.events.Event.TheVariants.{Migrate};
 ghost use Rattle.hp_units.specs.Migrations.{migration_source};
@@ -12,9 +12,8 @@ use hp_units::{Block, Frame, Order, Refusal, Reply, Serial};
 use std::alloc::AllocError;
 
 impl Layers {
-    /// The page at the lowest mapped frame of an operation's going blocks moves to a frame straight
-    /// from the areas, and its old frame goes straight back to them (Linux, memory hotplug:
-    /// migration; own rule).
+    /// Moves the page at the lowest mapped frame of an operation's going blocks to a frame straight
+    /// from the areas. The old frame goes straight back to them (Linux, memory hotplug: migration).
     #[tactic(auto, using(crate::proofs::Answers::refused, crate::proofs::Answers::refused_none))]
     pub(crate) fn migrate(&mut self, op: Serial, tape: &mut Tape) -> Result<Reply, AllocError>
         requires placed { ArePlaced self.old }
@@ -43,7 +42,7 @@ impl Layers {
         }
     }
 
-    /// The lowest mapped frame of an operation's going blocks.
+    /// Returns the lowest mapped frame of an operation's going blocks.
     fn migration_source(&self, op: Serial) -> Option<Frame>
         requires one { AreOfOneLayout self.now }
         ensures { result ≡ migration_source self.now.layout (state_of self.now) op }
@@ -58,7 +57,7 @@ impl Layers {
         None
     }
 
-    /// The lowest mapped frame of a block, if an operation takes it offline.
+    /// Returns the lowest mapped frame of a block, if the operation is taking it offline.
     fn source_of(&self, op: Serial, block: Block) -> Option<Frame>
         requires one { AreOfOneLayout self.now }
         requires block { block < self.now.layout.blocks }

@@ -1,4 +1,4 @@
-//! Operations on memory blocks.
+//! Claiming memory blocks for an operation.
 ghost use Rattle.std.specs.Prelude.{◌≡◌, ◌*◌, ◌<◌, None};
 ghost use Rattle.hp_units.specs.Memory.{row_of};
 ghost use Rattle.hp_units.specs.Rows.{begin_block, begin_plan, claim_block, zone_of_block};
@@ -21,7 +21,8 @@ use hp_tape::Tape;
 use hp_units::{Block, Item, Serial, Wish, Zone};
 
 impl Layers {
-    /// An operation claims the blocks of its plan, which none holds, by rising number (own rule).
+    /// Claims the blocks of a plan for an operation, in rising order. No operation
+    /// may hold any of them.
     #[tactic(auto, unfolding(hp_units::specs::Rows::begin_plan))]
     pub(crate) fn begin_plan(&mut self, op: Serial, plan: &[Item], tape: &mut Tape)
         requires one { AreOfOneLayout self.old }
@@ -38,7 +39,7 @@ impl Layers {
         }
     }
 
-    /// An operation claims a block if its plan has a wish for it; none holds it then.
+    /// Claims a block if the plan has a wish for it. No operation may hold it then.
     fn begin_block(&mut self, op: Serial, plan: &[Item], block: Block, tape: &mut Tape)
         requires one { AreOfOneLayout self.old }
         requires tidy { IsTidy self.old.frames }
@@ -53,8 +54,8 @@ impl Layers {
         }
     }
 
-    /// An operation claims a block that none holds for a wish, and isolates one that is going
-    /// (Linux, memory hotplug: offlining; own rule).
+    /// Claims a block, which no operation holds, and isolates it if it is to go offline (Linux,
+    /// memory hotplug: offlining).
     fn claim_block(&mut self, op: Serial, block: Block, wish: Wish, tape: &mut Tape)
         requires one { AreOfOneLayout self.old }
         requires tidy { IsTidy self.old.frames }
@@ -70,7 +71,7 @@ impl Layers {
         }
     }
 
-    /// An operation claims a block that none holds and that is to go offline, and isolates it.
+    /// Claims a block that is to go offline, and isolates it. No operation may hold it.
     fn isolate_block(&mut self, op: Serial, block: Block, tape: &mut Tape)
         requires one { AreOfOneLayout self.old }
         requires tidy { IsTidy self.old.frames }
@@ -86,7 +87,7 @@ impl Layers {
         self.blocks.claim(block, op, Wish::Off, tape);
     }
 
-    /// The zone of a memory block of the layout; Normal where it has none.
+    /// Returns the zone of a memory block, or Normal if it has none.
     pub(crate) fn zone_of_block(&self, block: Block) -> Zone
         requires block { block < self.now.layout.blocks }
         requires one { AreOfOneLayout self.now }

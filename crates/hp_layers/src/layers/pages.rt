@@ -1,4 +1,4 @@
-//! The events of owners' pages, of a processor that is in the layout.
+//! The events of owners' pages. The caller's processor is in the layout.
 ghost use Rattle.std.specs.Prelude.{◌≡◌, ◌<◌, List, IfOk, OnErr};
 ghost use Rattle.hp_units.specs.declared.events.Event.TheVariants.{Map, Read, Unmap, Write};
 ghost use Rattle.hp_tape.specs.declared.deltas.Delta.{Delta};
@@ -13,7 +13,7 @@ use hp_units::{Cpu, Order, Owner, Page, Refusal, Reply};
 use std::alloc::{AllocError, Global};
 
 impl Layers {
-    /// A page is mapped to a frame, with zeros in it. They take no memory.
+    /// Maps a page to a frame, with all words 0. The zeros take no memory.
     #[tactic(auto, using(crate::proofs::Answers::refused, crate::proofs::Answers::refused_none))]
     pub(crate) fn map(
         &mut self,
@@ -50,7 +50,7 @@ impl Layers {
         }
     }
 
-    /// A page is unmapped, and its frame comes back.
+    /// Unmaps a page and gives its frame back.
     #[tactic(auto, using(crate::proofs::Answers::refused))]
     pub(crate) fn unmap(
         &mut self,
@@ -87,8 +87,8 @@ impl Layers {
         Ok(Reply::Done)
     }
 
-    /// One word of a mapped page changes. The first that is not 0 takes memory for all words of the
-    /// page, and a word of 2^32 or more for its delta.
+    /// Writes one word of a mapped page. The first word that is not 0 allocates all words of the
+    /// page; a word of 2^32 or more allocates for its delta.
     pub(crate) fn write(
         &mut self,
         alloc: Global,
@@ -114,7 +114,7 @@ impl Layers {
         Ok(Reply::Done)
     }
 
-    /// One word of a mapped page is read.
+    /// Reads one word of a mapped page.
     pub(crate) fn read(&self, owner: Owner, page: Page, index: u32) -> Reply
         requires placed { ArePlaced self.now }
         ensures { (deltas : List Delta)
@@ -128,7 +128,7 @@ impl Layers {
         }
     }
 
-    /// Why a word can't be read or written.
+    /// Returns why a word cannot be read or written, if so.
     #[inline(always)]
     fn word_refusal(&self, owner: Owner, page: Page, index: u32) -> Option<Refusal>
         requires one { AreOfOneLayout self.now }

@@ -1,4 +1,4 @@
-//! Why a plan is refused.
+//! The refusals of a plan.
 ghost use Rattle.std.specs.Prelude.{◌≡◌, ◌<◌, ◌==◌, ◌&&◌, [], false, find, is_some, map, not};
 ghost use Rattle.std.specs.List.{list_any};
 ghost use Rattle.std.specs.Option.{option_map};
@@ -14,8 +14,8 @@ use super::Layers;
 use hp_units::{Block, Frame, Item, Layout, Refusal};
 
 impl Layers {
-    /// Why a plan is refused, if it is: the first reason in its order, each looked for in the whole
-    /// plan (own rule).
+    /// Returns why a plan is refused, if it is. Each reason, in order, is looked for in the whole
+    /// plan; the first found counts.
     pub(crate) fn plan_refusal(&self, plan: &[Item]) -> Option<Refusal>
         requires one { AreOfOneLayout self.now }
         ensures { result ≡ first_some (plan_refusals self.now.layout (state_of self.now) plan.now) }
@@ -32,7 +32,7 @@ impl Layers {
         self.claim_refusal(plan)
     }
 
-    /// Why no operation can claim the blocks of a plan, if it is so.
+    /// Returns why no operation can claim the blocks of a plan, if so.
     #[tactic(auto, using(crate::proofs::Plans::none_claimed))]
     fn claim_refusal(&self, plan: &[Item]) -> Option<Refusal>
         requires one { AreOfOneLayout self.now }
@@ -45,7 +45,7 @@ impl Layers {
         self.state_refusal(plan)
     }
 
-    /// Why a block of a plan isn't in a state to be changed, or can't change, if it is so.
+    /// Returns why a block of a plan is in the wrong state or cannot change, if so.
     fn state_refusal(&self, plan: &[Item]) -> Option<Refusal>
         requires one { AreOfOneLayout self.now }
         requires within { names_no_block self.now.layout plan.now ≡ false }
@@ -57,7 +57,7 @@ impl Layers {
         self.change_refusal(plan)
     }
 
-    /// Why the blocks of a plan can't change, if it is so.
+    /// Returns why the blocks of a plan cannot change, if so.
     fn change_refusal(&self, plan: &[Item]) -> Option<Refusal>
         requires one { AreOfOneLayout self.now }
         requires within { names_no_block self.now.layout plan.now ≡ false }
@@ -72,7 +72,7 @@ impl Layers {
         }
     }
 
-    /// The first memory block of a plan that an operation holds (own rule).
+    /// Returns the first block of a plan that an operation holds.
     fn first_claimed(&self, plan: &[Item]) -> Option<Block>
         requires one { AreOfOneLayout self.now }
         requires within { names_no_block self.now.layout plan.now ≡ false }
@@ -87,7 +87,7 @@ impl Layers {
         None
     }
 
-    /// Whether an operation holds an item's block.
+    /// Returns whether an operation holds the item's block.
     fn is_claimed(&self, item: Item) -> bool
         requires one { AreOfOneLayout self.now }
         requires block { item.block < self.now.layout.blocks }
@@ -96,8 +96,8 @@ impl Layers {
         self.blocks.row(item.block).is_claimed()
     }
 
-    /// The first memory block of a plan that is to go offline and isn't online (Linux, memory
-    /// hotplug: offlining; own rule).
+    /// Returns the first block of a plan that is to go offline but is not online (Linux, memory
+    /// hotplug: offlining).
     fn first_not_online(&self, plan: &[Item]) -> Option<Block>
         requires one { AreOfOneLayout self.now }
         requires within { names_no_block self.now.layout plan.now ≡ false }
@@ -112,7 +112,7 @@ impl Layers {
         None
     }
 
-    /// Whether an item's block is to go offline and isn't online.
+    /// Returns whether the item's block is to go offline but is not online.
     fn cannot_go(&self, item: Item) -> bool
         requires one { AreOfOneLayout self.now }
         requires block { item.block < self.now.layout.blocks }
@@ -121,8 +121,8 @@ impl Layers {
         item.wish.is_off() && !self.blocks.row(item.block).is_online()
     }
 
-    /// The first memory block of a plan that is to go online and isn't offline (Linux, memory
-    /// hotplug: onlining; own rule).
+    /// Returns the first block of a plan that is to go online but is not offline (Linux, memory
+    /// hotplug: onlining).
     fn first_not_offline(&self, plan: &[Item]) -> Option<Block>
         requires one { AreOfOneLayout self.now }
         requires within { names_no_block self.now.layout plan.now ≡ false }
@@ -137,7 +137,7 @@ impl Layers {
         None
     }
 
-    /// Whether an item's block is to go online and isn't offline.
+    /// Returns whether the item's block is to go online but is not offline.
     fn cannot_come(&self, item: Item) -> bool
         requires one { AreOfOneLayout self.now }
         requires block { item.block < self.now.layout.blocks }
@@ -147,7 +147,8 @@ impl Layers {
         !item.wish.is_off() && !self.blocks.row(item.block).is_offline()
     }
 
-    /// The lowest first frame of a kernel's block in the first block that is to go and has one.
+    /// Returns the lowest frame at which a kernel block starts, in the first block that is to go
+    /// offline and has one.
     fn first_unmovable(&self, plan: &[Item]) -> Option<Frame>
         requires one { AreOfOneLayout self.now }
         requires within { names_no_block self.now.layout plan.now ≡ false }
@@ -161,7 +162,8 @@ impl Layers {
         None
     }
 
-    /// The lowest first frame of a kernel's block in a block that is to go.
+    /// Returns the lowest frame at which a kernel block starts in the item's block, if the block is
+    /// to go offline.
     fn kernel_frame_in(&self, item: Item) -> Option<Frame>
         requires one { AreOfOneLayout self.now }
         requires block { item.block < self.now.layout.blocks }
@@ -174,7 +176,7 @@ impl Layers {
         }
     }
 
-    /// The lowest first frame of a kernel's block in a memory block.
+    /// Returns the lowest frame at which a kernel block starts in a memory block.
     fn lowest_kernel_frame(&self, block: Block) -> Option<Frame>
         requires one { AreOfOneLayout self.now }
         requires block { block < self.now.layout.blocks }
@@ -186,7 +188,7 @@ impl Layers {
     }
 }
 
-/// Whether a plan names a block that isn't in the layout.
+/// Returns whether the plan names a block outside the layout.
 fn names_no_block(layout: &Layout, plan: &[Item]) -> bool
     ensures { result ≡ names_no_block layout.now plan.now }
 {
@@ -194,7 +196,7 @@ fn names_no_block(layout: &Layout, plan: &[Item]) -> bool
     plan.iter().any(|item| blocks <= item.block.0)
 }
 
-/// The first block that stands a second time in a plan.
+/// Returns the first block that the plan names again.
 fn first_repeated(plan: &[Item]) -> Option<Block>
     ensures { result ≡ first_repeated [] plan.now }
 {
@@ -207,7 +209,7 @@ fn first_repeated(plan: &[Item]) -> Option<Block>
     None
 }
 
-/// Whether a block stands among items.
+/// Returns whether one of the items names the block.
 fn stands_in(items: &[Item], block: Block) -> bool
     ensures { result ≡ list_any (λ item. item.block == block) items.now }
 {

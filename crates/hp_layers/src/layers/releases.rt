@@ -1,4 +1,4 @@
-//! Operations that are released.
+//! Releasing an operation.
 ghost use Rattle.std.specs.Prelude.{◌≡◌, ℕ, ◌+◌, ◌*◌, ◌<◌, ◌≤◌, [], ◌∷◌, ◌++◌, None, IfOk, OnErr, OnOk, if◌then◌else◌, fold, length, slice_index};
 ghost use Rattle.hp_units.specs.declared.events.Event.TheVariants.{Cancel};
 ghost use Rattle.hp_units.specs.Rows.{blocks_of, is_claimed_by, online_again, release_block, with_block_row};
@@ -17,7 +17,7 @@ use hp_units::{Block, Refusal, Reply, Row, Serial, State};
 use std::alloc::{AllocError, Global};
 
 impl Layers {
-    /// An operation ends, and its blocks are as before it (Linux, memory hotplug: undo_isolate; own rule).
+    /// Cancels an operation: its blocks are as before it (Linux, memory hotplug: undo_isolate).
     #[tactic(auto, using(crate::proofs::Answers::refused))]
     pub(crate) fn cancel(
         &mut self,
@@ -42,7 +42,7 @@ impl Layers {
         Ok(Reply::Released)
     }
 
-    /// The blocks that an operation holds, by rising number.
+    /// Returns the blocks that an operation holds, in rising order.
     pub(super) fn blocks_of(&self, alloc: Global, op: Serial) -> Result<Vec<Block>, AllocError>
         requires one { AreOfOneLayout self.now }
         ensures blocks { IfOk result
@@ -58,7 +58,7 @@ impl Layers {
         Ok(blocks)
     }
 
-    /// A block joins others if an operation holds it.
+    /// Appends the block if the operation holds it.
     fn push_claimed(
         &self,
         op: Serial,
@@ -76,7 +76,7 @@ impl Layers {
         Ok(())
     }
 
-    /// How many deltas isolating or releasing a memory block may note.
+    /// Returns how many deltas isolating or releasing a memory block may note.
     pub(super) fn moved_block_room(&self) -> usize
         ensures is { result ≡ moved_block_bound self.now.layout }
         ensures layout { IsLayout self.now.layout }
@@ -85,7 +85,7 @@ impl Layers {
         1 + self.layout.pageblocks() as usize * (1 + 2 * size)
     }
 
-    /// Blocks of an operation are released, in their order.
+    /// Releases blocks of an operation, in their order.
     fn release_blocks(&mut self, blocks: &[Block], tape: &mut Tape)
         requires one { AreOfOneLayout self.old }
         requires tidy { IsTidy self.old.frames }
@@ -100,7 +100,7 @@ impl Layers {
         }
     }
 
-    /// A going block is online again, and any other one loses its claim.
+    /// Releases a block: a going block is online again, any other loses its claim.
     fn release_block(&mut self, block: Block, tape: &mut Tape)
         requires one { AreOfOneLayout self.old }
         requires tidy { IsTidy self.old.frames }
@@ -116,7 +116,7 @@ impl Layers {
         }
     }
 
-    /// A going block is online again in its old zone.
+    /// Takes a going block online again, in its old zone.
     fn online_again(&mut self, block: Block, tape: &mut Tape)
         requires one { AreOfOneLayout self.old }
         requires tidy { IsTidy self.old.frames }
@@ -136,7 +136,7 @@ impl Layers {
         self.blocks.set(block, online, tape);
     }
 
-    /// A block loses its claim.
+    /// Removes a block's claim.
     fn unclaim(&mut self, block: Block, tape: &mut Tape)
         requires one { AreOfOneLayout self.old }
         requires tidy { IsTidy self.old.frames }

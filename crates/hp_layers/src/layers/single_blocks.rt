@@ -1,4 +1,5 @@
-//! Events of single memory blocks: one goes online, is added or removed, or what an added one becomes is set.
+//! The events of single memory blocks: online, probe, remove, and setting what an
+//! added block becomes.
 ghost use Rattle.std.specs.Prelude.{◌≡◌, ◌/◌, ◌<◌, true, IfOk, OnErr};
 ghost use Rattle.hp_units.specs.declared.events.Event.TheVariants.{Online, Probe, Remove, SetAuto};
 ghost use Rattle.hp_units.specs.Arithmetic.{block_bytes};
@@ -23,7 +24,7 @@ use hp_units::{Auto, Block, Layout, Refusal, Reply, Row, State, Zone};
 use std::alloc::AllocError;
 
 impl Layers {
-    /// An offline block goes online in a zone (Linux, memory hotplug: onlining).
+    /// Takes an offline block online in a zone (Linux, memory hotplug: onlining).
     pub(crate) fn online(
         &mut self,
         block: Block,
@@ -45,8 +46,8 @@ impl Layers {
         Ok(Reply::Done)
     }
 
-    /// The absent block at a byte address becomes offline, or online as the machine is set to do
-    /// (Linux, memory hotplug: probe, auto_online_blocks).
+    /// Adds the absent block at a byte address. It becomes offline, or online if the machine is set
+    /// so (Linux, memory hotplug: probe, auto_online_blocks).
     pub(crate) fn probe(&mut self, address: u64, tape: &mut Tape) -> Result<Reply, AllocError>
         requires placed { ArePlaced self.old }
         ensures ok { IfOk result (IsAnswered self.old (Probe address)
@@ -64,7 +65,7 @@ impl Layers {
         Ok(Reply::Done)
     }
 
-    /// An offline block is there no more (Linux, memory hotplug: removing).
+    /// Removes an offline block: it becomes absent (Linux, memory hotplug: removing).
     pub(crate) fn remove(&mut self, block: Block, tape: &mut Tape) -> Result<Reply, AllocError>
         requires placed { ArePlaced self.old }
         ensures ok { IfOk result (IsAnswered self.old (Remove block)
@@ -81,7 +82,7 @@ impl Layers {
         Ok(Reply::Done)
     }
 
-    /// What a block that is added becomes is set (Linux, memory hotplug: auto_online_blocks).
+    /// Sets what an added block becomes (Linux, memory hotplug: auto_online_blocks).
     pub(crate) fn set_auto(&mut self, auto: Auto, tape: &mut Tape) -> Result<Reply, AllocError>
         requires placed { ArePlaced self.old }
         ensures ok { IfOk result (IsAnswered self.old (SetAuto auto)
@@ -95,7 +96,7 @@ impl Layers {
         Ok(Reply::Done)
     }
 
-    /// A block of the layout has a row with no zone and no claim.
+    /// Gives a block a row without zone and claim.
     fn set_bare(&mut self, state: State, block: Block, tape: &mut Tape)
         requires one { AreOfOneLayout self.old }
         requires tidy { IsTidy self.old.frames }
@@ -108,7 +109,7 @@ impl Layers {
         self.blocks.set(block, Row::bare(state), tape);
     }
 
-    /// How many deltas a block that goes online may note.
+    /// Returns how many deltas a block that goes online may note.
     fn online_room(&self) -> usize
         ensures is { result ≡ online_bound self.now.layout }
         ensures layout { IsLayout self.now.layout }
@@ -116,8 +117,8 @@ impl Layers {
         1 + self.layout.pageblocks() as usize
     }
 
-    /// A block that was absent becomes offline, or online as the machine is set to do
-    /// (Linux, memory hotplug: auto_online_blocks).
+    /// Brings an added block to the state that the machine is set to (Linux, memory hotplug:
+    /// auto_online_blocks).
     fn auto_online(&mut self, block: Block, tape: &mut Tape)
         requires placed { ArePlaced self.old }
         requires block { block < self.old.layout.blocks }
@@ -134,7 +135,7 @@ impl Layers {
         }
     }
 
-    /// Why a block isn't an offline one that nobody holds.
+    /// Returns why a block is not an offline block without a claim, if so.
     fn offline_refusal(&self, block: Block) -> Option<Refusal>
         requires one { AreOfOneLayout self.now }
         ensures { result ≡ first_some (event_refusals self.now.layout (state_of self.now) 0 (Remove block)) }
@@ -152,7 +153,7 @@ impl Layers {
         None
     }
 
-    /// Why no block at a byte address is absent.
+    /// Returns why no absent block is at a byte address, if so.
     fn probe_refusal(&self, address: u64) -> Option<Refusal>
         requires one { AreOfOneLayout self.now }
         ensures { result ≡ first_some (event_refusals self.now.layout (state_of self.now) 0 (Probe address)) }
@@ -172,8 +173,8 @@ impl Layers {
     }
 }
 
-/// The zone that a block which is added goes online in at once; none where it stays offline (Linux,
-/// memory hotplug: auto_online_blocks).
+/// Returns the zone in which an added block goes online at once, or `None` if it stays offline
+/// (Linux, memory hotplug: auto_online_blocks).
 fn zone_of_added(auto: Auto) -> Option<Zone>
     ensures { result ≡ added_zone auto }
 {
@@ -184,7 +185,7 @@ fn zone_of_added(auto: Auto) -> Option<Zone>
     }
 }
 
-/// The block that a byte address of the layout lies in.
+/// Returns the block that contains a byte address.
 fn block_at(layout: &Layout, address: u64) -> Block
     requires { address / block_bytes layout.now < layout.now.blocks }
     ensures { result ≡ address / block_bytes layout.now }

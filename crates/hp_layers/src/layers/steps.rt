@@ -9,9 +9,11 @@ use hp_units::{Cpu, Event, Refusal, Reply, Serial};
 use std::alloc::{AllocError, Global};
 
 impl Layers {
-    /// One step of the definitions: what it did is noted on the tape, after the deltas that are there.
-    /// A Cancel is the release here, and an UndoAfter does nothing. It takes its memory before it
-    /// changes anything; an error is out of memory.
+    /// Carries out one step of the definitions, and notes what it did on the tape
+    /// after the deltas there.
+    ///
+    /// A Cancel only releases here, and an UndoAfter does nothing; the history does the rest. All
+    /// memory is allocated before anything changes.
     pub fn step(
         &mut self,
         alloc: Global,

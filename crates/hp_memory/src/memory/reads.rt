@@ -1,4 +1,4 @@
-//! What a memory shows of its state, and its layers.
+//! Reading a memory's state and its layers.
 ghost use Rattle.std.specs.Prelude.{◌≡◌, length, slice_get};
 ghost use Rattle.hp_units.specs.Memory.{free_list, kernel_order};
 ghost use Rattle.hp_units.specs.Pages.{frame_at};
@@ -13,8 +13,8 @@ use hp_pages::Pages;
 use hp_units::{Auto, Block, Class, Frame, Kind, Order, Owner, Page, Pageblock, Row};
 
 impl Memory {
-    /// The front block of the free list of a class and an order (Gorman, chapter 6: free_area).
-    /// None where the list is empty and past the greatest order.
+    /// Returns the front block of the free list of a class and an order, or `None` if the list is
+    /// empty or the order above the greatest (Gorman, chapter 6: free_area).
     pub fn front(&self, class: Class, order: Order) -> Option<Frame>
         ensures { result ≡ slice_get (free_list self.now.state.free.areas class order) 0 }
     {
@@ -24,8 +24,8 @@ impl Memory {
         self.layers.frames.buddy.front(class, order)
     }
 
-    /// How many free blocks of 2^order frames a class has; 0 past the greatest order (Gorman,
-    /// chapter 6: nr_free).
+    /// Returns the number of free blocks of a class and an order, or 0 above the greatest order
+    /// (Gorman, chapter 6: nr_free). Takes constant time.
     pub fn list_len(&self, class: Class, order: Order) -> u32
         ensures { result ≡ length (free_list self.now.state.free.areas class order) }
     {
@@ -35,8 +35,8 @@ impl Memory {
         self.layers.frames.buddy.len(class, order)
     }
 
-    /// The kind of a pageblock (Linux, memory hotplug: isolated pageblocks; Gorman, chapter 6).
-    /// None past the last pageblock.
+    /// Returns the kind of a pageblock, or `None` past the last one (Linux, memory hotplug:
+    /// isolated pageblocks; Gorman, chapter 6).
     pub fn kind(&self, pageblock: Pageblock) -> Option<Kind>
         ensures { result ≡ slice_get self.now.state.free.areas.kinds pageblock }
     {
@@ -47,8 +47,8 @@ impl Memory {
         Some(self.layers.frames.buddy.kind(pageblock))
     }
 
-    /// The order of the kernel's block that starts at a frame. None where no such block does, and
-    /// past the last frame.
+    /// Returns the order of the kernel block that starts at the frame, or `None` if none does or
+    /// the frame is outside the layout.
     pub fn kernel_at(&self, frame: Frame) -> Option<Order>
         ensures { result ≡ kernel_order self.now.state frame }
     {
@@ -58,7 +58,8 @@ impl Memory {
         self.layers.kernel.order_at(frame)
     }
 
-    /// The row of a memory block (Linux, memory hotplug: state). None past the last block.
+    /// Returns the row of a memory block, or `None` past the last one (Linux,
+    /// memory hotplug: state).
     pub fn row(&self, block: Block) -> Option<Row>
         ensures { result ≡ slice_get self.now.state.blocks.rows block }
     {
@@ -68,8 +69,8 @@ impl Memory {
         Some(self.layers.blocks.row(block))
     }
 
-    /// The frame that holds an owner's page. None where the page is not mapped, and past the last
-    /// owner or page.
+    /// Returns the frame that holds an owner's page, or `None` if the page is not mapped or outside
+    /// the layout.
     pub fn frame_at(&self, owner: Owner, page: Page) -> Option<Frame>
         ensures { result ≡ frame_at self.now.state.pages owner page }
     {
@@ -80,29 +81,29 @@ impl Memory {
         self.layers.pages.frame_at(owner, page)
     }
 
-    /// What a memory block that is added becomes (Linux, memory hotplug: auto_online_blocks).
+    /// Returns what an added memory block becomes (Linux, memory hotplug: auto_online_blocks).
     pub fn auto(&self) -> Auto
         ensures { result ≡ self.now.state.blocks.auto }
     {
         self.layers.blocks.auto()
     }
 
-    /// The free areas.
+    /// Returns the free areas.
     pub fn buddy(&self) -> &Buddy
         ensures { result.now ≡ record { layout = self.now.layout; areas = self.now.state.free.areas } }
     {
         &self.layers.frames.buddy
     }
 
-    /// The processors' lists.
+    /// Returns the processors' lists.
     pub fn cpus(&self) -> &Cpus
         ensures { result.now ≡ record { layout = self.now.layout; cached = self.now.state.free.cached } }
     {
         &self.layers.frames.cpus
     }
 
-    /// The owners' pages by their frames: a mapped frame has its page's words in a buffer where one of them
-    /// is not 0, and no other frame has one.
+    /// Returns the owners' pages by their frames. A mapped frame has its page's words in a buffer
+    /// if one of them is not 0; no other frame has a buffer.
     pub fn pages(&self) -> &Pages
         ensures value { result.now ≡ record {
           layout = self.now.layout;
@@ -113,7 +114,7 @@ impl Memory {
         &self.layers.pages
     }
 
-    /// The rows of the memory blocks.
+    /// Returns the rows of the memory blocks.
     pub fn blocks(&self) -> &Blocks
         ensures { result.now ≡ record { layout = self.now.layout; blocks = self.now.state.blocks } }
     {

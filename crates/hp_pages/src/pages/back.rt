@@ -1,4 +1,4 @@
-//! The way back: the opposites of deltas.
+//! Undoing deltas.
 ghost use Rattle.std.specs.Prelude.{◌≡◌};
 ghost use Rattle.hp_tape.specs.FrameChanges.{frame_after};
 ghost use Rattle.hp_tape.specs.Deltas.{FitsPages, IsDeltaOf, pages_undo};
@@ -9,7 +9,8 @@ use hp_tape::{Delta, FrameChange};
 use hp_units::{Frame, Owner, Page};
 
 impl Pages {
-    /// Does the opposite of a delta of the layout that fits; one of another layer changes nothing.
+    /// Undoes a delta that fits and whose numbers are within the layout. A delta of another layer
+    /// changes nothing.
     pub fn back(&mut self, delta: Delta)
         requires fits { FitsPages delta self.old.pages }
         requires numbers { IsDeltaOf self.old.layout delta }
@@ -22,7 +23,7 @@ impl Pages {
         }
     }
 
-    /// The same, of a delta that has no buffer.
+    /// Undoes a delta that holds no buffer.
     fn back_in_place(&mut self, delta: &Delta)
         requires fits { FitsPages delta.now self.old.pages }
         requires numbers { IsDeltaOf self.old.layout delta.now }
@@ -63,7 +64,7 @@ impl Pages {
     }
 }
 
-/// The frame of a page after a change, if it has one then.
+/// Returns the page's frame after the change, if it has one then.
 fn frame_after(change: FrameChange) -> Option<Frame>
     ensures { result ≡ frame_after change }
 {

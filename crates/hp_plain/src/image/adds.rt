@@ -1,4 +1,4 @@
-//! Single parts of a state are set.
+//! Setting single parts of a state.
 ghost use Rattle.std.specs.Prelude.{◌≡◌, OnErr, OnOk};
 ghost use Rattle.hp_plain.specs.Image.{IsPartOf, with_part};
 ghost use Rattle.hp_plain.specs.declared.parts.Part.TheVariants.{Free, Cached, Mapped, Kernel, Kind as KindOf, Row as RowOf, Auto as AutoOf};
@@ -10,7 +10,7 @@ use hp_units::{
 use std::alloc::AllocError;
 
 impl Image {
-    /// A free block at the back of its list.
+    /// Adds a free block at the back of its list.
     pub(super) fn add_free(
         &mut self,
         class: Class,
@@ -25,7 +25,7 @@ impl Image {
         self.free.add_free(&self.layout, class, order, frame)
     }
 
-    /// A single frame at the back of a processor's list.
+    /// Adds a single frame at the back of a processor's list.
     pub(super) fn add_cached(
         &mut self,
         cpu: Cpu,
@@ -40,7 +40,7 @@ impl Image {
         self.free.add_cached(&self.layout, cpu, pool, frame)
     }
 
-    /// An owner's page.
+    /// Maps an owner's page to a frame, with its words.
     pub(super) fn add_mapped(&mut self, owner: Owner, page: Page, frame: Frame, words: Words)
         requires { IsPartOf self.old.layout (Mapped owner page frame words) }
         ensures { self.new
@@ -49,7 +49,7 @@ impl Image {
         self.pages.map(owner, page, frame, words);
     }
 
-    /// A block of the kernel.
+    /// Adds a kernel block.
     pub(super) fn add_kernel(&mut self, frame: Frame, order: Order)
         requires { IsPartOf self.old.layout (Kernel frame order) }
         ensures { self.new ≡ record self.old { memory = with_part self.old.memory (Kernel frame order) } }
@@ -57,7 +57,7 @@ impl Image {
         self.kernel[frame.0 as usize] = Some(order);
     }
 
-    /// The kind of a pageblock.
+    /// Sets the kind of a pageblock.
     pub(super) fn add_kind(&mut self, pageblock: Pageblock, kind: Kind)
         requires { IsPartOf self.old.layout (KindOf pageblock kind) }
         ensures { self.new ≡ record self.old { memory = with_part self.old.memory (KindOf pageblock kind) } }
@@ -65,7 +65,7 @@ impl Image {
         self.free.set_kind(pageblock, kind);
     }
 
-    /// The row of a memory block.
+    /// Sets the row of a memory block.
     pub(super) fn add_row(&mut self, block: Block, row: Row)
         requires { IsPartOf self.old.layout (RowOf block row) }
         ensures { self.new ≡ record self.old { memory = with_part self.old.memory (RowOf block row) } }
@@ -73,7 +73,7 @@ impl Image {
         self.blocks.set_row(block, row);
     }
 
-    /// What a block that is added becomes.
+    /// Sets what an added block becomes.
     pub(super) fn add_auto(&mut self, auto: Auto)
         ensures { self.new ≡ record self.old { memory = with_part self.old.memory (AutoOf auto) } }
     {

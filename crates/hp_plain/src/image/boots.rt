@@ -1,4 +1,4 @@
-//! Memory blocks become what a layout says of them.
+//! Bringing memory blocks to what a layout gives for them at boot.
 ghost use Rattle.std.specs.Prelude.{◌≡◌, ◌<◌, OnOk};
 ghost use Rattle.hp_units.specs.Boot.{boot_block};
 ghost use Rattle.hp_units.specs.Rows.{online_block};
@@ -9,7 +9,7 @@ use hp_units::{Block, Boot, Row, State, Zone};
 use std::alloc::AllocError;
 
 impl Image {
-    /// A block becomes what the layout says of it.
+    /// Brings a block to what the layout gives for it.
     pub(super) fn boot_block(&mut self, block: Block, boot: Boot) -> Result<(), AllocError>
         requires { block < self.old.layout.blocks }
         ensures memory { OnOk result
@@ -27,7 +27,7 @@ impl Image {
         }
     }
 
-    /// A block goes online in a zone (Linux, memory hotplug: onlining).
+    /// Takes a block online in a zone (Linux, memory hotplug: onlining).
     #[tactic(auto, unfolding(hp_units::specs::Rows::online_block))]
     pub(super) fn online_block(&mut self, zone: Zone, block: Block) -> Result<(), AllocError>
         requires { block < self.old.layout.blocks }
@@ -40,7 +40,7 @@ impl Image {
         Ok(())
     }
 
-    /// A block that isn't there.
+    /// Makes a block absent.
     fn absent_block(&mut self, block: Block)
         requires { block < self.old.layout.blocks }
         ensures { self.new

@@ -1,4 +1,4 @@
-//! Whether a state is well placed.
+//! The test for well placed states.
 ghost use Rattle.std.specs.Prelude.{◌≡◌, IfOk, MatchBool, ℕ};
 ghost use Rattle.hp_units.specs.Placement.{IsWellPlaced};
 ghost use Rattle.hp_placement.specs.Placing.{ArePlacedOnce, mark_of, unplugged};
@@ -10,9 +10,10 @@ use std::alloc::{AllocError, Global};
 
 impl Image {
     /// Returns whether the state is well placed: each frame is in exactly one place, and each place
-    /// agrees with the rows of the memory blocks. Check this before a state from elsewhere becomes
-    /// the base of a history. Takes time linear in the frames, the pages and the entries of the
-    /// lists, and one byte per frame at a time; an error is out of memory.
+    /// agrees with the rows of the memory blocks.
+    ///
+    /// Check this before a state from elsewhere becomes the base of a history. Takes time linear in
+    /// the frames, the pages and the entries of the lists, and one byte per frame at a time.
     pub fn is_well_placed(&self, alloc: Global) -> Result<bool, AllocError>
         ensures { IfOk result (λ placed. MatchBool placed
             (IsWellPlaced self.now.layout self.now.memory)
@@ -33,8 +34,8 @@ impl Image {
         Ok(self.is_each_once(&mut marks))
     }
 
-    /// Returns whether the lists, the kernel's blocks and the pages are where they may be, and each
-    /// frame is in one place. The frames of offline and absent blocks have to be marked.
+    /// Returns whether the lists, the kernel blocks and the pages are where they may be, and each
+    /// frame is in one place. The frames of offline and absent blocks must be marked before.
     fn is_each_once(&self, marks: &mut Marks) -> bool
         requires { (frame : ℕ)
             → mark_of marks.old frame ≡ unplugged self.now.layout self.now.memory.blocks.rows frame }

@@ -1,10 +1,10 @@
-//! Many lists of frames: new ones, equal ones, and whether they are the same.
+//! Many lists of frames: creating, copying and comparing them.
 ghost use Rattle.std.specs.Prelude.{◌≡◌, ◌≢◌, [], replicate, IfOk, MatchBool};
 
 use super::FrameList;
 use std::alloc::{AllocError, Global};
 
-/// So many lists without frames.
+/// Returns this many empty lists.
 pub(crate) fn empty_lists(alloc: Global, count: usize) -> Result<Vec<FrameList>, AllocError>
     ensures { IfOk result (λ lists. lists.items ≡ replicate count []) }
 {
@@ -15,7 +15,7 @@ pub(crate) fn empty_lists(alloc: Global, count: usize) -> Result<Vec<FrameList>,
     Ok(lists)
 }
 
-/// Equal lists.
+/// Returns copies of the lists.
 pub(crate) fn copy_of_lists(
     alloc: Global,
     lists: &[FrameList],
@@ -29,7 +29,7 @@ pub(crate) fn copy_of_lists(
     Ok(copy)
 }
 
-/// Whether the lists are the same.
+/// Returns whether both have the same lists.
 pub(crate) fn same_lists(lists: &[FrameList], others: &[FrameList]) -> bool
     ensures { MatchBool result (lists.now ≡ others.now) (lists.now ≢ others.now) }
 {
