@@ -1,5 +1,5 @@
-//! The law of a machine and the volumes that it sealed. It is a function that does nothing; what it
-//! ensures is the law.
+//! The law of a machine and the volumes that it sealed: the contract of a function that does
+//! nothing.
 ghost use Rattle.std.specs.Prelude.{ℕ, List, [], ◌∷◌, ◌++◌};
 ghost use Rattle.hp_units.specs.LayoutParts.{LayoutParts};
 ghost use Rattle.hp_units.specs.declared.events.Event.{Event};
