@@ -1,9 +1,9 @@
-//! Runs scenarios of the memory machine: `hotplug serial`, `hotplug run` or `hotplug audit`,
+//! Runs scenarios of the memory machine: `hotplug serial`, `hotplug run` or `hotplug audit`, from
 //! standard input to standard output.
 //!
-//! What the commands write stands in hp_commands. The exit status is 0; or 1 after a fault, which
-//! standard error names; or 2 where the command line names no command. It is the same where
-//! standard error takes no text.
+//! hp_commands has what the commands write. The exit status is 0; 1 after a fault, which standard
+//! error names; 2 if the command line names no command. It is the same if standard error takes no
+//! text.
 #![tactic(auto)]
 
 mod words;
@@ -18,7 +18,7 @@ use std::thread::Threads;
 use std::{env, io};
 use words::command_from;
 
-/// The command that the program was called with, where there is one.
+/// Returns the command that the program was called with, if there is one.
 fn command(rt: &HostRuntime) -> Result<Option<Command>, AllocError> {
     let alloc = rt.alloc();
     let arguments = match env::args(rt) {
