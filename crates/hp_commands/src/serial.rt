@@ -89,8 +89,8 @@ fn write_end(
     Ok(())
 }
 
-/// Runs lines as they are read, and writes the text of each. Returns whether the scenario ended after
-/// them, without a fault.
+/// Runs lines as they are read, and writes the text of each. Returns whether the scenario ended
+/// after them, without a fault.
 fn write_calls(
     out: &mut String,
     alloc: Global,
