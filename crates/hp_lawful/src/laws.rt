@@ -12,8 +12,8 @@ ghost use Rattle.hp_units.specs.Memory.{Memory};
 ghost use Rattle.hp_units.specs.Placement.{IsWellPlaced, kernel_places, mapped_places};
 ghost use Rattle.hp_units.specs.declared.replies.Record.{Record};
 
-/// Called for its contract: the machine writes a lawful log, over every well placed base state, and
-/// from boot. Histories can follow one another, as those of sealed volumes do.
+/// The machine writes a lawful log, over every well placed base state, and from boot. Histories can
+/// follow one another, as those of sealed volumes do.
 pub fn machines_write_lawful_logs()
     ensures history { (l : LayoutParts) (m : MachineSize) (base : Memory) (h : List Record) → IsLayout l
         → IsSizeOf l m → IsWellPlaced l base → IsLawful m (log_of l base h) }
@@ -23,9 +23,8 @@ pub fn machines_write_lawful_logs()
         → IsSizeOf l m → IsLawful m (log_of_all l (boot_memory l) hs) }
 {}
 
-/// Called for its contract: the log shows which frames are in use, and the phase of each memory
-/// block. From these in the base state, and the log, follow these in the state that the history
-/// leads to.
+/// The log shows which frames are in use, and the phase of each memory block: read over those of
+/// the base state, it gives those of the state that the history leads to.
 pub fn logs_show_their_state()
     ensures history { (l : LayoutParts) (m : MachineSize) (base : Memory) (h : List Record) → IsLayout l
         → IsSizeOf l m → IsWellPlaced l base
@@ -35,15 +34,14 @@ pub fn logs_show_their_state()
         → after_log m (shown l base) (log_of_all l base hs) ≡ shown l (value_of_all l base hs) }
 {}
 
-/// Called for its contract: a log shows a frame as in use if and only if a page or a block of the
-/// kernel has it.
+/// A log shows a frame as in use if and only if a page or a block of the kernel has it.
 pub fn shown_frames_are_in_place()
     ensures { (l : LayoutParts) (s : Memory) (frame : ℕ) → IsLayout l → IsWellPlaced l s
         → mapped_places s.pages frame + kernel_places s frame ≡ if in_use l s frame then 1 else 0 }
 {}
 
-/// Called for its contract: a record adds the log of its own step to the log. A step that leaves
-/// the state as it is writes nothing.
+/// A record adds the log of its own step to the log. A step that leaves the state as it is writes
+/// nothing.
 pub fn logs_grow_by_steps()
     ensures unchanged { (l : LayoutParts) (s : Memory) → step_log l s s ≡ [] }
     ensures more { (l : LayoutParts) (base : Memory) (h : List Record) (r : Record)
@@ -51,8 +49,8 @@ pub fn logs_grow_by_steps()
         ≡ log_of l base h ++ step_log l (value_of l base h) (value_of l base (h ++ r ∷ [])) }
 {}
 
-/// Called for its contract: each layout has a size as the judge needs it, since the number of
-/// frames of its memory blocks is a power of two.
+/// Each layout has a size as the judge needs it: the number of frames of its memory blocks is a
+/// power of two.
 pub fn layouts_have_sizes()
     ensures { (l : LayoutParts) → IsLayout l → (m : MachineSize) × IsSizeOf l m }
 {}

@@ -9,8 +9,8 @@ ghost use Rattle.hp_history.specs.declared.volumes.Volume.{Volume};
 ghost use Rattle.hp_machine.specs.Machine.{IsCalled, IsHistory, MachineValue, booted, sealed};
 ghost use Rattle.hp_machine.specs.Volumes.{GoesOnFrom};
 
-/// Called for its contract: a machine goes on from the volumes that it sealed. At boot there are
-/// none, a call leaves them as they are, and a seal adds the volume that it hands out.
+/// A machine goes on from the volumes that it sealed. At boot there are none, a call leaves them as
+/// they are, and a seal adds the volume that it hands out.
 pub fn machines_go_on_from_their_volumes()
     ensures boot { (l : LayoutParts) → GoesOnFrom [] (booted l) }
     ensures call { (volumes : List Volume) (old new : MachineValue) (cpu : ℕ) (event : Event) (r : Receipt)

@@ -33,8 +33,8 @@ pub trait Port {
     /// Without a call, the port stays as it is.
     ghost nothing: { (p : Self) → makes p [] p };
 
-    /// Calls after calls are calls with all their receipts. There is no such law of a call after a
-    /// fault, so a caller whose proof is for every port makes none.
+    /// Calls after calls are calls with all their receipts. No law covers a call after a fault, so
+    /// a caller that is proved for every port makes none.
     ghost joined: { (p q r : Self) (xs ys : List Receipt) → makes p xs q → makes q ys r
         → makes p (xs ++ ys) r };
 }

@@ -12,8 +12,8 @@ use hp_units::{Event, Owner, Text};
 use indexmap::IndexSet;
 use std::alloc::{AllocError, Global};
 
-/// Reads a line from a text. A new name becomes the last one. `words` is only working room, used
-/// again for each line; its contents are dropped.
+/// Reads a line from a text. A new name becomes the last one. `words` is scratch space, used again
+/// for each line.
 #[inline(always)]
 #[tactic(auto, unfolding(crate::specs::Names::line_in))]
 pub(crate) fn line_from<'a>(

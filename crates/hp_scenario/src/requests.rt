@@ -33,8 +33,8 @@ pub(crate) struct Said<'a> {
     pub(crate) request: Request<'a>,
 }
 
-/// Reads a text as a line; `None` if it is not one. `words` is only working room, used again for
-/// each line; its contents are dropped.
+/// Reads a text as a line, or returns `None` if it is not one. `words` is scratch space, used again
+/// for each line.
 #[inline(always)]
 #[tactic(auto, unfolding(crate::specs::Lines::line_says))]
 pub(crate) fn line_says<'a>(

@@ -178,7 +178,7 @@ pub(crate) fn audit_all<L: Job>(locked: &mut Locked<L>, seats: &mut Vec<Seat<L>>
     seats.push_reserved(seat);
 }
 
-/// Called for its contract: the counts of a seat and the others against the totals. Has no effect.
+/// Called for its contract: how the counts of a seat and the others add up. Has no effect.
 fn audit_first<L: Job>(locked: &mut Locked<L>, seat: &mut Seat<L>, others: &mut Vec<Seat<L>>)
     ensures locked { locked.new ≡ locked.old }
     ensures seat { seat.new ≡ seat.old }
@@ -196,8 +196,8 @@ fn audit_first<L: Job>(locked: &mut Locked<L>, seat: &mut Seat<L>, others: &mut 
     audit_beside(locked, seat, others, &mut share, &mut handed);
 }
 
-/// Called for its contract: the counts of a seat, the others and two more shares against the
-/// totals. Has no effect.
+/// Called for its contract: how the counts of a seat, the others and two more shares add up. Has no
+/// effect.
 #[cycle(audits)]
 fn audit_beside<L: Job>(
     locked: &mut Locked<L>,
@@ -231,8 +231,7 @@ fn audit_beside<L: Job>(
     handed.give(&mut seat.sealed, 1, count);
 }
 
-/// Called for its contract: the counts of seats and two more shares against the totals. Has no
-/// effect.
+/// Called for its contract: how the counts of seats and two more shares add up. Has no effect.
 #[cycle(audits)]
 fn audit_others<L: Job>(
     locked: &mut Locked<L>,

@@ -22,9 +22,9 @@ enum Mark {
     Isolated,
 }
 
-/// Writes a state, and leaves out each part that has nothing: the memory blocks, what a block
-/// becomes when it is added, the unmovable and the isolated pageblocks, the free lists, the
-/// processors' lists, the kernel's blocks and the mapped pages. Owners are written by name.
+/// Writes a state without the parts that are empty: the memory blocks, what a block becomes when it
+/// is added, the unmovable and the isolated pageblocks, the free lists, the processors' lists, the
+/// kernel's blocks and the mapped pages. Owners are written by name.
 #[tactic(auto, unfolding(crate::specs::State::state_text, crate::specs::State::rows_text))]
 pub fn write_state(
     out: &mut String,
