@@ -38,7 +38,8 @@ pub record IsAfter (cpus turns : ℕ) (receipts : List Receipt) (d : Driver) : T
   pub next : (plan : List Item) → event_in plan d.stage ≡ next_event cpus turns plan receipts
   pub end : end_in d.stage ≡ end_of receipts
 
--- from wherever a driver is after receipts, one more receipt of this event and reply moves it on
+-- if the old driver is one after some receipts, the new one is after these and one more, of this
+-- event and reply
 abbrev pub MovesOn : Driver → Event → Reply → Driver → Type 0
 MovesOn old event reply new =
     (cpus turns : ℕ) (earlier : List Receipt) (r : Receipt) → r.event ≡ event → r.reply ≡ reply
@@ -46,7 +47,7 @@ MovesOn old event reply new =
 
 -- ---- after any receipts that leave `left` migrations
 
--- the receipts leave `left` migrations, or none
+-- after the receipts a migration is left if and only if `left` is above 0
 abbrev pub Leaves : (turns left : ℕ) → List Receipt → Type 0
 Leaves turns left receipts = nat_lt (tried receipts) turns ≡ nat_lt 0 left
 

@@ -78,8 +78,8 @@ abbrev pub left_with : SeatValue → Option CallFault → SeatValue
 left_with seat None = seat
 left_with seat (Some fault) = left_by seat fault
 
--- a line's work was done by calls of a seat, which keeps their receipts; the last is `HistoryFull`
--- only if the seat may find the history full, and the seat counts that it did
+-- a line's work was done by calls of a seat, which keeps their receipts; the last call fails with
+-- `HistoryFull` only if the seat may find the history full, and the seat counts that
 pub record IsCallsRun (l : LayoutParts) (old : SeatValue) (asked : asks.Meaning) (end : LineEnd)
     (new : SeatValue) : Type 0 where
   pub gained : List Receipt
