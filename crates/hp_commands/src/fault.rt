@@ -88,7 +88,7 @@ impl fmt::Display for Said {
     }
 }
 
-/// Returns the text of a fault in three pieces: a text, what comes after it, and the end.
+/// Returns the text of a fault in three pieces: a fixed text, a middle piece, and a fixed text.
 fn said_of(fault: ProgramFault) -> (&'static str, Said, &'static str)
     ensures { codes "hotplug: " ++ result.0.now ++ said_text result.1 ++ result.2.now ≡ fault_text fault }
 {

@@ -189,7 +189,7 @@ impl Course {
         self.journal.image(alloc)
     }
 
-    /// Returns the records, oldest first. They are a legal history, and the state is theirs.
+    /// Returns the records, oldest first. They are a legal history, and lead to the present state.
     pub fn history(&self) -> &[Record]
         ensures records { result.now ≡ self.now.history }
         ensures kept { IsHistory self.now }

@@ -167,8 +167,8 @@ impl Machine {
         self.course.memory().layout()
     }
 
-    /// Returns the records since the last seal, oldest first. They are a legal history, and the
-    /// state is theirs.
+    /// Returns the records since the last seal, oldest first. They are a legal history, and lead to
+    /// the present state.
     pub fn history(&self) -> &[Record]
         ensures records { result.now ≡ self.now.history }
         ensures kept { IsHistory self.now }
