@@ -41,7 +41,8 @@ pub fn serial(alloc: Global, input: Vec<u8>) -> Result<String, ProgramFault>
     }
 }
 
-/// Returns the text of a scenario in its usual form without a fault. `None` decides nothing.
+/// Returns the text of a scenario in its usual form without a fault. If it returns `None`, the
+/// bytes may still be a scenario.
 fn usual_text(alloc: Global, input: &[u8]) -> Result<Option<String>, AllocError>
     ensures { IfOk result (λ out. IfSome out (λ out. IsTextOf input.now (string_bytes out))) }
 {
@@ -52,7 +53,8 @@ fn usual_text(alloc: Global, input: &[u8]) -> Result<Option<String>, AllocError>
 }
 
 /// Returns the text of a scenario of which no line was taken yet, without a fault. Runs its lines
-/// as they are read, on a machine with room for `count` of them. `None` decides nothing.
+/// as they are read, on a machine with room for `count` of them. If it returns `None`, there may
+/// still be such a text.
 fn calls_text(
     alloc: Global,
     calls: &mut Calls<'_>,

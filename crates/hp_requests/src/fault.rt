@@ -10,7 +10,7 @@ use std::fmt;
 /// other result.
 #[derive(Clone, Copy, Debug, PartialEq, Eq, Drop)]
 pub enum ControlFault {
-    /// There is no such file: no path is like this, or the memory block is not in the layout or is
+    /// There is no such file: the path is unknown, or the memory block is not in the layout or is
     /// absent.
     NoFile,
     /// The file takes no text.

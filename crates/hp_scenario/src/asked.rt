@@ -16,9 +16,9 @@ pub enum Asked<'a> {
     Plan { plan: &'a Plan, turns: u32 },
     /// Nothing: the control file of an `echo` does not take the word, for this reason.
     NotTaken(ControlFault),
-    /// To read a control file.
+    /// The text of a control file.
     Cat { path: &'a str },
-    /// To hand out the records since the last seal.
+    /// The records since the last seal.
     Seal,
 }
 

@@ -35,8 +35,8 @@ pub enum Next {
     Unsure,
 }
 
-/// Reads a scenario that has the usual form and no fault. `None` decides nothing: the bytes may
-/// still be a scenario.
+/// Reads a scenario that has the usual form and no fault. If it returns `None`, the bytes may still
+/// be a scenario.
 pub(crate) fn read_usual(alloc: Global, bytes: &[u8]) -> Result<Option<Scenario>, AllocError>
     ensures { IfOk result (λ s. IfSome s (λ s. scenario_in bytes.now ≡ Ok (scenario_seen s))) }
 {
@@ -47,7 +47,7 @@ pub(crate) fn read_usual(alloc: Global, bytes: &[u8]) -> Result<Option<Scenario>
 }
 
 impl<'a> Calls<'a> {
-    /// Reads a scenario up to its first line. `None` decides nothing: the bytes may still be a
+    /// Reads a scenario up to its first line. If it returns `None`, the bytes may still be a
     /// scenario.
     pub fn open(alloc: Global, bytes: &'a [u8]) -> Result<Option<Calls<'a>>, AllocError>
         ensures { IfOk result (λ c. IfSome c (λ c. IsOpened bytes.now c)) }
@@ -87,8 +87,8 @@ impl<'a> Calls<'a> {
         &self.names
     }
 
-    /// Reads all lines, none of which has been taken, and returns the scenario. `None` decides
-    /// nothing: the bytes may still be a scenario.
+    /// Reads all lines, none of which has been taken, and returns the scenario. If it returns
+    /// `None`, the bytes may still be a scenario.
     fn into_scenario(self, alloc: Global) -> Result<Option<Scenario>, AllocError>
         ensures { (bytes : List ℕ) → IsOpened bytes self.entry
             → IfOk result (λ s. IfSome s (λ s. scenario_in bytes ≡ Ok (scenario_seen s))) }

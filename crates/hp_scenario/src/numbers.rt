@@ -48,7 +48,7 @@ pub(crate) fn number64(word: &str) -> Option<u64>
     }
 }
 
-/// Returns the digit that a word is. `None` decides nothing.
+/// Returns the digit if a word is a single digit.
 #[tactic(auto, using(crate::proofs::PlainNumbers::lone))]
 fn lone_digit(word: &[u8]) -> Option<u8>
     ensures { IfSome result (λ n. IsPlainNumber word.now n) }
@@ -59,7 +59,8 @@ fn lone_digit(word: &[u8]) -> Option<u8>
     Some(word[0] - b'0')
 }
 
-/// Returns the number in a word of few digits. `None` decides nothing.
+/// Returns the number in a plain word of few digits. If it returns `None`, the word may still be a
+/// number.
 #[tactic(auto, using(crate::proofs::PlainNumbers::plain))]
 fn plain_number(word: &[u8]) -> Option<u64>
     ensures { IfSome result (λ n. IsPlainNumber word.now n) }

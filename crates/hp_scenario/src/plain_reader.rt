@@ -82,8 +82,8 @@ impl<'a> PlainReader<'a> {
         }
     }
 
-    /// Returns the next token. `None` decides nothing: the text may have ended, or go on with a
-    /// fault or in a form that is not plain.
+    /// Returns the next token. If it returns `None`, the text may have ended, or go on with a fault
+    /// or in a form that is not plain.
     #[inline(always)]
     pub(crate) fn next(&mut self) -> Option<Token<'a>>
         ensures value { IfSome result (λ t. self.old ≡ token_of t ∷ self.new) }
@@ -112,7 +112,7 @@ impl<'a> PlainReader<'a> {
         true
     }
 
-    /// Returns whether no token is left. `false` decides nothing.
+    /// Returns whether no token is left. It may return `false` although none is left.
     pub(crate) fn is_at_end(&self) -> bool
         ensures { IsTrue result → self.now ≡ [] }
     {
@@ -181,7 +181,8 @@ fn past_comma<'a>(place: Place, text: &'a str) -> (Place, &'a str)
     (Place::AfterComma, after_blanks(rest_of(text)))
 }
 
-/// Returns the token that a text begins with, at a place. `None` decides nothing.
+/// Returns the token that a text begins with, at a place. If it returns `None`, there may still be
+/// one that is not plain.
 #[inline(always)]
 fn token_at<'a>(place: Place, text: &'a str) -> Option<Found<'a>>
     ensures { IfSome result (λ f. IsFound (tokens_at place text.now) f) }
