@@ -1,4 +1,4 @@
-//! Runs scenarios of the memory machine: `hotplug serial`, `hotplug run` or `hotplug audit`,
+//! Runs scenarios of the memory machine: `hotplug serial`, `hotplug run` or `hotplug audit`, from
 //! standard input to standard output.
 //!
 //! hp_commands defines what each command writes. The exit status is 0; or 1 after a fault, which

@@ -4,7 +4,8 @@ use clap::error::ErrorKind;
 use hp_commands::Command;
 use std::alloc::{AllocError, Global};
 
-/// The command that the words name, the program's own name first; none where they name none, or ask for help.
+/// Returns the command that the words name, of which the first is the program's own name; `None` if
+/// they name none, or ask for help.
 pub fn command_from(alloc: Global, words: &[String]) -> Result<Option<Command>, AllocError> {
     match program(alloc)?.try_get_matches_from(words) {
         Ok(matches) => Ok(command_named(matches.subcommand_name())),
@@ -18,7 +19,7 @@ pub fn command_from(alloc: Global, words: &[String]) -> Result<Option<Command>, 
     }
 }
 
-/// The command line: one of three words.
+/// Returns the command line: one of three words.
 fn program<'a>(alloc: Global) -> Result<clap::Command<'a>, AllocError> {
     let mut program = clap::Command::new(alloc, "hotplug").subcommand_required(true);
     for word in ["serial", "run", "audit"] {
@@ -27,7 +28,7 @@ fn program<'a>(alloc: Global) -> Result<clap::Command<'a>, AllocError> {
     Ok(program)
 }
 
-/// The command of a name.
+/// Returns the command with this name.
 fn command_named(name: Option<&str>) -> Option<Command> {
     match name {
         Some("serial") => Some(Command::Serial),

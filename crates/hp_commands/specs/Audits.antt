@@ -1,4 +1,4 @@
--- When volumes and a machine's history are found to lead to its state.
+-- Volumes and a machine's history that lead to its state.
 use Rattle.std.specs.Prelude.{ℕ, ◌≡◌, ◌⊎◌, List}
 use Rattle.hp_units.specs.History.{IsLegal, value_of}
 use Rattle.hp_machine.specs.Machine.{MachineValue}
@@ -12,17 +12,17 @@ use Rattle.hp_history.specs.declared.volumes.Volume.{Volume}
 use Rattle.hp_commands.specs.declared.fault.ProgramFault.{ProgramFault}
 use Rattle.hp_commands.specs.declared.fault.ProgramFault.TheVariants.{OutOfMemory, WrongReply, WrongSerial, AuditDiffers, BrokenChain}
 
--- the volumes follow one another from boot on and lead to the machine's base
+-- the volumes follow one another from boot, and lead to the machine's base
 abbrev pub LeadsToBase : List Volume → MachineValue → Type 0
 LeadsToBase volumes m = IsChain m.layout volumes × (m.base ≡ state_after m.layout volumes)
 
--- the machine's history is legal from its base on, and leads to its state
+-- the machine's history is legal from its base, and leads to its state
 abbrev pub LeadsToState : MachineValue → Type 0
 LeadsToState m =
     IsLegal m.layout m.base m.before m.history × (m.state ≡ value_of m.layout m.base m.history)
 
--- the volumes follow one another from boot on and lead to the machine's base; its history is legal
--- from there on, and leads to its state
+-- the volumes follow one another from boot and lead to the machine's base; from there its history
+-- is legal, and leads to its state
 pub record IsAudited (volumes : List Volume) (m : MachineValue) : Type 0 where
   pub chain : IsChain m.layout volumes
   pub base : m.base ≡ state_after m.layout volumes
@@ -35,8 +35,8 @@ HasWrongRecord volumes m fault =
     ((at : ℕ) × IsChainFault m.layout volumes (chain.Replay at fault))
     ⊎ IsFault m.layout m.base m.before m.history fault
 
--- why not: the first volume that does not follow those before it, the first record at fault, or a
--- state is another one than that which the records before it lead to
+-- why an audit fails: the first volume that does not follow, the first record at fault, or another
+-- state than the records lead to
 abbrev pub HasAuditFault : List Volume → MachineValue → ProgramFault → Type 0
 HasAuditFault volumes m (WrongReply serial) =
     HasWrongRecord volumes m (replaying.WrongReply serial) × (IsAudited volumes m → ⊥)

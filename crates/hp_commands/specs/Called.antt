@@ -1,4 +1,4 @@
--- Lines that are run as they are read (own rule).
+-- Lines that are run as they are read.
 use Rattle.std.specs.Prelude.{ℕ, List}
 use Rattle.hp_machine.specs.Machine.{MachineValue}
 use Rattle.hp_scenario.specs.Calls.{AreAll}

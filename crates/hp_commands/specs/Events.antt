@@ -1,4 +1,4 @@
--- What an event writes, and what it makes of the machine.
+-- The text of an event, and what it makes of the machine.
 use Rattle.std.specs.Prelude.{◌≡◌, ◌⊎◌, ℕ, ◌+◌, false, if◌then◌else◌, List, [], ◌∷◌, ◌++◌}
 use Rattle.hp_units.specs.declared.events.Event.{Event}
 use Rattle.hp_units.specs.declared.replies.CallFault.TheVariants.{HistoryFull, OutOfMemory}
@@ -7,7 +7,7 @@ use Rattle.hp_units.specs.History.{reply_of, value_of}
 use Rattle.hp_machine.specs.Machine.{MachineValue, is_full, last_serial}
 use Rattle.hp_text.specs.Answers.{reply_line, unrecorded_line}
 
--- the record that an event of a processor makes after a machine's history
+-- the record that a processor's event makes after a machine's history
 abbrev pub next_record : MachineValue → (cpu : ℕ) → Event → Record
 next_record m cpu event =
     record {
@@ -22,7 +22,7 @@ abbrev pub with_record : MachineValue → Record → MachineValue
 with_record m r =
     record m { history = m.history ++ r ∷ []; state = value_of m.layout m.base (m.history ++ r ∷ []) }
 
--- what an event writes, and the machine after it
+-- the text of an event, and the machine after it
 unfoldable pub event_text : MachineValue → (cpu : ℕ) → Event → List ℕ
 event_text m cpu event =
     if is_full m then unrecorded_line HistoryFull else reply_line (next_record m cpu event).serial
@@ -31,8 +31,8 @@ event_text m cpu event =
 unfoldable pub machine_after_event : MachineValue → (cpu : ℕ) → Event → MachineValue
 machine_after_event m cpu event = if is_full m then m else with_record m (next_record m cpu event)
 
--- text and machine became what they are to be; or it was out of memory, with room in the history,
--- which is said in place of the text, and the machine is as it was
+-- the text is `due` and the machine is `next`; or memory ran out although there was room, the text
+-- reports that, and the machine is as it was
 abbrev pub Writes : MachineValue → (due : List ℕ) → (next : MachineValue) → (text : List ℕ)
     → (new : MachineValue) → Type 0
 Writes m due next text new =

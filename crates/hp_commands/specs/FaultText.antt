@@ -1,4 +1,4 @@
--- What the program says of a fault.
+-- The texts of the faults.
 use Rattle.std.specs.Prelude.{ℕ, List, [], ◌++◌, codes}
 use Rattle.std.specs.Fmt.{decimal}
 use Rattle.hp_units.specs.Texts.{layout_fault_text}
@@ -25,7 +25,7 @@ fault_text AuditDiffers = codes "hotplug: audit differs"
 fault_text WriteFailed = codes "hotplug: writing failed"
 fault_text (BrokenChain at) = codes "hotplug: volume " ++ decimal at ++ codes " does not follow"
 
--- what a fault says between two texts
+-- the middle piece of a fault's text
 abbrev pub said_text : Said → List ℕ
 said_text Nothing = []
 said_text (Number number) = decimal number

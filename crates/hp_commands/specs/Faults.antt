@@ -1,4 +1,4 @@
--- Which fault comes when.
+-- When each fault comes.
 use Rattle.std.specs.Prelude.{◌≡◌, ◌≢◌, ◌⊎◌, ℕ, ◌<◌, List, length, Option, Some, None, Ok, Err, IfSome}
 use Rattle.hp_units.specs.LayoutParts.{LayoutParts}
 use Rattle.hp_machine.specs.Machine.{MachineValue}
@@ -65,11 +65,11 @@ chain_fault_from (chain.WrongBase at) = BrokenChain at
 chain_fault_from (chain.Replay at fault) = replay_fault_from fault
 chain_fault_from chain.OutOfMemory = OutOfMemory
 
--- the text that was read is no scenario, with this fault
+-- the text that was read is not a scenario, with this fault
 abbrev pub IsNone : Option (List ℕ) → ScenarioFault → Type 0
 IsNone known fault = IfSome known (λ input. scenario_in input ≡ Err fault)
 
--- ---- scripts that are not worked off
+-- ---- scripts that are not run to the end
 
 -- the workers of the scripts ended with this fault
 pub record IsStopped (l : LayoutParts) (scripts : List (List Line)) (why : RunFault) : Type 0 where
@@ -78,7 +78,7 @@ pub record IsStopped (l : LayoutParts) (scripts : List (List Line)) (why : RunFa
   pub ends : List (List LineEnd)
   pub run : IsRunEnd l (first_seats l.cpus) scripts seats volumes ends (Some why)
 
--- all lines of the scripts were run, and the machine was not closed, with this cause
+-- all lines of the scripts were run, and the machine was not closed, for this cause
 pub record IsUnclosed (l : LayoutParts) (scripts : List (List Line)) (why : CloseFault) : Type 0 where
   pub seats : List SeatValue
   pub volumes : List Volume
@@ -86,8 +86,8 @@ pub record IsUnclosed (l : LayoutParts) (scripts : List (List Line)) (why : Clos
   pub workers : AreGathered l (first_seats l.cpus) scripts seats volumes ends None
   pub cause : HasCause l seats volumes why
 
--- why scripts are not worked off: a worker of another processor than the first was not started, or
--- the machine was not closed. That a seat is missing never comes
+-- why scripts are not run to the end: a worker, not the first, was not started, or the machine was
+-- not closed. A seat is never missing
 abbrev pub IsWorkFault : LayoutParts → List (List Line) → ProgramFault → Type 0
 IsWorkFault l scripts OutOfMemory = Unit {0}
 IsWorkFault l scripts (NotStarted cpu) =
@@ -97,7 +97,7 @@ IsWorkFault l scripts (BrokenChain at) =
     (seals_in_all scripts ≢ 0) × IsUnclosed l scripts (closing.WrongVolume at)
 IsWorkFault l scripts _ = ⊥
 
--- the bytes are a scenario whose scripts are not worked off, with this fault
+-- the bytes are a scenario whose scripts are not run to the end, with this fault
 pub record IsUnfinished (input : List ℕ) (fault : ProgramFault) : Type 0 where
   pub scenario : ScenarioValue
   pub read : scenario_in input ≡ Ok scenario
@@ -105,7 +105,7 @@ pub record IsUnfinished (input : List ℕ) (fault : ProgramFault) : Type 0 where
   pub parted : scripts_of scenario ≡ Ok scripts
   pub why : IsWorkFault scenario.layout scripts fault
 
--- the bytes are a scenario whose scripts are worked off, and the records are found at fault
+-- the bytes are a scenario whose scripts are run to the end, and the records are at fault
 pub record IsRefuted (input : List ℕ) (fault : ProgramFault) : Type 0 where
   pub ends : List (List LineEnd)
   pub volumes : List Volume
@@ -122,15 +122,15 @@ HasWorkers Serial = ⊥
 HasWorkers Run = Unit {0}
 HasWorkers Audit = Unit {0}
 
--- the command reads the records again
+-- the command replays the records
 abbrev pub IsAudit : Command → Type 0
 IsAudit Serial = ⊥
 IsAudit Run = ⊥
 IsAudit Audit = Unit {0}
 
--- when each fault of a command comes: `read` and `written` say that a reader's or a writer's call
--- failed. That a seat is missing, or that a machine's own history is found wrong, never comes; nor
--- what is found of volumes where no line seals
+-- when each fault comes; `read` and `written` are that a call of the reader or the writer failed.
+-- Never: that a seat is missing, that a machine's own history is wrong, or a volume at fault if no
+-- line seals
 abbrev pub IsFaultOf : Command → (known : Option (List ℕ)) (read written : Type 0) → ProgramFault → Type 0
 IsFaultOf command known read written ReadFailed = read
 IsFaultOf command known read written TooLong = IfSome known (λ input. limit < length input)

@@ -1,4 +1,4 @@
--- What a line writes that reads a control file.
+-- The text of a line that reads a control file.
 use Rattle.std.specs.Prelude.{◌≡◌, ◌⊎◌, ℕ, List, Result, Ok, Err}
 use Rattle.hp_machine.specs.Machine.{MachineValue}
 use Rattle.hp_requests.specs.declared.fault.ControlFault.{ControlFault}
@@ -6,7 +6,7 @@ use Rattle.hp_requests.specs.declared.fault.ControlFault.TheVariants.{OutOfMemor
 use Rattle.hp_control.specs.Reads.{file_text}
 use Rattle.hp_text.specs.Files.{read_fault_line}
 
--- a file's text as it is, or the line of why there is none
+-- the text of a file, or the line with the reason that there is none
 abbrev pub read_answer : Result (List ℕ) ControlFault → List ℕ
 read_answer (Ok text) = text
 read_answer (Err fault) = read_fault_line fault
@@ -14,6 +14,6 @@ read_answer (Err fault) = read_fault_line fault
 abbrev pub cat_text : MachineValue → (path : List ℕ) → List ℕ
 cat_text m path = read_answer (file_text m.layout m.state path)
 
--- a file was read; or it was out of memory, which is said in place of the text
+-- a file was read; or memory ran out, and the text reports that
 abbrev pub WritesFile : MachineValue → (path text : List ℕ) → Type 0
 WritesFile m path text = (text ≡ cat_text m path) ⊎ (text ≡ read_fault_line OutOfMemory)

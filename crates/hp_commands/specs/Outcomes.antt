@@ -1,4 +1,4 @@
--- What the program says of its end, and its exit status.
+-- The line and the exit status at the program's end.
 use Rattle.std.specs.Prelude.{ℕ, List, [], codes}
 use Rattle.hp_commands.specs.FaultText.{fault_text}
 use Rattle.hp_commands.specs.declared.outcome.Outcome.{Outcome}

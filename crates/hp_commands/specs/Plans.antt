@@ -1,4 +1,4 @@
--- What the run of a plan's driver makes of a machine, and what it writes.
+-- What the run of a plan's driver makes of a machine, and its text.
 use Rattle.std.specs.Prelude.{◌≡◌, ℕ, zero, suc, ◌-◌, Bool, true, false, List, [], ◌∷◌, ◌++◌, length, Option, Some, None, unwrap_or}
 use Rattle.hp_units.specs.declared.events.Event.{Event}
 use Rattle.hp_units.specs.declared.plans.Item.{Item}
@@ -14,16 +14,16 @@ use Rattle.hp_machine.specs.MachinePorts.{IsPlanRun}
 use Rattle.hp_commands.specs.Events.{next_record, with_record}
 use Rattle.hp_text.specs.Plans.{plan_line}
 
--- ---- a run that is never out of memory
+-- ---- a run that never runs out of memory
 
--- what a run gives: its receipts, the machine after them, and the fault of its last call
+-- a run: its receipts, the machine after them, and the fault of its last call
 pub record PlanRun : Type 0 where
   pub receipts : List Receipt
   pub machine : MachineValue
   pub fault : Option CallFault
 
--- a run with an event to come goes on where the history has room, and else it is left; with none to
--- come it is at its end
+-- a run with an event to come goes on if the history has room, and is left if not; without one it
+-- is at its end
 unfoldable pub going_on : List Receipt → MachineValue → (more : Event → PlanRun) → (full : Bool)
     → Option Event → PlanRun
 going_on receipts m more full None = record { receipts = receipts; machine = m; fault = None }
@@ -31,7 +31,7 @@ going_on receipts m more true (Some event) =
     record { receipts = receipts; machine = m; fault = Some HistoryFull }
 going_on receipts m more false (Some event) = more event
 
--- a run from the receipts so far on, by at most so many records
+-- a run after the receipts so far, with at most `room` more records
 unfoldable pub run_on : (room turns : ℕ) → List Item → (cpu : ℕ) → List Receipt → MachineValue → PlanRun
 run_on zero turns plan cpu receipts m =
     going_on receipts m (λ event. record { receipts = receipts; machine = m; fault = None }) (is_full m)
@@ -41,7 +41,7 @@ run_on (suc room) turns plan cpu receipts m =
     (receipts ++ receipt_of (next_record m cpu event) ∷ []) (with_record m (next_record m cpu event)))
     (is_full m) (next_event m.layout.cpus turns plan receipts)
 
--- a whole run: a history has room for no more records than are left to its limit
+-- a whole run: it makes no more records than are left to the history's limit
 abbrev pub plan_run : MachineValue → (cpu turns : ℕ) → List Item → PlanRun
 plan_run m cpu turns plan = run_on (m.layout.history - length m.history) turns plan cpu [] m
 
@@ -50,12 +50,12 @@ abbrev pub end_with : Option CallFault → List Receipt → OpEnd
 end_with None receipts = unwrap_or (end_of receipts) Undone
 end_with (Some fault) receipts = Left (operation_of receipts) fault
 
--- what a plan writes
+-- the text of a plan
 abbrev pub plan_text : MachineValue → (cpu turns : ℕ) → List Item → List ℕ
 plan_text m cpu turns plan =
     plan_line (end_with (plan_run m cpu turns plan).fault (plan_run m cpu turns plan).receipts)
 
--- a plan was run, and its end is written
+-- a plan was run, and its end was written
 abbrev pub WritesPlan : MachineValue → (cpu turns : ℕ) → List Item → (text : List ℕ) → (new : MachineValue)
     → Type 0
 WritesPlan m cpu turns plan text new =

@@ -1,4 +1,4 @@
--- What `run` and `audit` write.
+-- The texts of `run` and `audit`.
 use Rattle.std.specs.Prelude.{◌≡◌, ◌≢◌, ◌≤◌, ℕ, List, [], ◌++◌, codes, length, slice_get, Option, Some, None, Result, Ok}
 use Rattle.std.specs.Fmt.{decimal}
 use Rattle.std.specs.List.{flat_map}
@@ -26,7 +26,7 @@ use Rattle.hp_commands.specs.Audits.{IsAudited}
 
 -- ---- the text
 
--- what became of a line
+-- how a line ended
 abbrev pub line_end_text : LineEnd → List ℕ
 line_end_text (Replied reply) = bare_reply_line reply
 line_end_text (Faulted fault) = fault_line fault
@@ -34,12 +34,12 @@ line_end_text (Planned end) = plan_line end
 line_end_text (Untaken fault) = write_fault_line fault
 line_end_text (Sealed count) = sealed_line count
 
--- a processor, and what became of each of its lines
+-- a processor, and how each of its lines ended
 abbrev pub processor_text : ℕ → Option (List LineEnd) → List ℕ
 processor_text cpu None = []
 processor_text cpu (Some ends) = codes "cpu " ++ decimal cpu ++ newline ++ flat_map line_end_text ends
 
--- the processors by rising number
+-- the processors in increasing order
 unfoldable pub processors_text : List (List LineEnd) → List ℕ
 processors_text lists = texts_below (λ cpu. processor_text cpu (slice_get lists cpu)) (length lists)
 
@@ -49,17 +49,16 @@ records_line count = decimal count ++ codes " records" ++ newline
 
 -- ---- the run
 
--- the scripts of the bytes of a scenario, or why there are none
+-- the scripts of the scenario in the bytes, or why there are none
 abbrev pub scripts_in : List ℕ → Result (List (List Line)) ScenarioFault
 scripts_in input = scenario_in input >>= scripts_of
 
--- some line of the scenario that the bytes are seals
+-- some line of the scenario in the bytes seals
 abbrev pub SealsSome : List ℕ → Type 0
 SealsSome input = (scripts : List (List Line)) × (scripts_in input ≡ Ok scripts) × (seals_in_all scripts ≢ 0)
 
--- each processor's seat ran its script to the end, which left these ends and handed out these
--- volumes; and all records, in the volumes and then in the machine, are exactly those of the seats'
--- receipts
+-- each processor's seat ran its whole script, with these ends and these volumes; and all records,
+-- of the volumes and then of the machine, are exactly those of the seats' receipts
 pub record IsWorkedOff (l : LayoutParts) (scripts : List (List Line)) (ends : List (List LineEnd))
     (volumes : List Volume) (m : MachineValue) (count : ℕ) : Type 0 where
   pub seats : List SeatValue
@@ -71,8 +70,8 @@ pub record IsWorkedOff (l : LayoutParts) (scripts : List (List Line)) (ends : Li
   pub closed : IsClosed l seats volumes m count
   pub boots : m.before ≡ 0 → m.base ≡ boot_memory m.layout
 
--- the bytes are a scenario whose scripts were worked off; where a line ended since the history was
--- full, all records, which are so many, reach the layout's limit
+-- the scenario's scripts were run to the end; if a line ended because the history was full, all
+-- records, `count` in number, reach the layout's limit
 pub record IsRunOf (input : List ℕ) (ends : List (List LineEnd)) (volumes : List Volume) (m : MachineValue)
     (count : ℕ) : Type 0 where
   pub scenario : ScenarioValue
@@ -82,7 +81,7 @@ pub record IsRunOf (input : List ℕ) (ends : List (List LineEnd)) (volumes : Li
   pub worked : IsWorkedOff scenario.layout scripts ends volumes m count
   pub full : ReachWhereFull scenario.layout ends count
 
--- what became of the lines by processor, and the number of records
+-- how the lines ended, by processor, and the number of records
 pub record IsRunTextOf (input text : List ℕ) : Type 0 where
   pub ends : List (List LineEnd)
   pub volumes : List Volume
@@ -91,7 +90,7 @@ pub record IsRunTextOf (input text : List ℕ) : Type 0 where
   pub run : IsRunOf input ends volumes machine count
   pub written : text ≡ processors_text ends ++ records_line count
 
--- the number of records of a run, whose volumes and history lead from boot to the machine's state
+-- the number of records of a run whose volumes and history lead from boot to the machine's state
 pub record IsAuditTextOf (input text : List ℕ) : Type 0 where
   pub ends : List (List LineEnd)
   pub volumes : List Volume

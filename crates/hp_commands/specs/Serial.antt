@@ -1,4 +1,4 @@
--- The text that a scenario makes.
+-- The text of a scenario that runs in order on one machine.
 use Rattle.std.specs.Prelude.{◌≡◌, ℕ, List, [], ◌∷◌, ◌++◌, codes, Result, Ok}
 use Rattle.hp_units.specs.History.{value_of}
 use Rattle.hp_machine.specs.Machine.{MachineValue, booted, sealed}
@@ -17,7 +17,7 @@ use Rattle.hp_text.specs.State.{state_text}
 
 -- ---- one line
 
--- what is written for what a line asks for, and the machine after it
+-- the text of a line's work, and the machine after it
 abbrev pub asked_text : MachineValue → (cpu : ℕ) → asks.Meaning → List ℕ
 asked_text m cpu (asks.event event) = event_text m cpu event
 asked_text m cpu (asks.plan items turns) = plan_text m cpu turns items
@@ -40,7 +40,7 @@ machine_after m line = machine_after_asked m line.cpu (asks.asked_by line.work)
 
 -- ---- the whole text
 
--- what the lines write, one after another, and the machine after them
+-- the texts of the lines, one after another, and the machine after them
 unfoldable pub lines_text : MachineValue → List Line → List ℕ
 lines_text m [] = []
 lines_text m (line ∷ lines) = line_text m line ++ lines_text (machine_after m line) lines
@@ -53,22 +53,22 @@ machine_after_lines m (line ∷ lines) = machine_after_lines (machine_after m li
 abbrev pub end_text : (names : List (List ℕ)) → MachineValue → List ℕ
 end_text names m = state_text m.layout names (value_of m.layout m.base m.history)
 
--- the lines, and then the state
+-- the lines, then the state
 unfoldable pub scenario_text : ScenarioValue → List ℕ
 scenario_text s =
     lines_text (booted s.layout) s.lines ++ end_text s.names (machine_after_lines (booted s.layout) s.lines)
 
--- the text of the bytes of a scenario, or why they are none
+-- the text of the scenario in the bytes, or why there is none
 unfoldable pub serial_text : List ℕ → Result (List ℕ) ScenarioFault
 serial_text input = scenario_in input >>= λ s. Ok (scenario_text s)
 
--- no line ends in `OutOfMemory`
+-- no line ends with `OutOfMemory`
 unfoldable pub IsWhole : List ℕ → Type 0
 IsWhole text = (front rest : List ℕ) → text ≡ front ++ (codes "OutOfMemory" ++ 10 ∷ rest) → ⊥
 
 -- ---- lines as they are run
 
--- what a line asks for was done, or said why not
+-- a line's work was done, or the text has the reason why not
 abbrev pub WritesAsked : MachineValue → (cpu : ℕ) → asks.Meaning → (text : List ℕ)
     → (new : MachineValue) → Type 0
 WritesAsked m cpu (asks.event event) text new = WritesEvent m cpu event text new
@@ -88,13 +88,13 @@ WritesLines m (line ∷ lines) text new =
     (written : List ℕ) × (next : MachineValue) × (rest : List ℕ)
     × WritesLine m line written next × (text ≡ written ++ rest) × WritesLines next lines rest new
 
--- bytes grew by a text of which P holds
+-- bytes grew by a text of which `P` holds
 pub record GrowsBy (old new : List ℕ) (P : List ℕ → Type 0) : Type 0 where
   pub text : List ℕ
   pub grown : new ≡ old ++ text
   pub is : P text
 
--- the lines were run one after another, and the image is of the state after them
+-- the lines were run one after another, and the image has the state after them
 abbrev pub LeavesImage : MachineValue → List Line → (text : List ℕ) → Pictured → Type 0
 LeavesImage m lines text image =
     (new : MachineValue) × WritesLines m lines text new

@@ -8,8 +8,8 @@ use Rattle.hp_commands.specs.declared.commands.Command.TheVariants.{Serial, Run,
 use Rattle.hp_commands.specs.Runs.{IsAuditTextOf, IsRunTextOf}
 use Rattle.hp_commands.specs.Serial.{serial_text, end_text, WritesLines, IsWhole}
 
--- the bytes are a scenario, and the text is that of a run of its lines with the state after them;
--- where no line of it ends in `OutOfMemory`, it is the scenario's text
+-- the text is that of a run of the scenario's lines, with the state after them; if no line of it
+-- ends with `OutOfMemory`, it is the scenario's text
 pub record IsTextOf (input text : List ℕ) : Type 0 where
   pub scenario : ScenarioValue
   pub read : scenario_in input ≡ Ok scenario
@@ -19,7 +19,7 @@ pub record IsTextOf (input text : List ℕ) : Type 0 where
   pub end : text ≡ lines ++ end_text scenario.names machine
   pub whole : IsWhole text → serial_text input ≡ Ok text
 
--- the text of the bytes that were read, and nothing else
+-- the text for the bytes that were read, and nothing else
 abbrev pub WritesTextOf : (known old new : Option (List ℕ)) → Type 0
 WritesTextOf known old new =
     IfSome known (λ input. (text : List ℕ) × Appends old new text × IsTextOf input text)
@@ -30,7 +30,7 @@ IsOutputOf Serial input text = IsTextOf input text
 IsOutputOf Run input text = IsRunTextOf input text
 IsOutputOf Audit input text = IsAuditTextOf input text
 
--- what a command has written: of the bytes that were read its text, and nothing else
+-- a command wrote its text for the bytes that were read, and nothing else
 abbrev pub Serves : Command → (known old new : Option (List ℕ)) → Type 0
 Serves command known old new =
     IfSome known (λ input. (text : List ℕ) × Appends old new text × IsOutputOf command input text)

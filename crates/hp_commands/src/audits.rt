@@ -1,4 +1,4 @@
-//! A run whose records are read again.
+//! A run whose records are replayed.
 ghost use Rattle.std.specs.Prelude.{◌≡◌, ◌++◌, List, Some, IfErr, IfOk, OnOk, codes, string_bytes};
 ghost use Rattle.hp_history.specs.declared.volumes.Volume.{Volume};
 ghost use Rattle.hp_text.specs.State.{newline};
@@ -18,8 +18,8 @@ use std::mem::forget;
 use std::sync::Wait;
 use std::thread::Threads;
 
-/// The text of an audit: the scenario that the bytes are is run as `run` does it, and then its
-/// sealed records and the history of its machine are replayed.
+/// Returns the text of an audit: runs the scenario in `input` like `run`, then replays its sealed
+/// records and the history of its machine.
 pub fn audit<R: Threads + Wait + Sync>(
     rt: &R,
     alloc: Global,
@@ -30,12 +30,12 @@ pub fn audit<R: Threads + Wait + Sync>(
 {
     let worked = work_off(rt, alloc, input)?;
     let text = audited_text(alloc, &worked.closed);
-    // The program ends after this text, as in `run`.
+    // The program ends after this text, as after `run`.
     forget(worked);
     text
 }
 
-/// The text of an audit of a closed machine, whose records are replayed first.
+/// Returns the text of an audit of a closed machine, after its records are replayed.
 fn audited_text(alloc: Global, closed: &Closed) -> Result<String, ProgramFault>
     ensures ok { IfOk result (λ out. IsAudited closed.now.volumes.items closed.now.machine
         × (string_bytes out ≡ records_line closed.now.records ++ codes "audit ok" ++ newline)) }
@@ -49,7 +49,7 @@ fn audited_text(alloc: Global, closed: &Closed) -> Result<String, ProgramFault>
     Ok(out)
 }
 
-/// Replays volumes from boot on, and compares the state that they lead to with a machine's base.
+/// Replays volumes from boot, and compares the state that they lead to with a machine's base.
 fn check_volumes(
     alloc: Global,
     volumes: &Vec<Volume>,
@@ -65,7 +65,7 @@ fn check_volumes(
     Ok(())
 }
 
-/// Replays a machine's history from its base on, and compares the state that it leads to with the
+/// Replays a machine's history from its base, and compares the state that it leads to with the
 /// machine's.
 fn check_history(alloc: Global, machine: &Machine) -> Result<(), ProgramFault>
     ensures ok { OnOk result (LeadsToState machine.now) }

@@ -1,4 +1,4 @@
-//! An event's line.
+//! The line of an event.
 ghost use Rattle.std.specs.Prelude.{OnOk, string_bytes};
 ghost use Rattle.hp_commands.specs.Events.{WritesEvent};
 ghost use Rattle.hp_commands.specs.Serial.{GrowsBy};
@@ -8,7 +8,7 @@ use hp_text::{write_answer, write_unrecorded};
 use hp_units::{CallFault, Cpu, Event};
 use std::alloc::{AllocError, Global};
 
-/// Calls the machine with an event, and writes the answer or why there is none.
+/// Calls the machine with an event, and writes the reply, or why there is none.
 #[inline(always)]
 #[tactic(auto, unfolding(crate::specs::Events::event_text, crate::specs::Events::machine_after_event))]
 pub fn write_event(

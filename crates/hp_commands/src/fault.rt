@@ -14,42 +14,43 @@ use std::alloc::AllocError;
 use std::error::Error;
 use std::fmt;
 
-/// Why the program failed. But for `WriteFailed`, after which some of the text may be out, nothing
-/// was written.
+/// Why the program failed. Nothing was written, except for `WriteFailed`: then some of the text may
+/// be out.
 #[derive(Clone, Copy, Debug, PartialEq, Eq)]
 pub enum ProgramFault {
     /// The reader failed.
     ReadFailed,
-    /// There are more than 16,777,216 bytes of input.
+    /// The input is longer than 16,777,216 bytes.
     TooLong,
-    /// The input is no JSON.
+    /// The input is not JSON.
     NotJson,
-    /// The input is no scenario: its keys, kinds or words differ.
+    /// The input is not a scenario: keys, types or words differ.
     BadShape,
     /// The scenario's layout is out of its limits.
     Layout(LayoutFault),
-    /// A text of `calls` is no line; lines are counted from 1.
+    /// A string of `calls` is not a line; lines are counted from 1.
     BadLine { line: u64 },
     /// A line that no worker may run: it reads a control file, or its processor is not in the
     /// layout; lines are counted from 1.
     NotForRun { line: u64 },
     /// Out of memory.
     OutOfMemory,
-    /// No thread could be made for the worker of this processor.
+    /// No thread could be started for the worker of this processor.
     NotStarted { cpu: Cpu },
-    /// There was not one seat for each processor at the end of a run.
+    /// There was not exactly one seat per processor at the end of a run.
     SeatMissing,
     /// The lowest serial at which a processor's receipts and its records differ.
     Mismatch { serial: Serial },
-    /// The record of this serial has another reply than the plain machine gives.
+    /// The record with this serial has another reply than the plain machine gives.
     WrongReply { serial: Serial },
-    /// The record at this place, counted from 0, hasn't the next serial.
+    /// The record at this place, counted from 0, does not have the next serial.
     WrongSerial { at: u64 },
-    /// The sealed volumes lead to another state than the one that the machine's history begins with.
+    /// The sealed volumes lead to another state than the one that the machine's history begins
+    /// with.
     AuditDiffers,
     /// The writer failed.
     WriteFailed,
-    /// The volume at this place, counted from 0, does not follow those before it; or, where the place
+    /// The volume at this place, counted from 0, does not follow those before it; or, if the place
     /// is their number, together they do not hold all sealed records.
     BrokenChain { at: u64 },
 }
@@ -65,7 +66,7 @@ impl fmt::Display for ProgramFault {
     }
 }
 
-/// What a fault says between two texts.
+/// The middle piece of a fault's text.
 #[derive(Clone, Copy)]
 enum Said {
     Nothing,
@@ -87,7 +88,7 @@ impl fmt::Display for Said {
     }
 }
 
-/// What is said of a fault: a text, what comes after it, and the end.
+/// Returns the text of a fault in three pieces: a fixed text, a middle piece, and a fixed text.
 fn said_of(fault: ProgramFault) -> (&'static str, Said, &'static str)
     ensures { codes "hotplug: " ++ result.0.now ++ said_text result.1 ++ result.2.now ≡ fault_text fault }
 {

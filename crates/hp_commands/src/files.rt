@@ -1,4 +1,4 @@
-//! A line that reads a control file.
+//! The line of a control file that is read.
 ghost use Rattle.std.specs.Prelude.{OnOk, string_bytes};
 ghost use Rattle.hp_commands.specs.Files.{WritesFile};
 ghost use Rattle.hp_commands.specs.Serial.{GrowsBy};
@@ -8,7 +8,7 @@ use hp_machine::UnrecordedMachine;
 use hp_text::write_read_fault;
 use std::alloc::{AllocError, Global};
 
-/// Reads a control file, and writes its text or why there is none. It makes no record.
+/// Reads a control file, and writes its text, or why there is none. Makes no record.
 pub fn write_file(
     out: &mut String,
     alloc: Global,

@@ -1,12 +1,11 @@
-//! The commands of the program, bytes in to bytes out.
+//! The commands of the program, from input bytes to output bytes.
 //!
 //! Each command reads a scenario from a `Source` and writes its text to a `Sink`, by hp_streams.
-//! `Serial` runs the lines in order on one machine and writes what each answers, and then the
-//! state. `Run` runs the lines of each processor in a thread of its own, and writes what became of
-//! them by processor, and the number of records. `Audit` runs as `Run` does, replays the history,
-//! and writes the number of records and `audit ok`. This crate owns those texts, and the faults
-//! with their texts; it opens no file and no stream. Read specs/Served first: what `serve` promises
-//! of a command.
+//! `Serial` runs the lines in order on one machine, and writes the text of each, then the state.
+//! `Run` runs each processor's lines in a thread of its own, and writes how they ended, by
+//! processor, and the number of records. `Audit` runs like `Run`, replays the history, and writes
+//! the number of records and `audit ok`. The crate owns those texts, and the faults with their
+//! texts; it opens no file and no stream. Read specs/Served first: what `serve` promises.
 #![tactic(auto)]
 
 mod audits;

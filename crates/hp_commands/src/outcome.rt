@@ -8,7 +8,7 @@ use std::fmt;
 /// How a call of the program ended.
 #[derive(Clone, Copy, PartialEq, Eq)]
 pub enum Outcome {
-    /// All is written.
+    /// Everything was written.
     Done,
     /// The command line names no command.
     NoCommand,
@@ -17,7 +17,7 @@ pub enum Outcome {
 }
 
 impl Outcome {
-    /// The exit status: 0, or 1 after a fault, or 2 where there was no command.
+    /// Returns the exit status: 0; 1 after a fault; 2 if there was no command.
     pub fn status(self) -> u8
         ensures { result ≡ status_of self }
     {
@@ -29,7 +29,7 @@ impl Outcome {
     }
 }
 
-/// The line for standard error, where there is one.
+/// The line for standard error, if there is one.
 impl fmt::Display for Outcome {
     ghost use Rattle.hp_commands.specs.Outcomes.{outcome_text};
 

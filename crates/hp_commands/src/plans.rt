@@ -1,4 +1,4 @@
-//! A plan's line.
+//! The line of a plan.
 ghost use Rattle.std.specs.Prelude.{ℕ, List, OnOk, string_bytes};
 ghost use Rattle.hp_units.specs.declared.plans.Item.{Item};
 ghost use Rattle.hp_machine.specs.MachinePorts.{IsPlanRun};
@@ -26,7 +26,7 @@ pub fn write_plan(
     write_plan_end(out, end)
 }
 
-/// Runs a plan's driver, and answers how it ended. Where memory is refused before its first call, the
+/// Runs a plan's driver, and returns how it ended. If memory runs out before its first call, the
 /// operation is left before it begins.
 fn run_to_end(
     alloc: Global,
@@ -43,7 +43,7 @@ fn run_to_end(
     }
 }
 
-/// The end of any plan that is out of memory before its first call.
+/// Returns the end of a plan that runs out of memory before its first call.
 fn left(machine: &UnrecordedMachine) -> OpEnd
     ensures { (cpu turns : ℕ) (plan : List Item) → IsPlanRun machine.now cpu turns plan result machine.now }
 {

@@ -1,4 +1,4 @@
-//! A scenario that workers run: a thread for each processor, on one machine that they share.
+//! A scenario that workers run: one thread per processor, on one shared machine.
 ghost use Rattle.std.specs.Prelude.{◌≡◌, ◌++◌, List, Some, IfErr, IfOk, OnOk, length, string_bytes};
 ghost use Rattle.hp_machine.specs.Machine.{booted};
 ghost use Rattle.hp_shared.specs.Shared.{IsFresh, first_seats};
@@ -23,16 +23,16 @@ use std::sync::Wait;
 use std::sync::ledger::Blank;
 use std::thread::Threads;
 
-/// What workers leave: the closed machine, and what became of each processor's lines.
+/// What workers leave: the closed machine, and how each processor's lines ended.
 #[derive(Drop)]
 pub struct Worked {
     /// The machine, its sealed records, and how many records it made.
     pub closed: Closed,
-    /// The ends of the lines, by processor from 0.
+    /// How the lines ended, by processor from 0.
     pub ends: Vec<Ends>,
 }
 
-/// The text of a run of the scenario that the bytes are: what became of each processor's lines, and
+/// Runs the scenario in `input`, and returns the text of the run: how each processor's lines ended,
 /// then the number of records.
 pub fn run<R: Threads + Wait + Sync>(
     rt: &R,
@@ -44,12 +44,12 @@ pub fn run<R: Threads + Wait + Sync>(
 {
     let worked = work_off(rt, alloc, input)?;
     let text = worked_text(alloc, &worked);
-    // The program ends after this text: what is held in many pieces is not given back one by one.
+    // The program ends after this text: the many pieces of memory are not freed one by one.
     forget(worked);
     Ok(text?)
 }
 
-/// The text of what workers left.
+/// Returns the text of what workers left.
 fn worked_text(alloc: Global, worked: &Worked) -> Result<String, AllocError>
     ensures { IfOk result (λ out. string_bytes out
         ≡ processors_text worked.now.ends.items ++ records_line worked.now.closed.records) }
@@ -60,7 +60,7 @@ fn worked_text(alloc: Global, worked: &Worked) -> Result<String, AllocError>
     Ok(out)
 }
 
-/// Runs the scenario that the bytes are by a worker for each processor, and closes the machine.
+/// Runs the scenario in `input` by one worker per processor, and closes the machine.
 pub fn work_off<R: Threads + Wait + Sync>(
     rt: &R,
     alloc: Global,
@@ -85,8 +85,8 @@ pub fn work_off<R: Threads + Wait + Sync>(
     )
 }
 
-/// The machine of a layout at its start, with room for two records for each of so many lines, of which a plan
-/// makes several, where it can be had: without it they find theirs as they come. An error is out of memory.
+/// Boots a machine with room for two records per line, if it can be had; without it, records get
+/// their room as they come. (A plan makes several records.)
 fn boot(alloc: Global, layout: &Layout, lines: usize) -> Result<Machine, AllocError>
     ensures { IfOk result (λ machine. machine ≡ booted layout.now) }
 {
@@ -95,8 +95,8 @@ fn boot(alloc: Global, layout: &Layout, lines: usize) -> Result<Machine, AllocEr
     Ok(machine)
 }
 
-/// Runs a script for each processor of a machine at its start, each in a thread of its own, and
-/// closes the machine.
+/// Runs one script per processor of a machine just booted, each in a thread of its own, and closes
+/// the machine.
 fn run_scripts<L: Job + Send + Sync, R: Threads + Wait + Sync>(
     rt: &R,
     alloc: Global,
@@ -157,7 +157,7 @@ fn close_after<L: Job>(
     }
 }
 
-/// Writes what became of each processor's lines, by rising number.
+/// Writes how each processor's lines ended, in the order of the processors.
 #[tactic(auto, unfolding(crate::specs::Runs::processors_text))]
 fn write_processors(out: &mut String, lists: &Vec<Ends>) -> Result<(), AllocError>
     ensures { OnOk result (string_bytes out.new ≡ string_bytes out.old ++ processors_text lists.now.items) }
@@ -168,7 +168,7 @@ fn write_processors(out: &mut String, lists: &Vec<Ends>) -> Result<(), AllocErro
     Ok(())
 }
 
-/// Writes a processor's number, and what became of each of its lines.
+/// Writes a processor's number, and how each of its lines ended.
 fn write_processor(out: &mut String, cpu: usize, ends: &Ends) -> Result<(), AllocError>
     ensures { OnOk result
         (string_bytes out.new ≡ string_bytes out.old ++ processor_text cpu (Some ends.now)) }
@@ -180,7 +180,7 @@ fn write_processor(out: &mut String, cpu: usize, ends: &Ends) -> Result<(), Allo
     Ok(())
 }
 
-/// Writes what became of a line.
+/// Writes how a line ended.
 fn write_line_end(out: &mut String, end: LineEnd) -> Result<(), AllocError>
     ensures { OnOk result (string_bytes out.new ≡ string_bytes out.old ++ line_end_text end) }
 {

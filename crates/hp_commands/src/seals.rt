@@ -7,7 +7,7 @@ use hp_machine::UnrecordedMachine;
 use hp_text::write_sealed;
 use std::alloc::AllocError;
 
-/// Seals the machine, which has no records to hand out, and writes how many there were.
+/// Seals the machine, which keeps no records to hand out, and writes how many there were.
 pub fn write_seal(out: &mut String, machine: &mut UnrecordedMachine) -> Result<(), AllocError>
     ensures { OnOk result (GrowsBy (string_bytes out.old) (string_bytes out.new)
         (λ text. WritesSeal machine.old text machine.new)) }

@@ -1,4 +1,4 @@
-//! The text of a scenario.
+//! The text of a scenario that runs in order on one machine.
 ghost use Rattle.std.specs.Prelude.{◌≡◌, ℕ, List, [], ◌++◌, Ok, Some, OnOk, IfOk, IfErr, IfSome, IsTrue, string_bytes};
 ghost use Rattle.hp_machine.specs.Machine.{booted};
 ghost use Rattle.hp_scenario.specs.Calls.{IsOpened};
@@ -25,10 +25,11 @@ use hp_units::{Cpu, Layout};
 use std::alloc::{AllocError, Global};
 use std::mem::forget;
 
-/// The text of a scenario: what each line writes, and then the state. Where the input has the usual
-/// form each line is run as it is read; else, and where it has a fault, the lines are read before the
-/// first one is run. The memory of a machine whose lines are run as they are read is left to the end
-/// of the program.
+/// Runs the scenario in `input`, and returns its text: what each line writes, then the state.
+///
+/// If the input has the usual form, each line is run as it is read; otherwise, and if there is a
+/// fault, all lines are read before the first one is run. In the first case the machine's memory is
+/// not freed before the program ends.
 pub fn serial(alloc: Global, input: Vec<u8>) -> Result<String, ProgramFault>
     ensures ok { IfOk result (λ out. IsTextOf input.items (string_bytes out)) }
     ensures err { IfErr result (IsFaultOf Serial (Some input.items) ⊥ ⊥) }
@@ -40,7 +41,8 @@ pub fn serial(alloc: Global, input: Vec<u8>) -> Result<String, ProgramFault>
     }
 }
 
-/// The text of a scenario in its usual form, with no fault. None says nothing.
+/// Returns the text of a scenario in its usual form without a fault. If it returns `None`, the
+/// bytes may still be a scenario.
 fn usual_text(alloc: Global, input: &[u8]) -> Result<Option<String>, AllocError>
     ensures { IfOk result (λ out. IfSome out (λ out. IsTextOf input.now (string_bytes out))) }
 {
@@ -50,8 +52,9 @@ fn usual_text(alloc: Global, input: &[u8]) -> Result<Option<String>, AllocError>
     calls_text(alloc, &mut calls, input.len() / 16)
 }
 
-/// The text of a scenario of which no line was taken yet, with no fault: its lines are run as they
-/// are read, on a machine with room for so many. None says nothing.
+/// Returns the text of a scenario of which no line was taken yet, without a fault. Runs its lines
+/// as they are read, on a machine with room for `count` of them. If it returns `None`, there may
+/// still be such a text.
 fn calls_text(
     alloc: Global,
     calls: &mut Calls<'_>,
@@ -66,12 +69,12 @@ fn calls_text(
         return Ok(None);
     }
     write_end(&mut out, alloc, &machine, calls)?;
-    // The program ends after this text: what this holds in many pieces is not given back one by one.
+    // The program ends after this text: the many pieces of memory are not freed one by one.
     forget(machine);
     Ok(Some(out))
 }
 
-/// Writes the state of a machine, with the names that the lines have.
+/// Writes the state of a machine, with the names from the lines.
 fn write_end(
     out: &mut String,
     alloc: Global,
@@ -83,13 +86,13 @@ fn write_end(
 {
     let end = machine.image(alloc)?;
     write_state(out, alloc, &end, calls.names())?;
-    // Left to the end of the program, as the machine is.
+    // Not freed before the program ends, like the machine.
     forget(end);
     Ok(())
 }
 
-/// Runs lines as they are read, and writes what each answers; whether these were all, and there is
-/// no fault.
+/// Runs lines as they are read, and writes the text of each. Returns whether the scenario ended
+/// after them, without a fault.
 fn write_calls(
     out: &mut String,
     alloc: Global,
@@ -108,7 +111,7 @@ fn write_calls(
     }
 }
 
-/// Runs a line that is dropped then, and writes what it answers.
+/// Runs a line, writes its text, and drops it.
 #[inline(always)]
 fn write_taken(
     out: &mut String,
@@ -122,7 +125,7 @@ fn write_taken(
     write_line(out, alloc, machine, &line)
 }
 
-/// The text of any scenario. It takes the input, which is dropped once it is read.
+/// Returns the text of any scenario. Drops the input once it is read.
 fn any_text(alloc: Global, input: Vec<u8>) -> Result<String, ProgramFault>
     ensures ok { IfOk result (λ out. IsTextOf input.items (string_bytes out)) }
     ensures err { IfErr result (IsFaultOf Serial (Some input.items) ⊥ ⊥) }
@@ -131,7 +134,7 @@ fn any_text(alloc: Global, input: Vec<u8>) -> Result<String, ProgramFault>
     Ok(scenario_text(alloc, scenario)?)
 }
 
-/// The text of a scenario that was read. Its lines are dropped once they are run.
+/// Returns the text of a scenario that was read. Drops its lines once they are run.
 fn scenario_text(alloc: Global, scenario: Scenario) -> Result<String, AllocError>
     ensures { IfOk result (λ out. (input : List ℕ) → scenario_in input ≡ Ok (scenario_seen scenario)
         → IsTextOf input (string_bytes out)) }
@@ -141,7 +144,7 @@ fn scenario_text(alloc: Global, scenario: Scenario) -> Result<String, AllocError
     Ok(out)
 }
 
-/// Writes the text of a scenario that was read, as the first of all.
+/// Writes the text of a scenario that was read, into a text that is empty.
 fn write_scenario(out: &mut String, alloc: Global, scenario: Scenario) -> Result<(), AllocError>
     ensures { OnOk result (string_bytes out.old ≡ [] → (input : List ℕ)
         → scenario_in input ≡ Ok (scenario_seen scenario) → IsTextOf input (string_bytes out.new)) }
@@ -155,8 +158,7 @@ fn write_scenario(out: &mut String, alloc: Global, scenario: Scenario) -> Result
     write_state(out, alloc, &image, &names)
 }
 
-/// Runs lines on the machine of a layout at its start, and writes what each answers. It answers
-/// the state after them.
+/// Runs lines on a machine just booted, and writes the text of each. Returns the state after them.
 fn run_lines(
     out: &mut String,
     alloc: Global,
@@ -172,9 +174,9 @@ fn run_lines(
     machine.image(alloc)
 }
 
-/// The machine of a layout at its start, which keeps no records since no line shows one, with room for two
-/// steps for each of so many lines, of which a plan makes several, where it can be had: without it they find
-/// theirs as they come. An error is out of memory.
+/// Boots a machine that keeps no records, since no line shows one, with room for two steps per
+/// line, if it can be had; without it, steps get their room as they come. (A plan makes several
+/// steps.)
 fn boot(alloc: Global, layout: &Layout, lines: usize) -> Result<UnrecordedMachine, AllocError>
     ensures { IfOk result (λ machine. machine ≡ booted layout.now) }
 {
@@ -183,21 +185,22 @@ fn boot(alloc: Global, layout: &Layout, lines: usize) -> Result<UnrecordedMachin
     Ok(machine)
 }
 
-/// The scenario that the input is, which is dropped once it is read.
+/// Reads the scenario in `input`, and drops the input.
 fn read_scenario(alloc: Global, input: Vec<u8>) -> Result<Scenario, ScenarioFault>
     ensures { Gives scenario_seen result (scenario_in input.items) }
 {
     Scenario::read_any(alloc, &input)
 }
 
-/// An empty text with room for the answers of so many lines, most of which have no more than 24 bytes.
+/// Returns an empty text with room for the replies to `lines` lines, most of which have at most 24
+/// bytes.
 fn room_for(alloc: Global, lines: usize) -> Result<String, AllocError>
     ensures { IfOk result (λ out. string_bytes out ≡ []) }
 {
     String::with_capacity(alloc, lines.saturating_mul(24))
 }
 
-/// Runs lines one after another, and writes what each answers.
+/// Runs lines one after another, and writes the text of each.
 fn write_lines(
     out: &mut String,
     alloc: Global,
@@ -213,7 +216,7 @@ fn write_lines(
     Ok(())
 }
 
-/// Runs a line, and writes what it answers.
+/// Runs a line, and writes its text.
 #[inline(always)]
 fn write_line(
     out: &mut String,
@@ -227,7 +230,7 @@ fn write_line(
     write_asked(out, alloc, machine, line.cpu, line.work.asked())
 }
 
-/// Does what a line asks for, and writes what that answers, or why a control file does not take it.
+/// Does a line's work, and writes what comes of it, or why a control file does not take it.
 #[inline(always)]
 fn write_asked(
     out: &mut String,

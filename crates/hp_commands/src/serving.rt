@@ -1,4 +1,4 @@
-//! Bytes in to bytes out.
+//! Serves a command from a reader to a writer.
 
 ghost use Rattle.std.specs.Prelude.{◌≡◌, ◌≢◌, ◌<◌, ◌-◌, ◌^◌, Some, IfErr, IfOk, OnOk, string_bytes};
 ghost use Rattle.std.specs.Io.KnownBytes.{Appends, Keeps};
@@ -44,13 +44,13 @@ pub fn serve<R: Source, W: Sink, T: Threads + Wait + Sync>(
 
     // The reader gave all that it had, at most the limit.
     ensures read { OnOk result (ReadsAll (R.remaining reader.old) (R.remaining reader.new)) }
-    // The command's text of the bytes that were read, and nothing else.
+    // The writer got the command's text for the bytes that were read, and nothing else.
     ensures ok { OnOk result
         (Serves command (R.remaining reader.old) (W.contents writer.old) (W.contents writer.new)) }
-    // After another fault nothing was written.
+    // After any other fault, nothing was written.
     ensures silent { IfErr result
         (λ fault. fault ≢ ProgramFault.WriteFailed → Keeps (W.contents writer.old) (W.contents writer.new)) }
-    // Each fault comes only where it has a cause.
+    // Each fault comes only from its cause.
     ensures err { IfErr result (IsFaultOf command (R.remaining reader.old)
         (R.failures reader.old < R.failures reader.new) (W.failures writer.old < W.failures writer.new)) }
 {
@@ -59,7 +59,7 @@ pub fn serve<R: Source, W: Sink, T: Threads + Wait + Sync>(
     write_text(writer, &text)
 }
 
-/// The text that a command makes of its input.
+/// Returns the text that a command makes of its input.
 fn text_of<T: Threads + Wait + Sync>(
     rt: &T,
     command: Command,
@@ -87,13 +87,13 @@ pub fn serve_serial<R: Source, W: Sink>(
 
     // The reader gave all that it had, at most the limit.
     ensures read { OnOk result (ReadsAll (R.remaining reader.old) (R.remaining reader.new)) }
-    // The text of the bytes that were read, and nothing else.
+    // The writer got the text for the bytes that were read, and nothing else.
     ensures ok { OnOk result
         (WritesTextOf (R.remaining reader.old) (W.contents writer.old) (W.contents writer.new)) }
-    // After another fault nothing was written.
+    // After any other fault, nothing was written.
     ensures silent { IfErr result
         (λ fault. fault ≢ ProgramFault.WriteFailed → Keeps (W.contents writer.old) (W.contents writer.new)) }
-    // Each fault comes only where it has a cause.
+    // Each fault comes only from its cause.
     ensures err { IfErr result (IsFaultOf Serial (R.remaining reader.old)
         (R.failures reader.old < R.failures reader.new) (W.failures writer.old < W.failures writer.new)) }
 {

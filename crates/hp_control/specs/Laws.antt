@@ -1,4 +1,4 @@
--- A law of what is read and written, in plain terms.
+-- A law of reading and writing, in plain terms.
 use Rattle.std.specs.Prelude.{◌≡◌, ℕ, List, codes, Ok}
 use Rattle.hp_units.specs.LayoutParts.{LayoutParts}
 use Rattle.hp_units.specs.Memory.{Memory}
@@ -7,7 +7,7 @@ use Rattle.hp_control.specs.Reads.{file_text}
 use Rattle.hp_requests.specs.Writes.{request_of}
 use Rattle.hp_requests.specs.declared.writes.Request.TheVariants.{Event}
 
--- what `auto_online_blocks` shows, written back, asks for what it is
+-- the text of `auto_online_blocks`, written back, asks for what it already is
 abbrev pub AutoIsWrittenBack : Type 0
 AutoIsWrittenBack =
     (l : LayoutParts) (s : Memory) (text : List ℕ) → file_text l s (codes "auto_online_blocks") ≡ Ok text

@@ -1,5 +1,5 @@
--- The variants of zones, states and classes under names of their own, passed on from one place.
--- Declares nothing.
+-- The variants of zones, states and classes under names of their own, exported again from one
+-- place. Declares nothing.
 pub use Rattle.hp_units.specs.declared.rows.Zone.{Zone}
 pub use Rattle.hp_units.specs.declared.rows.Zone.TheVariants.{Normal as NormalZone, Movable as MovableZone}
 pub use Rattle.hp_units.specs.declared.rows.Class.{Class}

@@ -1,5 +1,5 @@
--- What reading a control file gives (Linux guide, Memory Hot(Un)Plug; which words a going block
--- shows is own).
+-- The texts of the control files (Linux guide, Memory Hot(Un)Plug; the words of a going block are
+-- this model's).
 use Rattle.std.specs.Prelude.{ℕ, false, List, [], ◌∷◌, ◌++◌, codes, Option, Some, None, Result, Ok, Err, slice_get}
 use Rattle.std.specs.Fmt.{digits}
 use Rattle.std.specs.Option.{option_and_then, option_map}
@@ -16,7 +16,7 @@ use Rattle.hp_control.specs.Names.{Zone, State, OfflineState, OnlineState, Going
 abbrev pub line : List ℕ → List ℕ
 line text = text ++ 10 ∷ []
 
--- the zones that a block is in or may go to, by the zone that it is in
+-- the zones that a block is in or may go to, from the zone that it is in
 abbrev pub zones_word : Option Zone → List ℕ
 zones_word None = codes "Normal Movable"
 zones_word (Some zone) = zone_name zone
@@ -33,7 +33,7 @@ block_word OnlineFile OfflineState _ = Some (codes "0")
 block_word ZonesFile _ current = Some (zones_word current)
 block_word RemovableFile _ _ = Some (codes "1")
 
--- what a file of the block with this number shows: there is a row for each memory block of the layout
+-- what a file of the block with this number shows; each memory block of the layout has a row
 abbrev pub word_at : List Row → ℕ → BlockFile → Option (List ℕ)
 word_at rows block file = option_and_then (λ row. block_word file row.state row.zone) (slice_get rows block)
 

@@ -5,7 +5,7 @@ use Rattle.hp_units.specs.LayoutParts.{LayoutParts}
 use Rattle.hp_units.specs.Memory.{FreeAreas, free_list}
 use Rattle.hp_control.specs.Names.{Zone, NormalZone, MovableZone, Class, Nu, Nm, Mm, IsoN, IsoM}
 
--- a text right-aligned in so many places
+-- a text right-aligned in this many places
 abbrev pub aligned : ℕ → List ℕ → List ℕ
 aligned places text = replicate (places - length text) 32 ++ text
 
@@ -14,20 +14,20 @@ abbrev pub zone_name : Zone → List ℕ
 zone_name NormalZone = codes "Normal"
 zone_name MovableZone = codes "Movable"
 
--- how many free blocks a class has of an order
+-- how many free blocks of an order a class has
 abbrev pub free_count : FreeAreas → Class → ℕ → ℕ
 free_count a class order = length (free_list a class order)
 
--- the free blocks of a zone and an order, isolated ones too (own rule)
+-- the free blocks of a zone and an order, isolated ones too
 abbrev pub zone_count : FreeAreas → Zone → ℕ → ℕ
 zone_count a NormalZone order = free_count a Nu order + free_count a Nm order + free_count a IsoN order
 zone_count a MovableZone order = free_count a Mm order + free_count a IsoM order
 
--- a count as it stands after the one before it
+-- a count with the space before it
 unfoldable pub count_text : ℕ → List ℕ
 count_text count = codes " " ++ aligned 6 (decimal count)
 
--- the counts of the orders below one, from 0 on
+-- the counts of the orders below `order`, from 0
 abbrev pub counts_below : FreeAreas → Zone → ℕ → List ℕ
 counts_below a zone zero = []
 counts_below a zone (suc order) = counts_below a zone order ++ count_text (zone_count a zone order)

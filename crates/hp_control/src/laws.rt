@@ -1,7 +1,7 @@
-//! A law of what is read and written, in plain terms.
+//! A law of reading and writing, in plain terms.
 ghost use Rattle.hp_control.specs.Laws.{AutoIsWrittenBack};
 
-/// What `auto_online_blocks` shows, written back, asks for what it is.
+/// The text of `auto_online_blocks`, written back, asks for what it already is.
 pub fn auto_is_written_back()
     ensures { AutoIsWrittenBack }
 {}

@@ -1,4 +1,5 @@
-//! The control files of memory hotplug: texts of the state of a machine, or of a memory alone.
+//! The control files of memory hotplug: their texts, from the state of a machine or of a memory
+//! alone.
 #![tactic(auto)]
 
 mod laws;

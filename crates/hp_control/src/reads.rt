@@ -1,4 +1,4 @@
-//! What reading a control file gives.
+//! The texts of the control files.
 ghost use Rattle.std.specs.Prelude.{◌≡◌, IfOk, false, option_map, string_bytes};
 ghost use Rattle.hp_requests.specs.Gives.{Gives, or_fault};
 ghost use Rattle.hp_control.specs.Reads as means;
@@ -13,17 +13,17 @@ use hp_requests::{BlockFile, ControlFault, File, file_at};
 use hp_units::{Block, Layout, Row, State, Zone};
 use std::alloc::{AllocError, Global};
 
-/// The text of the control file at a path, relative to the directory of memory devices (Linux
-/// guide, Memory Hot(Un)Plug). Each text ends with one newline.
+/// Returns the text of the control file at a path, relative to the directory of memory devices
+/// (Linux guide, Memory Hot(Un)Plug). Each text ends with one newline.
 ///
 /// `block_size_bytes`: the bytes of a memory block in hexadecimal. `buddyinfo`: see [`buddyinfo`].
-/// `auto_online_blocks`: what a block that is added becomes. `memoryN/state`: `online`, `offline`
-/// or `going-offline`. `memoryN/online`: `1` for an online and a going block, `0` for an offline
-/// one. `memoryN/valid_zones`: the zone of an online and a going block, `Normal Movable` of an
-/// offline one. `memoryN/removable`: `1`.
+/// `auto_online_blocks`: what a block becomes when it is added. `memoryN/state`: `online`,
+/// `offline` or `going-offline`. `memoryN/online`: `1` for an online and a going block, `0` for an
+/// offline one. `memoryN/valid_zones`: the zone of an online and a going block, `Normal Movable` of
+/// an offline one. `memoryN/removable`: `1`.
 ///
-/// Errors: NoFile for another path, and for a block that is not in the layout or is absent;
-/// WriteOnly for `probe`; OutOfMemory, which may come in place of any answer.
+/// Errors: `NoFile` for another path, and for a block that is not in the layout or is absent;
+/// `WriteOnly` for `probe`; `OutOfMemory`, which may come in place of any other result.
 pub fn read_file(alloc: Global, machine: &Machine, path: &str) -> Result<Vec<u8>, ControlFault>
     ensures { Gives (λ text. text.items) result
         (means.file_text machine.now.layout machine.now.state path.now) }
@@ -34,7 +34,7 @@ pub fn read_file(alloc: Global, machine: &Machine, path: &str) -> Result<Vec<u8>
     }
 }
 
-/// The text of the control file at a path, as [`read_file`] gives it, as a string. The errors are the same.
+/// Returns the text of the control file at a path like [`read_file`], as a string. Same errors.
 pub fn read_text(alloc: Global, machine: &Machine, path: &str) -> Result<String, ControlFault>
     ensures { Gives (λ text. string_bytes text) result
         (means.file_text machine.now.layout machine.now.state path.now) }
@@ -42,8 +42,8 @@ pub fn read_text(alloc: Global, machine: &Machine, path: &str) -> Result<String,
     text_in(alloc, machine.memory(), path)
 }
 
-/// The text of the control file at a path, as [`read_text`] gives it, from a memory that need not
-/// be a machine's. The errors are the same.
+/// Returns the text of the control file at a path like [`read_text`], from a memory that need not
+/// be a machine's. Same errors.
 #[tactic(auto, unfolding(crate::specs::Reads::file_text))]
 pub fn text_in(alloc: Global, memory: &Memory, path: &str) -> Result<String, ControlFault>
     ensures { Gives (λ text. string_bytes text) result
@@ -55,7 +55,7 @@ pub fn text_in(alloc: Global, memory: &Memory, path: &str) -> Result<String, Con
     }
 }
 
-/// The text of a file.
+/// Returns the text of a file.
 #[tactic(auto, unfolding(crate::specs::Reads::text_of))]
 fn text_of(alloc: Global, memory: &Memory, file: File) -> Result<String, ControlFault>
     ensures { Gives (λ text. string_bytes text) result
@@ -70,7 +70,7 @@ fn text_of(alloc: Global, memory: &Memory, file: File) -> Result<String, Control
     }
 }
 
-/// The bytes of a memory block in hexadecimal.
+/// Returns the bytes of a memory block in hexadecimal.
 fn block_size_text(alloc: Global, layout: &Layout) -> Result<String, AllocError>
     ensures { IfOk result
         (λ text. string_bytes text ≡ means.line (digits 16 false (block_bytes layout.now))) }
@@ -79,7 +79,7 @@ fn block_size_text(alloc: Global, layout: &Layout) -> Result<String, AllocError>
     format!(in alloc; "{bytes:x}\n")
 }
 
-/// What a block that is added becomes.
+/// Returns what a block becomes when it is added.
 fn auto_line(alloc: Global, memory: &Memory) -> Result<String, AllocError>
     ensures { IfOk result (λ text. string_bytes text ≡ means.line (auto_text memory.now.state.blocks.auto)) }
 {
@@ -87,7 +87,7 @@ fn auto_line(alloc: Global, memory: &Memory) -> Result<String, AllocError>
     format!(in alloc; "{auto}\n")
 }
 
-/// The text of a file of a memory block.
+/// Returns the text of a file of a memory block.
 fn block_text(
     alloc: Global,
     memory: &Memory,
@@ -103,14 +103,14 @@ fn block_text(
     }
 }
 
-/// A text with its newline.
+/// Returns a text with its newline.
 fn line(alloc: Global, word: &str) -> Result<String, AllocError>
     ensures { IfOk result (λ text. string_bytes text ≡ means.line word.now) }
 {
     format!(in alloc; "{word}\n")
 }
 
-/// What a file of a memory block shows, where the block is there.
+/// Returns what a file of a memory block shows, if the block is there.
 fn word_at(memory: &Memory, block: Block, file: BlockFile) -> Option<&'static str>
     ensures { option_map (λ word. word.now) result ≡ means.word_at memory.now.state.blocks.rows block file }
 {
@@ -120,7 +120,7 @@ fn word_at(memory: &Memory, block: Block, file: BlockFile) -> Option<&'static st
     }
 }
 
-/// What a file of a memory block shows; an absent block has no files.
+/// Returns what a file of a memory block shows; an absent block has no files.
 fn block_word(file: BlockFile, row: Row) -> Option<&'static str>
     ensures { option_map (λ word. word.now) result ≡ means.block_word file row.state row.zone }
 {
@@ -136,7 +136,7 @@ fn block_word(file: BlockFile, row: Row) -> Option<&'static str>
     }
 }
 
-/// The zones that a block is in or may go to, by the zone that it is in.
+/// Returns the zones that a block is in or may go to, from the zone that it is in.
 fn zones_word(zone: Option<Zone>) -> &'static str
     ensures { result.now ≡ means.zones_word zone }
 {

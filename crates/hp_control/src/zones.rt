@@ -1,4 +1,4 @@
-//! The free blocks of each zone by order, as a text.
+//! The free blocks of each zone by order, as text.
 ghost use Rattle.std.specs.Prelude.{◌≡◌, ◌+◌, ◌++◌, IfOk, OnOk, string_bytes};
 ghost use Rattle.hp_control.specs.Zones as means;
 
@@ -7,9 +7,9 @@ use hp_memory::Memory;
 use hp_units::{Class, Order, Zone};
 use std::alloc::{AllocError, Global};
 
-/// The free blocks of each zone by order: a line for Normal and one for Movable, isolated blocks
-/// counted too and frames on processors' lists not (Linux, /proc/buddyinfo; own rule: no space ends
-/// a line). Errors: memory was refused.
+/// Returns the free blocks of each zone by order: a line for Normal and one for Movable. Isolated
+/// blocks count too; frames on processors' lists do not (Linux, /proc/buddyinfo, but without a
+/// space at the end of a line).
 pub fn buddyinfo(alloc: Global, machine: &Machine) -> Result<Vec<u8>, AllocError>
     ensures { IfOk result
         (λ text. text.items ≡ means.buddyinfo_text machine.now.layout machine.now.state.free.areas) }
@@ -18,7 +18,7 @@ pub fn buddyinfo(alloc: Global, machine: &Machine) -> Result<Vec<u8>, AllocError
     Ok(text.into_bytes())
 }
 
-/// The line of each zone.
+/// Returns the lines of both zones.
 #[tactic(auto, unfolding(crate::specs::Zones::buddyinfo_text))]
 pub(crate) fn zones_text(alloc: Global, memory: &Memory) -> Result<String, AllocError>
     ensures { IfOk result
@@ -30,7 +30,7 @@ pub(crate) fn zones_text(alloc: Global, memory: &Memory) -> Result<String, Alloc
     Ok(text)
 }
 
-/// One zone's line.
+/// Writes one zone's line.
 #[tactic(auto, unfolding(crate::specs::Zones::zone_line))]
 fn write_zone(text: &mut String, memory: &Memory, zone: Zone) -> Result<(), AllocError>
     ensures { OnOk result (string_bytes text.new
@@ -42,7 +42,7 @@ fn write_zone(text: &mut String, memory: &Memory, zone: Zone) -> Result<(), Allo
     Ok(())
 }
 
-/// The counts of the orders from 0 to the greatest.
+/// Writes the counts of all orders, from 0.
 fn write_counts(text: &mut String, memory: &Memory, zone: Zone) -> Result<(), AllocError>
     ensures { OnOk result (string_bytes text.new ≡ string_bytes text.old
         ++ means.counts_below memory.now.state.free.areas zone (memory.now.layout.order + 1)) }
@@ -53,7 +53,7 @@ fn write_counts(text: &mut String, memory: &Memory, zone: Zone) -> Result<(), Al
     Ok(())
 }
 
-/// A count as it stands after the one before it.
+/// Writes a count, right-aligned, with a space before it.
 #[tactic(auto, unfolding(crate::specs::Zones::count_text))]
 fn write_count(text: &mut String, count: u64) -> Result<(), AllocError>
     ensures { OnOk result (string_bytes text.new ≡ string_bytes text.old ++ means.count_text count) }
@@ -61,7 +61,7 @@ fn write_count(text: &mut String, count: u64) -> Result<(), AllocError>
     write!(text, " {count:>6}")
 }
 
-/// The start of a zone's line, the zone's name right-aligned in 8 places.
+/// Returns the start of a zone's line, with the zone's name right-aligned in 8 places.
 fn zone_head(zone: Zone) -> &'static str
     ensures { result.now ≡ means.zone_head zone }
 {
@@ -71,7 +71,7 @@ fn zone_head(zone: Zone) -> &'static str
     }
 }
 
-/// How many free blocks of 2^order frames a zone has, isolated ones too.
+/// Returns how many free blocks of 2^order frames a zone has, isolated ones too.
 fn zone_count(memory: &Memory, zone: Zone, order: Order) -> u64
     ensures { result ≡ means.zone_count memory.now.state.free.areas zone order }
 {

@@ -1,19 +1,11 @@
 //! Explores every interleaving of short scripts on a machine: counts how they end, in one thread or
 //! in parts side by side, or finds one that ends as wanted.
 //!
-<<<<<<< HEAD
 //! hp_schedules defines scripts, schedules and ends; hp_states decides which places are alike and
 //! keeps their counts. This crate owns the walk over all schedules (`exploring`), the search by rising
 //! number of changes of processor, as in CHESS (Musuvathi and Qadeer, PLDI 2007; `finding`), and the
 //! merging of parts (`summing`, `jobs`). It makes its calls on a memory of its own and takes each
 //! back, so that the caller's machine never changes. It knows nothing of scenarios or texts.
-=======
-//! hp_schedules defines scripts, schedules and ends; hp_places decides which places are alike and
-//! keeps their counts. This crate owns the walk over all schedules. It makes its calls on a memory
-//! of its own and takes each back, so that the caller's machine never changes. It knows nothing of
-//! scenarios or texts. Schedules can be counted in parts, side by side (specs/Parts of
-//! hp_schedules).
->>>>>>> cff70ea825a80943337c827eb0d54be915e34bc6
 //!
 //! Read specs/Settings, specs/Faults and specs/Walks first, then specs/Reaching and specs/Sums.
 #![tactic(auto)]

@@ -1,4 +1,4 @@
--- What a contract sees of a journal and of a course, what both keep, and what answering an event does.
+-- The value of a journal and of a course, what both keep, and what replying to an event does.
 use Rattle.std.specs.Prelude.{ℕ, ◌≡◌, ◌+◌, ◌⊎◌, Bool, true, List, [], ◌∷◌, ◌++◌, length, nat_le}
 use Rattle.hp_units.specs.LayoutParts.{LayoutParts}
 use Rattle.hp_units.specs.Memory.{Memory}
@@ -9,7 +9,7 @@ use Rattle.hp_units.specs.declared.replies.Record.{Record}
 use Rattle.hp_units.specs.declared.replies.Receipt.{Receipt}
 use Rattle.hp_units.specs.declared.replies.Reply.{Reply}
 
--- `before` is the number of all earlier records, and `base` the state that the history began with
+-- `before` is the number of all earlier records, `base` the state that the history began with
 pub record CourseValue : Type 0 where
   pub layout : LayoutParts
   pub before : ℕ
@@ -17,12 +17,12 @@ pub record CourseValue : Type 0 where
   pub history : List Record
   pub state : Memory
 
--- the course of no records, over a base state and after earlier records
+-- a course without records, over a base state and after earlier records
 abbrev pub started : LayoutParts → Memory → (before : ℕ) → CourseValue
 started l base before = record { layout = l; before = before; base = base; history = []; state = base }
 
--- its history is legal, and its state is what the plain machine reaches from the base by the steps
--- of the history that are not undone
+-- the history is legal, and the state is what the plain machine reaches from the base by those of
+-- its steps that are not undone
 pub record IsHistory (c : CourseValue) : Type 0 where
   pub legal : IsLegal c.layout c.base c.before c.history
   pub state : c.state ≡ value_of c.layout c.base c.history
@@ -31,12 +31,12 @@ pub record IsHistory (c : CourseValue) : Type 0 where
 abbrev pub last_serial : CourseValue → ℕ
 last_serial c = c.before + length c.history
 
--- there is no further serial
+-- no serial is left
 abbrev pub is_spent : CourseValue → Bool
 is_spent c = nat_le 18446744073709551615 (c.before + length c.history)
 
--- the event is answered without memory: it is an undo, refused or not, or its reply says that an
--- earlier state is back
+-- the event needs no memory: it is an undo, refused or not, or its reply is that an earlier state
+-- is back
 abbrev pub NeedsNoMemory : CourseValue → (cpu : ℕ) → Event → Type 0
 NeedsNoMemory c cpu event =
     ((serial : ℕ) × (event ≡ UndoAfter serial))
@@ -46,13 +46,12 @@ NeedsNoMemory c cpu event =
 abbrev pub record_of : ℕ → Receipt → Record
 record_of cpu r = record { serial = r.serial; cpu = cpu; event = r.event; reply = r.reply }
 
--- the receipt of an event and its answer, which is the serial of its record and the reply
+-- the receipt of an event, from the serial of its record and the reply
 abbrev pub receipt_for : Event → ℕ × Reply → Receipt
 receipt_for event answer = record { serial = answer.0; event = event; reply = answer.1 }
 
--- the event of a processor was answered so, and made the new course of the old: one record is
--- appended, with the next serial and the reply that the definitions give, and the state is that of
--- the longer history
+-- a call with a processor's event: one record is appended, with the next serial and the reply that
+-- the definitions give, and the new state is that of the longer history
 pub record IsAnswered (old : CourseValue) (cpu : ℕ) (event : Event) (r : Receipt)
     (new : CourseValue) : Type 0 where
   pub serial : r.serial ≡ last_serial old + 1

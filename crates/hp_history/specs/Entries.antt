@@ -1,5 +1,4 @@
--- The journal's entries: the steps that they stand for, where their deltas begin on the tape, and
--- what they show.
+-- The journal's entries: their steps, where their deltas start on the tape, and what they show.
 use Rattle.std.specs.Prelude.{ℕ, zero, suc, ◌≡◌, ◌+◌, ◌/◌, ◌%◌, ◌^◌, ◌<◌, ◌≤◌, List, [], ◌∷◌, ◌++◌, Some, length, map, slice_get, take}
 use Rattle.std.specs.Option.{option_map_or}
 use Rattle.hp_units.specs.History.{net_of, run}
@@ -13,7 +12,7 @@ use Rattle.hp_memory.specs.Memory.{LeadsBack}
 use Rattle.hp_history.specs.Course.{CourseValue}
 use Rattle.hp_history.specs.declared.entries.Entry.{Entry}
 
--- ---- what they stand for
+-- ---- their steps
 
 -- the mark of an entry's kind and operation
 abbrev pub mark_coded : (kind op : ℕ) → Mark
@@ -21,7 +20,7 @@ mark_coded zero op = Other
 mark_coded (suc zero) op = Opens
 mark_coded (suc (suc n)) op = Works op
 
--- the tag of an entry's step, whose record stands at its place after so many earlier records
+-- the tag of an entry's step; `before` earlier records come before those since the base
 abbrev pub tag_in : (before : ℕ) → Entry → Tag
 tag_in before e = record { serial = before + e.code / 4 + 1; mark = mark_coded (e.code % 4) e.op }
 
@@ -34,16 +33,17 @@ abbrev pub AreNumbered : (before : ℕ) → List Entry → Type 0
 AreNumbered before entries = (j : ℕ) (e : Entry) → slice_get entries j ≡ Some e
     → before + e.code / 4 + 1 < 2 ^ 64
 
--- ---- where their deltas stand
+-- ---- where their deltas start
 
--- how many of so many deltas stand before those of a step; all of them before a step that is not there
+-- where the deltas of a step start on a tape of `deltas` deltas; at its end, if there is no such
+-- step
 abbrev pub start_of : List Entry → (deltas step : ℕ) → ℕ
 start_of entries deltas step = option_map_or (λ e. e.start) (slice_get entries step) deltas
 
 -- ---- what they show
 
--- deltas are those of a step that is not undone: no more than its bound, and they lead from the
--- state after the step back to the state before it, latest first, each fitting when its turn comes
+-- the deltas of step `at`: no more than its bound; latest first they lead from the state after the
+-- step back to the state before it, each fitting when its turn comes
 pub record IsEntry (c : CourseValue) (at : ℕ) (deltas : List Delta) : Type 0 where
   pub made : Record
   pub here : slice_get (net_of c.history) at ≡ Some made
@@ -51,8 +51,8 @@ pub record IsEntry (c : CourseValue) (at : ℕ) (deltas : List Delta) : Type 0 w
   pub leads : LeadsBack c.layout deltas (run c.layout c.base (take (at + 1) (net_of c.history)))
       (run c.layout c.base (take at (net_of c.history)))
 
--- deltas lead from the present state back to the state before a step, or to itself where all steps
--- come before
+-- the deltas lead from the present state back to the state before step `at`, or to itself if all
+-- steps come before
 abbrev pub IsWayBack : CourseValue → (at : ℕ) → List Delta → Type 0
 IsWayBack c at deltas = LeadsBack c.layout deltas c.state (run c.layout c.base (take at (net_of c.history)))
 
@@ -63,8 +63,8 @@ abbrev pub joined : List (List Delta) → List Delta
 joined [] = []
 joined (deltas ∷ steps) = deltas ++ joined steps
 
--- the latest steps are undone: the first `keep` are left, each of the others has its entry, and the deltas
--- of these lead from the old state back to the new one, latest first, each fitting when its turn comes
+-- the latest steps are undone: the first `keep` are left, and the deltas of the others lead from
+-- the old state back to the new one, latest first, each fitting when its turn comes
 pub record IsUndone (old new : CourseValue) : Type 0 where
   pub keep : ℕ
   pub entries : List (List Delta)

@@ -1,4 +1,4 @@
--- What a journal keeps beside its value, and what the parts of an answer are to each other.
+-- What a journal keeps besides its value, and how the parts of a reply fit together.
 use Rattle.std.specs.Prelude.{ℕ, ◌≡◌, ◌+◌, ◌^◌, ◌<◌, ◌≤◌, Bool, ◌||◌, ◌&&◌, not, nat_lt, if◌then◌else◌, List, [], ◌∷◌, ◌++◌, Some, drop, length, take, map, slice_get}
 use Rattle.hp_units.specs.LayoutParts.{IsLayout, LayoutParts}
 use Rattle.hp_units.specs.Memory.{Memory}
@@ -18,16 +18,16 @@ use Rattle.hp_history.specs.Course.{IsHistory, CourseValue, last_serial}
 use Rattle.hp_history.specs.Entries.{start_of, tags_of}
 use Rattle.hp_history.specs.declared.entries.Entry.{Entry}
 
--- a layout and a state together, as an Image and as a memory
+-- a layout and a state together, as an `Image` and as a memory
 abbrev pub pictured : LayoutParts → Memory → Pictured
 pictured l s = record { layout = l; memory = s }
 
 abbrev pub remembered : LayoutParts → Memory → MemoryValue
 remembered l s = record { layout = l; state = s }
 
--- one entry for each step of the net, in the net's order, and with its tag. From where the deltas of a step
--- begin, all that stand on the tape lead back from the state of the whole net to the state before that
--- step; those of the step alone are no more than its bound.
+-- one entry per step of the net, in its order and with its tag. From the start of a step's deltas,
+-- all on the tape lead back from the net's state to the state before the step; its own are within
+-- its bound
 pub record IsJournal (l : LayoutParts) (base : Memory) (before : ℕ) (net : List Record)
     (entries : List Entry) (deltas : List Delta) : Type 0 where
   pub tagged : tags_of before entries ≡ map tag_of net
@@ -55,15 +55,15 @@ is_gone m serial = nat_lt (last_serial m) serial || nat_lt serial m.before
 abbrev pub may_cancel : LayoutParts → Memory → (cpu op : ℕ) → Bool
 may_cancel l s cpu op = nat_lt cpu l.cpus && is_live s.blocks op
 
--- what going back makes: the reply, and how many steps it keeps
+-- going back replies `reply` and keeps the first `keep` steps
 pub record IsCut (m : CourseValue) (cpu : ℕ) (event : Event) (keep : ℕ) (reply : Reply) : Type 0 where
   pub answers : reply ≡ reply_of m.layout m.base m.before m.history cpu event
   pub within : keep ≤ length (net_of m.history)
   pub cut : (r : Record) → r.event ≡ event → r.reply ≡ reply
       → net_with (net_of m.history) r ≡ take keep (net_of m.history)
 
--- the event is answered by a step of the plain machine, which is then part of the net unless it is
--- refused or only looks
+-- the event makes a step of the plain machine, which joins the net unless it is refused or only
+-- looks
 pub record IsStep (m : CourseValue) (cpu : ℕ) (event : Event) : Type 0 where
   pub reply : reply_of m.layout m.base m.before m.history cpu event
       ≡ (step m.layout (value_of m.layout m.base m.history) (last_serial m + 1) cpu event).reply

@@ -2,8 +2,7 @@
 use Rattle.hp_history.specs.Course.{CourseValue}
 use Rattle.hp_history.specs.declared.journal.Journal.TheInside.{Inside}
 
--- a journal's value: its layout and its state are those of its memory, its base state and its
--- records those that its proofs remember
+-- a journal's value: layout and state from its memory, base state and records from its proofs
 abbrev pub seen : Inside → CourseValue
 seen m = record {
   layout = m.memory.layout;

@@ -1,4 +1,4 @@
-//! The course of a history: a journal with its base state and its records.
+//! A journal with its base state and its records.
 ghost use Rattle.std.specs.Prelude.{◌≡◌, ◌<◌, ◌≤◌, false, true, length, MatchOption, IfOk, OnErr, OnOk};
 ghost use Rattle.hp_units.specs.Boot.{boot_memory};
 ghost use Rattle.hp_units.specs.History.{goes_back, net_of};
@@ -20,16 +20,16 @@ use std::alloc::{AllocError, Global};
 use std::marker::Model;
 use std::mem::replace;
 
-/// A memory with its history and its journal. Every course keeps its history legal, its state that
-/// of the history, and a way back over each step that is not undone. It has room for as many records
-/// and deltas as its `Journal`.
+/// A memory with its history and its journal. The history is always legal, the state is that of the
+/// history, and there is a way back over each step that is not undone. It has room for as many
+/// records and deltas as its `Journal`.
 pub struct Course {
     journal: Journal,
     base: Image,
     history: Vec<Record>,
 }
 
-/// A function of its own, so that no proof of a caller takes the fields apart.
+/// Keeps callers from proving again how each field is dropped.
 impl Drop for Course {
     fn drop(self) {
         let Course {
@@ -54,7 +54,7 @@ impl Model for Course {
 }
 
 impl Course {
-    /// The course of no records over a base state, after `before` earlier records. An error is out of memory.
+    /// Returns a course without records over a base state, after `before` earlier records.
     pub fn start(alloc: Global, base: &Image, before: u64) -> Result<Course, AllocError>
         requires placed { IsWellPlaced base.now.layout base.now.memory }
         ensures { IfOk result (λ course. course ≡ started base.now.layout base.now.memory before) }
@@ -68,7 +68,7 @@ impl Course {
         })
     }
 
-    /// The course of no records over the state at boot. An error is out of memory.
+    /// Returns a course without records over the state at boot.
     pub fn boot(alloc: Global, layout: &Layout) -> Result<Course, AllocError>
         ensures start { IfOk result (λ course. course ≡ started layout.now (boot_memory layout.now) 0) }
         ensures limits { IfOk result (λ _. IsLayout layout.now) }
@@ -82,7 +82,7 @@ impl Course {
         })
     }
 
-    /// An equal course. An error is out of memory.
+    /// Returns an equal course.
     pub fn copy(&self, alloc: Global) -> Result<Course, AllocError>
         ensures { IfOk result (λ course. course ≡ self.now) }
     {
@@ -96,10 +96,10 @@ impl Course {
         })
     }
 
-    /// Answers and records an event of a processor, where there is a further serial: the answer is
-    /// the record's serial and the reply. An undo goes back, and so does a Cancel where nothing but
-    /// its operation's own work stands after its Begin; any other event makes a step. An error is
-    /// out of memory; then all is as before.
+    /// Replies to a processor's event and records it. Returns the record's serial and the reply.
+    ///
+    /// An undo goes back, and so does a Cancel if nothing but its operation's own work comes after
+    /// its Begin; any other event makes a step. On an error, nothing changes.
     #[inline(always)]
     pub fn answer(
         &mut self,
@@ -125,9 +125,8 @@ impl Course {
         Ok(answer)
     }
 
-    /// Hands out the base and the records, and goes on from the present state without them: it
-    /// becomes the base, and no step from before can be undone (own rule). It makes no record. An
-    /// error is out of memory; then all is as before.
+    /// Hands out the base and the records, and goes on without them: the present state becomes the
+    /// base, and no earlier step can be undone. Makes no record. On an error, nothing changes.
     pub fn seal(&mut self, alloc: Global) -> Result<Volume, AllocError>
         ensures err { OnErr result (self.new ≡ self.old) }
         ensures volume { IfOk result (λ volume. volume ≡ volume_of self.old) }
@@ -147,42 +146,42 @@ impl Course {
         })
     }
 
-    /// Whether there is no further serial: the last one is 2^64 - 1.
+    /// Returns whether no serial is left: the last one is 2^64 - 1.
     pub fn is_spent(&self) -> bool
         ensures { result ≡ is_spent self.now }
     {
         self.journal.is_spent()
     }
 
-    /// The last serial so far, which is the number of all records, earlier ones included.
+    /// Returns the last serial, which is the number of all records, earlier ones included.
     pub fn last_serial(&self) -> u64
         ensures { result ≡ last_serial self.now }
     {
         self.journal.last_serial()
     }
 
-    /// How many earlier records there are, before those of the history.
+    /// Returns how many earlier records there are, before those of the history.
     pub fn before(&self) -> u64
         ensures { result ≡ self.now.before }
     {
         self.journal.before()
     }
 
-    /// The base state, which the history began with.
+    /// Returns the state that the history began with.
     pub fn base(&self) -> &Image
         ensures { result.now ≡ record { layout = self.now.layout; memory = self.now.base } }
     {
         &self.base
     }
 
-    /// The present state, in layers.
+    /// Returns the present state, in layers.
     pub fn memory(&self) -> &Memory
         ensures { result.now ≡ record { layout = self.now.layout; state = self.now.state } }
     {
         self.journal.memory()
     }
 
-    /// The present state, as an Image of its own. An error is out of memory.
+    /// Returns the present state as an `Image` of its own.
     pub fn image(&self, alloc: Global) -> Result<Image, AllocError>
         ensures { IfOk result
             (λ image. image ≡ record { layout = self.now.layout; memory = self.now.state }) }
@@ -190,7 +189,7 @@ impl Course {
         self.journal.image(alloc)
     }
 
-    /// The records, oldest first. Every course keeps its history legal, and its state that of the history.
+    /// Returns the records, oldest first. They are a legal history, and lead to the present state.
     pub fn history(&self) -> &[Record]
         ensures records { result.now ≡ self.now.history }
         ensures kept { IsHistory self.now }
@@ -199,8 +198,8 @@ impl Course {
         self.history.as_slice()
     }
 
-    /// Makes room for so many further records and steps, so that they need not be moved as more
-    /// come. An error is out of memory; the course is as before, with or without it.
+    /// Reserves room for `records` more records and steps, so that they need not be moved as more
+    /// come.
     pub fn reserve(&mut self, records: usize) -> Result<(), AllocError>
         ensures { self.new ≡ self.old }
     {
@@ -208,15 +207,15 @@ impl Course {
         self.journal.reserve(records)
     }
 
-    /// The number of steps that are not undone (own rule).
+    /// Returns the number of steps that are not undone.
     pub fn journal_len(&self) -> u64
         ensures { result ≡ length (net_of self.now.history) }
     {
         self.journal.journal_len()
     }
 
-    /// What a step that is not undone did, counted from 0; None past the last. Its deltas, latest
-    /// first, lead back from the state after the step to the state before it (own rule).
+    /// Returns the deltas of step `at` of those that are not undone, counted from 0; `None` past
+    /// the last. Latest first, they lead back from the state after the step to the state before it.
     pub fn entry(&self, at: u64) -> Option<&[Delta]>
         ensures { MatchOption result (length (net_of self.now.history) ≤ at)
             (λ deltas. IsEntry self.now at deltas.now) }
@@ -224,9 +223,9 @@ impl Course {
         self.journal.entry(at)
     }
 
-    /// What the steps from one on did, counted from 0; None past the end of the journal. Their
-    /// deltas, latest first, lead back from the present state to the state before the first of
-    /// them: an undo that drops these steps takes these deltas off.
+    /// Returns the deltas of the steps from `at` on, counted from 0; `None` past the end of the
+    /// journal. Latest first, they lead back from the present state to the state before step `at`:
+    /// an undo that drops these steps takes these deltas off.
     pub fn way_back(&self, at: u64) -> Option<&[Delta]>
         ensures { MatchOption result (length (net_of self.now.history) < at)
             (λ deltas. IsWayBack self.now at deltas.now) }

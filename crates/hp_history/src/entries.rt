@@ -1,5 +1,5 @@
-//! The entries of a journal: one for each step that is not undone, with the step's tag, and one tape
-//! with the deltas of all of them.
+//! The entries of a journal: one per step that is not undone, with the step's tag, and with the
+//! start of its deltas on the one tape of all steps.
 ghost use Rattle.std.specs.Prelude.{◌≡◌, ℕ, ◌+◌, ◌-◌, ◌*◌, ◌/◌, ◌%◌, ◌^◌, ◌<◌, ◌≤◌, ◌∷◌, ◌++◌, [], Some, true, false, ◌&&◌, drop, if◌then◌else◌, length, nat_le, nat_lt, slice_get, take, vec_capacity, vec_len};
 ghost use Rattle.std.specs.List.{slice_range};
 ghost use Rattle.hp_units.specs.Marks.{is_opening, is_work_of, sole_at};
@@ -12,10 +12,10 @@ use hp_tape::{Delta, Tape};
 use hp_units::{Mark, Serial, Tag};
 use std::mem::size_of;
 
-/// A step that is not undone. Its record's place among those since the base, counted from 0, and
-/// what it is to an operation stand in one number, `place * 4 + kind`: kind 0 is a step of none, 1
-/// one that begins an operation, and 2 one of an operation's own work, `op`. So many deltas stand
-/// on the tape before its own, which end where those of the next step begin.
+/// A step that is not undone. `code` is `place * 4 + kind`: `place` is the index of its record
+/// among those since the base, from 0; `kind` is 0 for a step of no operation, 1 for one that
+/// begins an operation, and 2 for work of operation `op`. Its deltas start at `start` on the tape,
+/// and end where those of the next step start.
 #[derive(Clone, Copy, PartialEq, Eq, Drop)]
 pub(crate) struct Entry {
     code: u32,
@@ -23,18 +23,18 @@ pub(crate) struct Entry {
     op: u64,
 }
 
-/// Bytes of an entry decide what a journal costs (own rule).
+/// The size of an entry decides the cost of a journal.
 const _: () = prove!(size_of::<Entry>() <= 16);
 
-/// How many places an entry can tell apart.
+/// An entry can hold this many places.
 const PLACES: u64 = 1_073_741_824;
 
-/// The longest tape on which an entry can tell where its deltas begin.
+/// The longest tape on which an entry can hold the start of its deltas.
 const DELTAS: usize = 4_294_967_295;
 
 impl Entry {
-    /// Whether an entry can tell a step apart that has so many records and deltas before it. Where not, a
-    /// journal has no room for the step.
+    /// Returns whether an entry can hold this place and this start. If not, a journal has no room
+    /// for the step.
     #[inline(always)]
     pub(crate) fn has_room(place: u64, start: usize) -> bool
         ensures { result ≡ (nat_lt place 1073741824 && nat_le start 4294967295) }
@@ -42,7 +42,7 @@ impl Entry {
         place < PLACES && start <= DELTAS
     }
 
-    /// The entry of a step with so many records and deltas before it.
+    /// Returns the entry of a step whose record is at `place`, and whose deltas start at `start`.
     #[inline(always)]
     pub(crate) fn new(place: u64, start: usize, mark: Mark) -> Entry
         requires { (nat_lt place 1073741824 && nat_le start 4294967295) ≡ true }
@@ -67,7 +67,7 @@ impl Entry {
         }
     }
 
-    /// The serial and the mark of the step.
+    /// Returns the serial and the mark of the step.
     fn tag(&self, before: u64) -> Tag
         requires { before + self.now.code / 4 + 1 < 2 ^ 64 }
         ensures { result ≡ tag_in before self.now }
@@ -78,7 +78,7 @@ impl Entry {
         }
     }
 
-    /// What the step is to an operation.
+    /// Returns what the step is to an operation.
     fn mark(&self) -> Mark
         ensures { result ≡ mark_coded (self.now.code % 4) self.now.op }
     {
@@ -92,7 +92,7 @@ impl Entry {
     }
 }
 
-/// The tag of the step at a place of the journal.
+/// Returns the tag of the step at `place` in the journal.
 fn step_tag(entries: &[Entry], before: u64, place: usize) -> Tag
     requires place { place < length entries.now }
     requires numbered { AreNumbered before entries.now }
@@ -102,7 +102,8 @@ fn step_tag(entries: &[Entry], before: u64, place: usize) -> Tag
     entry.tag(before)
 }
 
-/// How many of the steps an undo to a serial keeps: those down to the latest whose serial is not above it.
+/// Returns how many steps an undo to `serial` keeps: those up to the latest whose serial is not
+/// above it.
 pub(crate) fn kept_len(entries: &[Entry], before: u64, serial: Serial) -> usize
     requires { AreNumbered before entries.now }
     ensures within { result ≤ length entries.now }
@@ -118,7 +119,8 @@ pub(crate) fn kept_len(entries: &[Entry], before: u64, serial: Serial) -> usize
     keep
 }
 
-/// The place where an operation begins, if nothing but its own work stands after it.
+/// Returns the place of the step that begins `op`, if nothing but the operation's own work comes
+/// after it.
 pub(crate) fn sole_place(entries: &[Entry], before: u64, op: Serial) -> Option<usize>
     requires { AreNumbered before entries.now }
     ensures { result ≡ sole_at op (tags_of before entries.now) }
@@ -137,8 +139,8 @@ pub(crate) fn sole_place(entries: &[Entry], before: u64, op: Serial) -> Option<u
     None
 }
 
-/// How many of so many deltas stand on the tape before those of a step, which are all of them where
-/// there is no such step.
+/// Returns where the deltas of a step start on a tape of `deltas` deltas: at its end, if there is
+/// no such step.
 pub(crate) fn start_of(entries: &[Entry], deltas: usize, step: usize) -> usize
     ensures { result ≡ start_of entries.now deltas step }
 {
@@ -148,7 +150,7 @@ pub(crate) fn start_of(entries: &[Entry], deltas: usize, step: usize) -> usize
     }
 }
 
-/// The deltas of a tape between two places.
+/// Returns the deltas of a tape from `start` up to `end`.
 pub(crate) fn between(deltas: &[Delta], start: usize, end: usize) -> &[Delta]
     requires order { start ≤ end }
     requires within { end ≤ length deltas.now }
@@ -157,8 +159,8 @@ pub(crate) fn between(deltas: &[Delta], start: usize, end: usize) -> &[Delta]
     &deltas[start..end]
 }
 
-/// Keeps the entry of what is a step, for which there is room. What is none changed nothing, and
-/// what it noted is taken off the tape.
+/// Keeps the entry of a step, for which there is room. If there was no step, nothing changed, and
+/// the deltas that were noted are taken off the tape.
 #[inline(always)]
 pub(crate) fn keep_step(
     entries: &mut Vec<Entry>,

@@ -1,4 +1,4 @@
-//! A memory and the journal of its steps, which keeps no records.
+//! A memory and the journal of its steps, without records.
 ghost use Rattle.std.specs.Prelude.{◌≡◌, ◌↔◌, ◌+◌, [], false, true, length, IfOk, IfNone, IfSome, IsOk, OnErr, IsTrue};
 ghost use Rattle.hp_units.specs.Boot.{boot_memory};
 ghost use Rattle.hp_units.specs.LayoutParts.{IsLayout};
@@ -21,10 +21,11 @@ use std::marker::Model;
 
 mod steps;
 
-/// A memory and the journal of its steps, which keeps no records (own rule): it answers as a
-/// `Course` does. The base state and the records are a matter of its proofs alone, and take no
-/// bytes. It has no room after 2^30 records since the base, or after 2^32 deltas on its tape: there
-/// any event but an undo and a Cancel that restores is out of memory.
+/// A memory and the journal of its steps, without records. It replies as a `Course` does; the base
+/// state and the records exist only in its proofs and take no bytes.
+///
+/// It has no room after 2^30 records since the base, or 2^32 deltas on its tape: then every event
+/// is out of memory, except an undo and a Cancel that restores.
 pub struct Journal {
     before: u64,
     count: u64,
@@ -34,7 +35,7 @@ pub struct Journal {
     past: Remembered,
 }
 
-/// A function of its own, so that no proof of a caller takes the fields apart.
+/// Keeps callers from proving again how each field is dropped.
 impl Drop for Journal {
     fn drop(self) {
         let Journal {
@@ -63,7 +64,7 @@ impl Model for Journal {
 }
 
 impl Journal {
-    /// The journal of no records over the state at boot. An error is out of memory.
+    /// Returns a journal without records over the state at boot.
     pub fn boot(alloc: Global, layout: &Layout) -> Result<Journal, AllocError>
         ensures start { IfOk result (λ journal. journal ≡ started layout.now (boot_memory layout.now) 0) }
         ensures limits { IfOk result (λ _. IsLayout layout.now) }
@@ -72,8 +73,7 @@ impl Journal {
         Journal::start(alloc, memory, 0)
     }
 
-    /// The journal of no records over a base state, after `before` earlier records. An error is out
-    /// of memory.
+    /// Returns a journal without records over a base state, after `before` earlier records.
     pub fn from_image(alloc: Global, base: &Image, before: u64) -> Result<Journal, AllocError>
         requires placed { IsWellPlaced base.now.layout base.now.memory }
         ensures { IfOk result (λ journal. journal ≡ started base.now.layout base.now.memory before) }
@@ -82,8 +82,7 @@ impl Journal {
         Journal::start(alloc, memory, before)
     }
 
-    /// The journal of no records over a memory's state, after `before` earlier records. An error is
-    /// out of memory.
+    /// Returns a journal without records over a memory's state, after `before` earlier records.
     fn start(alloc: Global, memory: Memory, before: u64) -> Result<Journal, AllocError>
         ensures start { IfOk result (λ journal. journal ≡ started memory.layout memory.state before) }
         ensures limits { IfOk result (λ _. IsLayout memory.layout) }
@@ -101,7 +100,7 @@ impl Journal {
         })
     }
 
-    /// An equal journal. An error is out of memory.
+    /// Returns an equal journal.
     pub(crate) fn copy(&self, alloc: Global) -> Result<Journal, AllocError>
         ensures { IfOk result (λ journal. journal ≡ self.now) }
     {
@@ -118,10 +117,11 @@ impl Journal {
         })
     }
 
-    /// Answers an event of a processor, where there is a further serial: the answer is the serial of
-    /// the event's record and the reply. An undo goes back, and so does a Cancel where nothing but
-    /// its operation's own work stands after its Begin; any other event makes a step. An error is
-    /// out of memory, which only a step may run into; then all is as before.
+    /// Replies to a processor's event. Returns the serial of the event's record and the reply.
+    ///
+    /// An undo goes back, and so does a Cancel if nothing but its operation's own work comes after
+    /// its Begin; any other event makes a step. Only a step can run out of memory; then nothing
+    /// changes.
     #[inline(always)]
     pub fn answer(
         &mut self,
@@ -149,9 +149,8 @@ impl Journal {
         }
     }
 
-    /// Goes on from the present state as a base without records: no step from before can be undone
-    /// (own rule). The result is the number of the records that were. It makes no record and takes
-    /// no memory.
+    /// Goes on from the present state as a base without records, so that no earlier step can be
+    /// undone. Returns how many records there were. Makes no record and allocates nothing.
     pub fn seal(&mut self) -> u64
         ensures count { result ≡ length self.old.history }
         ensures goes_on { self.new ≡ started self.old.layout self.old.state (last_serial self.old) }
@@ -167,14 +166,14 @@ impl Journal {
         count
     }
 
-    /// Whether there is no further serial: the last one is 2^64 - 1.
+    /// Returns whether no serial is left: the last one is 2^64 - 1.
     pub fn is_spent(&self) -> bool
         ensures { result ≡ is_spent self.now }
     {
         self.last_serial() >= u64::MAX
     }
 
-    /// Whether a serial is the next one.
+    /// Returns whether `serial` is the next one.
     pub fn expects(&self, serial: Serial) -> bool
         ensures next { IsTrue result ↔ (serial ≡ last_serial self.now + 1) }
         ensures free { result ≡ true → is_spent self.now ≡ false }
@@ -182,28 +181,28 @@ impl Journal {
         !self.is_spent() && serial == self.next_serial()
     }
 
-    /// The last serial so far, which is the number of all records, earlier ones included.
+    /// Returns the last serial, which is the number of all records, earlier ones included.
     pub fn last_serial(&self) -> u64
         ensures { result ≡ last_serial self.now }
     {
         self.before + self.count
     }
 
-    /// How many earlier records there are, before those since the base.
+    /// Returns how many earlier records there are, before those since the base.
     pub fn before(&self) -> u64
         ensures { result ≡ self.now.before }
     {
         self.before
     }
 
-    /// The present state, in layers.
+    /// Returns the present state, in layers.
     pub fn memory(&self) -> &Memory
         ensures { result.now ≡ record { layout = self.now.layout; state = self.now.state } }
     {
         &self.memory
     }
 
-    /// The present state, as an Image of its own. An error is out of memory.
+    /// Returns the present state as an `Image` of its own.
     pub fn image(&self, alloc: Global) -> Result<Image, AllocError>
         ensures { IfOk result
             (λ image. image ≡ record { layout = self.now.layout; memory = self.now.state }) }
@@ -211,14 +210,14 @@ impl Journal {
         self.memory.image(alloc)
     }
 
-    /// Every journal keeps its history legal, and its state that of the history.
+    /// Called for its contract: the history is legal, and the state is that of the history.
     pub fn keeps_history(&self)
         ensures { IsHistory self.now }
     {
         let _ = &self.memory;
     }
 
-    /// The serial of the next record.
+    /// Returns the serial of the next record.
     fn next_serial(&self) -> Serial
         requires { is_spent self.now ≡ false }
         ensures { result ≡ last_serial self.now + 1 }
@@ -226,7 +225,7 @@ impl Journal {
         Serial(self.last_serial() + 1)
     }
 
-    /// How many steps an undo to a serial keeps, and its reply.
+    /// Returns how many steps an undo to `serial` keeps, and its reply.
     fn undo_cut(&self, cpu: Cpu, serial: Serial) -> (usize, Reply)
         ensures { IsCut self.now cpu (UndoAfter serial) result.0 result.1 }
     {
@@ -242,16 +241,16 @@ impl Journal {
         }
     }
 
-    /// Whether an undo to a serial is refused: it is above the last one, or below the last one that
-    /// was sealed.
+    /// Returns whether an undo to `serial` is refused: it is above the last serial, or below the
+    /// last one that was sealed.
     fn is_gone(&self, serial: Serial) -> bool
         ensures { result ≡ is_gone self.now serial }
     {
         serial.0 > self.last_serial() || serial.0 < self.before
     }
 
-    /// How many steps a Cancel keeps that goes back to before its operation began; None where it
-    /// makes a step.
+    /// Returns how many steps a Cancel keeps if it goes back to before its operation's Begin;
+    /// `None` if it makes a step.
     fn cancel_cut(&self, cpu: Cpu, op: Serial) -> Option<usize>
         ensures back { IfSome result (λ keep. IsCut self.now cpu (Cancel op) keep Restored) }
         ensures step { IfNone result (IsStep self.now cpu (Cancel op)) }
@@ -264,14 +263,15 @@ impl Journal {
         }
     }
 
-    /// Whether a Cancel is not refused: the layout has its processor, and its operation is live.
+    /// Returns whether a Cancel is not refused: the layout has its processor, and its operation is
+    /// live.
     fn may_cancel(&self, cpu: Cpu, op: Serial) -> bool
         ensures { result ≡ may_cancel self.now.layout self.now.state cpu op }
     {
         cpu.0 < self.memory.layout().cpus() && self.memory.is_live(op)
     }
 
-    /// Goes back to the first steps, as the answer to an event. It takes no memory.
+    /// Goes back to the first `keep` steps, in reply to an event. Allocates nothing.
     #[inline(always)]
     fn go_back(&mut self, cpu: Cpu, event: &Event, keep: usize, reply: &Reply) -> (Serial, Reply)
         requires free { is_spent self.old ≡ false }
@@ -290,7 +290,7 @@ impl Journal {
         (serial, *reply)
     }
 
-    /// Makes a step of the event. It takes its memory before it changes anything.
+    /// Makes a step of the event. Allocates before it changes anything.
     #[inline(always)]
     fn act(&mut self, alloc: Global, cpu: Cpu, event: &Event) -> Result<(Serial, Reply), AllocError>
         requires free { is_spent self.old ≡ false }
@@ -308,7 +308,7 @@ impl Journal {
         let reply = self
             .memory
             .step(alloc, serial, cpu, event, &mut self.deltas)?;
-        // After the step, where few things are held: most of what an entry has only a step needs.
+        // Made after the step, when few values are live: only a step needs most of an entry.
         let entry = Entry::new(self.count, start, mark_of(event));
         keep_step(
             &mut self.entries,
@@ -324,7 +324,7 @@ impl Journal {
     }
 }
 
-/// Takes all deltas off a tape, and lets its memory go.
+/// Takes all deltas off a tape, and frees its memory.
 fn emptied(tape: &mut Tape)
     ensures { tape.new.deltas ≡ [] }
 {

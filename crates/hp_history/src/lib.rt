@@ -1,14 +1,12 @@
-//! The history of a machine.
+//! The history of a machine: its records, and a journal that leads back over its steps.
 //!
-//! It owns the records and the journal: a `Journal` is a memory in layers and one tape with the
-//! deltas of every step that is not undone, with a small entry a step, and keeps no records; a
-//! `Course` is a journal, the base state that it began with, and the records since. An undo and a
-//! restoring Cancel take deltas off the end of that tape; every other event is one step of the
-//! memory. A seal hands out a `Volume`. It names no part of the memory: what a step does and notes is
-//! `hp_memory`'s. Whether records are a legal history, hp_replays says.
+//! A `Journal` is a memory in layers, one tape with the deltas of every step that is not undone,
+//! and a small entry per step; it keeps no records. A `Course` is a journal with its base state and
+//! the records since. An undo and a restoring Cancel take deltas off the end of the tape; every
+//! other event is one step of the memory. A seal hands out a `Volume`. hp_memory owns what a step
+//! does, hp_replays decides whether records are a legal history.
 //!
-//! Read first: specs/Course (what a caller sees), specs/Kept (what every journal keeps), then
-//! `journal` and `course`.
+//! Read specs/Course first (what a caller sees), then specs/Kept (what every journal keeps).
 #![tactic(auto)]
 
 mod course;

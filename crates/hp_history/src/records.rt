@@ -6,7 +6,7 @@ use std::alloc::{AllocError, Global};
 use std::marker::Model;
 use std::mem::size_of;
 
-/// Bytes of a record decide what a history costs (own rule).
+/// The size of a record decides the cost of a history.
 const _: () = prove!(size_of::<Record>() <= 56);
 
 /// Records of a history, oldest first.
@@ -25,21 +25,21 @@ impl Model for Records {
 }
 
 impl Records {
-    /// These records, with no memory taken.
+    /// Wraps records without copying them.
     pub fn new(records: Vec<Record>) -> Self
         ensures { result ≡ records.items }
     {
         Records { records }
     }
 
-    /// The records in order.
+    /// Returns the records in order.
     pub fn as_slice(&self) -> &[Record]
         ensures { result.now ≡ self.now }
     {
         self.records.as_slice()
     }
 
-    /// The records as a vector, with no memory taken.
+    /// Returns the records as a vector, without copying them.
     pub fn into_vec(self) -> Vec<Record>
         ensures { result.items ≡ self }
     {
@@ -48,7 +48,7 @@ impl Records {
     }
 }
 
-/// Equal records. An error is out of memory.
+/// Returns equal records.
 pub(crate) fn copy_records(alloc: Global, records: &[Record]) -> Result<Vec<Record>, AllocError>
     ensures { IfOk result (λ copy. copy.items ≡ records.now) }
 {
@@ -59,7 +59,7 @@ pub(crate) fn copy_records(alloc: Global, records: &[Record]) -> Result<Vec<Reco
     Ok(copy)
 }
 
-/// An equal record. An error is out of memory.
+/// Returns an equal record.
 fn copy_record(alloc: Global, original: &Record) -> Result<Record, AllocError>
     ensures { IfOk result (λ copy. copy ≡ original.now) }
 {

@@ -9,8 +9,8 @@ use hp_units::{Cpu, Event, Reply, Serial};
 use std::marker::Model;
 use std::mem::size_of;
 
-/// A base state and the records since, oldest first. It is for proofs alone: its methods do nothing
-/// when they run.
+/// A base state and the records since, oldest first. Only for proofs: its methods do nothing when
+/// they run.
 #[derive(Drop)]
 pub(crate) struct Remembered {
     pub(crate) ghost base: { State },
@@ -30,7 +30,7 @@ unsafe impl Send for Remembered {}
 unsafe impl Sync for Remembered {}
 
 impl Remembered {
-    /// No records since a memory's state.
+    /// Returns a memory's state, without records since.
     #[inline(always)]
     pub(crate) fn start(memory: &Memory) -> Remembered
         ensures { result ≡ record { base = memory.now.state; history = [] } }
@@ -38,7 +38,7 @@ impl Remembered {
         Remembered {}
     }
 
-    /// One record more.
+    /// Returns the same with one more record.
     #[inline(always)]
     pub(crate) fn and(&self, serial: &Serial, cpu: &Cpu, event: &Event, reply: &Reply) -> Remembered
         ensures { result ≡ record {
@@ -50,7 +50,7 @@ impl Remembered {
         Remembered {}
     }
 
-    /// The same once more.
+    /// Returns a copy.
     #[inline(always)]
     pub(crate) fn again(&self) -> Remembered
         ensures { result ≡ self.now }

@@ -2,8 +2,8 @@
 use crate::records::Records;
 use hp_plain::Image;
 
-/// What a seal hands out: the state that the records began with, the records, and how many there
-/// were before them.
+/// What a seal hands out: the state that the records began with, the records, and how many came
+/// before them.
 #[derive(Drop)]
 pub struct Volume {
     /// The number of all earlier records.

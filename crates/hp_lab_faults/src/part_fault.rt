@@ -50,7 +50,7 @@ impl fmt::Display for PartFault {
     }
 }
 
-/// Returns the text of a fault in three pieces: a text, what comes after it, and the end.
+/// Returns the text of a fault in three pieces: a fixed text, a middle piece, and a fixed text.
 pub(crate) fn said_of_parts(fault: PartFault) -> (&'static str, Said, &'static str)
     ensures { result.0.now ++ said_text result.1 ++ result.2.now ≡ part_fault_text fault }
 {

@@ -84,7 +84,7 @@ impl fmt::Display for ProgramFault {
     }
 }
 
-/// Returns the text of a fault in three pieces: a text, what comes after it, and the end.
+/// Returns the text of a fault in three pieces: a fixed text, a middle piece, and a fixed text.
 fn said_of(fault: ProgramFault) -> (&'static str, Said, &'static str)
     ensures { result.0.now ++ said_text result.1 ++ result.2.now ≡ program_fault_text fault }
 {

@@ -1,4 +1,4 @@
--- The log of a history: for each record, what differs between the state before it and the state after it.
+-- The log of a history: for each record, the difference between the states before and after it.
 use Rattle.std.specs.Prelude.{◌≡◌, zero, ◌+◌, ◌^◌, Bool, true, false, not, ◌&&◌, ◌==◌, if◌then◌else◌, List, [], ◌∷◌, ◌++◌, Option, Some, length, take, flat_map}
 use Rattle.std.specs.List.{list_any, range_with_len}
 use Rattle.hp_numbers.specs.Numbers.{Frame, Block, Owner, Page}
@@ -19,20 +19,20 @@ pub record IsSizeOf (l : LayoutParts) (m : MachineSize) : Type 0 where
 
 -- ---- one step, by the states before and after it
 
--- what happens to a memory block
+-- the events of a memory block
 abbrev pub block_events : (before after : Memory) → Block → List LogEvent
 block_events before after block =
     phase_events block (phase_of (row_of before.blocks block)) (phase_of (row_of after.blocks block))
 
--- the piece that starts at a frame stays in use: it is the same in both states, and its block does not
--- go offline in between
+-- the piece that starts at a frame stays in use: it is the same in both states, and its block does
+-- not go offline in between
 abbrev pub stays : LayoutParts → (before after : Memory) → Frame → Bool
 stays l before after frame =
     same_piece (piece_at before frame) (piece_at after frame)
     && not (list_any leaves_offline (block_events before after (block_of l frame)))
 
--- the piece that started at a frame comes back, if it does not stay; the one that starts there now is
--- handed out, if it did not stay
+-- the piece that started at a frame comes back, unless it stays; the piece that starts there now is
+-- handed out, unless it stayed
 abbrev pub frees_at : LayoutParts → (before after : Memory) → Frame → List LogEvent
 frees_at l before after frame =
     if stays l before after frame then [] else free_events frame (piece_at before frame)
@@ -41,7 +41,7 @@ abbrev pub allocs_at : LayoutParts → (before after : Memory) → Frame → Lis
 allocs_at l before after frame =
     if stays l before after frame then [] else alloc_events frame (piece_at after frame)
 
--- first the frees, then the events of memory blocks, then the allocs, each by rising number
+-- first the frees, then the events of memory blocks, then the allocs, each in increasing order
 abbrev pub changes : LayoutParts → (before after : Memory) → List LogEvent
 changes l before after =
     flat_map (frees_at l before after) (all_frames l)
@@ -52,7 +52,7 @@ abbrev pub same_page : Option (Owner × Page) → Option (Owner × Page) → Boo
 same_page (Some page) (Some next) = page.0 == next.0 && page.1 == next.1
 same_page page next = false
 
--- if all that changes is that a page is at another frame, it moves
+-- if the only change is that a page is at another frame, it is a move
 abbrev pub with_move : (before after : Memory) → List LogEvent → List LogEvent
 with_move before after (Free from zero ∷ Alloc to zero true ∷ []) =
     if same_page (page_at before.pages from) (page_at after.pages to) && not (from == to)
@@ -65,14 +65,14 @@ step_log l before after = with_move before after (changes l before after)
 
 -- ---- whole histories
 
--- the log of a history over a base state, record by record. An UndoAfter, and a Cancel that restores,
--- are a step like any other: back to an earlier state
+-- the log of a history over a base state, record by record. An UndoAfter, and a Cancel that
+-- restores, is a step like any other: back to an earlier state
 abbrev pub log_of : LayoutParts → Memory → List Record → List LogEvent
 log_of l base h =
     flat_map (λ n. step_log l (value_of l base (take n h)) (value_of l base (take (n + 1) h)))
     (range_with_len 0 (length h))
 
--- the log of histories that follow one another, each over the state that the one before it leads to
+-- the log of histories that follow one another, each over the state that the one before leads to
 abbrev pub log_of_all : LayoutParts → Memory → List (List Record) → List LogEvent
 log_of_all l base [] = []
 log_of_all l base (h ∷ later) = log_of l base h ++ log_of_all l (value_of l base h) later

@@ -1,4 +1,4 @@
--- The types and variants of other crates' enums, passed on from one place. Declares nothing.
+-- The types and variants of other crates' enums, exported again from one place. Declares nothing.
 pub use Rattle.hp_judge.specs.declared.events.LogEvent.{LogEvent}
 pub use Rattle.hp_judge.specs.declared.events.LogEvent.TheVariants.{Alloc, Free, OnlineBegins, OnlineEnds, OfflineBegins, OfflineEnds, Move}
 pub use Rattle.hp_judge.specs.declared.events.MachineSize.{MachineSize}

@@ -1,11 +1,11 @@
--- The phases of a memory block, and the events that a log has when a block goes from one to another.
+-- The phases of a memory block, and the events of a block that goes from one to another.
 use Rattle.std.specs.Prelude.{Bool, true, false, List, [], ◌∷◌, ◌++◌, Option, None, unwrap_or}
 use Rattle.std.specs.Bool.{then_some}
 use Rattle.std.specs.Option.{option_map_or}
 use Rattle.hp_numbers.specs.Numbers.{Block}
 use Rattle.hp_lawful.specs.Names.{LogEvent, OnlineBegins, OnlineEnds, OfflineBegins, OfflineEnds, Zone, NormalZone, MovableZone, State, OfflineState, OnlineState, GoingState, AbsentState, Wish, OffWish, NormalWish, MovableWish, Claim, Row}
 
--- a block is offline, goes online into a zone, is online in one, or goes offline from one
+-- a block is offline, going online into a zone, online in a zone, or going offline from a zone
 pub data BlockPhase : Type 0 where
   Offline : BlockPhase
   GoingOnline : (zone : Zone) → BlockPhase
@@ -14,13 +14,13 @@ pub data BlockPhase : Type 0 where
 
 -- ---- the phase of a row
 
--- an offline block that an operation holds goes online into the zone that it wishes for
+-- an offline block that an operation holds is going online into the zone that the operation wishes
 abbrev pub wished_phase : Wish → BlockPhase
 wished_phase OffWish = Offline
 wished_phase NormalWish = GoingOnline NormalZone
 wished_phase MovableWish = GoingOnline MovableZone
 
--- the phase by the parts of a row. In a log an absent block is offline
+-- the phase from the parts of a row; in a log an absent block is offline
 abbrev pub phase_by : State → Option Zone → Option Claim → BlockPhase
 phase_by OfflineState _ claim = option_map_or (λ c. wished_phase c.wish) claim Offline
 phase_by OnlineState zone _ = Online (unwrap_or zone NormalZone)
@@ -44,7 +44,7 @@ to_offline block (GoingOnline zone) = OnlineEnds block false ∷ []
 to_offline block (Online zone) = OfflineBegins block ∷ OfflineEnds block true ∷ []
 to_offline block (GoingOffline zone) = OfflineEnds block true ∷ []
 
--- an offline block enters a phase
+-- an offline block goes into a phase
 abbrev pub from_offline : Block → BlockPhase → List LogEvent
 from_offline block Offline = []
 from_offline block (GoingOnline zone) = OnlineBegins block zone ∷ []
@@ -65,7 +65,7 @@ direct_events block (GoingOffline zone) (Online next) =
 direct_events block (GoingOffline zone) (GoingOffline next) = then_some (same_zone zone next) []
 direct_events block from to = None
 
--- a block goes from one phase to another, through offline unless there is a direct way. An undo can
+-- a block goes from one phase to another, through offline unless there is a direct way; an undo can
 -- make any of these changes in one step
 abbrev pub phase_events : Block → BlockPhase → BlockPhase → List LogEvent
 phase_events block from to =

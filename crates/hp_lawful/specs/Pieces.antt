@@ -17,7 +17,7 @@ kernel_piece order = record { order = order; movable = false }
 abbrev pub page_piece : Piece
 page_piece = record { order = 0; movable = true }
 
--- the piece by the kernel's block that starts at a frame, and by whether the frame holds a page
+-- the piece from the kernel's block that starts at a frame, or the page that the frame holds
 abbrev pub piece_by : Option Order → Bool → Option Piece
 piece_by (Some order) holds_page = Some (kernel_piece order)
 piece_by None true = Some page_piece
@@ -32,7 +32,7 @@ abbrev pub is_frame_of : (frame first : Frame) → Option Piece → Bool
 is_frame_of frame first None = false
 is_frame_of frame first (Some piece) = lies_within first (2 ^ piece.order) frame
 
--- the same number of frames is in use, in the same way
+-- both have the same number of frames, and both or neither can move
 abbrev pub same_piece : Option Piece → Option Piece → Bool
 same_piece (Some piece) (Some next) =
     piece.order == next.order && (if piece.movable then next.movable else not next.movable)

@@ -1,4 +1,4 @@
--- What a log says of the machine that wrote it, event by event.
+-- What a log shows of the machine that wrote it, event by event.
 use Rattle.std.specs.Prelude.{Bool, true, false, not, ◌&&◌, ◌||◌, if◌then◌else◌, List, fold}
 use Rattle.std.specs.List.{list_any}
 use Rattle.hp_numbers.specs.Numbers.{Frame, Block}
@@ -10,12 +10,12 @@ use Rattle.hp_lawful.specs.Names.{LogEvent, OnlineBegins, OnlineEnds, OfflineBeg
 use Rattle.hp_lawful.specs.Phases.{BlockPhase, Offline, GoingOnline, Online, GoingOffline, phase_of}
 use Rattle.hp_lawful.specs.Pieces.{is_frame_of, piece_at}
 
--- the machine as a log shows it: whether a frame is in use, and the phase of a memory block
+-- a machine as a log shows it: whether a frame is in use, and the phase of a memory block
 pub record Shown : Type 0 where
   pub used : Frame → Bool
   pub phase : Block → BlockPhase
 
--- a state: a frame is in use if some piece has it
+-- what a state shows: a frame is in use if some piece has it
 abbrev pub in_use : LayoutParts → Memory → Frame → Bool
 in_use l s frame = list_any (λ first. is_frame_of frame first (piece_at s first)) (all_frames l)
 
@@ -32,7 +32,7 @@ next_phase (OfflineEnds block true) phase = Offline
 next_phase (OfflineEnds block false) (GoingOffline zone) = Online zone
 next_phase event phase = phase
 
--- an alloc puts frames in use, and a free takes them out of use
+-- an alloc puts frames into use, and a free takes them out of use
 abbrev pub after_event : MachineSize → Shown → LogEvent → Shown
 after_event m s event = record {
   used = λ frame. allocates m frame event || (not (frees m frame event) && s.used frame);

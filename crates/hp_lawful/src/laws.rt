@@ -1,4 +1,4 @@
-//! The laws of the machine's logs. Each is a function that does nothing and ensures a law.
+//! The laws of the machine's logs: each is the contract of a function that does nothing.
 ghost use Rattle.std.specs.Prelude.{◌≡◌, ℕ, ◌+◌, if◌then◌else◌, List, [], ◌∷◌, ◌++◌};
 ghost use Rattle.hp_judge.specs.Laws.{IsLawful};
 ghost use Rattle.hp_judge.specs.declared.events.MachineSize.{MachineSize};
@@ -12,8 +12,8 @@ ghost use Rattle.hp_units.specs.Memory.{Memory};
 ghost use Rattle.hp_units.specs.Placement.{IsWellPlaced, kernel_places, mapped_places};
 ghost use Rattle.hp_units.specs.declared.replies.Record.{Record};
 
-/// The machine writes a lawful log, over every well placed base state and from boot on. Histories
-/// can follow one another, as those of sealed volumes do.
+/// The machine writes a lawful log, over every well placed base state, and from boot. Histories can
+/// follow one another, as those of sealed volumes do.
 pub fn machines_write_lawful_logs()
     ensures history { (l : LayoutParts) (m : MachineSize) (base : Memory) (h : List Record) → IsLayout l
         → IsSizeOf l m → IsWellPlaced l base → IsLawful m (log_of l base h) }
@@ -23,8 +23,8 @@ pub fn machines_write_lawful_logs()
         → IsSizeOf l m → IsLawful m (log_of_all l (boot_memory l) hs) }
 {}
 
-/// The log shows which frames are in use and in which phase each memory block is: whoever knows
-/// that of the base state, and reads the log, knows it of the state that the history leads to.
+/// The log shows which frames are in use, and the phase of each memory block: read over those of
+/// the base state, it gives those of the state that the history leads to.
 pub fn logs_show_their_state()
     ensures history { (l : LayoutParts) (m : MachineSize) (base : Memory) (h : List Record) → IsLayout l
         → IsSizeOf l m → IsWellPlaced l base
@@ -34,7 +34,7 @@ pub fn logs_show_their_state()
         → after_log m (shown l base) (log_of_all l base hs) ≡ shown l (value_of_all l base hs) }
 {}
 
-/// A frame is in use, as a log shows it, exactly if a page or a block of the kernel has it.
+/// A log shows a frame as in use if and only if a page or a block of the kernel has it.
 pub fn shown_frames_are_in_place()
     ensures { (l : LayoutParts) (s : Memory) (frame : ℕ) → IsLayout l → IsWellPlaced l s
         → mapped_places s.pages frame + kernel_places s frame ≡ if in_use l s frame then 1 else 0 }
@@ -49,7 +49,7 @@ pub fn logs_grow_by_steps()
         ≡ log_of l base h ++ step_log l (value_of l base h) (value_of l base (h ++ r ∷ [])) }
 {}
 
-/// Each layout has a size as the judge wants it: the number of frames of its memory blocks is a
+/// Each layout has a size as the judge needs it: the number of frames of its memory blocks is a
 /// power of two.
 pub fn layouts_have_sizes()
     ensures { (l : LayoutParts) → IsLayout l → (m : MachineSize) × IsSizeOf l m }

@@ -1,6 +1,7 @@
-//! The log of every history of the machine is lawful: it keeps the laws of the judge of logs.
+//! Proves that the log of every history of the machine is lawful: it keeps the laws of the judge of
+//! logs.
 //!
-//! What the log of a history is, specs/Logs defines. Read it first, then `laws`.
+//! specs/Logs defines the log of a history. Read it first, then `laws`.
 #![tactic(auto)]
 
 mod laws;

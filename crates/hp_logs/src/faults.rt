@@ -11,16 +11,16 @@ pub enum LineFault {
     TooLong,
     /// The line is not a JSON object.
     NotAnObject,
-    /// A key is none of those of an event.
+    /// A key does not belong to any event.
     UnknownKey,
     /// A key comes twice.
     RepeatedKey,
-    /// A key's value is not of its kind, or too large.
+    /// A key's value has the wrong type, or is too large.
     WrongValue,
     /// The line has no key that names its event, or several, or keys that do not belong to the
     /// event.
     NotAnEvent,
-    /// The number of frames of a memory block stands on another line than the first.
+    /// A line that is not the first has the number of frames per memory block.
     LateBlockFrames,
     /// A page event of ftrace has no frame or order that can be read.
     WrongFields,
@@ -38,7 +38,7 @@ impl From<AllocError> for LineFault {
     }
 }
 
-/// Why a log cannot be read on.
+/// Why the rest of a log cannot be read.
 #[derive(Clone, Copy, Debug, PartialEq, Eq, Drop)]
 pub enum LogFault {
     /// A call of the stream failed.

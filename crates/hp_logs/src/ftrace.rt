@@ -10,8 +10,8 @@ use memchr::memchr;
 ///
 /// The page events are the kernel's `mm_page_alloc` and `mm_page_free`. Onlines and offlines are
 /// marks that a test writes into trace_marker around each write to a file of a memory block: `begin
-/// memory32/state offline`, and then `end memory32/state offline ok`, or another word than `ok`.
-/// Every other line is `LogEvent::Other`.
+/// memory32/state offline`, then `end memory32/state offline ok`, or another word than `ok`. Every
+/// other line is `LogEvent::Other`.
 pub fn ftrace_event(line: &[u8]) -> Result<LogEvent, LineFault> {
     match traced(line) {
         Some((b"mm_page_alloc", fields)) => alloc_event(fields),
@@ -32,7 +32,7 @@ fn traced(line: &[u8]) -> Option<(&[u8], &[u8])> {
     Some((&rest[..name_end], &rest[name_end + 1..]))
 }
 
-/// Returns what follows the processor's number in brackets. A task's name may have brackets too.
+/// Returns what follows the processor's number in brackets. A task's name may have brackets, too.
 fn after_processor(line: &[u8]) -> Option<&[u8]> {
     let mut rest = line;
     for _bracket in 0..line.len() {
@@ -46,7 +46,7 @@ fn after_processor(line: &[u8]) -> Option<&[u8]> {
     None
 }
 
-/// Passes spaces.
+/// Skips spaces.
 fn without_spaces(text: &[u8]) -> &[u8] {
     match text.iter().position(|b| *b != b' ') {
         Some(start) => &text[start..],
@@ -54,7 +54,7 @@ fn without_spaces(text: &[u8]) -> &[u8] {
     }
 }
 
-/// Reads a line that no processor wrote: a comment, or that events are missing.
+/// Reads a line that no processor wrote: a comment, or a note that events are missing.
 fn untraced_event(line: &[u8]) -> Result<LogEvent, LineFault> {
     if line.starts_with(b"CPU:") && line.ends_with(b"]") {
         return Err(LineFault::EventsLost);
@@ -100,7 +100,7 @@ fn frame_number(text: &str) -> Option<u32> {
     }
 }
 
-/// Returns whether the flags of an alloc say that its page can be moved. Linux writes some flags under
+/// Returns whether the flags of an alloc allow its page to be moved. Linux writes some flags under
 /// one name, as GFP_TRANSHUGE: include/trace/events/mmflags.h has the names.
 fn is_movable(flags: &str) -> bool {
     flags.split('|').any(|flag| {
@@ -145,7 +145,7 @@ fn print_event(text: &[u8]) -> LogEvent {
     }
 }
 
-/// Reads a mark. One that is not about a memory block is a test's own.
+/// Reads a mark. One that is not about a memory block belongs to the test.
 fn mark_event(text: &[u8]) -> LogEvent {
     match str::from_utf8(text) {
         Ok(text) => marked(text).unwrap_or(LogEvent::Other),
@@ -175,7 +175,7 @@ enum StateWrite {
 }
 
 impl StateWrite {
-    /// Returns the event that begins it.
+    /// Returns the event at its start.
     fn begin(self, block: Block) -> LogEvent {
         match self {
             StateWrite::Online(zone) => LogEvent::OnlineBegins { block, zone },
@@ -183,7 +183,7 @@ impl StateWrite {
         }
     }
 
-    /// Returns the event that ends it.
+    /// Returns the event at its end.
     fn end(self, block: Block, ok: bool) -> LogEvent {
         match self {
             StateWrite::Online(_) => LogEvent::OnlineEnds { block, ok },
@@ -192,7 +192,7 @@ impl StateWrite {
     }
 }
 
-/// Reads what was written to a block's file. Where the kernel chose the zone, the log does not say
+/// Reads what was written to a block's file. If the kernel chose the zone, the log does not show
 /// that it is Movable.
 fn write_of(file: &str, text: &str) -> Option<StateWrite> {
     match (file, text) {

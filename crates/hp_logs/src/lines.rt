@@ -6,20 +6,20 @@ use hp_streams::Source;
 use memchr::memchr;
 use std::alloc::{AllocError, Global};
 
-/// The greatest length of a line, in bytes, without its newline (own rule).
+/// The greatest length of a line, in bytes, without its newline.
 pub const LINE_LIMIT: usize = 65_536;
 
-/// The size of the buffer: a line of the greatest length, and as much to read ahead.
+/// The size of the buffer: a line of the greatest length, and as much again to read ahead.
 const BUFFER_SIZE: usize = 131_072;
 
 /// Reads a stream line by line, in a buffer of 128 KiB.
 #[derive(Drop)]
 pub struct LineReader {
     buffer: Vec<u8>,
-    /// Where the current line begins and ends.
+    /// The start and the end of the current line.
     line_start: usize,
     line_end: usize,
-    /// Where the bytes after it begin, and where those that were read end.
+    /// The start of the bytes after it, and the end of those that were read.
     start: usize,
     end: usize,
     number: u64,
@@ -74,7 +74,7 @@ impl LineReader {
         Err(self.too_long())
     }
 
-    /// Returns the fault of a next line that is too long.
+    /// Returns the fault that the next line is too long.
     fn too_long(&self) -> LogFault {
         LogFault::Line {
             number: self.number.saturating_add(1),
@@ -101,7 +101,7 @@ impl LineReader {
         true
     }
 
-    /// Moves to the line of the next `length` bytes, and passes `passed`.
+    /// Moves to the line of the next `length` bytes, and skips `passed` bytes.
     fn take(&mut self, length: usize, passed: usize)
         requires line { length ≤ passed }
         requires within { self.old.start + passed ≤ self.old.end }
@@ -112,7 +112,7 @@ impl LineReader {
         self.number = self.number.saturating_add(1);
     }
 
-    /// Reads more bytes, and returns how many. The current line is gone then.
+    /// Reads more bytes, and returns how many. Drops the current line.
     fn fill<R: Source>(&mut self, source: &mut R) -> Result<usize, LogFault>
         requires few { self.old.end - self.old.start ≤ 65536 }
         requires calls { R.failures source.old < 2 ^ 64 - 1 }

@@ -6,11 +6,11 @@ use hp_numbers::{Block, Frame, Order};
 use hp_units::Zone;
 use json::{Reader, Scratch, Token};
 
-/// No object has more keys than this, if none comes twice.
+/// No object has more keys than this if none comes twice.
 const MOST_KEYS: usize = 12;
 
-/// Reads a line as an event. An empty line, an object with only a note, and the first line if it says
-/// how many frames a memory block has, are `LogEvent::Other`.
+/// Reads a line as an event. These are `LogEvent::Other`: an empty line, an object with only a
+/// note, and a first line with the number of frames per memory block.
 pub fn json_event(
     line: &[u8],
     is_first: bool,
@@ -23,13 +23,13 @@ pub fn json_event(
     keys.event()
 }
 
-/// Returns how many frames a memory block has, if a line says so.
+/// Returns how many frames a memory block has, if the line has that number.
 pub fn json_block_frames(line: &[u8], scratch: &mut Scratch) -> Result<Option<u32>, LineFault> {
     let keys = line_keys(line, scratch)?;
     Ok(keys.block_frames)
 }
 
-/// Reads the keys of a line; none of an empty one.
+/// Reads the keys of a line; an empty line has none.
 fn line_keys(line: &[u8], scratch: &mut Scratch) -> Result<Keys, LineFault> {
     let Ok(text) = str::from_utf8(line) else {
         return Err(LineFault::NotAnObject);
@@ -65,7 +65,7 @@ fn read_keys(reader: &mut Reader<'_>) -> Result<Keys, LineFault> {
     Err(LineFault::RepeatedKey)
 }
 
-/// Passes a value of any kind.
+/// Skips a value of any type.
 fn skip_value(reader: &mut Reader<'_>) -> Result<(), LineFault> {
     match reader.skip_value(MOST_KEYS) {
         Ok(()) => Ok(()),
@@ -107,7 +107,7 @@ impl Keys {
         }
     }
 
-    /// Gives a key its value.
+    /// Sets the value of a key.
     fn set(&mut self, key: &str, value: Option<Token<'_>>) -> Result<(), LineFault> {
         match key {
             "alloc" => set_number(&mut self.alloc, value),
@@ -157,7 +157,7 @@ impl Keys {
         self.order.is_some() || self.movable.is_some()
     }
 
-    /// Returns the alloc from a frame on.
+    /// Returns the alloc that starts at a frame.
     fn alloc_event(&self, frame: Frame) -> Result<LogEvent, LineFault> {
         if self.is_of_blocks() {
             return Err(LineFault::NotAnEvent);
@@ -169,7 +169,7 @@ impl Keys {
         })
     }
 
-    /// Returns the free from a frame on.
+    /// Returns the free that starts at a frame.
     fn free_event(&self, frame: Frame) -> Result<LogEvent, LineFault> {
         if self.is_of_blocks() || self.movable.is_some() {
             return Err(LineFault::NotAnEvent);
@@ -180,7 +180,7 @@ impl Keys {
         })
     }
 
-    /// Returns the begin or the end of an online.
+    /// Returns the start or the end of an online.
     fn online_event(&self, block: Block) -> Result<LogEvent, LineFault> {
         if self.is_of_pieces() || self.to.is_some() {
             return Err(LineFault::NotAnEvent);
@@ -195,7 +195,7 @@ impl Keys {
         }
     }
 
-    /// Returns the begin or the end of an offline.
+    /// Returns the start or the end of an offline.
     fn offline_event(&self, block: Block) -> Result<LogEvent, LineFault> {
         if self.is_of_pieces() || self.to.is_some() || self.zone.is_some() {
             return Err(LineFault::NotAnEvent);
@@ -220,7 +220,7 @@ impl Keys {
         }
     }
 
-    /// Returns that a line has no event.
+    /// Returns `LogEvent::Other`, for a line without an event.
     fn other_event(&self) -> Result<LogEvent, LineFault> {
         if self.is_of_pieces() || self.is_of_blocks() {
             return Err(LineFault::NotAnEvent);
@@ -229,7 +229,7 @@ impl Keys {
     }
 }
 
-/// Gives a key a number.
+/// Sets a key to a number.
 fn set_number(slot: &mut Option<u32>, value: Option<Token<'_>>) -> Result<(), LineFault> {
     if slot.is_some() {
         return Err(LineFault::RepeatedKey);
@@ -238,7 +238,7 @@ fn set_number(slot: &mut Option<u32>, value: Option<Token<'_>>) -> Result<(), Li
     checked(slot.is_some())
 }
 
-/// Gives a key a truth value.
+/// Sets a key to a truth value.
 fn set_bool(slot: &mut Option<bool>, value: Option<Token<'_>>) -> Result<(), LineFault> {
     if slot.is_some() {
         return Err(LineFault::RepeatedKey);
@@ -250,7 +250,7 @@ fn set_bool(slot: &mut Option<bool>, value: Option<Token<'_>>) -> Result<(), Lin
     checked(slot.is_some())
 }
 
-/// Gives a key a zone.
+/// Sets a key to a zone.
 fn set_zone(slot: &mut Option<Zone>, value: Option<Token<'_>>) -> Result<(), LineFault> {
     if slot.is_some() {
         return Err(LineFault::RepeatedKey);
@@ -263,7 +263,7 @@ fn set_zone(slot: &mut Option<Zone>, value: Option<Token<'_>>) -> Result<(), Lin
     checked(slot.is_some())
 }
 
-/// Gives a key an end: whether it is `ok`, and not `failed`.
+/// Sets a key to an end: true for `ok`, false for `failed`.
 fn set_end(slot: &mut Option<bool>, value: Option<Token<'_>>) -> Result<(), LineFault> {
     if slot.is_some() {
         return Err(LineFault::RepeatedKey);
@@ -284,7 +284,7 @@ fn number_of(value: Option<Token<'_>>) -> Option<u32> {
     }
 }
 
-/// Refuses a value that is not of its key's kind.
+/// Refuses a value whose type is not the key's.
 fn checked(is_known: bool) -> Result<(), LineFault> {
     if is_known {
         Ok(())

@@ -13,13 +13,13 @@ use std::alloc::{AllocError, Global};
 /// The form of a log's lines.
 #[derive(Clone, Copy, Drop)]
 pub enum LogForm {
-    /// An object a line.
+    /// JSON, one object per line.
     Json,
     /// The text of Linux's ftrace.
     Ftrace,
 }
 
-/// Reads the events of a log, one for each line.
+/// Reads the events of a log, one per line.
 #[derive(Drop)]
 pub struct LogReader {
     form: LogForm,
@@ -45,9 +45,9 @@ impl LogReader {
         self.lines.line()
     }
 
-    /// Returns how many frames a memory block has, if the first line says so.
+    /// Returns how many frames a memory block has, if the first line has that number.
     ///
-    /// It is called before the first event is read. The line counts as one without an event.
+    /// Call it before the first event is read. The line counts as one without an event.
     pub fn block_frames<R: Source>(&mut self, source: &mut R) -> Result<Option<u32>, LogFault>
         requires { R.failures source.old < 2 ^ 64 - 1 }
         ensures { OnOk result (R.failures source.new ≡ R.failures source.old) }
@@ -101,7 +101,7 @@ impl LogReader {
         }
     }
 
-    /// Returns how many frames a memory block has, if the current line says so.
+    /// Returns how many frames a memory block has, if the current line has that number.
     fn told_frames(&mut self) -> Result<Option<u32>, LineFault> {
         match self.form {
             LogForm::Json => json_block_frames(self.lines.line(), &mut self.scratch),

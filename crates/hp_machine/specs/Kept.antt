@@ -1,4 +1,4 @@
--- What a machine keeps beside its course.
+-- What a machine keeps besides its course.
 use Rattle.std.specs.Prelude.{◌≡◌, ◌≤◌, length}
 use Rattle.hp_units.specs.Boot.{boot_memory}
 use Rattle.hp_units.specs.LayoutParts.{IsLayout}
@@ -6,9 +6,9 @@ use Rattle.hp_units.specs.Placement.{IsWellPlaced}
 use Rattle.hp_laws.specs.Offline.{AreClaimedUpTo}
 use Rattle.hp_machine.specs.Machine.{IsHistory, MachineValue}
 
--- what every machine keeps: each frame of the base is in exactly one place, the operations that
--- hold blocks in it have numbers up to that of the last record that was sealed, the history is
--- within the layout's limit, and the base is the state at boot as long as no record was sealed
+-- each frame of the base is in exactly one place, operations in it have numbers up to that of the
+-- last sealed record, the history is within its limit, and the base is the boot state until the
+-- first seal
 pub record IsMachine (m : MachineValue) : Type 0 where
   pub limits : IsLayout m.layout
   pub placed : IsWellPlaced m.layout m.base

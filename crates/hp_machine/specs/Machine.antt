@@ -1,4 +1,4 @@
--- What a contract sees of a machine, what every machine keeps, and what a call does.
+-- The value of a machine, what every machine keeps, and what a call does.
 use Rattle.std.specs.Prelude.{ℕ, ◌≡◌, ◌≤◌, Bool, ◌||◌, [], length, nat_le}
 use Rattle.hp_units.specs.LayoutParts.{IsLayout, LayoutParts}
 use Rattle.hp_units.specs.Boot.{boot_memory}
@@ -11,12 +11,12 @@ use Rattle.hp_laws.specs.Offline.{AreClaimedUpTo}
 use Rattle.hp_history.specs.Course.{CourseValue, IsAnswered, IsHistory as IsCourseHistory, is_spent, started}
 pub use Rattle.hp_history.specs.Course.{last_serial, record_of}
 
--- a course's value: `layout`, `before`, the number of records that were sealed before the history,
--- `base`, the state that the history began with, `history` and `state`
+-- a course's value; `before` is the number of sealed records, and `base` the state that the history
+-- began with
 abbrev pub MachineValue : Type 0
 MachineValue = CourseValue
 
--- the machine of a layout at its start
+-- the machine of a layout at boot
 abbrev pub booted : LayoutParts → MachineValue
 booted l = record { layout = l; before = 0; base = boot_memory l; history = []; state = boot_memory l }
 
@@ -25,11 +25,11 @@ booted l = record { layout = l; before = 0; base = boot_memory l; history = []; 
 abbrev pub IsHistory : MachineValue → Type 0
 IsHistory = IsCourseHistory
 
--- what a user relies on in every machine: its layout is within the limits, its history within the
--- layout's, each frame is in exactly one place, and its pages hold what Map, Unmap and Write of the
--- steps that are not undone make of the base's pages. In its base, too, each frame is in exactly
--- one place, and the operations that hold blocks there have numbers up to that of the last record
--- that was sealed: so the laws of histories hold of its own, and it can be replayed
+-- what a user relies on: the layout and the history are within their limits, each frame is in
+-- exactly one place, and the pages hold what the Map, Unmap and Write steps that are not undone
+-- make of the base's pages. The base, too, is well placed, and its operations have numbers up to
+-- that of the last sealed record: so the laws of histories hold of the machine's own history, and
+-- it can be replayed
 pub record IsSound (m : MachineValue) : Type 0 where
   pub limits : IsLayout m.layout
   pub few : length m.history ≤ m.layout.history
@@ -38,7 +38,7 @@ pub record IsSound (m : MachineValue) : Type 0 where
   pub base_numbered : AreClaimedUpTo m.before m.base.blocks
   pub contents : m.state.pages.contents ≡ contents_of_net m.layout m.base.pages.contents (net_of m.history)
 
--- the history holds its limit, or there is no further serial
+-- the history holds its limit, or no serial is left
 abbrev pub is_full : MachineValue → Bool
 is_full m = nat_le m.layout.history (length m.history) || is_spent m
 
@@ -46,8 +46,7 @@ is_full m = nat_le m.layout.history (length m.history) || is_spent m
 abbrev pub sealed : MachineValue → MachineValue
 sealed m = started m.layout m.state (last_serial m)
 
--- the call of an event by a processor was answered so, and made the new machine of the old: one
--- record is appended, with the next serial and the reply that the definitions give, and the state
--- is that of the longer history
+-- a call with a processor's event: one record is appended, with the next serial and the reply that
+-- the definitions give, and the new state is that of the longer history
 abbrev pub IsCalled : MachineValue → ℕ → Event → Receipt → MachineValue → Type 0
 IsCalled = IsAnswered

@@ -13,19 +13,19 @@ use Rattle.hp_ops.specs.Ports.{PortValue}
 abbrev pub port_value : MachineValue → (cpu : ℕ) → Option CallFault → PortValue
 port_value m cpu fault = record { receipts = receipts_of cpu m.history; fault = fault; cpus = m.layout.cpus }
 
--- calls of a processor, one after another, gave these receipts: for each there was room in the history
+-- a processor's calls, one after another, with these receipts; each found room in the history
 abbrev pub AreCalls : MachineValue → (cpu : ℕ) → List Receipt → MachineValue → Type 0
 AreCalls old cpu [] new = new ≡ old
 AreCalls old cpu (r ∷ rs) new =
     (next : MachineValue) × (is_full old ≡ false) × IsCalled old cpu r.event r next × AreCalls next cpu rs new
 
--- a call's fault has its cause: the history is full, or memory ran out where there was room
+-- the cause of a call's fault: the history is full, or memory ran out although there was room
 abbrev pub HasCause : Option CallFault → MachineValue → Type 0
 HasCause None m = ⊤
 HasCause (Some HistoryFull) m = is_full m ≡ true
 HasCause (Some OutOfMemory) m = is_full m ≡ false
 
--- calls of the processor that are a driver's run with this end made the new machine of the old
+-- the processor's calls are a driver's run with this end, and made the new machine of the old
 pub record IsPlanRun (m : MachineValue) (cpu turns : ℕ) (plan : List Item) (end : OpEnd)
     (new : MachineValue) : Type 0 where
   pub receipts : List Receipt
@@ -34,7 +34,7 @@ pub record IsPlanRun (m : MachineValue) (cpu turns : ℕ) (plan : List Item) (en
   pub cause : HasCause fault new
   pub run : IsDriverRun m.layout.cpus turns plan receipts fault end
 
--- calls after calls
+-- calls after calls are calls with all their receipts
 pub calls_joined : (cpu : ℕ) (xs ys : List Receipt) (old mid new : MachineValue) → AreCalls old cpu xs mid
     → AreCalls mid cpu ys new → AreCalls old cpu (xs ++ ys) new
 calls_joined cpu [] ys old mid new first second =
@@ -42,7 +42,7 @@ calls_joined cpu [] ys old mid new first second =
 calls_joined cpu (x ∷ xs) ys old mid new first second =
     (first.0, first.1, first.2, calls_joined cpu xs ys first.0 mid new first.3 second)
 
--- and where the processor is said once more
+-- the same, with the processor given twice
 pub makes_joined : (cpu same : ℕ) (xs ys : List Receipt) (old mid new : MachineValue) → same ≡ cpu
     → AreCalls old cpu xs mid → AreCalls mid same ys new → AreCalls old cpu (xs ++ ys) new
 makes_joined cpu same xs ys old mid new is first second =

@@ -1,4 +1,4 @@
--- The variants of the events and replies under names of their own, passed on from one place.
+-- The variants of the events and replies under names of their own, exported again from one place.
 -- Declares nothing.
 pub use Rattle.hp_units.specs.declared.events.Event.TheVariants.{KernelAlloc, KernelFree, Map, Unmap, Write, Read, Drain, Online, Begin, DrainFor, Migrate, Commit, Cancel, UndoAfter, Probe, Remove, SetAuto}
 pub use Rattle.hp_units.specs.declared.replies.Reply.TheVariants.{Done, Moved, Released, Refused}

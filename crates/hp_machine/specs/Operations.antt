@@ -1,4 +1,4 @@
--- What the rows of an operation's blocks show in a machine's history.
+-- The rows of an operation's blocks in a machine's history.
 use Rattle.std.specs.Prelude.{◌≡◌, ℕ, false, List, [], ◌∷◌, ◌++◌}
 use Rattle.hp_units.specs.Memory.{row_of}
 use Rattle.hp_units.specs.Rows.{claimed_row}
@@ -9,8 +9,8 @@ use Rattle.hp_units.specs.declared.replies.Record.{Record}
 use Rattle.hp_laws.specs.Operations.{BeginsAt, IsOpenBehind, RowsAre, state_before, state_behind, wished_row}
 use Rattle.hp_machine.specs.Machine.{MachineValue}
 
--- a Begin that is not undone claims each block of its plan; as long as no Commit and no Cancel of
--- its operation follows, their rows are those that it left
+-- a Begin that is not undone claims each block of its plan; until its operation's Commit or Cancel,
+-- their rows are those that it left
 pub record HoldsRows (m : MachineValue) : Type 0 where
   pub claimed : (place : ℕ) (b : Record) (plan : List Item) → BeginsAt (net_of m.history) place b plan
       → RowsAre (state_behind m.layout m.base m.before m.history b) plan (λ item. claimed_row
@@ -20,8 +20,8 @@ pub record HoldsRows (m : MachineValue) : Type 0 where
       → RowsAre m.state plan
       (λ item. row_of (state_behind m.layout m.base m.before m.history b).blocks item.block)
 
--- a Commit that is not refused, wherever it stands in the history after the records h, gives each
--- block its wish, all in one step: just before it their rows are those that the Begin left
+-- a Commit that is not refused gives each block its wish, all in one step; just before it, the rows
+-- are those that the Begin left. `h` are the records before it
 pub record GrantsWishes (m : MachineValue) : Type 0 where
   pub held : (h rest : List Record) (r : Record) (place : ℕ) (b : Record) (plan : List Item)
       → m.history ≡ h ++ r ∷ rest → BeginsAt (net_of h) place b plan → r.event ≡ Commit b.serial
@@ -33,8 +33,8 @@ pub record GrantsWishes (m : MachineValue) : Type 0 where
       → is_refused r.reply ≡ false
       → RowsAre (value_of m.layout m.base (h ++ r ∷ [])) plan (λ item. wished_row item.wish)
 
--- a Cancel that is not refused, wherever it stands in the history after the records h, gives each
--- block the row that it had just before the Begin
+-- a Cancel that is not refused gives each block the row from just before the Begin. `h` are the
+-- records before it
 abbrev pub GivesRowsBack : MachineValue → Type 0
 GivesRowsBack m =
     (h rest : List Record) (r : Record) (place : ℕ) (b : Record) (plan : List Item)

@@ -1,5 +1,5 @@
--- A machine after the volumes that it sealed, and what the rows of an operation's blocks show in
--- all records, those of the volumes and its own.
+-- A machine after the volumes that it sealed, and the rows of an operation's blocks in all records,
+-- those of the volumes and its own.
 use Rattle.std.specs.Prelude.{◌≡◌, ℕ, false, List, [], ◌∷◌, ◌++◌}
 use Rattle.hp_units.specs.Boot.{boot_memory}
 use Rattle.hp_units.specs.Memory.{Memory, row_of}
@@ -14,19 +14,19 @@ use Rattle.hp_history.specs.Volumes.{IsChain, histories_of, records_in, state_af
 use Rattle.hp_history.specs.declared.volumes.Volume.{Volume}
 use Rattle.hp_machine.specs.Machine.{MachineValue}
 
--- a machine goes on from volumes: they follow one another from boot on, as many records were sealed
--- as they hold, and the machine's base is the state that they lead to
+-- a machine goes on from volumes: they follow one another from boot, hold as many records as were
+-- sealed, and lead to the machine's base
 pub record GoesOnFrom (volumes : List Volume) (m : MachineValue) : Type 0 where
   pub chain : IsChain m.layout volumes
   pub count : m.before ≡ records_in volumes
   pub base : m.base ≡ state_after m.layout volumes
 
--- the records of the volumes, and then the machine's
+-- the records of the volumes, then the machine's
 abbrev pub all_records : List Volume → MachineValue → List (List Record)
 all_records volumes m = histories_of volumes ++ m.history ∷ []
 
--- the state that histories lead to from boot on, and the states just before one of their records
--- and just after it
+-- the state that histories lead to from boot, and the states just before and just after one of
+-- their records
 abbrev pub reached : MachineValue → List (List Record) → Memory
 reached m hs = value_of_all m.layout (boot_memory m.layout) hs
 
@@ -36,8 +36,8 @@ found_by m hs r = state_just_before m.layout (boot_memory m.layout) 0 hs r
 abbrev pub left_by : MachineValue → List (List Record) → Record → Memory
 left_by m hs r = state_just_after m.layout (boot_memory m.layout) 0 hs r
 
--- a Begin that is not undone claims each block of its plan; as long as no Commit and no Cancel of
--- its operation follows, in these volumes or in the machine, their rows are those that it left
+-- a Begin that is not undone claims each block of its plan; until its operation's Commit or Cancel,
+-- in these volumes or in the machine, their rows are those that it left
 pub record HoldsRowsAfter (volumes : List Volume) (m : MachineValue) : Type 0 where
   pub claimed : (place : ℕ) (b : Record) (plan : List Item)
       → BeginsAt (net_of_all (all_records volumes m)) place b plan
@@ -48,9 +48,9 @@ pub record HoldsRowsAfter (volumes : List Volume) (m : MachineValue) : Type 0 wh
       → IsOpenBehind b.serial place (net_of_all (all_records volumes m))
       → RowsAre m.state plan (λ item. row_of (left_by m (all_records volumes m) b).blocks item.block)
 
--- a Commit that is not refused, wherever it stands in a volume or in the machine, after the records
--- h of the same volume and all earlier volumes, gives each block its wish, all in one step: just
--- before it their rows are those that the Begin left
+-- a Commit that is not refused gives each block its wish, all in one step; just before it, the rows
+-- are those that the Begin left. `earlier` are the histories before its own, `h` the records before
+-- it there
 pub record GrantsWishesAfter (volumes : List Volume) (m : MachineValue) : Type 0 where
   pub held : (earlier later : List (List Record)) (h rest : List Record) (r : Record) (place : ℕ) (b : Record)
       (plan : List Item)
@@ -66,8 +66,7 @@ pub record GrantsWishesAfter (volumes : List Volume) (m : MachineValue) : Type 0
       → is_refused r.reply ≡ false
       → RowsAre (reached m (earlier ++ (h ++ r ∷ []) ∷ [])) plan (λ item. wished_row item.wish)
 
--- a Cancel that is not refused, wherever it stands in the same way, gives each block the row that
--- it had just before the Begin
+-- a Cancel that is not refused gives each block the row from just before the Begin, in the same way
 abbrev pub GivesRowsBackAfter : List Volume → MachineValue → Type 0
 GivesRowsBackAfter volumes m =
     (earlier later : List (List Record)) (h rest : List Record) (r : Record) (place : ℕ) (b : Record)
@@ -84,11 +83,11 @@ pub record KeepsOperationsAfter (volumes : List Volume) (m : MachineValue) : Typ
   pub commits : GrantsWishesAfter volumes m
   pub cancels : GivesRowsBackAfter volumes m
 
--- of a machine, after whatever volumes it goes on from
+-- the same for a machine, after any volumes that it goes on from
 abbrev pub KeepsOperationsAcrossSeals : MachineValue → Type 0
 KeepsOperationsAcrossSeals m =
     (volumes : List Volume) → GoesOnFrom volumes m → KeepsOperationsAfter volumes m
 
--- a machine that goes on from volumes goes on from these and one more, once it was sealed
+-- a machine that goes on from volumes goes on from these and one more after a seal
 abbrev pub GoesOnWith : MachineValue → Volume → MachineValue → Type 0
 GoesOnWith old v new = (volumes : List Volume) → GoesOnFrom volumes old → GoesOnFrom (volumes ++ v ∷ []) new

@@ -1,8 +1,11 @@
-//! The machine: one call is one step of the definitions. It is a course of hp_history with the
-//! layout's limit of records, and has the laws that hold of every machine. Where no record is asked
-//! for, an `UnrecordedMachine` answers the same calls in the same way over a journal, and keeps
-//! none. A processor of either is a port of a plan's driver, and carries plans out. Read `machine`
-//! first, then `unrecorded`, which follows it, and `machine_port`.
+//! The machine: one call is one step of the definitions.
+//!
+//! A `Machine` is a course of hp_history within the layout's limit of records, with the laws that
+//! hold of every machine. An `UnrecordedMachine` makes the same calls with the same replies over a
+//! journal, and keeps no records. A processor of either is a port of a plan's driver, and carries
+//! plans out.
+//!
+//! Read `machine` first, then `unrecorded`, which follows it, and `machine_port`.
 #![tactic(auto)]
 
 mod machine;

@@ -30,8 +30,8 @@ use hp_units::{
 use std::alloc::{AllocError, Global};
 use std::marker::Model;
 
-/// A machine with its history: a course whose history has the layout's limit. Every machine keeps
-/// its history legal, and its state that of the history.
+/// A machine with its history, which has at most as many records as the layout allows. The history
+/// is always legal, and the state is that of the history.
 #[derive(Drop)]
 pub struct Machine {
     course: Course,
@@ -49,7 +49,7 @@ impl Model for Machine {
 }
 
 impl Machine {
-    /// The machine of a layout at its start: no records, and the state at boot. An error is out of memory.
+    /// Boots a machine: it has no records, and the layout's state at boot.
     pub fn boot(alloc: Global, layout: &Layout) -> Result<Machine, AllocError>
         ensures { IfOk result (λ machine. machine ≡ booted layout.now) }
     {
@@ -57,7 +57,7 @@ impl Machine {
         Ok(Machine { course })
     }
 
-    /// An equal machine, with the same records. An error is out of memory.
+    /// Returns an equal machine, with the same records.
     pub fn copy(&self, alloc: Global) -> Result<Machine, AllocError>
         ensures { IfOk result (λ machine. machine ≡ self.now) }
     {
@@ -65,11 +65,12 @@ impl Machine {
         Ok(Machine { course })
     }
 
-    /// One call: the event of a processor is answered and recorded (own rule). It answers
-    /// `HistoryFull` where the history holds its limit of records or the last serial is 2^64 - 1,
-    /// and otherwise `OutOfMemory` where it is out of memory; then all is as before.
+    /// Makes one call: replies to a processor's event and records it.
     ///
-    /// An UndoAfter that is not refused, and a Cancel that restores, undo the deltas of the steps
+    /// Errors: `HistoryFull` if the history holds its limit of records, or if the last serial is
+    /// 2^64 - 1; otherwise `OutOfMemory`. On an error, nothing changes.
+    ///
+    /// An `UndoAfter` that is not refused and a `Cancel` that restores undo the deltas of the steps
     /// that they drop, latest first, and nothing else.
     pub fn call(&mut self, alloc: Global, cpu: Cpu, event: &Event) -> Result<Receipt, CallFault>
         ensures full { (result ≡ Err CallFault.HistoryFull) ↔ IsTrue (is_full self.old) }
@@ -94,9 +95,9 @@ impl Machine {
         }
     }
 
-    /// One call, of which the caller makes the receipt where it needs one: it answers the serial of
-    /// the record and the reply, and copies the event for the record alone (own rule). Its errors
-    /// are those of `call`, and leave all as before.
+    /// Makes one call like `call`, and returns the record's serial and the reply instead of a
+    /// receipt. It copies the event only for the record: use it if receipts are rarely needed.
+    /// Fails like `call`.
     pub fn answer(
         &mut self,
         alloc: Global,
@@ -118,17 +119,16 @@ impl Machine {
         }
     }
 
-    /// Carries out a plan as a processor, with at most `turns` migrations, and answers how its
+    /// Carries out a plan as a processor, with at most `turns` migrations, and returns how its
     /// operation ended: `run_plan` of hp_ops through the processor's port. Each call leaves a
-    /// record, but for one that ends the run as `Left`.
+    /// record, except one that ends the run as `Left`.
     pub fn run_plan(&mut self, alloc: Global, cpu: Cpu, plan: Plan, turns: u32) -> OpEnd
         ensures { IsPlanRun self.old cpu turns plan result self.new }
     {
         carry_out(alloc, self, cpu, plan, turns)
     }
 
-    /// Makes room for so many further records, so that they need not be moved as more come. An
-    /// error is out of memory; the machine is as before, with or without it.
+    /// Reserves room for `records` more records, so that they need not be moved as more come.
     pub fn reserve(&mut self, records: usize) -> Result<(), AllocError>
         ensures { self.new ≡ self.old }
     {
@@ -136,8 +136,8 @@ impl Machine {
     }
 
     /// Hands out the records with the state that they began with, and goes on without them: the
-    /// present state becomes the base, and no step from before can be undone (own rule). It makes
-    /// no record. An error is out of memory; then all is as before.
+    /// present state becomes the base, and no earlier step can be undone. Makes no record. On an
+    /// error, nothing changes.
     pub fn seal(&mut self, alloc: Global) -> Result<Volume, AllocError>
         ensures err { OnErr result (self.new ≡ self.old) }
         ensures volume { IfOk result (λ volume. volume ≡ volume_of self.old) }
@@ -146,29 +146,29 @@ impl Machine {
         self.course.seal(alloc)
     }
 
-    /// How many records were sealed, in all seals.
+    /// Returns how many records were sealed, in all seals.
     pub fn sealed(&self) -> u64
         ensures { result ≡ self.now.before }
     {
         self.course.before()
     }
 
-    /// The state that the history began with: at boot, or as it was last sealed.
+    /// Returns the state that the history began with: at boot, or at the last seal.
     pub fn base(&self) -> &Image
         ensures { result.now ≡ record { layout = self.now.layout; memory = self.now.base } }
     {
         self.course.base()
     }
 
-    /// The layout.
+    /// Returns the layout.
     pub fn layout(&self) -> &Layout
         ensures { result.now ≡ self.now.layout }
     {
         self.course.memory().layout()
     }
 
-    /// The records since the last seal, oldest first. Every machine keeps its history legal, and
-    /// its state that of the history.
+    /// Returns the records since the last seal, oldest first. They are a legal history, and lead to
+    /// the present state.
     pub fn history(&self) -> &[Record]
         ensures records { result.now ≡ self.now.history }
         ensures kept { IsHistory self.now }
@@ -176,42 +176,43 @@ impl Machine {
         self.course.history()
     }
 
-    /// Each frame is in exactly one place, the pages hold what the owners' steps wrote, and the
-    /// history has no more records than the layout allows; each frame of the base is in exactly one
-    /// place too, and no operation holds a block in it under a number above that of the last sealed
-    /// record (own rule).
+    /// Called for its contract: each frame is in exactly one place, the pages hold what the owners'
+    /// steps wrote, and the history has no more records than the layout allows. In the base, too,
+    /// each frame is in exactly one place, and no operation holds a block under a number above that
+    /// of the last sealed record.
     pub fn stays_sound(&self)
         ensures { IsSound self.now }
     {
         let _ = &self.course;
     }
 
-    /// As long as no record was sealed, the history began with the state at boot (own rule).
+    /// Called for its contract: until a record is sealed, the history begins with the state at
+    /// boot.
     pub fn begins_at_boot(&self)
         ensures { self.now.before ≡ 0 → self.now.base ≡ boot_memory self.now.layout }
     {
         let _ = &self.course;
     }
 
-    /// From a Begin that is not undone to its operation's Commit or Cancel the rows of its plan's
-    /// blocks are those that it left; a Commit gives each its wish, and a Cancel the row from
-    /// before the Begin (Linux, memory hotplug: offlining; own rule).
+    /// Called for its contract: from a Begin that is not undone to its operation's Commit or
+    /// Cancel, the rows of its plan's blocks are those that it left; a Commit gives each its wish,
+    /// and a Cancel the row from before the Begin (Linux, memory hotplug: offlining).
     pub fn keeps_operations(&self)
         ensures { KeepsOperations self.now }
     {
         let _ = &self.course;
     }
 
-    /// All of this over volumes that follow one another from boot on and lead to the machine's base,
-    /// and then its own records: an operation may begin before a seal and end after it (Linux,
-    /// memory hotplug: offlining; own rule).
+    /// Called for its contract: all of this holds over volumes that follow one another from boot
+    /// and lead to the machine's base, and then over its own records. An operation may begin before
+    /// a seal and end after it (Linux, memory hotplug: offlining).
     pub fn keeps_operations_across_seals(&self)
         ensures { KeepsOperationsAcrossSeals self.now }
     {
         let _ = &self.course;
     }
 
-    /// The present state, as an `Image` of its own. An error is out of memory.
+    /// Returns the present state as an `Image` of its own.
     pub fn image(&self, alloc: Global) -> Result<Image, AllocError>
         ensures { IfOk result
             (λ image. image ≡ record { layout = self.now.layout; memory = self.now.state }) }
@@ -219,38 +220,38 @@ impl Machine {
         self.course.image(alloc)
     }
 
-    /// The present state, in layers.
+    /// Returns the present state, in layers.
     pub fn memory(&self) -> &Memory
         ensures { result.now ≡ record { layout = self.now.layout; state = self.now.state } }
     {
         self.course.memory()
     }
 
-    /// The front block of the free list of a class and an order (Gorman, chapter 6: free_area).
-    /// None where the list is empty and past the greatest order.
+    /// Returns the front block of the free list of a class and an order (Gorman, chapter 6:
+    /// free_area); `None` if the list is empty, and past the greatest order.
     pub fn front(&self, class: Class, order: Order) -> Option<Frame>
         ensures { result ≡ slice_get (free_list self.now.state.free.areas class order) 0 }
     {
         self.course.memory().front(class, order)
     }
 
-    /// How many free blocks of 2^order frames a class has; 0 past the greatest order (Gorman,
-    /// chapter 6: nr_free).
+    /// Returns how many free blocks of 2^order frames a class has (Gorman, chapter 6: nr_free); 0
+    /// past the greatest order.
     pub fn list_len(&self, class: Class, order: Order) -> u32
         ensures { result ≡ length (free_list self.now.state.free.areas class order) }
     {
         self.course.memory().list_len(class, order)
     }
 
-    /// The kind of a pageblock (Linux, memory hotplug: isolated pageblocks; Gorman, chapter 6).
-    /// None past the last pageblock.
+    /// Returns the kind of a pageblock (Linux, memory hotplug: isolated pageblocks; Gorman, chapter
+    /// 6); `None` past the last pageblock.
     pub fn kind(&self, pageblock: Pageblock) -> Option<Kind>
         ensures { result ≡ slice_get self.now.state.free.areas.kinds pageblock }
     {
         self.course.memory().kind(pageblock)
     }
 
-    /// The order of the kernel's block that starts at a frame. None where no such block does, and
+    /// Returns the order of the kernel's block that starts at a frame; `None` if none does, and
     /// past the last frame.
     pub fn kernel_at(&self, frame: Frame) -> Option<Order>
         ensures { result ≡ kernel_order self.now.state frame }
@@ -258,38 +259,40 @@ impl Machine {
         self.course.memory().kernel_at(frame)
     }
 
-    /// The row of a memory block (Linux, memory hotplug: state). None past the last block.
+    /// Returns the row of a memory block (Linux, memory hotplug: state); `None` past the last
+    /// block.
     pub fn row(&self, block: Block) -> Option<Row>
         ensures { result ≡ slice_get self.now.state.blocks.rows block }
     {
         self.course.memory().row(block)
     }
 
-    /// The frame that holds an owner's page. None where the page is not mapped, and past the last
-    /// owner or page.
+    /// Returns the frame that holds an owner's page; `None` if the page is not mapped, and past the
+    /// last owner or page.
     pub fn frame_at(&self, owner: Owner, page: Page) -> Option<Frame>
         ensures { result ≡ frame_at self.now.state.pages owner page }
     {
         self.course.memory().frame_at(owner, page)
     }
 
-    /// What a memory block that is added becomes (Linux, memory hotplug: auto_online_blocks).
+    /// Returns what a memory block becomes when it is added (Linux, memory hotplug:
+    /// auto_online_blocks).
     pub fn auto(&self) -> Auto
         ensures { result ≡ self.now.state.blocks.auto }
     {
         self.course.memory().auto()
     }
 
-    /// The number of steps that are not undone (own rule).
+    /// Returns the number of steps that are not undone.
     pub fn journal_len(&self) -> u64
         ensures { result ≡ length (net_of self.now.history) }
     {
         self.course.journal_len()
     }
 
-    /// What a step that is not undone did, counted from 0; None past the last. Its deltas, latest
-    /// first, lead back from the state after the step to the state before it, and are no more than
-    /// the bound (own rule).
+    /// Returns the deltas of step `at` of those that are not undone, counted from 0; `None` past
+    /// the last. Latest first, they lead back from the state after the step to the state before it,
+    /// and are no more than the bound.
     pub fn entry(&self, at: u64) -> Option<&[Delta]>
         ensures { MatchOption result (length (net_of self.now.history) ≤ at)
             (λ deltas. IsEntry self.now at deltas.now) }
@@ -297,8 +300,8 @@ impl Machine {
         self.course.entry(at)
     }
 
-    /// Returns the deltas of the steps from one on, counted from 0; none past the end of the journal.
-    /// An undo that keeps only the steps before it undoes just these, latest first.
+    /// Returns the deltas of the steps from `at` on, counted from 0; `None` past the end of the
+    /// journal. An undo that keeps only the steps before `at` undoes just these, latest first.
     pub fn way_back(&self, at: u64) -> Option<&[Delta]>
         ensures { MatchOption result (length (net_of self.now.history) < at)
             (λ deltas. IsWayBack self.now at deltas.now) }
@@ -306,22 +309,22 @@ impl Machine {
         self.course.way_back(at)
     }
 
-    /// The free areas.
+    /// Returns the free areas.
     pub fn buddy(&self) -> &Buddy
         ensures { result.now ≡ record { layout = self.now.layout; areas = self.now.state.free.areas } }
     {
         self.course.memory().buddy()
     }
 
-    /// The processors' lists.
+    /// Returns the processors' lists.
     pub fn cpus(&self) -> &Cpus
         ensures { result.now ≡ record { layout = self.now.layout; cached = self.now.state.free.cached } }
     {
         self.course.memory().cpus()
     }
 
-    /// The owners' pages by their frames: a mapped frame has its page's words in a buffer where one of them
-    /// is not 0, and no other frame has one.
+    /// Returns the owners' pages by frame. A mapped frame has a buffer with its page's words if one
+    /// of them is not 0; no other frame has one.
     pub fn pages(&self) -> &Pages
         ensures value { result.now ≡ record {
           layout = self.now.layout;
@@ -332,21 +335,21 @@ impl Machine {
         self.course.memory().pages()
     }
 
-    /// The rows of the memory blocks.
+    /// Returns the rows of the memory blocks.
     pub fn blocks(&self) -> &Blocks
         ensures { result.now ≡ record { layout = self.now.layout; blocks = self.now.state.blocks } }
     {
         self.course.memory().blocks()
     }
 
-    /// The last serial so far, which is the number of all records, sealed ones included.
+    /// Returns the last serial, which is the number of all records, sealed ones included.
     pub fn last_serial(&self) -> u64
         ensures { result ≡ last_serial self.now }
     {
         self.course.last_serial()
     }
 
-    /// Whether there is no room for a further record.
+    /// Returns whether there is no room for another record.
     fn is_full(&self) -> bool
         ensures { result ≡ is_full self.now }
     {

@@ -8,17 +8,18 @@ use hp_ops::{Port, run_plan};
 use hp_units::{CallFault, Cpu, Event, OpEnd, Plan, Reply, Serial};
 use std::alloc::Global;
 
-/// A machine that answers calls, whether it keeps their records or not (own rule).
+/// A machine that replies to calls, whether or not it keeps their records.
 pub trait Answers {
     /// The machine's value.
     ghost machine: { Self → MachineValue };
 
-    /// The number of processors.
+    /// Returns the number of processors.
     fn cpus(&self) -> u32
         ensures { result ≡ (machine self.now).layout.cpus };
 
-    /// One call, with the serial of its record and the reply. After an error, which is that of a
-    /// full history exactly where it is full, and else out of memory, all is as before.
+    /// Makes one call, and returns the serial of its record and the reply. The error is
+    /// `HistoryFull` if and only if the history is full, otherwise `OutOfMemory`; then nothing
+    /// changes.
     fn answer(
         &mut self,
         alloc: Global,
@@ -31,20 +32,20 @@ pub trait Answers {
             (receipt_for event.now answer) (machine self.new)) };
 }
 
-/// A processor of a machine. It shows the processor's records of the machine as its receipts; of a
-/// machine that keeps none it shows them in the proofs alone.
+/// A processor of a machine. It shows the processor's records of the machine as its receipts; if
+/// the machine keeps none, only in proofs.
 #[derive(Drop)]
 pub struct MachinePort<'a, M: Answers> {
     /// The machine.
     pub machine: &'a mut M,
     /// The processor that calls.
     pub cpu: Cpu,
-    /// The fault of the last call; none at first and after a receipt.
+    /// The fault of the last call; `None` at first and after a receipt.
     pub fault: Option<CallFault>,
 }
 
 impl<'a, M: Answers> MachinePort<'a, M> {
-    /// A processor's port, with no call made yet.
+    /// Returns a processor's port, before its first call.
     pub fn new(machine: &'a mut M, cpu: Cpu) -> MachinePort<'a, M>
         ensures same_reference { result.machine.ghost_name ≡ machine.entry.ghost_name }
         ensures machine { result.machine.now ≡ machine.old }
@@ -101,7 +102,8 @@ impl<'a, M: Answers> Port for MachinePort<'a, M> {
     ) };
 }
 
-/// Carries out a plan as a processor of a machine: `run_plan` of hp_ops through the processor's port.
+/// Carries out a plan as a processor of a machine: `run_plan` of hp_ops through the processor's
+/// port.
 pub(crate) fn carry_out<M: Answers>(
     alloc: Global,
     machine: &mut M,
@@ -113,7 +115,7 @@ pub(crate) fn carry_out<M: Answers>(
 {
     let mut port = MachinePort::new(machine, cpu);
     let end = run_plan(alloc, &mut port, plan, turns);
-    // No effect at run time: the proof reads what the machine holds from this use.
+    // No effect at run time: from this use the proof reads what the machine holds.
     let _ = &*port.machine;
     end
 }

@@ -1,5 +1,5 @@
-//! The law of a machine and the volumes that it sealed. It is a function that does nothing; what it
-//! ensures is the law.
+//! The law of a machine and the volumes that it sealed: the contract of a function that does
+//! nothing.
 ghost use Rattle.std.specs.Prelude.{ℕ, List, [], ◌∷◌, ◌++◌};
 ghost use Rattle.hp_units.specs.LayoutParts.{LayoutParts};
 ghost use Rattle.hp_units.specs.declared.events.Event.{Event};
@@ -9,8 +9,8 @@ ghost use Rattle.hp_history.specs.declared.volumes.Volume.{Volume};
 ghost use Rattle.hp_machine.specs.Machine.{IsCalled, IsHistory, MachineValue, booted, sealed};
 ghost use Rattle.hp_machine.specs.Volumes.{GoesOnFrom};
 
-/// A machine goes on from the volumes that it sealed: at its start from none, after a call from the
-/// same, and after a seal from one more, which is the one that the seal hands out (own rule).
+/// A machine goes on from the volumes that it sealed. At boot there are none, a call leaves them as
+/// they are, and a seal adds the volume that it hands out.
 pub fn machines_go_on_from_their_volumes()
     ensures boot { (l : LayoutParts) → GoesOnFrom [] (booted l) }
     ensures call { (volumes : List Volume) (old new : MachineValue) (cpu : ℕ) (event : Event) (r : Receipt)

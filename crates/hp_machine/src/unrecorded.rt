@@ -12,9 +12,10 @@ use hp_units::{CallFault, Cpu, Event, Layout, OpEnd, Plan, Reply, Serial};
 use std::alloc::{AllocError, Global};
 use std::marker::Model;
 
-/// A machine whose records nobody reads (own rule): a journal whose history has the layout's limit.
-/// It answers each call as a `Machine` does, and its value is a machine's, with the base and the
-/// records; they are a matter of its proofs alone, and take no bytes.
+/// A machine that keeps no records: a journal whose history has the layout's limit.
+///
+/// It replies to each call as a `Machine` does. Its value is a machine's, with the base and the
+/// records; these exist only in proofs, and take no bytes.
 #[derive(Drop)]
 pub struct UnrecordedMachine {
     journal: Journal,
@@ -32,7 +33,7 @@ impl Model for UnrecordedMachine {
 }
 
 impl UnrecordedMachine {
-    /// The machine of a layout at its start: no records, and the state at boot. An error is out of memory.
+    /// Boots a machine: it has no records, and the layout's state at boot.
     pub fn boot(alloc: Global, layout: &Layout) -> Result<UnrecordedMachine, AllocError>
         ensures { IfOk result (λ machine. machine ≡ booted layout.now) }
     {
@@ -40,10 +41,12 @@ impl UnrecordedMachine {
         Ok(UnrecordedMachine { journal })
     }
 
-    /// One call: the event of a processor is answered, with the serial of its record and the reply
-    /// (own rule). It answers `HistoryFull` where the history holds its limit of records or the
-    /// last serial is 2^64 - 1, and otherwise `OutOfMemory` where it is out of memory, which an undo
-    /// and a Cancel that restores never are; then all is as before.
+    /// Makes one call: replies to a processor's event. Returns the serial of the record and the
+    /// reply.
+    ///
+    /// Errors: `HistoryFull` if the history holds its limit of records, or if the last serial is
+    /// 2^64 - 1; otherwise `OutOfMemory`, which never comes from an undo or a Cancel that restores.
+    /// On an error, nothing changes.
     pub fn answer(
         &mut self,
         alloc: Global,
@@ -65,26 +68,24 @@ impl UnrecordedMachine {
         }
     }
 
-    /// Carries out a plan as a processor, with at most `turns` migrations, and answers how its
+    /// Carries out a plan as a processor, with at most `turns` migrations, and returns how its
     /// operation ended: `run_plan` of hp_ops through the processor's port. Each call counts as a
-    /// record, but for one that ends the run as `Left`.
+    /// record, except one that ends the run as `Left`.
     pub fn run_plan(&mut self, alloc: Global, cpu: Cpu, plan: Plan, turns: u32) -> OpEnd
         ensures { IsPlanRun self.old cpu turns plan result self.new }
     {
         carry_out(alloc, self, cpu, plan, turns)
     }
 
-    /// Makes room for so many further steps, so that they need not be moved as more come. An error
-    /// is out of memory; the machine is as before, with or without it.
+    /// Reserves room for `steps` more steps, so that they need not be moved as more come.
     pub fn reserve(&mut self, steps: usize) -> Result<(), AllocError>
         ensures { self.new ≡ self.old }
     {
         self.journal.reserve(steps)
     }
 
-    /// Goes on without the records, and answers how many there were: the present state becomes the
-    /// base, and no step from before can be undone (own rule). It makes no record, and takes no
-    /// memory.
+    /// Goes on without the records, and returns how many there were: the present state becomes the
+    /// base, and no earlier step can be undone. Makes no record, and allocates nothing.
     pub fn seal(&mut self) -> u64
         ensures count { result ≡ length self.old.history }
         ensures goes_on { self.new ≡ sealed self.old }
@@ -92,29 +93,29 @@ impl UnrecordedMachine {
         self.journal.seal()
     }
 
-    /// The same as of a `Machine`: each frame is in exactly one place, and the pages hold what the
-    /// owners' steps wrote (own rule).
+    /// Called for its contract, which is that of a `Machine`: each frame is in exactly one place,
+    /// and the pages hold what the owners' steps wrote.
     pub fn stays_sound(&self)
         ensures { IsSound self.now }
     {
         let _ = &self.journal;
     }
 
-    /// The layout.
+    /// Returns the layout.
     pub fn layout(&self) -> &Layout
         ensures { result.now ≡ self.now.layout }
     {
         self.journal.memory().layout()
     }
 
-    /// The present state, in layers.
+    /// Returns the present state, in layers.
     pub fn memory(&self) -> &Memory
         ensures { result.now ≡ record { layout = self.now.layout; state = self.now.state } }
     {
         self.journal.memory()
     }
 
-    /// The present state, as an `Image` of its own. An error is out of memory.
+    /// Returns the present state as an `Image` of its own.
     pub fn image(&self, alloc: Global) -> Result<Image, AllocError>
         ensures { IfOk result
             (λ image. image ≡ record { layout = self.now.layout; memory = self.now.state }) }
@@ -122,7 +123,7 @@ impl UnrecordedMachine {
         self.journal.image(alloc)
     }
 
-    /// Whether there is no room for a further record: then a call is answered `HistoryFull`.
+    /// Returns whether there is no room for another record, so that calls fail with `HistoryFull`.
     pub fn is_full(&self) -> bool
         ensures { result ≡ is_full self.now }
     {

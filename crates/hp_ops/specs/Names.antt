@@ -1,5 +1,5 @@
--- The variants of the events, replies and ends under names of their own, passed on from one place.
--- Declares nothing.
+-- The variants of the events, replies and ends under names of their own, exported again from one
+-- place. Declares nothing.
 pub use Rattle.hp_units.specs.declared.events.Event.TheVariants.{Begin, DrainFor, Migrate, Commit, Cancel}
 pub use Rattle.hp_units.specs.declared.replies.Reply.TheVariants.{Done, Moved, Opened, Restored, Released, Refused}
 pub use Rattle.hp_units.specs.declared.replies.Refusal.TheVariants.{NoFrame, NoOp, NothingToMove, NotFree}

@@ -1,20 +1,20 @@
--- What a port shows, and what one call or several make of it.
+-- What a port shows, and what calls make of it.
 use Rattle.std.specs.Prelude.{◌≡◌, ◌⊎◌, ℕ, ◌<◌, Bool, true, false, List, [], ◌∷◌, ◌++◌, Option, Some, None, ⊤}
 use Rattle.std.specs.List.{list_any}
 use Rattle.hp_ops.specs.Names.{Item, Event, Begin, DrainFor, Migrate, Commit, Cancel, Reply, Done, Moved, Opened, Restored, Released, Refused, Refusal, NoFrame, NoOp, NothingToMove, NotFree, Receipt, CallFault}
 
--- what a port shows: the receipts that it was given, oldest first, the fault of its last call, and
--- how many processors there are
+-- what a port shows: its receipts, oldest first, the fault of its last call, and the number of
+-- processors
 pub record PortValue : Type 0 where
   pub receipts : List Receipt
   pub fault : Option CallFault
   pub cpus : ℕ
 
--- with further receipts, and the fault of the last call
+-- the same with further receipts, and with the fault of the last call
 abbrev pub with_receipts : PortValue → List Receipt → Option CallFault → PortValue
 with_receipts p gained fault = record { receipts = p.receipts ++ gained; fault = fault; cpus = p.cpus }
 
--- an operation was opened by one of the receipts
+-- one of the receipts opened an operation
 abbrev pub is_opened : Reply → Bool
 is_opened (Opened op) = true
 is_opened reply = false
@@ -22,7 +22,7 @@ is_opened reply = false
 abbrev pub has_opened : List Receipt → Bool
 has_opened receipts = list_any (λ r. is_opened r.reply) receipts
 
--- ---- the replies that a driver meets (own rule)
+-- ---- the replies that a driver meets
 
 -- to a Begin
 abbrev pub IsBeginReply : Reply → Type 0
@@ -53,14 +53,14 @@ IsDriverReply cpus event reply = (reply ≡ Refused NoOp) ⊎ IsLiveReply cpus e
 
 -- ---- one call, and several
 
--- a call was answered by a receipt: of the event that was asked, with a reply that the driver knows
+-- a call gave a receipt: of the event that was asked, with a reply that the driver knows
 pub record IsGiven (old : PortValue) (event : Event) (r : Receipt) (new : PortValue) : Type 0 where
   pub asked : r.event ≡ event
   pub value : new ≡ with_receipts old (r ∷ []) None
   pub begun : (plan : List Item) → event ≡ Begin plan → IsBeginReply r.reply
   pub known : has_opened old.receipts ≡ true → IsDriverReply old.cpus event r.reply
 
--- a call was answered by a reply: it gave one receipt, which has the reply, and made the new port of the old
+-- a call gave a reply: that of one receipt, and it made the new port of the old
 pub record IsReplied {S : Type 0} (shows : S → PortValue) (makes : S → List Receipt → S → Type 0) (old : S)
     (event : Event) (reply : Reply) (new : S) : Type 0 where
   pub receipt : Receipt
@@ -68,14 +68,14 @@ pub record IsReplied {S : Type 0} (shows : S → PortValue) (makes : S → List 
   pub given : IsGiven (shows old) event receipt (shows new)
   pub made : makes old (receipt ∷ []) new
 
--- calls that gave these receipts, and after them, where there is a fault, one more call, which left it
+-- calls gave these receipts; if there is a fault, one more call left it
 abbrev pub AreMade : {S : Type 0} → (makes : S → List Receipt → S → Type 0)
     → (leaves : S → CallFault → S → Type 0) → S → List Receipt → Option CallFault → S → Type 0
 AreMade makes leaves old gained None new = makes old gained new
 AreMade {S} makes leaves old gained (Some fault) new =
     (last : S) × makes old gained last × leaves last fault new
 
--- calls gave further receipts, of which P holds, and at most the last call left a fault
+-- calls gave further receipts, of which `P` holds, and at most the last call left a fault
 pub record Gains {S : Type 0} (shows : S → PortValue) (makes : S → List Receipt → S → Type 0)
     (leaves : S → CallFault → S → Type 0) (old : S) (fault : Option CallFault) (new : S)
     (P : List Receipt → Type 0) : Type 0 where

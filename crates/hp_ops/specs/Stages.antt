@@ -11,7 +11,7 @@ operation_in (Commit op) = Some op
 operation_in (Cancel op) = Some op
 operation_in event = None
 
--- the event of a stage, where it is work on an operation
+-- the event of a stage, if it is work on an operation
 abbrev pub work_in : Stage → Option Event
 work_in (DrainsFor op cpu) = Some (DrainFor op cpu)
 work_in (Migrates op) = Some (Migrate op)
@@ -29,8 +29,8 @@ abbrev pub end_in : Stage → Option OpEnd
 end_in (Ended end) = end
 end_in stage = None
 
--- a driver's run on so many processors, with at most so many migrations, after its receipts,
--- whatever the plan is
+-- a driver after its receipts, on `cpus` processors and with at most `turns` migrations, whatever
+-- the plan
 pub record IsAfter (cpus turns : ℕ) (receipts : List Receipt) (d : Driver) : Type 0 where
   pub processors : d.cpus ≡ cpus
   pub left : d.left ≡ turns - tried receipts
@@ -38,35 +38,36 @@ pub record IsAfter (cpus turns : ℕ) (receipts : List Receipt) (d : Driver) : T
   pub next : (plan : List Item) → event_in plan d.stage ≡ next_event cpus turns plan receipts
   pub end : end_in d.stage ≡ end_of receipts
 
--- where a driver is after receipts, it comes to after one receipt more, of this event and reply
+-- if the old driver is one after some receipts, the new one is after these and one more, of this
+-- event and reply
 abbrev pub MovesOn : Driver → Event → Reply → Driver → Type 0
 MovesOn old event reply new =
     (cpus turns : ℕ) (earlier : List Receipt) (r : Receipt) → r.event ≡ event → r.reply ≡ reply
     → IsAfter cpus turns earlier old → IsAfter cpus turns (earlier ++ r ∷ []) new
 
--- ---- after any receipts that leave so many migrations
+-- ---- after any receipts that leave `left` migrations
 
--- the receipts leave so many
+-- after the receipts a migration is left if and only if `left` is above 0
 abbrev pub Leaves : (turns left : ℕ) → List Receipt → Type 0
 Leaves turns left receipts = nat_lt (tried receipts) turns ≡ nat_lt 0 left
 
--- the stage follows an answer
+-- the stage is the one after this reply
 abbrev pub Follows : (cpus left : ℕ) → Event → Reply → Stage → Type 0
 Follows cpus left event reply stage =
     (turns : ℕ) (plan : List Item) (receipts : List Receipt) → Leaves turns left receipts
     → event_in plan stage ≡ next_after cpus turns receipts event reply
 
--- it has the end that an answer makes
+-- it has the end that the reply makes
 abbrev pub EndsAs : Option Refusal → Event → Reply → Stage → Type 0
 EndsAs why event reply stage = end_in stage ≡ end_after why event reply
 
--- it is the drain of a round for a processor, or after the last one a turn
+-- it is the drain of a round for a processor, or a turn after the last one
 abbrev pub IsRound : (cpus left op cpu : ℕ) → Stage → Type 0
 IsRound cpus left op cpu stage =
     (turns : ℕ) (plan : List Item) (receipts : List Receipt) → Leaves turns left receipts
     → event_in plan stage ≡ Some (next_drain cpus turns op cpu receipts)
 
--- a reply says that the operation is no longer live
+-- the end, if a reply reports that the operation is no longer live
 abbrev pub undone_by : Reply → Option OpEnd
 undone_by (Refused NoOp) = Some EndsUndone
 undone_by reply = None

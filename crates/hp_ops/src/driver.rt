@@ -1,4 +1,4 @@
-//! The driver of a plan's operation.
+//! Runs the driver of a plan's operation.
 ghost use Rattle.std.specs.Prelude.{◌≡◌, None};
 ghost use Rattle.hp_units.specs.Driver.{IsDriverRun};
 ghost use Rattle.hp_ops.specs.Ports.{Gains};
@@ -10,13 +10,13 @@ use hp_units::{Event, OpEnd, Plan, Serial};
 use std::alloc::Global;
 
 /// Carries out a plan through a port, with at most `turns` migrations (Linux, memory hotplug:
-/// offlining; own rule). After a Begin it drains each processor's lists, then migrates page after
-/// page; where no page is left to move it commits. Where no frame can be had, or the commit finds a
-/// frame in use, it drains again. When its turns are used up it cancels.
+/// offlining). After a Begin it drains each processor's lists, then migrates page after page; when
+/// no page is left to move, it commits. If no frame can be had, or the commit finds a frame in use,
+/// it drains again. When its turns are used up, it cancels.
 ///
-/// It takes no memory but what the port's calls take, and makes no call after one that left a
-/// fault. It ends as `Left` where a call left a fault, with no operation where that was the Begin,
-/// and as `Undone` where the operation is no longer live.
+/// Allocates only in the port's calls, and makes no call after one that failed. The end is `Left`
+/// if a call failed, without an operation if that was the Begin, and `Undone` if the operation is
+/// no longer live.
 pub fn run_plan<P: Port>(alloc: Global, port: &mut P, plan: Plan, turns: u32) -> OpEnd
     requires { (P.shows port.old).fault ≡ None }
     ensures { Gains P.shows P.makes P.leaves port.old (P.shows port.new).fault port.new
@@ -41,7 +41,7 @@ pub fn run_plan<P: Port>(alloc: Global, port: &mut P, plan: Plan, turns: u32) ->
     }
 }
 
-/// The operation that a driver's event works on.
+/// Returns the operation that a driver's event works on.
 fn operation_in(event: &Event) -> Option<Serial>
     ensures { result ≡ operation_in event.now }
 {

@@ -1,6 +1,6 @@
-//! The driver of a plan: it begins an operation, drains and migrates until the operation can
-//! commit, and cancels it where its turns are used up. It calls whatever is a `Port`, and knows of
-//! no machine. Read `port` first, then `driver`.
+//! The driver of a plan: begins an operation, drains and migrates until the operation can commit,
+//! and cancels it when its turns are used up. Calls any `Port`, and knows no machine. Read `port`
+//! first, then `driver`.
 #![tactic(auto)]
 
 mod driver;

@@ -7,34 +7,34 @@ ghost use Rattle.hp_ops.specs.Ports.{IsReplied, PortValue, with_receipts};
 use hp_units::{CallFault, Event, Reply};
 use std::alloc::Global;
 
-/// Calls of one processor on a machine, wherever the machine is (own rule).
+/// Calls of one processor on a machine, wherever the machine is.
 pub trait Port {
-    /// The receipts that it was given, the fault of its last call, and the number of processors.
+    /// The receipts so far, the fault of the last call, and the number of processors.
     ghost shows: { Self → PortValue };
 
-    /// What calls that gave these receipts make of the port.
+    /// What calls with these receipts make of the port.
     ghost makes: { Self → List Receipt → Self → Type 0 };
 
-    /// What a call that left a fault makes of the port.
+    /// What a call that failed makes of the port.
     ghost leaves: { Self → CallFault → Self → Type 0 };
 
-    /// The number of processors.
+    /// Returns the number of processors.
     fn cpus(&self) -> u32
         ensures { result ≡ (shows self.now).cpus };
 
-    /// One call. It gives one receipt, of this event, and answers that receipt's reply; or else a
-    /// fault, which the port then shows, and no receipt.
+    /// Makes one call. Returns the reply of one new receipt, which is of this event; or a fault,
+    /// which the port then shows, and no receipt.
     fn call(&mut self, alloc: Global, event: &Event) -> Result<Reply, CallFault>
         ensures ok { IfOk result (λ reply. IsReplied shows makes self.old event.now reply self.new) }
         ensures err { IfErr result
             (λ fault. shows self.new ≡ with_receipts (shows self.old) [] (Some fault)) }
         ensures leaves { IfErr result (λ fault. leaves self.old fault self.new) };
 
-    /// No call makes nothing.
+    /// Without a call, the port stays as it is.
     ghost nothing: { (p : Self) → makes p [] p };
 
-    /// Calls after calls that gave receipts. No law speaks of a call after a fault, so a caller
-    /// that shows what its calls make of every port makes none.
+    /// Calls after calls are calls with all their receipts. No law covers a call after a fault, so
+    /// a caller that is proved for every port makes none.
     ghost joined: { (p q r : Self) (xs ys : List Receipt) → makes p xs q → makes q ys r
         → makes p (xs ++ ys) r };
 }

@@ -1,4 +1,4 @@
-//! How far the driver of a plan is: what it asks for next, or how its run ended.
+//! How far the driver of a plan is: the event that it asks for next, or how its run ended.
 ghost use Rattle.std.specs.Prelude.{◌≡◌, ◌-◌, ◌≤◌, ℕ, [], IfOk, List, None, OnErr, Some, cond};
 ghost use Rattle.hp_units.specs.Driver.{cause_after, is_migrate};
 ghost use Rattle.hp_ops.specs.Names.{Begin, Cancel, Commit, DrainFor, Item, Migrate};
@@ -10,23 +10,22 @@ use std::alloc::{AllocError, Global};
 /// What a driver does next.
 #[derive(Clone, Copy, Drop)]
 pub(crate) enum Stage {
-    /// It begins the operation of its plan.
+    /// Begins the operation of its plan.
     Begin,
-    /// It drains the lists of a processor.
+    /// Drains the lists of a processor.
     DrainFor { op: Serial, cpu: Cpu },
-    /// It moves a page.
+    /// Moves a page.
     Migrate { op: Serial },
-    /// It commits.
+    /// Commits.
     Commit { op: Serial },
-    /// It cancels.
+    /// Cancels.
     Cancel { op: Serial },
-    /// It asks for nothing more: the run has ended so, or, after a reply that no machine gives, with
-    /// no end.
+    /// Nothing more: the run ended like this. `None` after a reply that no machine gives.
     Ended(Option<OpEnd>),
 }
 
-/// The driver of a plan under way: a few words, whatever the number of calls. It does not keep the
-/// plan, which it needs for the Begin alone.
+/// The driver of a plan, between its calls: a few words, however many calls there are. It does not
+/// keep the plan, which only the Begin needs.
 #[derive(Clone, Copy, Drop)]
 pub struct Driver {
     /// The number of processors.
@@ -40,7 +39,8 @@ pub struct Driver {
 }
 
 impl Driver {
-    /// A driver before its first call, for so many processors, with at most `turns` migrations.
+    /// Returns a driver before its first call, for `cpus` processors, with at most `turns`
+    /// migrations.
     pub fn new(cpus: u32, turns: u32) -> Self
         ensures { IsAfter cpus turns [] result }
     {
@@ -52,9 +52,8 @@ impl Driver {
         }
     }
 
-    /// The event to ask for next, or `None` where the run is over (Linux, memory hotplug:
-    /// offlining; own rule). An error is out of memory: a Begin has a copy of the plan, and only
-    /// where a Begin comes next is there one.
+    /// Returns the event to ask for next, or `None` if the run is over (Linux, memory hotplug:
+    /// offlining). Allocates only for a Begin, which has a copy of the plan.
     pub fn next(&self, alloc: Global, plan: &Plan) -> Result<Option<Event>, AllocError>
         ensures ok { IfOk result (λ next. next ≡ event_in plan.now self.now.stage) }
         ensures err { OnErr result (event_in plan.now self.now.stage ≡ Some (Begin plan.now)) }
@@ -67,7 +66,7 @@ impl Driver {
         }
     }
 
-    /// Goes on by the reply to an event.
+    /// Takes the reply to an event, and moves on.
     pub fn answer(&mut self, event: &Event, reply: &Reply)
         ensures { MovesOn self.old event.now reply.now self.new }
     {
@@ -76,7 +75,7 @@ impl Driver {
         self.stage = self.stage_after(event, reply);
     }
 
-    /// The event to ask for next, if it is work on the operation.
+    /// Returns the event to ask for next, if it is work on the operation.
     pub(crate) fn work(&self) -> Option<Event>
         ensures { result ≡ work_in self.now.stage }
     {
@@ -89,7 +88,7 @@ impl Driver {
         }
     }
 
-    /// How the run ended.
+    /// Returns how the run ended.
     pub(crate) fn end(&self) -> OpEnd
         requires { (end : OpEnd) × (end_in self.now.stage ≡ Some end) }
         ensures { end_in self.now.stage ≡ Some result }
@@ -100,7 +99,7 @@ impl Driver {
         }
     }
 
-    /// What comes after an answer.
+    /// Returns the stage after the reply to an event.
     fn stage_after(&self, event: &Event, reply: &Reply) -> Stage
         ensures next { Follows self.now.cpus self.now.left event.now reply.now result }
         ensures end { EndsAs self.now.why event.now reply.now result }
@@ -115,7 +114,7 @@ impl Driver {
         }
     }
 
-    /// What comes after a Begin: where it opened an operation, a round of drains.
+    /// Returns the stage after a Begin: a round of drains, if it opened an operation.
     fn after_begin(&self, reply: &Reply) -> Stage
         ensures next { (plan : List Item)
             → Follows self.now.cpus self.now.left (Begin plan) reply.now result }
@@ -128,7 +127,8 @@ impl Driver {
         }
     }
 
-    /// What comes after a drain that was done: the next processor's, or after the last one a turn.
+    /// Returns the stage after a drain that was done: the next processor's drain, or a turn after
+    /// the last one.
     fn after_drain(&self, op: Serial, cpu: Cpu, reply: &Reply) -> Stage
         ensures next { Follows self.now.cpus self.now.left (DrainFor op cpu) reply.now result }
         ensures end { EndsAs self.now.why (DrainFor op cpu) reply.now result }
@@ -140,8 +140,8 @@ impl Driver {
         }
     }
 
-    /// What comes after a migration: a turn where a page moved, a round of drains where no frame can
-    /// be had, and the commit where no page is left.
+    /// Returns the stage after a migration: a turn if a page moved, a round of drains if no frame
+    /// can be had, and the commit if no page is left.
     fn after_migrate(&self, op: Serial, reply: &Reply) -> Stage
         ensures next { Follows self.now.cpus self.now.left (Migrate op) reply.now result }
         ensures end { EndsAs self.now.why (Migrate op) reply.now result }
@@ -157,7 +157,7 @@ impl Driver {
         }
     }
 
-    /// What comes after a commit: a round of drains where a frame is in use.
+    /// Returns the stage after a commit: a round of drains if a frame is in use.
     fn after_commit(&self, op: Serial, reply: &Reply) -> Stage
         ensures next { Follows self.now.cpus self.now.left (Commit op) reply.now result }
         ensures end { EndsAs self.now.why (Commit op) reply.now result }
@@ -172,7 +172,7 @@ impl Driver {
         }
     }
 
-    /// What comes after a cancel: the end.
+    /// Returns the stage after a cancel: the end.
     fn after_cancel(&self, reply: &Reply) -> Stage
         ensures next { (op : ℕ) → Follows self.now.cpus self.now.left (Cancel op) reply.now result }
         ensures end { (op : ℕ) → EndsAs self.now.why (Cancel op) reply.now result }
@@ -191,7 +191,7 @@ impl Driver {
         }
     }
 
-    /// The drain of a round for a processor, or after the last one a turn.
+    /// Returns the drain of a round for a processor, or a turn after the last one.
     fn round(&self, op: Serial, cpu: u32) -> Stage
         ensures next { IsRound self.now.cpus self.now.left op cpu result }
         ensures end { end_in result ≡ None }
@@ -203,7 +203,7 @@ impl Driver {
         }
     }
 
-    /// A migration, or a cancel where no more may be tried.
+    /// Returns a migration, or a cancel if no more may be tried.
     fn turn(&self, op: Serial) -> Stage
         ensures next { (cpus cpu : ℕ) → cpus ≤ cpu → IsRound cpus self.now.left op cpu result }
         ensures end { end_in result ≡ None }
@@ -216,7 +216,7 @@ impl Driver {
     }
 }
 
-/// How many migrations may be tried after an event, where it was so many before.
+/// Returns how many migrations may be tried after an event, if `left` was the number before.
 fn left_after(left: u32, event: &Event) -> u32
     ensures { result ≡ left - cond (is_migrate event.now) 1 0 }
 {
@@ -226,7 +226,7 @@ fn left_after(left: u32, event: &Event) -> u32
     }
 }
 
-/// The last refusal of a migration or a commit after an answer, where `why` was it before.
+/// Returns the last refusal of a migration or a commit after a reply, if `why` was the last before.
 fn why_after(why: Option<Refusal>, event: &Event, reply: &Reply) -> Option<Refusal>
     ensures { result ≡ cause_after why event.now reply.now }
 {
@@ -239,7 +239,7 @@ fn why_after(why: Option<Refusal>, event: &Event, reply: &Reply) -> Option<Refus
     }
 }
 
-/// The end where a reply says that the operation is no longer live.
+/// Returns the end `Undone`, if a reply reports that the operation is no longer live.
 fn unless_live(reply: &Reply) -> Option<OpEnd>
     ensures { result ≡ undone_by reply.now }
 {

@@ -49,7 +49,7 @@ abbrev pub IsOtherHead : SearchValue → (text : List ℕ) → Type 0
 IsOtherHead s text =
     (number : ℕ) × (ends : ℕ) × IsLine text (Head number ends) × (IsOwnHead s text number ends → ⊥)
 
--- a head of the search's next part, while the part before it has another number of ends than its
+-- the head of a part of the search, while the part before it has another number of ends than its
 -- own head names
 abbrev pub IsAfterOther : SearchValue → GatheringValue → (text : List ℕ) → (before : ℕ) → Type 0
 IsAfterOther s v text before =
@@ -62,7 +62,7 @@ pub record IsOfNoPart (g : Setting) (s : SearchValue) (v : GatheringValue) (text
   pub line : IsLine text (End count schedule)
   pub none : (x : OutcomeValue) → EndsInPart g (part_in s v.last.number) schedule.items x → ⊥
 
--- an end's line that the search does not write so
+-- an end whose line the search writes differently
 pub record IsChanged (names : List (List ℕ)) (g : Setting) (s : SearchValue) (v : GatheringValue)
     (text : List ℕ) : Type 0 where
   pub end : Ending

@@ -12,7 +12,7 @@ use Rattle.hp_replays.specs.declared.replaying.ReplayFault.TheVariants.{WrongRep
 use Rattle.hp_replays.specs.declared.chains.ChainFault.{ChainFault}
 use Rattle.hp_replays.specs.declared.chains.ChainFault.TheVariants.{WrongCount, WrongBase, Replay, OutOfMemory}
 
--- the volume stands at the place, and those before it follow one another
+-- the volume is at this place, and those before it follow one another
 pub record StandsAfter (l : LayoutParts) (volumes : List Volume) (at : ℕ) (v : Volume) : Type 0 where
   pub here : slice_get volumes at ≡ Some v
   pub chain : IsChain l (take at volumes)
@@ -37,14 +37,14 @@ pub record HasWrongRecords (l : LayoutParts) (volumes : List Volume) (at : ℕ) 
   pub records : IsFault l (state_after l (take at volumes)) (records_in (take at volumes)) v.records fault
   pub known : fault ≢ ReplayOutOfMemory
 
--- the first volume at fault is the one that the fault names
+-- the fault names the first volume at fault
 abbrev pub IsChainFault : LayoutParts → List Volume → ChainFault → Type 0
 IsChainFault l volumes (WrongCount at) = (v : Volume) × HasWrongCount l volumes at v
 IsChainFault l volumes (WrongBase at) = (v : Volume) × HasWrongBase l volumes at v
 IsChainFault l volumes (Replay at fault) = (v : Volume) × HasWrongRecords l volumes at v fault
 IsChainFault l volumes OutOfMemory = Unit {0}
 
--- the volumes do not follow one another, memory aside
+-- the volumes do not follow one another; nothing if memory ran out
 abbrev pub RefutesChain : LayoutParts → List Volume → ChainFault → Type 0
 RefutesChain l volumes (WrongCount at) = IsChain l volumes → ⊥
 RefutesChain l volumes (WrongBase at) = IsChain l volumes → ⊥
@@ -53,7 +53,7 @@ RefutesChain l volumes OutOfMemory = Unit {0}
 
 -- ---- a course that is sealed after each volume
 
--- a volume's count and base are those that such a course begins with
+-- a volume's count and base are those that the course begins with
 pub record FollowsEnd (end : CourseValue) (v : Volume) : Type 0 where
   pub count : v.before ≡ end.before
   pub base : v.base ≡ pictured end.layout end.base
@@ -63,7 +63,7 @@ abbrev pub sealed_after : CourseValue → Volume → CourseValue
 sealed_after end v =
     started end.layout (value_of end.layout end.base v.records) (end.before + length v.records)
 
--- the fault of a volume that stands at a place after such a course
+-- the fault of a volume at this place after such a course
 abbrev pub IsFaultAfter : CourseValue → (at : ℕ) → Volume → ChainFault → Type 0
 IsFaultAfter end at v (WrongCount place) = (place ≡ at) × (v.before ≢ end.before)
 IsFaultAfter end at v (WrongBase place) =

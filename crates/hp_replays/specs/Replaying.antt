@@ -8,7 +8,7 @@ use Rattle.hp_history.specs.Course.{CourseValue, last_serial}
 use Rattle.hp_replays.specs.declared.replaying.ReplayFault.{ReplayFault}
 use Rattle.hp_replays.specs.declared.replaying.ReplayFault.TheVariants.{WrongReply, WrongSerial, OutOfMemory}
 
--- the record stands at the place, and those before it are a legal history
+-- the record is at this place, and those before it are a legal history
 pub record ComesAt (l : LayoutParts) (base : Memory) (before : ℕ) (h : List Record) (at : ℕ)
     (r : Record) : Type 0 where
   pub here : slice_get h at ≡ Some r
@@ -27,14 +27,14 @@ pub record HasWrongReply (l : LayoutParts) (base : Memory) (before : ℕ) (h : L
   pub serial : r.serial ≡ before + at + 1
   pub reply : r.reply ≢ reply_of l base before (take at h) r.cpu r.event
 
--- the first record at fault is the one that the fault names: by its place from 0, or by its serial
+-- the fault names the first record at fault: by its place, from 0, or by its serial
 abbrev pub IsFault : LayoutParts → Memory → ℕ → List Record → ReplayFault → Type 0
 IsFault l base before h (WrongSerial at) = (r : Record) × HasWrongSerial l base before h at r
 IsFault l base before h (WrongReply serial) =
     (at : ℕ) × (r : Record) × HasWrongReply l base before h at r × (r.serial ≡ serial)
 IsFault l base before h OutOfMemory = Unit {0}
 
--- the records are no legal history, memory aside
+-- the records are not a legal history; nothing if memory ran out
 abbrev pub Refutes : LayoutParts → Memory → ℕ → List Record → ReplayFault → Type 0
 Refutes l base before h (WrongSerial at) = IsLegal l base before h → ⊥
 Refutes l base before h (WrongReply serial) = IsLegal l base before h → ⊥
@@ -50,7 +50,7 @@ pub record IsCourseOf (l : LayoutParts) (start : Memory) (earlier : ℕ) (h : Li
   pub legal : IsLegal l start earlier h
   pub state : c.state ≡ value_of l start h
 
--- the record may stand after those of the old course, and the new one is the course with it
+-- the record may come after those of the old course, and the new one is the course with it
 pub record IsFollowed (old : CourseValue) (r : Record) (new : CourseValue) : Type 0 where
   pub follows : Follows old.layout old.base old.before old.history r
   pub history : new.history ≡ old.history ++ r ∷ []
@@ -59,8 +59,8 @@ pub record IsFollowed (old : CourseValue) (r : Record) (new : CourseValue) : Typ
   pub before : new.before ≡ old.before
   pub base : new.base ≡ old.base
 
--- the fault of a record that stands at a place after those of a course: its serial is not the next
--- one, or its reply is not the one that the definitions give
+-- the fault of a record at this place after those of a course: its serial is not the next one, or
+-- its reply is not the one that the definitions give
 abbrev pub IsFaultHere : CourseValue → (at : ℕ) → Record → ReplayFault → Type 0
 IsFaultHere c at r (WrongSerial place) = (place ≡ at) × (r.serial ≢ last_serial c + 1)
 IsFaultHere c at r (WrongReply serial) =

@@ -1,4 +1,4 @@
-//! Whether volumes of sealed records follow one another.
+//! Audits chains: whether volumes of sealed records follow one another.
 ghost use Rattle.std.specs.Prelude.{◌≡◌, ◌≢◌, IfErr, IfOk, MatchBool, OnOk};
 ghost use Rattle.hp_units.specs.History.{IsLegal};
 ghost use Rattle.hp_units.specs.Placement.{IsWellPlaced};
@@ -14,19 +14,19 @@ use hp_plain::Image;
 use hp_units::Layout;
 use std::alloc::{AllocError, Global};
 
-/// Why volumes do not follow one another: the first volume at fault, counted from 0, its count
-/// looked at before its base, and its base before its records; or out of memory, which may come in
-/// place of any answer.
+/// Why volumes do not follow one another. Names the first volume at fault, counted from 0; its
+/// count is checked before its base, and its base before its records. `OutOfMemory` may come in
+/// place of any other.
 #[derive(Clone, Copy, Debug, PartialEq, Eq, Drop)]
 pub enum ChainFault {
     /// The volume at this place was not sealed after as many records as the volumes before it hold.
     WrongCount { at: u64 },
-    /// The base of the volume at this place is of another layout, or not the state that the volumes
-    /// before it lead to.
+    /// The base of the volume at this place has another layout, or is not the state that the
+    /// volumes before it lead to.
     WrongBase { at: u64 },
-    /// The records of the volume at this place are no legal history over its base.
+    /// The records of the volume at this place are not a legal history over its base.
     Replay { at: u64, fault: ReplayFault },
-    /// Memory was refused.
+    /// Out of memory.
     OutOfMemory,
 }
 
@@ -41,10 +41,11 @@ impl From<AllocError> for ChainFault {
     }
 }
 
-/// The state that volumes lead to from the state at boot, if each follows those before it (own
-/// rule): it was sealed after as many records as they hold, its base is the state that they lead
-/// to, and its records are a legal history over it. No volumes lead to the state at boot. Time is
-/// linear in the records and in the volumes' bases, and memory in the longest volume.
+/// Returns the state that volumes lead to from boot, if each follows those before it: it was sealed
+/// after as many records as they hold, its base is the state that they lead to, and its records are
+/// a legal history over it. Without volumes, that is the state at boot.
+///
+/// Time is linear in the records and in the volumes' bases, and memory in the longest volume.
 pub fn audit_chain(alloc: Global, layout: &Layout, volumes: &[Volume]) -> Result<Image, ChainFault>
     ensures chain { OnOk result (IsChain layout.now volumes.now) }
     ensures value { IfOk result
@@ -61,8 +62,8 @@ pub fn audit_chain(alloc: Global, layout: &Layout, volumes: &[Volume]) -> Result
     Ok(base)
 }
 
-/// Goes on from a sealed journal to the one after a volume's records, sealed again, if the volume
-/// follows; its base goes on with it.
+/// Checks that a volume follows a sealed journal, replays its records in the journal, and seals
+/// them. `base` becomes the journal's new base.
 fn after_volume(
     alloc: Global,
     end: &mut Journal,
@@ -87,7 +88,7 @@ fn after_volume(
     replayed(alloc, end, base, at, volume)
 }
 
-/// Goes on by the records of a volume that follows a sealed journal, and seals them.
+/// Replays the records of a volume that follows a sealed journal, and seals them.
 fn replayed(
     alloc: Global,
     end: &mut Journal,
@@ -109,7 +110,7 @@ fn replayed(
     }
 }
 
-/// Seals a journal, and makes the state that it begins again with its base.
+/// Seals a journal, and sets `base` to its new base.
 fn seal_off(alloc: Global, end: &mut Journal, base: &mut Image) -> Result<(), ChainFault>
     ensures next { OnOk result (end.new ≡ started end.old.layout end.old.state (last_serial end.old)) }
     ensures base { OnOk result (base.new ≡ pictured end.new.layout end.new.base) }
@@ -121,14 +122,14 @@ fn seal_off(alloc: Global, end: &mut Journal, base: &mut Image) -> Result<(), Ch
     Ok(())
 }
 
-/// Whether two Images are the same: of the same layout, and of the same state.
+/// Returns whether two images have the same layout and the same state.
 fn same_image(image: &Image, other: &Image) -> bool
     ensures { MatchBool result (image.now ≡ other.now) (image.now ≢ other.now) }
 {
     same_layout(image.layout(), other.layout()) && image.same(other)
 }
 
-/// The fault of a volume whose records are at fault.
+/// Returns the fault of a volume whose records are at fault.
 fn chain_fault(at: u64, fault: ReplayFault) -> ChainFault
     ensures { result ≡ chain_fault at fault }
 {

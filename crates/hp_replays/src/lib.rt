@@ -1,10 +1,10 @@
-//! Histories replayed: whether records are a legal history, and whether sealed volumes follow one
-//! another.
+//! Replays histories: decides whether records are a legal history, and whether sealed volumes
+//! follow one another.
 //!
-//! It owns both answers and their faults. A journal answers the events of the records again, and
-//! each answer is held against the record's. It keeps no history and knows nothing of the layers.
+//! It owns both results and their faults. A journal replies to the events of the records again, and
+//! each reply is compared with the record's. It keeps no history and knows nothing of the layers.
 //!
-//! Read first: specs/Replaying and specs/Chains (which record or volume is the first at fault), then
+//! Read specs/Replaying and specs/Chains first (which record or volume is the first at fault), then
 //! `replaying` and `chains`.
 #![tactic(auto)]
 

@@ -1,4 +1,4 @@
-//! A replay: a list of records is read again, each answer against that of a journal.
+//! Replays records in a journal, and compares each reply.
 ghost use Rattle.std.specs.Prelude.{◌≡◌, IfErr, IfOk, OnOk};
 ghost use Rattle.hp_units.specs.Boot.{boot_memory};
 ghost use Rattle.hp_units.specs.History.{IsLegal, value_of};
@@ -11,15 +11,15 @@ use hp_plain::Image;
 use hp_units::{Layout, Record, Serial};
 use std::alloc::{AllocError, Global};
 
-/// Why records are no legal history: the first record at fault, its serial looked at before its
-/// reply; or out of memory, which may come in place of any answer.
+/// Why records are not a legal history. Names the first record at fault; its serial is checked
+/// before its reply. `OutOfMemory` may come in place of any other.
 #[derive(Clone, Copy, Debug, PartialEq, Eq, Drop)]
 pub enum ReplayFault {
-    /// The record of this serial has another reply than the plain machine gives.
+    /// The record with this serial has another reply than the plain machine gives.
     WrongReply { serial: Serial },
-    /// The record at this place, counted from 0, hasn't the next serial.
+    /// The record at this place, counted from 0, does not have the next serial.
     WrongSerial { at: u64 },
-    /// Memory was refused.
+    /// Out of memory.
     OutOfMemory,
 }
 
@@ -34,8 +34,8 @@ impl From<AllocError> for ReplayFault {
     }
 }
 
-/// The state after the records, from the state at boot and the first serial on, if they are a legal
-/// history (own rule). Time and memory are linear in the records and the layout.
+/// Returns the state after the records, from the state at boot and serial 1 on, if they are a legal
+/// history. Time and memory are linear in the records and the layout.
 pub fn replay(alloc: Global, layout: &Layout, records: &[Record]) -> Result<Image, ReplayFault>
     ensures legal { OnOk result (IsLegal layout.now (boot_memory layout.now) 0 records.now) }
     ensures value { IfOk result (λ image. image
@@ -48,8 +48,8 @@ pub fn replay(alloc: Global, layout: &Layout, records: &[Record]) -> Result<Imag
     image_after(alloc, &mut journal, records)
 }
 
-/// The state after the records, from a base state and the number of all earlier records on, if they
-/// are a legal history (own rule). Time and memory are linear in the records and the layout.
+/// Returns the state after the records, from a base state and after `before` earlier records, if
+/// they are a legal history. Time and memory are linear in the records and the layout.
 pub fn replay_from(
     alloc: Global,
     base: &Image,
@@ -70,7 +70,7 @@ pub fn replay_from(
     image_after(alloc, &mut journal, records)
 }
 
-/// The state after the records, if they are a legal history over the base of a journal of none.
+/// Returns the state after the records, if they are a legal history over a journal without records.
 fn image_after(
     alloc: Global,
     journal: &mut Journal,
@@ -95,7 +95,7 @@ fn image_after(
     Ok(image)
 }
 
-/// Makes the journal of no records the journal of these, if they are a legal history over its base.
+/// Replays the records in a journal without records, if they are a legal history over its base.
 pub(crate) fn followed(
     alloc: Global,
     journal: &mut Journal,
@@ -114,7 +114,7 @@ pub(crate) fn followed(
     Ok(())
 }
 
-/// Goes on by the record at a place, if it may stand after those of the journal.
+/// Replays the record at place `at`, if it may come after those of the journal.
 fn follow(alloc: Global, journal: &mut Journal, at: u64, next: &Record) -> Result<(), ReplayFault>
     ensures ok { OnOk result (IsFollowed journal.old next.now journal.new) }
     ensures err { IfErr result (IsFaultHere journal.old at next.now) }

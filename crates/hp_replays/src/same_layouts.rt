@@ -1,10 +1,10 @@
-//! Whether two layouts are the same.
+//! Compares layouts.
 ghost use Rattle.std.specs.Prelude.{◌≡◌, ◌≢◌, MatchBool};
 ghost use Rattle.hp_replays.specs.SameLayouts.{blocks_of, owners_of, processors_of};
 
 use hp_units::{Boot, Layout};
 
-/// Whether two layouts are the same.
+/// Returns whether two layouts are the same.
 #[tactic(auto, using(crate::proofs::SameLayouts::same_parts))]
 pub(crate) fn same_layout(layout: &Layout, other: &Layout) -> bool
     ensures { MatchBool result (layout.now ≡ other.now) (layout.now ≢ other.now) }
@@ -15,7 +15,7 @@ pub(crate) fn same_layout(layout: &Layout, other: &Layout) -> bool
         && same_boot(layout.boot(), other.boot())
 }
 
-/// Whether two layouts have the same memory blocks.
+/// Returns whether two layouts have the same memory blocks.
 fn same_blocks(layout: &Layout, other: &Layout) -> bool
     ensures { MatchBool result (blocks_of layout.now ≡ blocks_of other.now)
         (blocks_of layout.now ≢ blocks_of other.now) }
@@ -25,7 +25,7 @@ fn same_blocks(layout: &Layout, other: &Layout) -> bool
         && layout.blocks() == other.blocks()
 }
 
-/// Whether two layouts have the same processors.
+/// Returns whether two layouts have the same processors.
 fn same_processors(layout: &Layout, other: &Layout) -> bool
     ensures { MatchBool result (processors_of layout.now ≡ processors_of other.now)
         (processors_of layout.now ≢ processors_of other.now) }
@@ -35,7 +35,7 @@ fn same_processors(layout: &Layout, other: &Layout) -> bool
         && layout.high() == other.high()
 }
 
-/// Whether two layouts have the same owners and the same limit of records.
+/// Returns whether two layouts have the same owners and the same limit of records.
 fn same_owners(layout: &Layout, other: &Layout) -> bool
     ensures { MatchBool result (owners_of layout.now ≡ owners_of other.now)
         (owners_of layout.now ≢ owners_of other.now) }
@@ -46,7 +46,7 @@ fn same_owners(layout: &Layout, other: &Layout) -> bool
         && layout.history() == other.history()
 }
 
-/// Whether memory blocks are the same at boot.
+/// Returns whether memory blocks are the same at boot.
 fn same_boot(boot: &[Boot], others: &[Boot]) -> bool
     ensures { MatchBool result (boot.now ≡ others.now) (boot.now ≢ others.now) }
 {

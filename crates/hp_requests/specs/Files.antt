@@ -7,7 +7,7 @@ use Rattle.std.specs.Str.{bytes_eq}
 use Rattle.hp_requests.specs.Words.{block_named}
 use Rattle.hp_requests.specs.Names.{File, BlockSizeBytes, Buddyinfo, Probe, AutoOnlineBlocks, OfBlock, BlockFile, StateFile, OnlineFile, ZonesFile, RemovableFile}
 
--- the text before the first slash, and the text after it
+-- the texts before and after the first slash
 unfoldable pub halves_of : List ℕ → Option (List ℕ × List ℕ)
 halves_of path =
     if nat_lt (position_or_len (λ b. b == 47) path) (length path) then Some

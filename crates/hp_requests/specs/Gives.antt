@@ -1,4 +1,4 @@
--- Answers in a row of which each may be a fault, and what a function that may want memory gives.
+-- Results in a row, each of which may be a fault, and functions that may run out of memory.
 use Rattle.std.specs.Prelude.{◌≡◌, Option, Some, None, Result, Ok, Err}
 use Rattle.hp_requests.specs.Names.{ControlFault, OutOfMemory}
 
@@ -7,19 +7,19 @@ abbrev pub or_fault : {A : Type 0} → ControlFault → Option A → Result A Co
 or_fault fault None = Err fault
 or_fault fault (Some x) = Ok x
 
--- the answer to what came before it, unless that was a fault
+-- the next result, unless the one before it is a fault
 infixl 10 ◌>>=◌
 abbrev pub ◌>>=◌ : {A B : Type 0} → Result A ControlFault → (A → Result B ControlFault)
     → Result B ControlFault
 (Ok x) >>= f = f x
 (Err fault) >>= f = Err fault
 
--- out of memory may come in place of any answer, and each other fault only where it is the answer
+-- out of memory may come in place of any result, and each other fault only if it is the result
 abbrev pub Fails : {A : Type 0} → ControlFault → Result A ControlFault → Type 0
 Fails OutOfMemory answer = Unit {0}
 Fails fault answer = answer ≡ Err fault
 
--- what a function returned, seen by view, is the answer
+-- what a function returned, seen by `view`, is the result, or memory ran out
 abbrev pub Gives : {X Y : Type 0} → (X → Y) → Result X ControlFault → Result Y ControlFault → Type 0
 Gives view (Ok x) answer = answer ≡ Ok (view x)
 Gives view (Err fault) answer = Fails fault answer

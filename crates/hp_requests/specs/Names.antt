@@ -1,4 +1,4 @@
--- The variants of zones, files and faults under names of their own, passed on from one place.
+-- The variants of zones, files and faults under names of their own, exported again from one place.
 -- Declares nothing.
 pub use Rattle.hp_units.specs.declared.rows.Zone.{Zone}
 pub use Rattle.hp_units.specs.declared.rows.Zone.TheVariants.{Normal as NormalZone, Movable as MovableZone}

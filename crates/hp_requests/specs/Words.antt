@@ -5,7 +5,7 @@ use Rattle.std.specs.List.{starts_with}
 use Rattle.std.specs.Option.{option_and_then}
 use Rattle.hp_numbers.specs.NumberWords.{number_of}
 
--- the memory block whose directory has this name: `memory` and the block's number (Linux guide: memoryXXX)
+-- the memory block whose directory has this name: `memory` and its number (Linux guide: memoryXXX)
 unfoldable pub block_named : List ℕ → Option ℕ
 block_named name = if starts_with nat_eq name (codes "memory") then number_of 32 (drop 6 name) else None
 
@@ -13,21 +13,21 @@ block_named name = if starts_with nat_eq name (codes "memory") then number_of 32
 abbrev pub hex_digit : ℕ → Option ℕ
 hex_digit byte = if nat_lt (digit_value byte) 16 then Some (digit_value byte) else None
 
--- the number that hexadecimal digits write after those of another number
+-- the number that hexadecimal digits write after those of `number`
 abbrev pub hex_after : ℕ → List ℕ → Option ℕ
 hex_after number [] = Some number
 hex_after number (byte ∷ bytes) =
     option_and_then (λ digit. hex_after (number * 16 + digit) bytes) (hex_digit byte)
 
--- the number that 1 to 16 hexadecimal digits are
+-- the number that 1 to 16 hexadecimal digits write
 unfoldable pub hex_number : List ℕ → Option ℕ
 hex_number digits = if nat_lt 0 (length digits) && nat_le (length digits) 16 then hex_after 0 digits else None
 
--- the byte address that a text is: `0x` and 1 to 16 hexadecimal digits (Linux guide: probe)
+-- the byte address in a text: `0x` and 1 to 16 hexadecimal digits (Linux guide: probe)
 unfoldable pub address_of : List ℕ → Option ℕ
 address_of text = if starts_with nat_eq text (codes "0x") then hex_number (drop 2 text) else None
 
--- a written text without one final newline, if it ends with one
+-- a written text without its final newline, if it has one
 abbrev pub without_newline : List ℕ → List ℕ
 without_newline bytes =
     if nat_lt 0 (length bytes)

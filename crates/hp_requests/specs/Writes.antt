@@ -41,7 +41,7 @@ block_request block OnlineFile text = online_request block text
 block_request block ZonesFile text = Err ReadOnly
 block_request block RemovableFile text = Err ReadOnly
 
--- what a block that is added becomes, by the word for it
+-- what a block becomes when it is added, from the word for it
 unfoldable pub auto_of : List ℕ → Option Auto
 auto_of text =
     if bytes_eq text (codes "offline") then Some OfflineAuto
@@ -65,10 +65,10 @@ request_of path bytes = do
   file ← or_fault NoFile (file_at path)
   request_to file (without_newline bytes)
 
--- what a word asks for, with a newline after it as `echo` writes it
+-- what a word asks for when `echo` writes it, with a newline
 abbrev pub echo_request : (path word : List ℕ) → Result Request ControlFault
 echo_request path word = request_of path (word ++ codes "\n")
 
--- the migrations that a plan may try that a control file asks for (own rule)
+-- how many migrations a plan that a control file asks for may try
 abbrev pub control_turns : ℕ
 control_turns = 1024

@@ -6,16 +6,18 @@ use std::alloc::AllocError;
 use std::error::Error;
 use std::fmt;
 
-/// The first fault of reading or writing a control file. Out of memory may come in place of any answer.
+/// The first fault of reading or writing a control file. `OutOfMemory` may come in place of any
+/// other result.
 #[derive(Clone, Copy, Debug, PartialEq, Eq, Drop)]
 pub enum ControlFault {
-    /// There is no such file: the path is none, or the memory block is not in the layout or is absent.
+    /// There is no such file: the path is unknown, or the memory block is not in the layout or is
+    /// absent.
     NoFile,
     /// The file takes no text.
     ReadOnly,
     /// The file does not take this text.
     BadText,
-    /// Memory was refused.
+    /// Out of memory.
     OutOfMemory,
     /// The file has no text to read.
     WriteOnly,

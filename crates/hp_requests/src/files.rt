@@ -18,7 +18,7 @@ pub enum BlockFile {
     Removable,
 }
 
-/// A control file (Linux guide, Memory Hot(Un)Plug; `buddyinfo` stands in another directory there).
+/// A control file (Linux guide, Memory Hot(Un)Plug; there `buddyinfo` is in another directory).
 #[derive(Clone, Copy, PartialEq, Eq, Drop)]
 pub enum File {
     /// `block_size_bytes`
@@ -33,10 +33,10 @@ pub enum File {
     OfBlock { block: Block, file: BlockFile },
 }
 
-/// The control file at a path, relative to the directory of memory devices (Linux guide, Memory
-/// Hot(Un)Plug): `block_size_bytes`, `buddyinfo`, `probe`, `auto_online_blocks`, or `memoryN/` and
-/// `state`, `online`, `valid_zones` or `removable`, N in decimal and below 2^32; none at another
-/// path. No machine is looked at: the block need not be in a layout.
+/// Returns the control file at a path, relative to the directory of memory devices (Linux guide,
+/// Memory Hot(Un)Plug): `block_size_bytes`, `buddyinfo`, `probe`, `auto_online_blocks`, or
+/// `memoryN/` and `state`, `online`, `valid_zones` or `removable`, with N in decimal and below
+/// 2^32. Returns `None` for any other path. No machine is read: the block need not be in a layout.
 #[tactic(auto, unfolding(crate::specs::Files::file_at))]
 pub fn file_at(path: &str) -> Option<File>
     ensures { result ≡ means.file_at path.now }
@@ -53,14 +53,14 @@ pub fn file_at(path: &str) -> Option<File>
     }
 }
 
-/// The text before the first slash, and the text after it.
+/// Returns the texts before and after the first slash.
 fn halves(path: &str) -> Option<(&str, &str)>
     ensures { option_map (λ p. (p.0.now, p.1.now)) result ≡ means.halves_of path.now }
 {
     path.split_once('/')
 }
 
-/// The file with this name in the directory of a memory block.
+/// Returns the file with this name in the directory of a memory block.
 fn file_of_block(directory: &str, name: &str) -> Option<File>
     ensures { result ≡ means.file_of_block directory.now name.now }
 {
@@ -69,7 +69,7 @@ fn file_of_block(directory: &str, name: &str) -> Option<File>
     Some(File::OfBlock { block, file })
 }
 
-/// The file of a memory block with this name.
+/// Returns the file of a memory block with this name.
 #[tactic(auto, unfolding(crate::specs::Files::block_file_named))]
 fn block_file_named(name: &str) -> Option<BlockFile>
     ensures { result ≡ means.block_file_named name.now }

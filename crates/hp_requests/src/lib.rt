@@ -1,5 +1,5 @@
-//! Requests to control files: which file a path is, and what a written text asks for. No machine is
-//! looked at.
+//! Requests to control files: which file a path is, and what a written text asks for. Reads no
+//! machine.
 #![tactic(auto)]
 
 mod fault;

@@ -4,7 +4,7 @@ ghost use Rattle.hp_requests.specs.Words as means;
 
 use hp_units::{Block, number32};
 
-/// The memory block whose directory has this name.
+/// Returns the memory block whose directory has this name.
 #[tactic(auto, unfolding(crate::specs::Words::block_named))]
 pub(crate) fn block_named(name: &str) -> Option<Block>
     ensures { result ≡ means.block_named name.now }
@@ -12,7 +12,7 @@ pub(crate) fn block_named(name: &str) -> Option<Block>
     Some(Block(number32(name.strip_prefix("memory")?)?))
 }
 
-/// The value of a hexadecimal digit of either case.
+/// Returns the value of a hexadecimal digit of either case.
 fn hex_digit(byte: u8) -> Option<u8>
     ensures is { result ≡ means.hex_digit byte }
     ensures bound { IfSome result (λ digit. digit < 16) }
@@ -25,7 +25,7 @@ fn hex_digit(byte: u8) -> Option<u8>
     }
 }
 
-/// The number that 1 to 16 hexadecimal digits are.
+/// Returns the number that 1 to 16 hexadecimal digits write.
 #[tactic(auto, unfolding(crate::specs::Words::hex_number))]
 fn hex_number(digits: &[u8]) -> Option<u64>
     ensures { result ≡ means.hex_number digits.now }
@@ -40,7 +40,7 @@ fn hex_number(digits: &[u8]) -> Option<u64>
     Some(number)
 }
 
-/// The byte address that a text is: `0x` and 1 to 16 hexadecimal digits.
+/// Returns the byte address in a text: `0x` and 1 to 16 hexadecimal digits.
 #[tactic(auto, unfolding(crate::specs::Words::address_of))]
 pub(crate) fn address_from(text: &[u8]) -> Option<u64>
     ensures { result ≡ means.address_of text.now }
@@ -51,7 +51,7 @@ pub(crate) fn address_from(text: &[u8]) -> Option<u64>
     }
 }
 
-/// A written text without one final newline, if it ends with one.
+/// Returns a written text without its final newline, if it has one.
 pub(crate) fn without_newline(bytes: &[u8]) -> &[u8]
     ensures { result.now ≡ means.without_newline bytes.now }
 {

@@ -9,7 +9,7 @@ use crate::words::{address_from, without_newline};
 use hp_units::{Auto, Block, Event, Item, Plan, Wish, Zone};
 use std::alloc::{AllocError, Global};
 
-/// The migrations that a plan may try that a control file asks for (own rule).
+/// How many migrations a plan that a control file asks for may try.
 pub const CONTROL_TURNS: u32 = 1024;
 
 /// What a written text asks for.
@@ -17,21 +17,21 @@ pub const CONTROL_TURNS: u32 = 1024;
 pub enum Request {
     /// One event.
     Event(Event),
-    /// A plan, to be carried through.
+    /// A plan to carry out.
     Plan(Plan),
 }
 
-/// What bytes that are written to the control file at a path ask for (Linux guide, Memory
-/// Hot(Un)Plug). One final newline is taken off; what is left must be one of the words. No machine
-/// is looked at: a block that isn't there is refused later.
+/// Returns what bytes written to the control file at a path ask for (Linux guide, Memory
+/// Hot(Un)Plug). Takes one final newline off; the rest must be one of the words. No machine is
+/// read: a block that is not there is refused later.
 ///
 /// `memoryN/state`: `online` and `online_kernel` for zone Normal, `online_movable` for zone
 /// Movable, `offline`. `memoryN/online`: `1` for zone Normal, `0` for offline. `probe`: `0x` and 1
 /// to 16 hexadecimal digits, a byte address. `auto_online_blocks`: `offline`, `online`,
 /// `online_kernel` or `online_movable`.
 ///
-/// Errors in their order: NoFile for another path; ReadOnly for another file; BadText; OutOfMemory,
-/// which may come in place of any answer.
+/// Errors, in this order: `NoFile` for another path; `ReadOnly` for another file; `BadText`;
+/// `OutOfMemory`, which may come in place of any other result.
 #[tactic(auto, unfolding(crate::specs::Writes::request_of))]
 pub fn parse_write(alloc: Global, path: &str, bytes: &[u8]) -> Result<Request, ControlFault>
     ensures { Gives (λ request. request) result (means.request_of path.now bytes.now) }
@@ -42,7 +42,7 @@ pub fn parse_write(alloc: Global, path: &str, bytes: &[u8]) -> Result<Request, C
     }
 }
 
-/// What a word asks for that is written with a newline after it. Errors as of `parse_write`.
+/// Returns what a word asks for when it is written with a newline. Fails like `parse_write`.
 fn parse_echo(alloc: Global, path: &str, word: &str) -> Result<Request, ControlFault>
     ensures { Gives (λ request. request) result (means.echo_request path.now word.now) }
 {
@@ -51,8 +51,8 @@ fn parse_echo(alloc: Global, path: &str, word: &str) -> Result<Request, ControlF
     parse_write(alloc, path, line.as_bytes())
 }
 
-/// What a word asks for that `echo` writes to the control file at a path, or why the file does not
-/// take it: a newline follows the word. An error is out of memory.
+/// Returns what a word asks for that `echo` writes, with a newline, to the control file at a path,
+/// or why the file does not take it.
 pub fn echo_answer(
     alloc: Global,
     path: &str,
@@ -67,7 +67,7 @@ pub fn echo_answer(
     }
 }
 
-/// What a text written to a file asks for.
+/// Returns what a text written to a file asks for.
 #[tactic(auto, unfolding(crate::specs::Writes::request_to))]
 fn request_to(alloc: Global, file: File, text: &[u8]) -> Result<Request, ControlFault>
     ensures { Gives (λ request. request) result (means.request_to file text.now) }
@@ -86,7 +86,7 @@ fn request_to(alloc: Global, file: File, text: &[u8]) -> Result<Request, Control
     }
 }
 
-/// What a text written to a file of a memory block asks for.
+/// Returns what a text written to a file of a memory block asks for.
 fn block_request(
     alloc: Global,
     block: Block,
@@ -102,7 +102,7 @@ fn block_request(
     }
 }
 
-/// What a text written to a block's `state` asks for.
+/// Returns what a text written to a block's `state` asks for.
 #[tactic(auto, unfolding(crate::specs::Writes::state_request))]
 fn state_request(alloc: Global, block: Block, text: &[u8]) -> Result<Request, ControlFault>
     ensures { Gives (λ request. request) result (means.state_request block text.now) }
@@ -118,7 +118,7 @@ fn state_request(alloc: Global, block: Block, text: &[u8]) -> Result<Request, Co
     }
 }
 
-/// What a text written to a block's `online` asks for.
+/// Returns what a text written to a block's `online` asks for.
 #[tactic(auto, unfolding(crate::specs::Writes::online_request))]
 fn online_request(alloc: Global, block: Block, text: &[u8]) -> Result<Request, ControlFault>
     ensures { Gives (λ request. request) result (means.online_request block text.now) }
@@ -132,14 +132,14 @@ fn online_request(alloc: Global, block: Block, text: &[u8]) -> Result<Request, C
     }
 }
 
-/// A block goes online in a zone.
+/// Returns the request that a block go online in a zone.
 fn online(block: Block, zone: Zone) -> Request
     ensures { result ≡ means.online block zone }
 {
     Request::Event(Event::Online { block, zone })
 }
 
-/// A block goes offline.
+/// Returns the request that a block go offline.
 fn offline(alloc: Global, block: Block) -> Result<Request, AllocError>
     ensures { IfOk result (λ request. request ≡ means.offline block) }
 {
@@ -152,7 +152,7 @@ fn offline(alloc: Global, block: Block) -> Result<Request, AllocError>
     Ok(Request::Plan(plan))
 }
 
-/// What a block that is added becomes, by the word for it.
+/// Returns what a block becomes when it is added, from the word for it.
 #[tactic(auto, unfolding(crate::specs::Writes::auto_of))]
 fn auto_from(text: &[u8]) -> Option<Auto>
     ensures { result ≡ means.auto_of text.now }

@@ -1,4 +1,4 @@
--- What a line asks for, an echo read as what its control file takes it for (own rule).
+-- What a line asks for, once an echo is read as its control file takes it.
 use Rattle.std.specs.Prelude.{ℕ, Bool, true, false, List, Result, Ok, Err}
 use Rattle.hp_units.specs.declared.events.Event.{Event}
 use Rattle.hp_units.specs.declared.plans.Item.{Item}
@@ -9,8 +9,8 @@ use Rattle.hp_requests.specs.declared.writes.Request.TheVariants as request
 use Rattle.hp_scenario.specs.declared.lines.Work.{Work}
 use Rattle.hp_scenario.specs.declared.lines.Work.TheVariants as work
 
--- an event, a plan with so many turns, nothing since a control file does not take the word, a control
--- file's text, or the records since the last seal
+-- an event; a plan with its turns; nothing, since a control file does not take the word; a control
+-- file to read; or a seal
 pub data Meaning : Type 0 where
   event : Event → Meaning
   plan : (items : List Item) → (turns : ℕ) → Meaning
@@ -18,7 +18,7 @@ pub data Meaning : Type 0 where
   cat : (path : List ℕ) → Meaning
   seal : Meaning
 
--- what a control file is asked for
+-- what an echo asks for
 abbrev pub asked_of : Result Request ControlFault → Meaning
 asked_of (Ok (request.Event e)) = event e
 asked_of (Ok (request.Plan items)) = plan items control_turns
@@ -32,7 +32,7 @@ asked_by (work.Echo echo) = asked_of (echo_request echo.path echo.word)
 asked_by (work.Cat path) = cat path
 asked_by work.Seal = seal
 
--- a control file's text, and the records
+-- a line reads a control file; a line is a seal
 abbrev pub asks_text : Meaning → Bool
 asks_text (cat path) = true
 asks_text m = false

@@ -1,4 +1,4 @@
--- The lines of a scenario in its usual form, taken one after another (own rule).
+-- The lines of a scenario in its usual form, taken one after another.
 use Rattle.std.specs.Prelude.{◌≡◌, ℕ, List, [], ◌∷◌, codes, Ok, Some, IsUtf8}
 use Rattle.json.specs.Token.{Token, key, string, begin_object, begin_array, end_array, end_object}
 use Rattle.json.specs.Lex.{tokens}
@@ -11,7 +11,7 @@ use Rattle.hp_scenario.specs.declared.calls.Next.{Next}
 use Rattle.hp_scenario.specs.declared.calls.Next.TheVariants.{Another, End, Unsure}
 use Rattle.hp_scenario.specs.declared.lines.Line.{Line}
 
--- the tokens up to the first of the lines
+-- the tokens before the first line
 abbrev pub IsFront : LayoutParts → List Token → List Token → Type 0
 IsFront layout old new =
     (b : List Token) × (old ≡ begin_object ∷ key (codes "layout") ∷ b)
@@ -40,7 +40,7 @@ Goes old (Another line) new = Passes old line new
 Goes old End new = Ends old new
 Goes old Unsure new = Unit {0}
 
--- lines were taken one after another
+-- these lines were taken, one after another
 abbrev pub HasPassed : Calls → List Line → Calls → Type 0
 HasPassed old lines new =
     (texts : List (List ℕ)) × (old.reader ≡ strings_then texts new.reader)
@@ -48,6 +48,6 @@ HasPassed old lines new =
     ≡ Ok (record { names = new.names.keys; lines = lines }))
     × (new.layout ≡ old.layout)
 
--- all lines were taken
+-- these are all lines, and they were taken
 abbrev pub AreAll : Calls → List Line → Calls → Type 0
 AreAll old lines new = (last : Calls) × HasPassed old lines last × Ends last new

@@ -1,4 +1,4 @@
--- What a contract sees of a word that is written to a control file.
+-- The value of a word that is written to a control file.
 use Rattle.std.specs.Prelude.{ℕ, List}
 
 pub record EchoValue : Type 0 where

@@ -1,4 +1,4 @@
--- The form of a scenario, over the values that `serde_json` reads (own rule).
+-- The form of a scenario, over the values that `serde_json` reads.
 use Rattle.std.specs.Prelude.{ℕ, ◌==◌, List, [], ◌∷◌, codes, Bool, false, Option, Some, None, is_some, unwrap_or, if◌then◌else◌, option_and_then}
 use Rattle.std.specs.Str.{bytes_eq}
 use Rattle.serde_json.specs.Data.{Data, Items, no_items, item, Members}
@@ -14,12 +14,12 @@ infixl 10 ◌>>=◌
 abbrev pub ◌>>=◌ : {A B : Type 0} → Option A → (A → Option B) → Option B
 o >>= f = option_and_then f o
 
--- members, of this many keys
+-- `n` members
 abbrev pub are_keys : ℕ → Option Members → Bool
 are_keys n None = false
 are_keys n (Some ms) = members_len ms == n
 
--- an object of this many keys
+-- an object with `n` keys
 unfoldable pub has_keys : ℕ → Data → Bool
 has_keys n d = are_keys n (as_object d)
 
@@ -27,14 +27,14 @@ has_keys n d = are_keys n (as_object d)
 unfoldable pub number_at : List ℕ → Data → Option ℕ
 number_at key d = option_and_then as_u64 (option_and_then as_number (get key d))
 
--- the numbers at two keys, where there are both
+-- the numbers at two keys, if there are both
 unfoldable pub pair_at : List ℕ → List ℕ → Data → Option (ℕ × ℕ)
 pair_at first second d = do
   one ← number_at first d
   other ← number_at second d
   Some (one, other)
 
--- what a block is at boot, by its word
+-- a block's state at boot, from its word
 unfoldable pub boot_of : List ℕ → Option Boot
 boot_of word =
     if bytes_eq word (codes "offline") then Some Offline
@@ -43,7 +43,7 @@ boot_of word =
     else (if bytes_eq word (codes "absent") then Some Absent
     else None)))
 
--- what f makes of each item, where it makes something of each
+-- what `f` makes of each item, if it makes something of each
 unfoldable pub each_in : {B : Type 0} → (Data → Option B) → Items → Option (List B)
 each_in f no_items = Some []
 each_in f (item d ds) = do
@@ -51,25 +51,25 @@ each_in f (item d ds) = do
   xs ← each_in f ds
   Some (x ∷ xs)
 
--- what a block is at boot, by the text that a value is
+-- a block's state at boot, from the text in a value
 abbrev pub boot_at : Data → Option Boot
 boot_at d = option_and_then boot_of (as_str d)
 
--- whether a value is a text, and which
+-- a value is a text; which one
 abbrev pub is_text : Value → Bool
 is_text v = is_some (as_str (view v))
 
 abbrev pub text_of : Value → List ℕ
 text_of v = unwrap_or (as_str (view v)) []
 
--- the texts at a key, and what the blocks are at boot
+-- the texts at a key, and the blocks' states at boot
 unfoldable pub texts_at : List ℕ → Data → Option (List (List ℕ))
 texts_at key d = option_and_then (each_in as_str) (option_and_then as_array (get key d))
 
 unfoldable pub boots_at : List ℕ → Data → Option (List Boot)
 boots_at key d = option_and_then (each_in boot_at) (option_and_then as_array (get key d))
 
--- the layout's parts, where `boot` is known
+-- the layout's parts, with `boot` given
 unfoldable pub parts_with : List Boot → Data → Option LayoutParts
 parts_with boot d = do
   order ← number_at (codes "order") d
@@ -96,7 +96,7 @@ parts_with boot d = do
     boot = boot;
   })
 
--- an object with just the eleven keys of a layout
+-- an object with exactly the eleven keys of a layout
 unfoldable pub parts_of : Data → Option LayoutParts
 parts_of d = if has_keys 11 d then (boots_at (codes "boot") d >>= λ boot. parts_with boot d) else None
 
@@ -105,14 +105,14 @@ pub record Form : Type 0 where
   pub parts : LayoutParts
   pub calls : List (List ℕ)
 
--- the form of a layout's parts and of texts, where there are both
+-- the form of a layout's parts and of texts, if there are both
 abbrev pub form_with : Option LayoutParts → Option (List (List ℕ)) → Option Form
 form_with parts calls = do
   p ← parts
   c ← calls
   Some (record { parts = p; calls = c })
 
--- an object with just the keys `layout` and `calls`
+-- an object with exactly the keys `layout` and `calls`
 unfoldable pub form_of : Data → Option Form
 form_of d = if has_keys 2 d then (do
   layout ← get (codes "layout") d

@@ -1,4 +1,4 @@
--- Steps that may fail, and what a function that may want memory gives.
+-- Steps that may fail, and functions that may run out of memory.
 use Rattle.std.specs.Prelude.{◌≡◌, Option, Some, None, Result, Ok, Err}
 use Rattle.hp_scenario.specs.declared.fault.ScenarioFault.{ScenarioFault}
 use Rattle.hp_scenario.specs.declared.fault.ScenarioFault.TheVariants.{OutOfMemory}
@@ -13,12 +13,12 @@ abbrev pub or_fault : {A : Type 0} → ScenarioFault → Option A → Result A S
 or_fault fault None = Err fault
 or_fault fault (Some x) = Ok x
 
--- out of memory may come in place of any answer
+-- out of memory may come in place of any result
 abbrev pub Fails : {A : Type 0} → ScenarioFault → Result A ScenarioFault → Type 0
 Fails OutOfMemory read = Unit {0}
 Fails fault read = read ≡ Err fault
 
--- what a function returned, seen by view, is what reading gives
+-- what a function returned, seen by `view`, is what reading gives, or memory ran out
 abbrev pub Gives : {X Y : Type 0} → (X → Y) → Result X ScenarioFault → Result Y ScenarioFault → Type 0
 Gives view (Ok x) read = read ≡ Ok (view x)
 Gives view (Err e) read = Fails e read

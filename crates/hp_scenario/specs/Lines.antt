@@ -1,4 +1,4 @@
--- What a line asks for, with a name as it is written (own rule).
+-- The contents of a line, with names as they are written.
 use Rattle.std.specs.Prelude.{ℕ, List, [], ◌∷◌, codes, Option, Some, None, if◌then◌else◌, option_map, option_and_then}
 use Rattle.std.specs.Str.{bytes_eq}
 use Rattle.hp_units.specs.declared.events.Event.{Event}
@@ -50,7 +50,7 @@ wish_of word =
     else (if bytes_eq word (codes "movable") then Some wish.Movable
     else None))
 
--- a plan's item: what is made of a memory block, and its number
+-- a plan's item: what becomes of a memory block, and the block's number
 unfoldable pub item_of : (wish block : List ℕ) → Option Item
 item_of wish block = do
   w ← wish_of wish
@@ -66,12 +66,12 @@ items_of (wish ∷ block ∷ rest) = do
   items ← items_of rest
   Some (item ∷ items)
 
--- a text of one byte or more
+-- a text of at least one byte
 abbrev pub text_of : List ℕ → Option (List ℕ)
 text_of [] = None
 text_of (b ∷ bs) = Some (b ∷ bs)
 
--- ---- verbs with no list, by how many words come after them
+-- ---- verbs without a list, by how many words come after them
 
 -- an access to a page of the owner that a word names
 abbrev pub named_if : List ℕ → Access → Option Request
@@ -183,7 +183,7 @@ request_of (verb ∷ args) =
     else (if bytes_eq verb (codes "seal") then seal_of args
     else event_of verb args))))
 
--- a processor and what it asks for
+-- a processor and what it asks for, from the words of a line
 pub record Said : Type 0 where
   pub cpu : ℕ
   pub request : Request
@@ -195,6 +195,6 @@ words_say (cpu ∷ rest) = do
   r ← request_of rest
   Some (record { cpu = c; request = r })
 
--- what a text says, where it is a line
+-- the contents of a text, if it is a line
 unfoldable pub line_says : List ℕ → Option Said
 line_says text = words_say (words_of text)

@@ -1,4 +1,4 @@
--- Names are numbered as owners from 0, in the order in which they first occur (own rule).
+-- Names are numbered as owners from 0, in the order in which they first occur.
 use Rattle.std.specs.Prelude.{ℕ, List, Option, option_map}
 use Rattle.std.specs.Str.{bytes_eq}
 use Rattle.std.specs.List.{position_or_len}
@@ -12,7 +12,7 @@ use Rattle.hp_scenario.specs.declared.lines.Work.TheVariants as work
 use Rattle.hp_scenario.specs.declared.requests.Access.{Access}
 use Rattle.hp_scenario.specs.declared.requests.Access.TheVariants.{Map, Unmap, Write, Read}
 
--- the names after a request: a name that is new goes last
+-- the names after a request: a new name goes last
 abbrev pub names_with : List (List ℕ) → Request → List (List ℕ)
 names_with names (plain w) = names
 names_with names (named name access) = insert_key bytes_eq names name
@@ -28,7 +28,7 @@ access_event owner (Unmap page) = event.Unmap owner page
 access_event owner (Write page index value) = event.Write owner page index value
 access_event owner (Read page index) = event.Read owner page index
 
--- the work of a request, given the names that stood in the lines before it
+-- the work of a request, given the names of the lines before it
 abbrev pub work_of : List (List ℕ) → Request → Work
 work_of names (plain w) = w
 work_of names (named name access) = work.Event (access_event (owner_of names name) access)
@@ -44,6 +44,6 @@ numbered names said = record {
   line = record { cpu = said.cpu; work = work_of names said.request };
 }
 
--- the line that a text is after these names, and the names after it
+-- the line in a text after these names, and the names after it
 unfoldable pub line_in : List (List ℕ) → List ℕ → Option Numbered
 line_in names text = option_map (numbered names) (line_says text)

@@ -1,4 +1,4 @@
--- The tokens that are still to come of a plain text.
+-- The tokens of a plain text that are still to come.
 use Rattle.std.specs.Prelude.{◌≡◌, ℕ, List, ◌∷◌}
 use Rattle.json.specs.Token.{Token}
 use Rattle.json.specs.Lex.{between, lex, fresh, after_value, after_comma, punctuate}
@@ -8,7 +8,7 @@ use Rattle.hp_scenario.specs.declared.plain_reader.Found.{Found}
 use Rattle.hp_scenario.specs.declared.plain_reader.Place.{Place}
 use Rattle.hp_scenario.specs.declared.plain_reader.Place.TheVariants.{Fresh, AfterValue, AfterComma}
 
--- the place as json's grammar has it
+-- the place, as json's grammar has it
 abbrev pub place_of : Place → json.Place
 place_of Fresh = fresh
 place_of AfterValue = after_value
@@ -18,6 +18,6 @@ place_of AfterComma = after_comma
 abbrev pub tokens_at : Place → List ℕ → List Token
 tokens_at place text = punctuate (place_of place) (lex between text)
 
--- a token stands first, and the others after it
+-- the found token comes first, then the others after it
 abbrev pub IsFound : List Token → Found → Type 0
 IsFound tokens found = tokens ≡ token_of found.token ∷ tokens_at found.place found.rest.now

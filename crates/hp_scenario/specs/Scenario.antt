@@ -1,4 +1,4 @@
--- What the bytes of a scenario mean (own rule).
+-- The scenario in a text, or why there is none.
 use Rattle.std.specs.Prelude.{ℕ, ◌+◌, List, [], ◌∷◌, ◌++◌, Option, Some, None, Result, Ok, Err, if◌then◌else◌}
 use Rattle.std.specs.Str.{is_utf8}
 use Rattle.serde_json.specs.Data.{Data}
@@ -26,11 +26,11 @@ pub record Script : Type 0 where
 abbrev pub nothing : Script
 nothing = record { names = []; lines = [] }
 
--- one line more
+-- one more line
 abbrev pub with_line : Script → Numbered → Script
 with_line script n = record { names = n.names; lines = script.lines ++ n.line ∷ [] }
 
--- the texts from number `at` on, after the lines so far
+-- the lines in the texts, of which the first has number `at`, after the lines so far
 unfoldable pub lines_from : ℕ → Script → List (List ℕ) → Result Script ScenarioFault
 lines_from at script [] = Ok script
 lines_from at script (text ∷ texts) =
@@ -41,25 +41,25 @@ abbrev pub layout_or : LayoutParts → Option LayoutFault → Result LayoutParts
 layout_or parts None = Ok parts
 layout_or parts (Some fault) = Err (Layout fault)
 
--- the scenario of a form, or the first fault: of its layout, then of its lines
+-- the scenario of a form, or the first fault: the layout's, then the lines'
 unfoldable pub scenario_with : Form → Result ScenarioValue ScenarioFault
 scenario_with form = do
   layout ← layout_or form.parts (layout_fault form.parts)
   script ← lines_from 1 nothing form.calls
   Ok (record { layout = layout; names = script.names; lines = script.lines })
 
--- the scenario of parts and texts; its shape is at fault where one is missing
+-- the scenario of parts and texts; a bad shape if one is missing
 abbrev pub scenario_if : Option LayoutParts → Option (List (List ℕ)) → Result ScenarioValue ScenarioFault
 scenario_if parts calls = or_fault BadShape (form_with parts calls) >>= scenario_with
 
--- the scenario that a JSON value is, or the first fault: of its shape before all others
+-- the scenario in a JSON value, or the first fault: the shape's before all others
 unfoldable pub scenario_of : Data → Result ScenarioValue ScenarioFault
 scenario_of d = or_fault BadShape (form_of d) >>= scenario_with
 
--- the value that a text is, where it is JSON in UTF-8
+-- the JSON value of a text in UTF-8
 unfoldable pub json_of : List ℕ → Option Data
 json_of bytes = if is_utf8 bytes then read bytes else None
 
--- the scenario that a text is, or the first fault
+-- the scenario in a text, or the first fault
 unfoldable pub scenario_in : List ℕ → Result ScenarioValue ScenarioFault
 scenario_in bytes = or_fault NotJson (json_of bytes) >>= scenario_of

@@ -1,4 +1,4 @@
--- The lines of a scenario by processor (own rule).
+-- The lines of a scenario by processor.
 use Rattle.std.specs.Prelude.{◌≡◌, ℕ, ◌+◌, ◌<◌, ◌==◌, Bool, true, false, ◌&&◌, not, List, filter, length, map, nat_lt, Option, Some, None, Result, Ok, Err}
 use Rattle.std.specs.List.{All, list_all, position, range_with_len}
 use Rattle.hp_scenario.specs.Asked.{is_cat}
@@ -7,14 +7,14 @@ use Rattle.hp_scenario.specs.declared.fault.ScenarioFault.{ScenarioFault}
 use Rattle.hp_scenario.specs.declared.fault.ScenarioFault.TheVariants.{NotForRun}
 use Rattle.hp_scenario.specs.declared.lines.Line.{Line}
 
--- no line of any script reads a control file
+-- a line does not read a control file; no line of any script does
 abbrev pub IsForRun : Line → Type 0
 IsForRun line = is_cat line.work ≡ false
 
 abbrev pub AreForRun : List (List Line) → Type 0
 AreForRun scripts = All (λ script. All IsForRun script) scripts
 
--- whether a worker may run the line, with so many processors
+-- a worker may run the line, with `cpus` processors
 abbrev pub is_for_run : (cpus : ℕ) → Line → Bool
 is_for_run cpus line = nat_lt line.cpu cpus && not (is_cat line.work)
 
@@ -22,15 +22,16 @@ is_for_run cpus line = nat_lt line.cpu cpus && not (is_cat line.work)
 abbrev pub script_of : List Line → (cpu : ℕ) → List Line
 script_of lines cpu = filter (λ line. line.cpu == cpu) lines
 
--- there are lines, and all of them are one processor's
+-- there are lines, and all are one processor's
 abbrev pub AreAllOf : List Line → (cpu : ℕ) → Type 0
 AreAllOf lines cpu = (0 < length lines) × (list_all (λ line. line.cpu == cpu) lines ≡ true)
 
--- where the first line stands that no worker may run
+-- the index of the first line that no worker may run
 abbrev pub first_unfit : (cpus : ℕ) → List Line → Option ℕ
 first_unfit cpus lines = position (λ line. not (is_for_run cpus line)) lines
 
--- a script for each processor from 0, unless no worker may run the line there; that line is counted from 1
+-- a script per processor, from 0; or, if no worker may run the line at `at`, its number, counted
+-- from 1
 abbrev pub scripts_unless : ScenarioValue → Option ℕ → Result (List (List Line)) ScenarioFault
 scripts_unless scenario (Some at) = Err (NotForRun (at + 1))
 scripts_unless scenario None = Ok (map (script_of scenario.lines) (range_with_len 0 scenario.layout.cpus))

@@ -1,4 +1,4 @@
--- What a contract sees of a scenario, and of what a line says.
+-- The values of a scenario and of a line.
 use Rattle.hp_scenario.specs.Asked as asks
 use Rattle.hp_scenario.specs.Lines as said
 use Rattle.hp_scenario.specs.Scenario.{ScenarioValue}

@@ -1,5 +1,5 @@
--- How each line is spelled (own rule): a text is a line just where it is spelled so, and what it
--- says can be said.
+-- How each line is spelled: a text is a line if and only if it is spelled like this, and the line
+-- can be written.
 use Rattle.std.specs.Prelude.{◌≡◌, ℕ, ◌^◌, ◌<◌, ◌==◌, List, [], ◌∷◌, codes, Bool, true, not, length, Some, ◌↔◌}
 use Rattle.std.specs.Fmt.{decimal}
 use Rattle.std.specs.List.{join_with_byte, list_all}
@@ -64,11 +64,11 @@ abbrev pub request_words : Request → List (List ℕ)
 request_words (plain w) = work_words w
 request_words (named name a) = access_words name a
 
--- the words between single spaces
+-- the words, joined by single spaces
 abbrev pub line_text : Said → List ℕ
 line_text said = join_with_byte 32 (decimal said.cpu ∷ request_words said.request)
 
--- ---- what can be said: numbers that fit, names, and texts with no space
+-- ---- what can be written: numbers that fit, names, and texts without a space
 
 abbrev pub is_spaceless : List ℕ → Bool
 is_spaceless word = list_all (λ b. not (b == 32)) word

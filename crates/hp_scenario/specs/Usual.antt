@@ -1,4 +1,4 @@
--- The usual form of a scenario, read token by token, without a tree of values (own rule).
+-- The usual form of a scenario, read token by token, without a tree of values.
 use Rattle.std.specs.Prelude.{◌≡◌, ℕ, List, [], ◌∷◌, codes, Some, None, Ok}
 use Rattle.json.specs.Token.{Token, key, string, number, begin_array, end_array, end_object}
 use Rattle.json.specs.Json.{value}
@@ -10,11 +10,11 @@ use Rattle.hp_units.specs.declared.rows.Boot.{Boot}
 use Rattle.hp_scenario.specs.Form.{each_in, boot_at, parts_of}
 use Rattle.hp_scenario.specs.Scenario.{ScenarioValue, Script, nothing, lines_from, scenario_of}
 
--- the value d is read from the front of the tokens `old`, and `new` are left
+-- the value `d` is read from the front of the tokens `old`, and `new` are left
 abbrev pub Reads : ℕ → Data → List Token → List Token → Type 0
 Reads depth d old new = converted of_json (value depth old) ≡ Some (d, new)
 
--- texts one after another, and then the rest
+-- texts one after another, then the rest
 abbrev pub strings_then : List (List ℕ) → List Token → List Token
 strings_then [] rest = rest
 strings_then (text ∷ texts) rest = string text ∷ strings_then texts rest
@@ -41,7 +41,7 @@ abbrev pub AreRows : List (List ℕ × ℕ) → List Token → List Token → Ty
 AreRows [] old new = old ≡ new
 AreRows (row ∷ rows) old new = (mid : List Token) × IsRow row.0 row.1 old mid × AreRows rows mid new
 
--- the members that the rows are, after those of before
+-- the members that the rows make, after those before
 abbrev pub put_rows : List (List ℕ × ℕ) → Members → Members
 put_rows [] before = before
 put_rows (row ∷ rows) before = put_rows rows (put row.0 (value_of.number (unsigned row.1)) before)
@@ -53,7 +53,7 @@ rows_of n =
     ∷ (codes "cpus", n.cpus) ∷ (codes "batch", n.batch) ∷ (codes "high", n.high) ∷ (codes "owners", n.owners)
     ∷ (codes "pages", n.pages) ∷ (codes "words", n.words) ∷ (codes "history", n.history) ∷ []
 
--- the parts that numbers and blocks at boot make
+-- the parts of numbers and of blocks at boot
 abbrev pub parts_from : LayoutParts → List Boot → LayoutParts
 parts_from n boot = record n { boot = boot }
 
@@ -62,18 +62,18 @@ abbrev pub AreBoots : List Boot → List Token → List Token → Type 0
 AreBoots boot old new =
     (words : List (List ℕ)) × AreTexts words old new × (each_in boot_at (texts_data words) ≡ Some boot)
 
--- the words under their key, up to the end of the layout
+-- the key `boot` with these words, up to the end of the layout
 abbrev pub EndsWithBoots : List Boot → List Token → List Token → Type 0
 EndsWithBoots boot old new =
     (mid : List Token) × (old ≡ key (codes "boot") ∷ begin_array ∷ mid)
     × AreBoots boot mid (end_object ∷ new)
 
--- a layout with no fault is read from the front of the tokens
+-- a layout without a fault is read from the front of the tokens
 abbrev pub IsLayoutAt : LayoutParts → List Token → List Token → Type 0
 IsLayoutAt layout old new =
     (d : Data) × Reads 126 d old new × (parts_of d ≡ Some layout) × (layout_fault layout ≡ None)
 
--- the lines of texts, up to the end of an array
+-- the lines in texts, up to the end of an array
 abbrev pub AreLines : Script → List Token → List Token → Type 0
 AreLines script old new =
     (texts : List (List ℕ)) × AreTexts texts old new × (lines_from 1 nothing texts ≡ Ok script)

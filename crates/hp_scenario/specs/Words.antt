@@ -1,4 +1,4 @@
--- The words of a line, and its names (own rule).
+-- The words of a line, and its names.
 use Rattle.std.specs.Prelude.{◌≡◌, ℕ, ◌&&◌, ◌||◌, ◌==◌, List, [], ◌∷◌, length, Bool, true, false, nat_lt}
 use Rattle.std.specs.List.{list_all, slice_split}
 use Rattle.std.specs.Int.{is_in_range}
@@ -9,7 +9,7 @@ use Rattle.hp_numbers.specs.NumberWords.{is_bare, is_digits}
 abbrev pub words_of : List ℕ → List (List ℕ)
 words_of text = slice_split (λ b. b == 32) text
 
--- digits with no leading zero, and the number that they are
+-- digits without a leading zero, and the number that they write
 abbrev pub IsPlainNumber : List ℕ → ℕ → Type 0
 IsPlainNumber word n = (is_bare word ≡ true) × (is_digits word ≡ true) × (digits_value 10 word ≡ n)
 

@@ -1,4 +1,4 @@
-//! What a line asks for, an `echo` read as what its control file takes it for.
+//! What a line asks for, once an `echo` is read as its control file takes it.
 ghost use Rattle.std.specs.Prelude.{◌≡◌};
 ghost use Rattle.hp_scenario.specs.Asked as means;
 ghost use Rattle.hp_scenario.specs.Seen.{asked_seen};
@@ -7,23 +7,23 @@ use crate::lines::Work;
 use hp_requests::{CONTROL_TURNS, ControlFault, Request};
 use hp_units::{Event, Plan};
 
-/// What a line asks for, once it is known what the control file of an `echo` takes its word for.
+/// What a line asks for, once it is known how the control file of an `echo` takes its word.
 #[derive(Drop)]
 pub enum Asked<'a> {
     /// One event of the machine.
     Event(&'a Event),
-    /// A plan's driver, with the most migrations that it may make.
+    /// A run of a plan's driver, with at most `turns` migrations.
     Plan { plan: &'a Plan, turns: u32 },
     /// Nothing: the control file of an `echo` does not take the word, for this reason.
     NotTaken(ControlFault),
-    /// A control file read.
+    /// The text of a control file.
     Cat { path: &'a str },
-    /// The records since the last seal handed out.
+    /// The records since the last seal.
     Seal,
 }
 
 impl Work {
-    /// What it asks for. A plan that an `echo` asks for has `CONTROL_TURNS` turns.
+    /// Returns what the work asks for. A plan that an `echo` asks for has `CONTROL_TURNS` turns.
     #[inline(always)]
     #[tactic(auto, unfolding(crate::specs::Asked::asked_by))]
     pub fn asked(&self) -> Asked<'_>
@@ -43,7 +43,7 @@ impl Work {
         }
     }
 
-    /// Whether it seals.
+    /// Returns whether the work is a seal.
     pub fn is_seal(&self) -> bool
         ensures { result ≡ means.is_seal self.now }
     {
@@ -51,7 +51,7 @@ impl Work {
     }
 }
 
-/// What a control file is asked for, or why it does not take the word.
+/// Returns what an `echo` asks for, or why the control file does not take its word.
 #[inline(always)]
 fn asked_of(request: &Result<Request, ControlFault>) -> Asked<'_>
     ensures { asked_seen result ≡ means.asked_of request.now }

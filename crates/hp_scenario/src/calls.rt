@@ -1,6 +1,5 @@
-//! Scenarios in their usual form, read token by token: `layout` with its numbers in their usual
-//! order and then `boot`, and then `calls`. No tree is made, and no memory is kept for the lines that
-//! were taken.
+//! Reads scenarios in their usual form, token by token: `layout` with its numbers in their usual
+//! order, then `boot`, then `calls`. Makes no tree, and keeps no memory for lines already taken.
 ghost use Rattle.std.specs.Prelude.{◌≡◌, ◌∷◌, [], IfOk, IfSome, IsTrue, List, Ok, ℕ};
 ghost use Rattle.hp_scenario.specs.Seen.{scenario_seen};
 ghost use Rattle.hp_scenario.specs.Scenario.{scenario_in};
@@ -16,7 +15,7 @@ use indexmap::IndexSet;
 use json::Token;
 use std::alloc::{AllocError, Global};
 
-/// The layout of a scenario, the owners' names so far, and the lines that are still to come.
+/// A scenario that is being read: the layout, the owners' names so far, and the lines to come.
 #[derive(Drop)]
 pub struct Calls<'a> {
     layout: Layout,
@@ -30,15 +29,14 @@ pub struct Calls<'a> {
 pub enum Next {
     /// A line.
     Another(Line),
-    /// Nothing: the scenario is whole, and has no fault.
+    /// Nothing: the scenario is complete, and has no fault.
     End,
-    /// Something else. It may have a fault, or another form: it is to be read anew, by
-    /// `Scenario::read`.
+    /// Something else: a fault, or another form. Read the bytes again with `Scenario::read`.
     Unsure,
 }
 
-/// The scenario that the bytes are, where they have its usual form and no fault. None says nothing:
-/// the bytes may still be a scenario.
+/// Reads a scenario that has the usual form and no fault. If it returns `None`, the bytes may still
+/// be a scenario.
 pub(crate) fn read_usual(alloc: Global, bytes: &[u8]) -> Result<Option<Scenario>, AllocError>
     ensures { IfOk result (λ s. IfSome s (λ s. scenario_in bytes.now ≡ Ok (scenario_seen s))) }
 {
@@ -49,7 +47,8 @@ pub(crate) fn read_usual(alloc: Global, bytes: &[u8]) -> Result<Option<Scenario>
 }
 
 impl<'a> Calls<'a> {
-    /// Reads a scenario up to its first line. None says nothing: it may still be one.
+    /// Reads a scenario up to its first line. If it returns `None`, the bytes may still be a
+    /// scenario.
     pub fn open(alloc: Global, bytes: &'a [u8]) -> Result<Option<Calls<'a>>, AllocError>
         ensures { IfOk result (λ c. IfSome c (λ c. IsOpened bytes.now c)) }
     {
@@ -74,21 +73,22 @@ impl<'a> Calls<'a> {
         }))
     }
 
-    /// The layout.
+    /// Returns the layout.
     pub fn layout(&self) -> &Layout
         ensures { result.now ≡ self.now.layout }
     {
         &self.layout
     }
 
-    /// The owners' names so far.
+    /// Returns the owners' names so far.
     pub fn names(&self) -> &IndexSet<Text>
         ensures { result.now ≡ self.now.names }
     {
         &self.names
     }
 
-    /// The scenario, of which no line was taken yet. None says nothing: it may still be one.
+    /// Reads all lines, none of which has been taken, and returns the scenario. If it returns
+    /// `None`, the bytes may still be a scenario.
     fn into_scenario(self, alloc: Global) -> Result<Option<Scenario>, AllocError>
         ensures { (bytes : List ℕ) → IsOpened bytes self.entry
             → IfOk result (λ s. IfSome s (λ s. scenario_in bytes ≡ Ok (scenario_seen s))) }
@@ -105,8 +105,8 @@ impl<'a> Calls<'a> {
         }))
     }
 
-    /// What comes next. After an error, after the end and once it is unsure, nothing is said of
-    /// what it would be.
+    /// Returns what comes next. After an error, after the end, and after `Unsure`, the result is
+    /// unspecified.
     #[inline(always)]
     pub fn next(&mut self, alloc: Global) -> Result<Next, AllocError>
         ensures { IfOk result (λ next. Goes self.old next self.new) }
@@ -130,7 +130,7 @@ impl<'a> Calls<'a> {
     }
 }
 
-/// Takes all lines; whether these were all, and there is no fault.
+/// Takes all lines. Returns whether the scenario ended after them, without a fault.
 fn take_all(alloc: Global, calls: &mut Calls<'_>, lines: &mut Vec<Line>) -> Result<bool, AllocError>
     requires { lines.old.items ≡ [] }
     ensures { IfOk result (λ sure. IsTrue sure → AreAll calls.old lines.new.items calls.new) }

@@ -7,7 +7,7 @@ use hp_units::Text;
 use std::alloc::{AllocError, Global};
 use std::marker::Model;
 
-/// The control file's path, the word, and what that asks for.
+/// The control file's path, the word, and what the word asks for.
 #[derive(Drop)]
 struct Parts {
     path: Text,
@@ -15,8 +15,8 @@ struct Parts {
     request: Result<Request, ControlFault>,
 }
 
-/// A word that `echo` writes to a control file. What it asks for is told once, when it is made. All
-/// is in a place of its own, so that lines without an echo stay small. A contract sees the path and
+/// A word that `echo` writes to a control file. What it asks for is computed once, when it is made.
+/// Everything is in one box, so that lines without an echo stay small. A contract sees the path and
 /// the word.
 pub struct Echo {
     parts: Box<Parts>,
@@ -41,7 +41,7 @@ impl Model for Echo {
 }
 
 impl Echo {
-    /// A word that is written to the control file at a path. An error is out of memory.
+    /// Returns the `echo` of a word to the control file at a path.
     pub fn new(alloc: Global, path: Text, word: Text) -> Result<Echo, AllocError>
         ensures { IfOk result (λ echo. echo ≡ record { path = path; word = word }) }
     {
@@ -55,21 +55,21 @@ impl Echo {
         Ok(Echo { parts })
     }
 
-    /// The control file's path.
+    /// Returns the control file's path.
     pub fn path(&self) -> &str
         ensures { result.now ≡ self.now.path }
     {
         self.parts.path.as_str()
     }
 
-    /// The word, to which `echo` adds a newline.
+    /// Returns the word, to which `echo` adds a newline.
     pub fn word(&self) -> &str
         ensures { result.now ≡ self.now.word }
     {
         self.parts.word.as_str()
     }
 
-    /// What it asks for, or why the control file does not take it.
+    /// Returns what the word asks for, or why the control file does not take it.
     pub fn request(&self) -> &Result<Request, ControlFault>
         ensures { result.now ≡ echo_request self.now.path self.now.word }
     {

@@ -1,4 +1,4 @@
-//! Why a text is no scenario.
+//! Why a text is not a scenario.
 ghost use Rattle.std.specs.Prelude.{◌≡◌};
 ghost use Rattle.hp_scenario.specs.declared.fault.ScenarioFault.TheVariants.{OutOfMemory};
 
@@ -6,19 +6,19 @@ use hp_units::LayoutFault;
 use std::alloc::{AllocError, AllocFailed};
 use thiserror::Error;
 
-/// The first fault of a scenario, in this order. Out of memory may come in place of any.
+/// The first fault of a scenario, in this order. `OutOfMemory` may come in place of any other.
 #[derive(Clone, Copy, Debug, Error)]
 pub enum ScenarioFault {
-    /// The text is no JSON.
+    /// The text is not JSON.
     #[error("not JSON")]
     NotJson,
-    /// Keys, kinds or words differ from a scenario's.
+    /// Keys, types or words are not those of a scenario.
     #[error("wrong shape")]
     BadShape,
     /// The layout is out of its limits.
     #[error("layout fault {0:?}")]
     Layout(LayoutFault),
-    /// A text of `calls` is no line; lines are counted from 1.
+    /// A string of `calls` is not a line; lines are counted from 1.
     #[error("line {line} not understood")]
     BadLine { line: u64 },
     /// A line that no worker may run: it reads a control file, or its processor is not in the

@@ -1,4 +1,4 @@
-//! The form of a scenario: its keys, and the kinds of their values.
+//! The form of a scenario: its keys, and the types of their values.
 
 ghost use Rattle.std.specs.Prelude.{◌≡◌, option_and_then, option_map};
 ghost use Rattle.serde_json.specs.Find.{as_array, get};
@@ -30,7 +30,7 @@ fn number_at(value: &Value, key: &str) -> Option<u64>
     value.get(key)?.as_u64()
 }
 
-/// The numbers at two keys; none where one is missing.
+/// Returns the numbers at two keys, or `None` if one is missing.
 #[tactic(auto, unfolding(crate::specs::Form::pair_at))]
 fn pair_at(value: &Value, first: &str, second: &str) -> Option<(u64, u64)>
     ensures { result ≡ pair first.now second.now (view value.now) }
@@ -53,7 +53,8 @@ pub(crate) fn boot_from(word: &str) -> Option<Boot>
     }
 }
 
-/// What a block is at boot, by the word that a value is; none where it is no text or another word.
+/// Returns a block's state at boot from the word in a value, or `None` if the value is no text or
+/// another word.
 #[tactic(auto, unfolding(crate::specs::Form::boot_of))]
 pub fn boot_at(value: &Value) -> Option<Boot>
     ensures { result ≡ boot_in (view value.now) }
@@ -75,7 +76,7 @@ fn boots_from(alloc: Global, values: &Vec<Value>) -> Result<Vec<Boot>, ScenarioF
     Ok(boots)
 }
 
-/// The items of the array at a key.
+/// Returns the items of the array at a key.
 fn items_at<'a>(value: &'a Value, key: &str) -> Option<&'a Vec<Value>>
     ensures { option_map (λ items. items_view items.now.items) result
         ≡ option_and_then as_array (get key.now (view value.now)) }
@@ -90,8 +91,8 @@ pub(crate) fn texts_at<'a>(value: &'a Value, key: &str) -> Option<Texts<'a>>
     Texts::new(items_at(value, key)?)
 }
 
-/// What the blocks are at boot, by the words at a key. Errors: BadShape where there is no list of
-/// such words; OutOfMemory.
+/// Returns the blocks' states at boot from the words at a key. Errors: `BadShape` if there is no
+/// list of such words; `OutOfMemory`.
 #[tactic(auto, unfolding(crate::specs::Form::boots_at))]
 pub fn boots_at(alloc: Global, value: &Value, key: &str) -> Result<Vec<Boot>, ScenarioFault>
     ensures { Gives (λ v. v.items) result (or_fault ScenarioFault.BadShape (boots key.now (view value.now))) }
@@ -102,8 +103,9 @@ pub fn boots_at(alloc: Global, value: &Value, key: &str) -> Result<Vec<Boot>, Sc
     }
 }
 
-/// The parts of a layout, with what its blocks are at boot; none where one of its ten numbers is
-/// missing or is no integer from 0 up below 2^64. Nothing is said of other keys, nor of limits.
+/// Returns the parts of a layout, with `boot` as its blocks' states at boot; `None` if one of its
+/// ten numbers is missing or is not an integer from 0 to 2^64 - 1. Checks neither other keys nor
+/// limits.
 #[tactic(auto, unfolding(crate::specs::Form::parts_with))]
 pub fn parts_with<'a>(layout: &Value, boot: &'a [Boot]) -> Option<Parts<'a>>
     ensures { option_map parts_seen result ≡ with_boot boot.now (view layout.now) }

@@ -6,34 +6,34 @@ use hp_units::{Cpu, Event, Plan, Text};
 use std::marker::Model;
 use std::mem::size_of;
 
-/// What a line asks for.
+/// The work of a line.
 #[derive(Drop)]
 pub enum Work {
     /// One event of the machine.
     Event(Event),
-    /// A plan's driver, with the most migrations that it may make.
+    /// A run of a plan's driver, with at most `turns` migrations.
     Plan { plan: Plan, turns: u32 },
-    /// A word written to a control file.
+    /// A word to write to a control file.
     Echo(Echo),
-    /// A control file read.
+    /// A control file to read.
     Cat { path: Text },
-    /// The records since the last seal handed out.
+    /// A seal: the records since the last one are handed out.
     Seal,
 }
 
-/// One line: a processor and what it asks for.
+/// A line: a processor and its work.
 #[derive(Drop)]
 pub struct Line {
     /// The caller's processor.
     pub cpu: Cpu,
-    /// What it asks for.
+    /// The work.
     pub work: Work,
 }
 
-/// Bytes of a line decide what a long scenario takes (own rule).
+/// The size of a line decides how much memory a long scenario takes.
 const _: () = prove!(size_of::<Line>() <= 40);
 
-/// Lines in order, seen as a list.
+/// Lines in order. A contract sees them as a list.
 #[derive(Drop)]
 pub struct Lines {
     lines: Vec<Line>,
@@ -49,21 +49,21 @@ impl Model for Lines {
 }
 
 impl Lines {
-    /// The lines of a vector, with no memory taken.
+    /// Wraps lines without copying them.
     pub fn new(lines: Vec<Line>) -> Lines
         ensures { result ≡ lines.items }
     {
         Lines { lines }
     }
 
-    /// The lines in order.
+    /// Returns the lines in order.
     pub fn as_slice(&self) -> &[Line]
         ensures { result.now ≡ self.now }
     {
         self.lines.as_slice()
     }
 
-    /// The lines as a vector, with no memory taken.
+    /// Returns the lines as a vector, without copying them.
     pub fn into_vec(self) -> Vec<Line>
         ensures { result.items ≡ self }
     {

@@ -1,4 +1,4 @@
-//! Names are numbered in the order in which they first occur.
+//! Numbers names in the order in which they first occur.
 ghost use Rattle.std.specs.Prelude.{◌≡◌, IfOk, IfSome, Some, option_map};
 ghost use Rattle.std.specs.List.{position};
 ghost use Rattle.std.specs.Str.{bytes_eq};
@@ -12,8 +12,8 @@ use hp_units::{Event, Owner, Text};
 use indexmap::IndexSet;
 use std::alloc::{AllocError, Global};
 
-/// The line that a text is. A name that is new becomes the last one.
-/// What `words` held before is dropped: its room serves line after line.
+/// Reads a line from a text. A new name becomes the last one. `words` is scratch space, used again
+/// for each line.
 #[inline(always)]
 #[tactic(auto, unfolding(crate::specs::Names::line_in))]
 pub(crate) fn line_from<'a>(
@@ -33,7 +33,7 @@ pub(crate) fn line_from<'a>(
     Ok(Some(Line { cpu, work }))
 }
 
-/// The work of a request, with its name numbered.
+/// Returns the work of a request, with its name numbered.
 #[inline(always)]
 fn numbered_work(
     alloc: Global,
@@ -52,7 +52,7 @@ fn numbered_work(
     }
 }
 
-/// The number of a name, which becomes the last one where it is new.
+/// Returns the number of a name. A new name becomes the last one.
 fn owner_of(alloc: Global, names: &mut IndexSet<Text>, name: &str) -> Result<Owner, AllocError>
     ensures { IfOk result (λ owner. (names.new.keys ≡ insert_key bytes_eq names.old.keys name.now)
         × (owner ≡ owner_of names.old.keys name.now)) }
@@ -64,8 +64,8 @@ fn owner_of(alloc: Global, names: &mut IndexSet<Text>, name: &str) -> Result<Own
     Ok(Owner(index))
 }
 
-/// The place of a name, which becomes the last one where it is new. It takes memory only for a name
-/// that is new or one of many.
+/// Returns the place of a name. A new name becomes the last one. Allocates only for a name that is
+/// new, or one of many.
 #[tactic(auto, using(crate::proofs::KnownNames::known_place, crate::proofs::KnownNames::known_stays))]
 fn index_of(alloc: Global, names: &mut IndexSet<Text>, name: &str) -> Result<usize, AllocError>
     ensures { IfOk result (λ index. (names.new.keys ≡ insert_key bytes_eq names.old.keys name.now)
@@ -79,8 +79,8 @@ fn index_of(alloc: Global, names: &mut IndexSet<Text>, name: &str) -> Result<usi
     Ok(index)
 }
 
-/// The place of a name among a few names, no more than a layout has owners; none where it is not
-/// there, or where there are more.
+/// Returns the place of a name among a few, no more than a layout has owners; `None` if it is not
+/// there, or if there are more.
 fn known_index(names: &IndexSet<Text>, name: &str) -> Option<usize>
     ensures { IfSome result (λ index. position (bytes_eq name.now) names.now.keys ≡ Some index) }
 {
@@ -96,7 +96,7 @@ fn known_index(names: &IndexSet<Text>, name: &str) -> Option<usize>
     None
 }
 
-/// The event of an owner's access.
+/// Returns the event of an owner's access.
 fn access_event(owner: Owner, access: Access) -> Event
     ensures { result ≡ access_event owner access }
 {

@@ -7,10 +7,10 @@ ghost use Rattle.hp_scenario.specs.Words.{IsPlainNumber};
 
 use hp_units::{number32 as any_number32, number64 as any_number64};
 
-/// Any number of so few digits fits 64 bits.
+/// Any number with this many digits fits into 64 bits.
 const FEW: usize = 18;
 
-/// The number below 2^32 that a word is: that of `hp_units`, found sooner where the word is plain.
+/// Returns the number below 2^32 in a word, as hp_units reads it; faster if the word is plain.
 #[inline(always)]
 #[tactic(auto, using(crate::proofs::PlainNumbers::plain_fits))]
 pub(crate) fn number32(word: &str) -> Option<u32>
@@ -22,7 +22,7 @@ pub(crate) fn number32(word: &str) -> Option<u32>
     }
 }
 
-/// The same of a word that may be longer than a digit.
+/// The same for words that may be longer than one digit.
 #[inline(never)]
 #[tactic(auto, using(crate::proofs::PlainNumbers::plain_fits, crate::proofs::PlainNumbers::plain_exceeds))]
 fn longer_number32(word: &str) -> Option<u32>
@@ -37,7 +37,7 @@ fn longer_number32(word: &str) -> Option<u32>
     Some(number as u32)
 }
 
-/// The number below 2^64 that a word is: that of `hp_units`, found sooner where the word is plain.
+/// Returns the number below 2^64 in a word, as hp_units reads it; faster if the word is plain.
 #[tactic(auto, using(crate::proofs::PlainNumbers::plain_fits))]
 pub(crate) fn number64(word: &str) -> Option<u64>
     ensures { result ≡ number_of 64 word.now }
@@ -48,7 +48,7 @@ pub(crate) fn number64(word: &str) -> Option<u64>
     }
 }
 
-/// The digit that a word is. None says nothing.
+/// Returns the digit if a word is a single digit.
 #[tactic(auto, using(crate::proofs::PlainNumbers::lone))]
 fn lone_digit(word: &[u8]) -> Option<u8>
     ensures { IfSome result (λ n. IsPlainNumber word.now n) }
@@ -59,7 +59,8 @@ fn lone_digit(word: &[u8]) -> Option<u8>
     Some(word[0] - b'0')
 }
 
-/// The number that a word is, where it has few digits. None says nothing.
+/// Returns the number in a plain word of few digits. If it returns `None`, the word may still be a
+/// number.
 #[tactic(auto, using(crate::proofs::PlainNumbers::plain))]
 fn plain_number(word: &[u8]) -> Option<u64>
     ensures { IfSome result (λ n. IsPlainNumber word.now n) }
@@ -70,7 +71,7 @@ fn plain_number(word: &[u8]) -> Option<u64>
     digits_value(word)
 }
 
-/// No sign, and no 0 before another byte.
+/// Returns whether there is no sign, and no 0 before another byte.
 fn is_bare(word: &[u8]) -> bool
     requires { 0 < length word.now }
     ensures { result ≡ bare word.now }
@@ -78,7 +79,7 @@ fn is_bare(word: &[u8]) -> bool
     word[0] != b'+' && (word.len() < 2 || word[0] != b'0')
 }
 
-/// The number that a few digits write; none where there is another byte.
+/// Returns the number that a few digits write, or `None` if there is another byte.
 #[tactic(auto, using(crate::proofs::PlainNumbers::digits_read))]
 fn digits_value(digits: &[u8]) -> Option<u64>
     requires { length digits.now ≤ 18 }

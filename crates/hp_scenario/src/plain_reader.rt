@@ -1,5 +1,5 @@
-//! A reader of plain JSON texts: strings with no escape, and whole numbers above 0 of digits alone. It
-//! takes tokens off the front of the text, and needs no memory.
+//! Reads plain JSON texts: strings without escapes, and whole numbers above 0 of digits only. Takes
+//! tokens off the front of the text, and allocates nothing.
 ghost use Rattle.std.specs.Prelude.{◌≡◌, ◌≢◌, ◌∷◌, ◌<◌, ◌⊎◌, [], drop, length, true, IfSome, IsTrue};
 ghost use Rattle.std.specs.Bool.{MatchBool};
 ghost use Rattle.json.specs.Lex.{between, lex, may_begin, may_close, token, tokens};
@@ -15,7 +15,7 @@ use std::marker::Model;
 /// Where a reader is among the values of an array or the members of an object.
 #[derive(Clone, Copy, Drop)]
 pub(crate) enum Place {
-    /// Before the first one, or after a key.
+    /// Before the first, or after a key.
     Fresh,
     /// After one.
     AfterValue,
@@ -24,7 +24,7 @@ pub(crate) enum Place {
 }
 
 impl Place {
-    /// Whether a value or a key may begin here.
+    /// Returns whether a value or a key may begin here.
     #[inline(always)]
     fn may_begin(self) -> bool
         ensures { result ≡ may_begin (place_of self) }
@@ -32,7 +32,7 @@ impl Place {
         !matches!(self, Place::AfterValue)
     }
 
-    /// Whether the array or the object may close here.
+    /// Returns whether the array or the object may close here.
     #[inline(always)]
     fn may_close(self) -> bool
         ensures { result ≡ may_close (place_of self) }
@@ -49,7 +49,7 @@ pub(crate) struct Found<'a> {
     rest: &'a str,
 }
 
-/// The rest of a text. A clause sees the tokens that are still to come.
+/// The rest of a text. A contract sees the tokens that are still to come.
 #[derive(Drop)]
 pub(crate) struct PlainReader<'a> {
     rest: &'a str,
@@ -72,7 +72,7 @@ impl<'a> Model for PlainReader<'a> {
 }
 
 impl<'a> PlainReader<'a> {
-    /// A reader at the front of a text.
+    /// Returns a reader at the front of a text.
     pub(crate) fn new(text: &'a str) -> PlainReader<'a>
         ensures { result ≡ tokens text.now }
     {
@@ -82,8 +82,8 @@ impl<'a> PlainReader<'a> {
         }
     }
 
-    /// The next token. None says nothing: the text may have ended, or go on with a fault or in a
-    /// form that is not plain.
+    /// Returns the next token. If it returns `None`, the text may have ended, or go on with a fault
+    /// or in a form that is not plain.
     #[inline(always)]
     pub(crate) fn next(&mut self) -> Option<Token<'a>>
         ensures value { IfSome result (λ t. self.old ≡ token_of t ∷ self.new) }
@@ -99,7 +99,7 @@ impl<'a> PlainReader<'a> {
         }
     }
 
-    /// Takes the bracket that closes an array, if it is next.
+    /// Takes the bracket that closes an array, if it is next. Returns whether it was.
     pub(crate) fn take_end_array(&mut self) -> bool
         ensures { MatchBool result (self.old ≡ end_array ∷ self.new) (self.new ≡ self.old) }
     {
@@ -112,7 +112,7 @@ impl<'a> PlainReader<'a> {
         true
     }
 
-    /// Whether no token is left. False says nothing.
+    /// Returns whether no token is left. It may return `false` although none is left.
     pub(crate) fn is_at_end(&self) -> bool
         ensures { IsTrue result → self.now ≡ [] }
     {
@@ -120,7 +120,7 @@ impl<'a> PlainReader<'a> {
     }
 }
 
-/// The first byte of a text, and a space where it is empty.
+/// Returns the first byte of a text, or a space if it is empty.
 #[inline(always)]
 fn byte_of(text: &str) -> u8
     ensures is { result ≡ head text.now }
@@ -130,7 +130,7 @@ fn byte_of(text: &str) -> u8
     if bytes.is_empty() { b' ' } else { bytes[0] }
 }
 
-/// A text without its first byte, which is a character.
+/// Returns a text without its first byte, which is a character.
 #[inline(always)]
 #[tactic(auto, using(crate::proofs::PlainTokens::second_is_boundary))]
 fn rest_of<'a>(text: &'a str) -> &'a str
@@ -141,7 +141,7 @@ fn rest_of<'a>(text: &'a str) -> &'a str
     &text[1..]
 }
 
-/// A text without the spaces and ends of lines in front of it.
+/// Returns a text without leading spaces and newlines.
 #[inline(always)]
 fn after_blanks<'a>(text: &'a str) -> &'a str
     ensures { lex between result.now ≡ lex between text.now }
@@ -153,7 +153,7 @@ fn after_blanks<'a>(text: &'a str) -> &'a str
     rest
 }
 
-/// Whether a byte is a space or ends a line.
+/// Returns whether a byte is a space or a newline.
 #[inline(always)]
 fn is_blank(byte: u8) -> bool
     ensures { IsTrue result → (byte ≡ 32) ⊎ (byte ≡ 10) }
@@ -161,7 +161,7 @@ fn is_blank(byte: u8) -> bool
     byte == b' ' || byte == b'\n'
 }
 
-/// Whether a byte is a comma or closes an array or an object.
+/// Returns whether a byte is a comma, or closes an array or an object.
 #[inline(always)]
 fn comes_after_value(byte: u8) -> bool
     ensures { IsTrue result → (byte ≡ 44) ⊎ ((byte ≡ 93) ⊎ (byte ≡ 125)) }
@@ -169,7 +169,7 @@ fn comes_after_value(byte: u8) -> bool
     byte == b',' || byte == b']' || byte == b'}'
 }
 
-/// The place and the text before the next token, after the comma that may follow a value.
+/// Skips the comma that may follow a value. Returns the place and the text before the next token.
 #[inline(always)]
 fn past_comma<'a>(place: Place, text: &'a str) -> (Place, &'a str)
     ensures { tokens_at result.0 result.1.now ≡ tokens_at place text.now }
@@ -181,7 +181,8 @@ fn past_comma<'a>(place: Place, text: &'a str) -> (Place, &'a str)
     (Place::AfterComma, after_blanks(rest_of(text)))
 }
 
-/// The token that a text begins with, at a place. None says nothing.
+/// Returns the token that a text begins with, at a place. If it returns `None`, there may still be
+/// one that is not plain.
 #[inline(always)]
 fn token_at<'a>(place: Place, text: &'a str) -> Option<Found<'a>>
     ensures { IfSome result (λ f. IsFound (tokens_at place text.now) f) }
@@ -197,7 +198,7 @@ fn token_at<'a>(place: Place, text: &'a str) -> Option<Found<'a>>
     None
 }
 
-/// The token of a value or a key that a text begins with.
+/// Returns the token of the value or the key that a text begins with.
 #[inline(always)]
 fn value_at<'a>(place: Place, text: &'a str) -> Option<Found<'a>>
     requires { may_begin (place_of place) ≡ true }
@@ -211,7 +212,7 @@ fn value_at<'a>(place: Place, text: &'a str) -> Option<Found<'a>>
     }
 }
 
-/// The token of the end of an array or an object that a text begins with.
+/// Returns the token of the end of an array or an object that a text begins with.
 #[inline(always)]
 fn end_at<'a>(place: Place, text: &'a str) -> Option<Found<'a>>
     requires { may_close (place_of place) ≡ true }
@@ -224,7 +225,7 @@ fn end_at<'a>(place: Place, text: &'a str) -> Option<Found<'a>>
     }
 }
 
-/// A token of one byte that a text begins with, and the place after it.
+/// Returns a token of one byte that a text begins with, and the place after it.
 #[inline(always)]
 fn bracket<'a>(token: Token<'a>, place: Place, text: &'a str) -> Found<'a>
     requires some { 0 < length text.now }
@@ -236,7 +237,7 @@ fn bracket<'a>(token: Token<'a>, place: Place, text: &'a str) -> Found<'a>
     Found { token, place, rest }
 }
 
-/// The key or the text that a text begins with.
+/// Returns the key or the string that a text begins with.
 #[inline(always)]
 #[tactic(auto, using(crate::proofs::PlainTokens::as_key))]
 fn string_at<'a>(place: Place, text: &'a str) -> Option<Found<'a>>
@@ -265,7 +266,8 @@ fn string_at<'a>(place: Place, text: &'a str) -> Option<Found<'a>>
     })
 }
 
-/// The string that a text begins with, without its quotes, and what comes after it and blanks.
+/// Cuts the string that a text begins with. Returns it without its quotes, and what comes after it
+/// and blanks.
 #[inline(always)]
 fn cut_string<'a>(text: &'a str) -> Option<(&'a str, &'a str)>
     requires { head text.now ≡ 34 }
@@ -280,8 +282,8 @@ fn cut_string<'a>(text: &'a str) -> Option<(&'a str, &'a str)>
     Some((&text[1..end], after_blanks(&text[end + 1..])))
 }
 
-/// The number that a text begins with, where it is of digits, the first of which is not 0, and a comma
-/// comes after it.
+/// Returns the number that a text begins with, if it has only digits, the first of which is not 0,
+/// and a comma comes after it.
 fn number_at<'a>(place: Place, text: &'a str) -> Option<Found<'a>>
     requires { may_begin (place_of place) ≡ true }
     ensures { IfSome result (λ f. IsFound (tokens_at place text.now) f) }

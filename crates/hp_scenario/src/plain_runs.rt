@@ -7,8 +7,8 @@ ghost use Rattle.json.specs.Run.{is_plain, is_stop};
 
 use std::simd::prelude::*;
 
-/// The place of the first quote, backslash or control character from a place on, or the length. A
-/// step for 16 bytes.
+/// Returns the place of the first quote, backslash or control character from `from` on, or the
+/// length. Looks at 16 bytes per step.
 #[inline(always)]
 pub(crate) fn plain_end(text: &[u8], from: usize) -> usize
     requires { from ≤ length text.now }
@@ -26,7 +26,8 @@ pub(crate) fn plain_end(text: &[u8], from: usize) -> usize
     plain_end_slowly(text, i)
 }
 
-/// Which of 16 bytes are a quote, a backslash or a control character, the first by the lowest bit.
+/// Returns a mask of which of 16 bytes are a quote, a backslash or a control character; the lowest
+/// bit is the first byte.
 #[inline(always)]
 fn stops(bytes: u8x16) -> u64
     ensures { result ≡ mask_l (map is_stop bytes) }
@@ -49,7 +50,7 @@ fn plain_end_slowly(text: &[u8], from: usize) -> usize
     i
 }
 
-/// How many digits a text begins with.
+/// Returns how many digits a text begins with.
 pub(crate) fn digits_end(text: &[u8]) -> usize
     ensures value { result ≡ prefix_len is_ascii_digit text.now }
     ensures bound { result ≤ length text.now }

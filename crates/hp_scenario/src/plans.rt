@@ -6,7 +6,7 @@ use crate::numbers::number32;
 use hp_units::{Block, Item, Plan, Wish};
 use std::alloc::{AllocError, Global};
 
-/// The plan whose items the words are, two words each.
+/// Returns the plan whose items are in the words, two words each.
 pub(crate) fn plan_from(alloc: Global, words: &[&str]) -> Result<Option<Plan>, AllocError>
     ensures { IfOk result (λ plan. plan ≡ says.items_of (map (λ w. w.now) words.now)) }
 {
@@ -25,7 +25,7 @@ pub(crate) fn plan_from(alloc: Global, words: &[&str]) -> Result<Option<Plan>, A
     Ok(Some(Plan::new(alloc, items)?))
 }
 
-/// A plan's item: what is made of a memory block, and its number.
+/// Returns a plan's item: what becomes of a memory block, and the block's number.
 #[tactic(auto, unfolding(crate::specs::Lines::item_of))]
 fn item_from(wish: &str, block: &str) -> Option<Item>
     ensures { result ≡ says.item_of wish.now block.now }
@@ -35,7 +35,7 @@ fn item_from(wish: &str, block: &str) -> Option<Item>
     Some(Item { block, wish })
 }
 
-/// What a word makes of a memory block.
+/// Returns what a word makes of a memory block.
 #[tactic(auto, unfolding(crate::specs::Lines::wish_of))]
 fn wish_from(word: &str) -> Option<Wish>
     ensures { result ≡ says.wish_of word.now }

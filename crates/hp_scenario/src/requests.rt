@@ -1,4 +1,4 @@
-//! What a line says, with a name as it is written.
+//! The contents of a line, with names as they are written.
 ghost use Rattle.std.specs.Prelude.{◌≡◌, map, IfOk, is_some, option_map};
 ghost use Rattle.hp_scenario.specs.Lines as says;
 ghost use Rattle.hp_scenario.specs.Seen.{request_seen, said_seen};
@@ -10,7 +10,7 @@ use crate::words::split_words;
 use hp_units::{Cpu, Event, Page};
 use std::alloc::{AllocError, Global};
 
-/// An access to a page of an owner, who is named beside it.
+/// An access to a page of an owner, whose name is beside it.
 #[derive(Clone, Copy)]
 pub(crate) enum Access {
     Map { page: Page },
@@ -19,7 +19,7 @@ pub(crate) enum Access {
     Read { page: Page, index: u32 },
 }
 
-/// What a line asks for: work that names no owner, or an access to a page of a named one.
+/// The work of a line that names no owner, or an access to a page of a named one.
 #[derive(Drop)]
 pub(crate) enum Request<'a> {
     Plain(Work),
@@ -33,8 +33,8 @@ pub(crate) struct Said<'a> {
     pub(crate) request: Request<'a>,
 }
 
-/// What a text says, where it is a line. What `words` held before is dropped: its room serves line
-/// after line.
+/// Reads a text as a line, or returns `None` if it is not one. `words` is scratch space, used again
+/// for each line.
 #[inline(always)]
 #[tactic(auto, unfolding(crate::specs::Lines::line_says))]
 pub(crate) fn line_says<'a>(
@@ -48,7 +48,7 @@ pub(crate) fn line_says<'a>(
     words_say(alloc, words)
 }
 
-/// Whether a text is a line. An error is out of memory.
+/// Returns whether a text is a line.
 pub fn is_line(alloc: Global, text: &str) -> Result<bool, AllocError>
     ensures { IfOk result (λ is. is ≡ is_some (says.line_says text.now)) }
 {
@@ -56,7 +56,7 @@ pub fn is_line(alloc: Global, text: &str) -> Result<bool, AllocError>
     Ok(line_says(alloc, &mut words, text)?.is_some())
 }
 
-/// What the words of a line say.
+/// Reads a line from its words.
 #[tactic(auto, unfolding(crate::specs::Lines::words_say))]
 fn words_say<'a>(alloc: Global, words: &[&'a str]) -> Result<Option<Said<'a>>, AllocError>
     ensures { IfOk result (λ said. option_map said_seen said ≡ says.words_say (map (λ w. w.now) words.now)) }
@@ -74,7 +74,7 @@ fn words_say<'a>(alloc: Global, words: &[&'a str]) -> Result<Option<Said<'a>>, A
     Ok(Some(Said { cpu, request }))
 }
 
-/// What the words after the processor ask for.
+/// Reads what a line asks for from the words after the processor.
 #[tactic(auto, unfolding(crate::specs::Lines::request_of))]
 fn request_from<'a>(alloc: Global, words: &[&'a str]) -> Result<Option<Request<'a>>, AllocError>
     ensures { IfOk result

@@ -23,14 +23,14 @@ use std::alloc::Global;
 pub struct Scenario {
     /// The layout.
     pub layout: Layout,
-    /// The owners' names: an owner's number is its name's place.
+    /// The owners' names; an owner's number is its name's place.
     pub names: IndexSet<Text>,
     /// The lines in order.
     pub lines: Lines,
 }
 
 impl Scenario {
-    /// Reads a scenario from its bytes.
+    /// Reads a scenario from its bytes. Most are read without a tree; the others by `read_any`.
     pub fn read(alloc: Global, bytes: &[u8]) -> Result<Scenario, ScenarioFault>
         ensures { Gives scenario_seen result (scenario_in bytes.now) }
     {
@@ -40,7 +40,7 @@ impl Scenario {
         Scenario::read_any(alloc, bytes)
     }
 
-    /// The same, by way of the JSON value that the bytes are: for a text that `Calls` left unsure.
+    /// Reads a scenario by way of its JSON value, for bytes that `Calls` left unsure.
     #[tactic(auto, unfolding(crate::specs::Scenario::scenario_in))]
     pub fn read_any(alloc: Global, bytes: &[u8]) -> Result<Scenario, ScenarioFault>
         ensures { Gives scenario_seen result (scenario_in bytes.now) }
@@ -50,7 +50,7 @@ impl Scenario {
     }
 }
 
-/// The JSON value that the bytes are.
+/// Parses the bytes as JSON.
 #[tactic(auto, unfolding(crate::specs::Scenario::json_of))]
 fn json_from(alloc: Global, bytes: &[u8]) -> Result<Value, ScenarioFault>
     ensures { Gives view result (or_fault ScenarioFault.NotJson (json_of bytes.now)) }
@@ -67,7 +67,7 @@ fn json_from(alloc: Global, bytes: &[u8]) -> Result<Value, ScenarioFault>
     }
 }
 
-/// The scenario that a JSON value is: its shape comes before its layout and its lines.
+/// Returns the scenario in a JSON value. Checks the shape before the layout and the lines.
 #[tactic(auto, unfolding(crate::specs::Scenario::scenario_of, crate::specs::Form::form_of, crate::specs::Form::parts_of))]
 fn scenario_from(alloc: Global, value: &Value) -> Result<Scenario, ScenarioFault>
     ensures { Gives scenario_seen result (scenario_of (view value.now)) }
@@ -83,7 +83,7 @@ fn scenario_from(alloc: Global, value: &Value) -> Result<Scenario, ScenarioFault
     scenario_with(alloc, parts_with(layout, &boot), texts_at(value, "calls"))
 }
 
-/// The scenario of a layout's parts and of the lines' texts; BadShape where one is missing.
+/// Returns the scenario of a layout's parts and of the lines' texts; `BadShape` if one is missing.
 #[tactic(auto, unfolding(crate::specs::Scenario::scenario_with))]
 fn scenario_with(
     alloc: Global,
@@ -107,7 +107,7 @@ fn scenario_with(
     })
 }
 
-/// The layout of the parts.
+/// Returns the layout with these parts.
 fn layout_from(alloc: Global, parts: &Parts<'_>) -> Result<Layout, ScenarioFault>
     ensures { Gives (λ l. l) result (layout_or (parts_seen parts.now) (layout_fault (parts_seen parts.now))) }
 {
@@ -118,7 +118,7 @@ fn layout_from(alloc: Global, parts: &Parts<'_>) -> Result<Layout, ScenarioFault
     }
 }
 
-/// Adds the lines of the texts, and their names.
+/// Appends the lines in the texts, and their names.
 fn add_lines(
     alloc: Global,
     names: &mut IndexSet<Text>,

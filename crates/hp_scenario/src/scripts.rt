@@ -28,14 +28,14 @@ impl Model for Script {
 }
 
 impl Script {
-    /// The script of these lines, with no memory taken.
+    /// Wraps lines without copying them.
     pub fn new(lines: Vec<Line>) -> Script
         ensures { result ≡ lines.items }
     {
         Script { lines }
     }
 
-    /// The lines in order.
+    /// Returns the lines in order.
     pub fn as_slice(&self) -> &[Line]
         ensures { result.now ≡ self.now }
     {
@@ -44,11 +44,11 @@ impl Script {
 }
 
 impl Scenario {
-    /// The lines by processor: one script for each processor of the layout, in order from 0. It
-    /// takes the scenario, whose lines move into the scripts.
+    /// Returns the lines by processor: one script per processor of the layout, in order from 0.
+    /// Takes the scenario, whose lines move into the scripts.
     ///
-    /// Errors: NotForRun with the first line, counted from 1, that reads a control file or whose
-    /// processor is not in the layout; OutOfMemory, which may come in place of any answer.
+    /// Errors: `NotForRun` with the first line, counted from 1, that reads a control file or whose
+    /// processor is not in the layout; `OutOfMemory`, which may come in place of any other result.
     #[tactic(auto, unfolding(crate::specs::Scripts::scripts_of))]
     pub fn scripts(self, alloc: Global) -> Result<Vec<Script>, ScenarioFault>
         ensures scripts { Gives (λ scripts. scripts.items) result (scripts_of (scenario_seen self)) }
@@ -72,14 +72,14 @@ impl Scenario {
     }
 }
 
-/// Where the first line stands that no worker may run.
+/// Returns the index of the first line that no worker may run.
 fn first_unfit(lines: &[Line], cpus: u32) -> Option<usize>
     ensures { result ≡ unfit cpus lines.now }
 {
     lines.iter().position(|line| !line.is_for_run(cpus))
 }
 
-/// The lines of each processor. All lines may be run.
+/// Deals the lines out to their processors. All of them may be run.
 fn dealt(alloc: Global, lines: Vec<Line>, cpus: u32) -> Result<Vec<Script>, AllocError>
     requires { list_all (is_for_run cpus) lines.items ≡ true }
     ensures { IfOk result (λ scripts. scripts.items ≡ map (script_of lines.items) (range_with_len 0 cpus)) }
@@ -91,8 +91,8 @@ fn dealt(alloc: Global, lines: Vec<Line>, cpus: u32) -> Result<Vec<Script>, Allo
     }
 }
 
-/// The place of the script that all lines belong to; None where they are of several processors, and
-/// where there are none.
+/// Returns the place of the script that all lines belong to; `None` if they belong to several
+/// processors, and if there are none.
 fn only_place(lines: &[Line]) -> Option<usize>
     ensures { IfSome result (AreAllOf lines.now) }
 {
@@ -105,7 +105,8 @@ fn only_place(lines: &[Line]) -> Option<usize>
     Some(place)
 }
 
-/// The scripts of lines that all belong to one of them: they stay where they are, and take no memory.
+/// Returns the scripts of lines that all belong to one of them. The lines stay where they are, and
+/// nothing is allocated.
 fn left_together(scripts: Vec<Script>, place: usize, lines: Vec<Line>, cpus: u32) -> Vec<Script>
     requires bare { scripts.items ≡ map (script_of []) (range_with_len 0 cpus) }
     requires fit { list_all (is_for_run cpus) lines.items ≡ true }
@@ -117,7 +118,7 @@ fn left_together(scripts: Vec<Script>, place: usize, lines: Vec<Line>, cpus: u32
     scripts
 }
 
-/// The scripts of lines of several processors: each line moves to the end of its script.
+/// Returns the scripts of lines of several processors: each line moves to the end of its script.
 fn dealt_singly(
     scripts: Vec<Script>,
     lines: Vec<Line>,
@@ -136,7 +137,7 @@ fn dealt_singly(
     Ok(scripts)
 }
 
-/// An empty script for each processor.
+/// Returns an empty script for each processor.
 fn no_scripts(alloc: Global, cpus: u32) -> Result<Vec<Script>, AllocError>
     ensures { IfOk result (λ scripts. scripts.items ≡ map (script_of []) (range_with_len 0 cpus)) }
 {
@@ -148,15 +149,15 @@ fn no_scripts(alloc: Global, cpus: u32) -> Result<Vec<Script>, AllocError>
 }
 
 impl Line {
-    /// The place of the line's script.
+    /// Returns the place of the line's script.
     fn place(&self) -> usize
         ensures { result ≡ self.now.cpu }
     {
         self.cpu.0 as usize
     }
 
-    /// Whether a worker may run the line: its processor is one of so many, and it does not read a
-    /// control file.
+    /// Returns whether a worker may run the line: its processor is below `cpus`, and it does not
+    /// read a control file.
     fn is_for_run(&self, cpus: u32) -> bool
         ensures { result ≡ is_for_run cpus self.now }
     {

@@ -7,7 +7,7 @@ ghost use Rattle.hp_scenario.specs.Form.{each_in};
 use serde_json::Value;
 use std::marker::Model;
 
-/// Values all of which are texts, seen as the list of these.
+/// Values that are all texts. A contract sees the list of these.
 #[derive(Drop)]
 pub(crate) struct Texts<'a> {
     values: &'a [Value],
@@ -26,7 +26,7 @@ impl<'a> Model for Texts<'a> {
 }
 
 impl<'a> Texts<'a> {
-    /// The texts of the values; none where some value is no text.
+    /// Wraps values, or returns `None` if one of them is not a text.
     pub(crate) fn new(values: &'a Vec<Value>) -> Option<Texts<'a>>
         ensures { result ≡ each_in as_str (items_view values.now.items) }
     {
@@ -39,14 +39,14 @@ impl<'a> Texts<'a> {
         Some(Texts { values })
     }
 
-    /// How many there are.
+    /// Returns how many texts there are.
     pub(crate) fn len(&self) -> usize
         ensures { result ≡ length self.now }
     {
         self.values.len()
     }
 
-    /// The text at a place.
+    /// Returns the text at a place.
     #[tactic(auto, using(crate::proofs::TextLists::text_there, crate::proofs::TextLists::text_lacks))]
     pub(crate) fn at(&self, place: usize) -> &'a str
         requires { place < length self.now }

@@ -1,4 +1,4 @@
-//! Lines that make no call of a processor.
+//! Lines that make no call.
 ghost use Rattle.std.specs.Prelude.{◌≡◌, Some};
 ghost use Rattle.hp_scenario.specs.Unfit.{unfit};
 
@@ -7,7 +7,7 @@ use crate::lines::Line;
 use hp_requests::ControlFault;
 use std::fmt;
 
-/// Why a line makes no call, and so cannot stand in a script that is explored.
+/// Why a line makes no call, and so may not be in a script that is explored.
 #[derive(Clone, Copy, Debug, PartialEq, Eq, Drop)]
 pub enum Unfit {
     /// Its processor is not in the layout.
@@ -16,7 +16,7 @@ pub enum Unfit {
     Cat,
     /// It seals.
     Seal,
-    /// It writes to a control file a word that the file does not take.
+    /// It writes a word to a control file that does not take it.
     Echo(ControlFault),
 }
 
@@ -36,7 +36,8 @@ impl fmt::Display for Unfit {
 }
 
 impl Line {
-    /// Why the line makes no call, with so many processors; none where it makes one.
+    /// Returns why the line makes no call on a machine of `cpus` processors, or `None` if it makes
+    /// one.
     pub fn unfit(&self, cpus: u32) -> Option<Unfit>
         ensures { result ≡ unfit cpus self.now }
     {

@@ -1,5 +1,5 @@
-//! The layout of a scenario in its usual form, read token by token: its numbers in their usual order,
-//! and then `boot`.
+//! Reads the layout of a scenario in its usual form, token by token: its numbers in their usual
+//! order, then `boot`.
 ghost use Rattle.std.specs.Prelude.{◌≡◌, ◌∷◌, [], IfOk, IfSome, IsTrue, None, Some};
 ghost use Rattle.json.specs.Token.{key as key_token, begin_object, begin_array, end_object};
 ghost use Rattle.serde_json.specs.Data.{unsigned};
@@ -15,7 +15,7 @@ use hp_units::{Boot, Layout, LayoutFault, Parts};
 use json::Token;
 use std::alloc::{AllocError, Global};
 
-/// The layout that comes next, where it has no fault.
+/// Reads the layout that comes next, if it has no fault.
 pub(crate) fn layout_after(
     alloc: Global,
     reader: &mut PlainReader<'_>,
@@ -35,7 +35,7 @@ pub(crate) fn layout_after(
     layout_of(alloc, &numbers, &boot)
 }
 
-/// The layout of numbers and blocks at boot, where it has no fault.
+/// Returns the layout with these numbers and these blocks at boot, if it has no fault.
 fn layout_of(
     alloc: Global,
     numbers: &Parts<'_>,
@@ -52,7 +52,7 @@ fn layout_of(
     }
 }
 
-/// The numbers of a layout that come next, in their usual order, as parts with no blocks at boot.
+/// Reads the numbers of a layout, in their usual order, as parts without blocks at boot.
 fn numbers_after<'a>(reader: &mut PlainReader<'_>) -> Option<Parts<'a>>
     ensures { IfSome result (λ n. AreRows (rows_of (parts_seen n)) reader.old reader.new) }
 {
@@ -76,7 +76,7 @@ fn numbers_after<'a>(reader: &mut PlainReader<'_>) -> Option<Parts<'a>>
     })
 }
 
-/// The numbers at two keys that come next, one after the other.
+/// Reads the numbers at two keys, one after the other.
 fn pair_after(reader: &mut PlainReader<'_>, first: &str, second: &str) -> Option<(u64, u64)>
     ensures { IfSome result (λ n. ArePair first.now second.now n.0 n.1 reader.old reader.new) }
 {
@@ -85,7 +85,7 @@ fn pair_after(reader: &mut PlainReader<'_>, first: &str, second: &str) -> Option
     Some((one, other))
 }
 
-/// The number at a key that comes next.
+/// Reads the number at a key.
 fn number_after(reader: &mut PlainReader<'_>, key: &str) -> Option<u64>
     ensures { IfSome result (λ n. IsRow key.now n reader.old reader.new) }
 {
@@ -98,7 +98,7 @@ fn number_after(reader: &mut PlainReader<'_>, key: &str) -> Option<u64>
     }
 }
 
-/// The whole number that a number's text is; none also where it is below 0 or does not fit.
+/// Returns the whole number in a number's text; `None` also if it is below 0 or does not fit.
 #[tactic(auto, using(crate::proofs::WholeNumber::is_unsigned))]
 fn whole_number(text: &str) -> Option<u64>
     ensures { IfSome result (λ n. number_of text.now ≡ Some (unsigned n)) }
@@ -110,7 +110,7 @@ fn whole_number(text: &str) -> Option<u64>
     Numeral::scan(bytes).to_u64()
 }
 
-/// Takes what the blocks are at boot; whether this came next, and then the layout's end.
+/// Takes the blocks' states at boot. Returns whether these came next, and then the layout's end.
 fn takes_boot(reader: &mut PlainReader<'_>, boot: &mut Vec<Boot>) -> Result<bool, AllocError>
     requires { boot.old.items ≡ [] }
     ensures { IfOk result (λ sure. IsTrue sure → EndsWithBoots boot.new.items reader.old reader.new) }
@@ -130,7 +130,7 @@ fn takes_boot(reader: &mut PlainReader<'_>, boot: &mut Vec<Boot>) -> Result<bool
     Ok(takes_end(reader))
 }
 
-/// Whether this key comes next.
+/// Takes a token. Returns whether it is this key.
 pub(crate) fn takes_key(reader: &mut PlainReader<'_>, key: &str) -> bool
     ensures { IsTrue result → reader.old ≡ key_token key.now ∷ reader.new }
 {
@@ -140,7 +140,7 @@ pub(crate) fn takes_key(reader: &mut PlainReader<'_>, key: &str) -> bool
     }
 }
 
-/// Whether this key comes next, and then an array.
+/// Takes two tokens. Returns whether they are this key and the beginning of an array.
 pub(crate) fn takes_array(reader: &mut PlainReader<'_>, key: &str) -> bool
     ensures { IsTrue result → reader.old ≡ key_token key.now ∷ begin_array ∷ reader.new }
 {
@@ -150,21 +150,21 @@ pub(crate) fn takes_array(reader: &mut PlainReader<'_>, key: &str) -> bool
     matches!(reader.next(), Some(Token::BeginArray))
 }
 
-/// Whether an object begins next.
+/// Takes a token. Returns whether an object begins.
 pub(crate) fn takes_object(reader: &mut PlainReader<'_>) -> bool
     ensures { IsTrue result → reader.old ≡ begin_object ∷ reader.new }
 {
     matches!(reader.next(), Some(Token::BeginObject))
 }
 
-/// Whether an object ends next.
+/// Takes a token. Returns whether an object ends.
 fn takes_end(reader: &mut PlainReader<'_>) -> bool
     ensures { IsTrue result → reader.old ≡ end_object ∷ reader.new }
 {
     matches!(reader.next(), Some(Token::EndObject))
 }
 
-/// Whether an object ends next, and with it the text.
+/// Takes a token. Returns whether an object ends, and with it the text.
 pub(crate) fn is_over(reader: &mut PlainReader<'_>) -> bool
     ensures { IsTrue result → reader.old ≡ end_object ∷ [] }
 {

@@ -12,7 +12,7 @@ use crate::words::is_name;
 use hp_units::{Block, Cpu, Event, Frame, Order, Page, Serial, Text, Zone};
 use std::alloc::{AllocError, Global};
 
-/// What a verb and the words after it ask for, where it has no list.
+/// Returns what a verb without a list asks for, with the words after it.
 #[tactic(auto, unfolding(crate::specs::Lines::event_of))]
 pub(crate) fn event_from<'a>(verb: &str, args: &[&'a str]) -> Option<Request<'a>>
     ensures { option_map request_seen result ≡ says.event_of verb.now (map (λ w. w.now) args.now) }
@@ -26,8 +26,8 @@ pub(crate) fn event_from<'a>(verb: &str, args: &[&'a str]) -> Option<Request<'a>
     }
 }
 
-/// The number below 2^32 that the only word is, in decimal, with no sign and no leading zeros; None
-/// for any other word, and where there is no word or more than one.
+/// Returns the number below 2^32 that the only word is, in decimal, without sign and leading zeros;
+/// `None` for any other word, and if there is not exactly one.
 #[tactic(auto, unfolding(crate::specs::Lines::only_number))]
 pub fn only32(args: &[&str]) -> Option<u32>
     ensures { result ≡ says.only_number 32 (map (λ w. w.now) args.now) }
@@ -36,8 +36,8 @@ pub fn only32(args: &[&str]) -> Option<u32>
     number32(word)
 }
 
-/// The number below 2^64 that the only word is, in decimal, with no sign and no leading zeros; None
-/// for any other word, and where there is no word or more than one.
+/// Returns the number below 2^64 that the only word is, in decimal, without sign and leading zeros;
+/// `None` for any other word, and if there is not exactly one.
 #[tactic(auto, unfolding(crate::specs::Lines::only_number))]
 pub fn only64(args: &[&str]) -> Option<u64>
     ensures { result ≡ says.only_number 64 (map (λ w. w.now) args.now) }
@@ -46,7 +46,7 @@ pub fn only64(args: &[&str]) -> Option<u64>
     number64(word)
 }
 
-/// An access to a page of the owner that a word names; None where the word is no name.
+/// Returns an access to a page of the owner that a word names, or `None` if the word is no name.
 #[inline(always)]
 fn named<'a>(name: &'a str, access: Access) -> Option<Request<'a>>
     ensures { option_map request_seen result ≡ says.named_if name.now access }
@@ -57,7 +57,7 @@ fn named<'a>(name: &'a str, access: Access) -> Option<Request<'a>>
     Some(Request::Named { name, access })
 }
 
-/// The event of a verb with one number.
+/// Returns the event of a verb with one number.
 #[inline(always)]
 #[tactic(auto, unfolding(crate::specs::Lines::event_of_number))]
 fn event_of_number(verb: &str, word: &str) -> Option<Event>
@@ -92,7 +92,7 @@ fn event_of_number(verb: &str, word: &str) -> Option<Event>
     }
 }
 
-/// A verb with two words.
+/// Returns the request of a verb with two words.
 #[inline(always)]
 #[tactic(auto, unfolding(crate::specs::Lines::request_of_two))]
 fn request_of_two<'a>(verb: &str, first: &'a str, second: &str) -> Option<Request<'a>>
@@ -121,7 +121,7 @@ fn request_of_two<'a>(verb: &str, first: &'a str, second: &str) -> Option<Reques
     }
 }
 
-/// `read`, the verb with three words.
+/// Returns the request of `read`, the verb with three words.
 #[inline(always)]
 #[tactic(auto, unfolding(crate::specs::Lines::request_of_three))]
 fn request_of_three<'a>(verb: &str, name: &'a str, page: &str, index: &str) -> Option<Request<'a>>
@@ -135,7 +135,7 @@ fn request_of_three<'a>(verb: &str, name: &'a str, page: &str, index: &str) -> O
     named(name, Access::Read { page, index })
 }
 
-/// `write`, the verb with four words.
+/// Returns the request of `write`, the verb with four words.
 #[inline(always)]
 #[tactic(auto, unfolding(crate::specs::Lines::request_of_four))]
 fn request_of_four<'a>(
@@ -157,7 +157,7 @@ fn request_of_four<'a>(
     named(name, Access::Write { page, index, value })
 }
 
-/// The zone that a word names, `normal` or `movable`; None for any other word (own rule).
+/// Returns the zone that a word names, `normal` or `movable`; `None` for any other word.
 #[tactic(auto, unfolding(crate::specs::Lines::zone_of))]
 pub fn zone_from(word: &str) -> Option<Zone>
     ensures { result ≡ says.zone_of word.now }
@@ -212,7 +212,7 @@ pub(crate) fn echo<'a>(alloc: Global, args: &[&'a str]) -> Result<Option<Request
     Ok(Some(Request::Plain(Work::Echo(echo))))
 }
 
-/// A word that is written to the control file at a path.
+/// Returns the `echo` of a word to the control file at a path.
 fn echo_from(alloc: Global, word: &str, path: &str) -> Result<Echo, AllocError>
     ensures { IfOk result (λ echo. echo ≡ record { path = path.now; word = word.now }) }
 {

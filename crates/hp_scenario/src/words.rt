@@ -5,7 +5,7 @@ ghost use Rattle.hp_scenario.specs.Words.{is_name_byte as name_byte, is_name as 
 
 use std::alloc::AllocError;
 
-/// Makes `words` the words between single spaces.
+/// Replaces `words` by the words of a text, which are between single spaces.
 #[tactic(auto, using(crate::proofs::WordsCut::last_word))]
 pub(crate) fn split_words<'a>(words: &mut Vec<&'a str>, text: &'a str) -> Result<(), AllocError>
     ensures { OnOk result (map (λ w. w.now) words.new.items ≡ words_of text.now) }
@@ -20,7 +20,8 @@ pub(crate) fn split_words<'a>(words: &mut Vec<&'a str>, text: &'a str) -> Result
     Ok(())
 }
 
-/// The first word, and what comes after the space that ends it; none where the text is one word.
+/// Cuts off the first word. Returns it with what comes after its space, or `None` if the text is
+/// one word.
 #[tactic(auto, using(crate::proofs::WordsCut::cut_at_spaces))]
 fn cut_word<'a>(text: &'a str) -> Option<(&'a str, &'a str)>
     ensures { MatchOption result (words_of text.now ≡ text.now ∷ [])
@@ -32,7 +33,7 @@ fn cut_word<'a>(text: &'a str) -> Option<(&'a str, &'a str)>
     }
 }
 
-/// Where the first space stands.
+/// Returns the place of the first space.
 fn space_in(text: &[u8]) -> Option<usize>
     ensures { result ≡ position (λ b. b == 32) text.now }
 {
@@ -51,7 +52,7 @@ fn are_name_bytes(bytes: &[u8]) -> bool
     bytes.iter().all(|byte| is_name_byte(*byte))
 }
 
-/// Whether the word may stand as a name.
+/// Returns whether a word is a name: a letter from `a` to `z`, then at most 31 more name bytes.
 pub(crate) fn is_name(word: &str) -> bool
     ensures { result ≡ names word.now }
 {

@@ -21,7 +21,7 @@ abbrev pub FillsAlongSome : Setting → List Ending → Type 0
 FillsAlongSome g ends =
     (place : ℕ) × (e : Ending) × (slice_get ends place ≡ Some e) × FillsAlong g e.first.items
 
--- `C` has this full history as a cause; `needed` is the room that it takes, if that is known
+-- a full history is a cause by `C`; it needs room for `needed` records, if that is known
 abbrev pub IsFull : (C : Setting → ExploreFault → Type 0) → (needed : Option ℕ) → Setting → Type 0
 IsFull C needed g = C g explore.HistoryFull × IsRoomNeeded g needed
 

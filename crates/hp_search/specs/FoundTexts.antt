@@ -23,7 +23,8 @@ abbrev pub found_text : ScheduleForm → (names : List (List ℕ)) → (before :
 found_text form names before g schedule =
     schedule_text form names before g.layout schedule (plays g schedule)
 
--- none of `schedules` interleavings ends as wanted; also the form of a scenario has this in words
+-- none of `schedules` interleavings ends as wanted; the form of a scenario, too, reports this in
+-- words
 abbrev pub absent_told : ScheduleForm → (schedules : ℕ) → List ℕ
 absent_told Words schedules = absent_text schedules
 absent_told Object schedules = absent_object schedules

@@ -1,4 +1,4 @@
--- What a contract sees of a shared machine and of its seats, and what a call of a seat does.
+-- The value of a shared machine and of its seats, and what a call of a seat does.
 use Rattle.std.specs.Prelude.{ℕ, ◌≡◌, ◌+◌, ◌<◌, ◌≤◌, ◌⊎◌, List, [], ◌∷◌, ◌++◌, length, map, Result, Ok, Err}
 use Rattle.std.specs.List.{range_with_len}
 use Rattle.hp_units.specs.LayoutParts.{LayoutParts}
@@ -13,74 +13,73 @@ use Rattle.hp_history.specs.Volumes.{IsChain, records_in, state_after}
 use Rattle.hp_history.specs.declared.volumes.Volume.{Volume}
 use Rattle.hp_machine.specs.Machine.{IsHistory, MachineValue, last_serial, record_of}
 
--- what lies under the lock: a machine, and how many records it has made
+-- what is under the lock: a machine, and how many records it has made
 pub record LockedValue : Type 0 where
   pub machine : MachineValue
   pub total : ℕ
 
--- a machine of the layout with no records, which sealed nothing
+-- a machine of the layout without records, which sealed nothing
 pub record IsFresh (l : LayoutParts) (m : MachineValue) : Type 0 where
   pub layout : m.layout ≡ l
   pub before : m.before ≡ 0
   pub history : m.history ≡ []
 
--- some volumes, each of which follows those before it, lead from the layout's boot to a state, and
--- hold so many records
+-- some volumes, each following those before it, lead from the layout's boot to the state `base`,
+-- and hold `before` records
 abbrev pub IsSealedFromBoot : LayoutParts → Memory → ℕ → Type 0
 IsSealedFromBoot l base before =
     (volumes : List Volume) × IsChain l volumes × (before ≡ records_in volumes)
     × (base ≡ state_after l volumes)
 
--- what every lock shows: the layout's machine, whose base and whose count of sealed records came
--- from boot by some volumes, with a legal history and the state that the history leads to; the
--- total is the number of all records
+-- what every lock shows: the layout's machine, sealed from boot on by some volumes, with a legal
+-- history and the state that it leads to; `total` is the number of all records
 pub record IsShared (l : LayoutParts) (v : LockedValue) : Type 0 where
   pub layout : v.machine.layout ≡ l
   pub sealed : IsSealedFromBoot l v.machine.base v.machine.before
   pub history : IsHistory v.machine
   pub total : v.total ≡ last_serial v.machine
 
--- a seat: its processor, the receipts of its calls, oldest first, how many records its seals handed
--- out, and how many of its calls found the history full
+-- a seat: its processor, its receipts, oldest first, how many records its seals handed out, and how
+-- many of its calls found the history full
 pub record SeatValue : Type 0 where
   pub cpu : ℕ
   pub receipts : List Receipt
   pub sealed : ℕ
   pub fulls : ℕ
 
--- the seat of each processor, with no call made yet
+-- the seat of each processor, before its first call
 abbrev pub first_seat : ℕ → SeatValue
 first_seat cpu = record { cpu = cpu; receipts = []; sealed = 0; fulls = 0 }
 
 abbrev pub first_seats : (cpus : ℕ) → List SeatValue
 first_seats cpus = map first_seat (range_with_len 0 cpus)
 
--- of all records so many are sealed, and the others fill a history; or there is no further serial
+-- of all records `sealed` are sealed, and the others fill a history; or no serial is left
 abbrev pub IsFilled : LayoutParts → (sealed all : ℕ) → Type 0
 IsFilled l sealed all = (l.history + sealed ≤ all) ⊎ (18446744073709551615 ≤ all)
 
--- all records are as many as a history may hold, or there is no further serial
+-- all records are as many as a history may hold, or no serial is left
 abbrev pub IsReached : LayoutParts → (all : ℕ) → Type 0
 IsReached l all = (l.history ≤ all) ⊎ (18446744073709551615 ≤ all)
 
--- a seat found the history full only where all records reach the limit
+-- if a seat found the history full, all records reach the limit
 abbrev pub HasReached : LayoutParts → (all : ℕ) → SeatValue → Type 0
 HasReached l all seat = 0 < seat.fulls → IsReached l all
 
--- how many times an answer says that the history is full
+-- 1 if a result is `HistoryFull`, otherwise 0
 abbrev pub fulls_of : {A : Type 0} → Result A CallFault → ℕ
 fulls_of (Ok answer) = 0
 fulls_of (Err HistoryFull) = 1
 fulls_of (Err OutOfMemory) = 0
 
--- a seat after a call that left a fault
+-- a seat after a call that failed
 abbrev pub left_by : SeatValue → CallFault → SeatValue
 left_by seat HistoryFull =
     record { cpu = seat.cpu; receipts = seat.receipts; sealed = seat.sealed; fulls = seat.fulls + 1 }
 left_by seat OutOfMemory = seat
 
--- as far as a seat can know, the history may be full: if there is one processor, the seat's receipts
--- without the records that its seals handed out are as many as the history may hold
+-- as far as a seat can know, the history may be full: with one processor, its receipts without the
+-- records that its seals handed out are as many as the history may hold
 abbrev pub MayBeFull : LayoutParts → SeatValue → Type 0
 MayBeFull l seat = l.cpus ≡ 1 → l.history + seat.sealed ≤ length seat.receipts
 
@@ -90,10 +89,9 @@ pub record IsLastOf (m : MachineValue) (cpu : ℕ) (r : Receipt) : Type 0 where
   pub history : m.history ≡ earlier ++ record_of cpu r ∷ []
   pub serial : r.serial ≡ last_serial m
 
--- a processor's turn under the lock was answered so, with so many receipts of its seat now: the
--- receipt is of the event that was asked, and some state of the shared machine has it as its last
--- record, with as many records as the receipt's serial says; these are at least as many as the seat
--- has receipts
+-- a processor's turn under the lock: the receipt is of the event that was asked, and is that of the
+-- last record of some state of the shared machine, whose serial is at least the seat's number of
+-- receipts
 pub record IsTurn (l : LayoutParts) (cpu : ℕ) (event : Event) (r : Receipt) (receipts : ℕ) : Type 0 where
   pub asked : r.event ≡ event
   pub seen : LockedValue
@@ -101,8 +99,8 @@ pub record IsTurn (l : LayoutParts) (cpu : ℕ) (event : Event) (r : Receipt) (r
   pub last : IsLastOf seen.machine cpu r
   pub within : receipts ≤ r.serial
 
--- the call of an event by a seat, whose processor is in the layout, was answered so: its receipt is
--- appended; its serial is above the history's limit where the seat found the history full before
+-- a seat's call of an event: its receipt is appended, and its serial is above the history's limit
+-- if the seat found the history full before
 pub record IsSeated (l : LayoutParts) (old : SeatValue) (event : Event) (r : Receipt)
     (new : SeatValue) : Type 0 where
   pub inside : old.cpu < l.cpus
@@ -113,7 +111,7 @@ pub record IsSeated (l : LayoutParts) (old : SeatValue) (event : Event) (r : Rec
   pub turn : IsTurn l old.cpu event r (length new.receipts)
   pub late : 0 < old.fulls → l.history < r.serial
 
--- the call of an event by a seat was answered by a reply: a receipt that has it is appended
+-- a seat's call of an event with this reply: its receipt is appended
 pub record IsSeatCall (l : LayoutParts) (old : SeatValue) (event : Event) (reply : Reply)
     (new : SeatValue) : Type 0 where
   pub receipt : Receipt

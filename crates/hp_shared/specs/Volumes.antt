@@ -1,4 +1,4 @@
--- What seals handed out, beside the machine.
+-- What seals handed out, besides the machine.
 use Rattle.std.specs.Prelude.{ℕ, ◌≡◌, ◌≢◌, ◌+◌, ◌<◌, ◌≤◌, ◌⊎◌, List, [], ◌∷◌, ◌++◌, Some, length, slice_get, take}
 use Rattle.hp_units.specs.LayoutParts.{LayoutParts}
 use Rattle.hp_units.specs.declared.replies.Record.{Record}
@@ -12,27 +12,27 @@ abbrev pub sealed_records : List Volume → List Record
 sealed_records [] = []
 sealed_records (v ∷ vs) = v.records ++ sealed_records vs
 
--- all records: those of the volumes, and then the machine's own
+-- all records: those of the volumes, then the machine's own
 abbrev pub all_records : List Volume → MachineValue → List Record
 all_records volumes m = sealed_records volumes ++ m.history
 
--- each volume before a place says how many records there are in the volumes before it
+-- each volume before place `end` has the number of records in the volumes before it
 abbrev pub AreCountedBefore : List Volume → ℕ → Type 0
 AreCountedBefore volumes end =
     (at : ℕ) (v : Volume) → at < end → slice_get volumes at ≡ Some v → v.before ≡ records_in (take at volumes)
 
--- each volume says so, and together they hold so many records
+-- each volume has that number, and together they hold `sealed` records
 pub record ReachSealed (volumes : List Volume) (sealed : ℕ) : Type 0 where
   pub counted : AreCountedBefore volumes (length volumes)
   pub sealed_all : records_in volumes ≡ sealed
 
--- the volume at a place does not say how many records there are in the volumes before it
+-- the volume at this place has another number than that of the records in the volumes before it
 abbrev pub IsMiscounted : List Volume → ℕ → Type 0
 IsMiscounted volumes at =
     (v : Volume) × (slice_get volumes at ≡ Some v) × (v.before ≢ records_in (take at volumes))
 
--- the place is that of the first volume that does not say so; where all do, it is their number, and
--- they do not hold so many records
+-- the place of the first volume with a wrong number; if all are right, their number, and they do
+-- not hold `sealed` records
 pub record IsWrongAt (volumes : List Volume) (sealed at : ℕ) : Type 0 where
   pub counted : AreCountedBefore volumes at
   pub wrong : IsMiscounted volumes at ⊎ ((at ≡ length volumes) × (records_in volumes ≢ sealed))

@@ -14,25 +14,26 @@ use hp_machine::Machine;
 use hp_units::Serial;
 use std::alloc::{AllocError, Global};
 
-/// Why a shared machine was not closed (own rule).
+/// Why a shared machine was not closed.
 #[derive(Clone, Copy, Debug, PartialEq, Eq, Drop)]
 pub enum CloseFault {
-    /// There is not one seat for each processor.
+    /// There is not exactly one seat per processor.
     SeatMissing,
     /// The place, from 0, of the first volume whose `before` is not the number of records in the
-    /// volumes before it; the number of volumes where together they do not hold all sealed records.
+    /// volumes before it; or the number of volumes, if together they do not hold all sealed
+    /// records.
     WrongVolume { at: u64 },
-    /// The lowest serial at which a seat's receipts and its processor's records differ, or a record
-    /// is of no seat.
+    /// The lowest serial at which a seat's receipts differ from its processor's records, or whose
+    /// record belongs to no seat.
     Mismatch { serial: Serial },
     /// Out of memory.
     OutOfMemory,
 }
 
-/// A machine that was closed (own rule).
+/// A machine that was closed.
 #[derive(Drop)]
 pub struct Closed {
-    /// The machine, under no lock any more.
+    /// The machine, no longer under a lock.
     pub machine: Machine,
     /// Its sealed records, in order.
     pub volumes: Vec<Volume>,
@@ -40,40 +41,42 @@ pub struct Closed {
     pub records: u64,
 }
 
-/// What comes back where a machine was not closed (own rule).
+/// What comes back if a machine was not closed.
 #[derive(Drop)]
 pub struct CloseRefused<L: Job> {
-    /// Why.
+    /// Why it was not closed.
     pub fault: CloseFault,
     /// The machine under its lock.
     pub shared: Shared<L>,
-    /// The seats, in the order in which they came.
+    /// The seats, in the order in which they were given.
     pub seats: Vec<Seat<L>>,
-    /// The volumes, in the order in which they came.
+    /// The volumes, in the order in which they were given.
     pub volumes: Vec<Volume>,
 }
 
-/// What comes back where a machine that was taken from its lock was not closed.
+/// What comes back if a machine that was taken from its lock was not closed.
 #[derive(Drop)]
 pub struct NotClosed<L: Job> {
-    /// Why.
+    /// Why it was not closed.
     pub fault: CloseFault,
     /// The machine.
     pub locked: Locked<L>,
-    /// The seats, in the order in which they came.
+    /// The seats, in the order in which they were given.
     pub seats: Vec<Seat<L>>,
-    /// The volumes, in the order in which they came.
+    /// The volumes, in the order in which they were given.
     pub volumes: Vec<Volume>,
 }
 
-/// Closes a shared machine, where each seat's receipts are exactly its processor's records, in
-/// order, and there are no others (own rule). The records are those of the volumes, which are all
-/// that the machine sealed, and then the machine's own. It waits for nobody: no other thread has a
-/// part in it any more. It takes the lock off, calls `Locked::close`, and puts the machine under its
-/// lock again if that fails. A contract cannot say what lies under a lock: who has to know of which
-/// machine the answer speaks makes these three calls.
+/// Closes a shared machine, if each seat's receipts are exactly its processor's records, in order,
+/// and there are no other records. The records are those of the volumes, which must be all that the
+/// machine sealed, then the machine's own.
 ///
-/// Errors are those of `Locked::check`; each hands the machine, all seats and all volumes back.
+/// Waits for nobody: no other thread has a part in the machine any more. Takes the lock off, calls
+/// `Locked::close`, and puts the machine under a lock again if that fails. No contract can state
+/// what is under a lock: make these three calls yourself if you need to know which machine was
+/// closed.
+///
+/// Errors are those of `Locked::check`; each hands back the machine, all seats and all volumes.
 pub fn close<L: Job>(
     alloc: Global,
     shared: Shared<L>,
@@ -116,12 +119,12 @@ impl<L: Job> NotClosed<L> {
 }
 
 impl<L: Job> Locked<L> {
-    /// Closes the machine, where each seat's receipts are exactly its processor's records, in order,
-    /// and there are no others: those of the volumes, which are all that the machine sealed, and
-    /// then the machine's own. As many seats as processors have as many receipts as this machine has
-    /// records.
+    /// Closes the machine, if each seat's receipts are exactly its processor's records, in order,
+    /// and there are no other records: those of the volumes, which must be all that the machine
+    /// sealed, then the machine's own. As many seats as processors have as many receipts as this
+    /// machine has records.
     ///
-    /// Errors are those of `check`; each hands this very machine, all seats and all volumes back.
+    /// Errors are those of `check`; each hands back this very machine, all seats and all volumes.
     pub fn close(
         self,
         alloc: Global,
@@ -142,7 +145,7 @@ impl<L: Job> Locked<L> {
     {
         let mut locked = self;
         let mut seats = seats;
-        // No effect at run time: the proof reads from this call what the seats count.
+        // No effect at run time: from this call the proof reads what the seats count.
         audit_all(&mut locked, &mut seats);
         match locked.check(alloc, &seats, &volumes) {
             Ok(records) => Ok(Closed {
@@ -159,13 +162,13 @@ impl<L: Job> Locked<L> {
         }
     }
 
-    /// Whether it may be closed (own rule): there is one seat for each processor, the volumes are
-    /// all that the machine sealed, and each seat's receipts are exactly its processor's records, in
-    /// the volumes and then in the machine. It answers how many records there are in all. Its time
-    /// is linear in the records and receipts, its memory one mark for each seat.
+    /// Checks that the machine may be closed: there is exactly one seat per processor, the volumes
+    /// are all that the machine sealed, and each seat's receipts are exactly its processor's
+    /// records, in the volumes and then in the machine. Returns how many records there are in all.
+    /// Time is linear in the records and receipts; memory is one mark per seat.
     ///
-    /// Errors, in this order: `SeatMissing`, `WrongVolume`, `Mismatch`, each only where it has its
-    /// cause and none before it has; `OutOfMemory` may come in place of `Mismatch` or of `Ok`.
+    /// Errors, in this order: `SeatMissing`, `WrongVolume`, `Mismatch`, each only for its own cause
+    /// and if no earlier one applies; `OutOfMemory` may come in place of `Mismatch` or of `Ok`.
     pub fn check(
         &self,
         alloc: Global,

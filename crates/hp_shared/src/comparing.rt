@@ -1,5 +1,5 @@
-//! The comparison of all seats' receipts with all records: one pass over the records, and one over
-//! the receipts.
+//! Compares all seats' receipts with all records, in one pass over the records and one over the
+//! receipts.
 ghost use Rattle.std.specs.Prelude.{ℕ, ◌≡◌, ◌<◌, ◌^◌, ◌∷◌, [], true, false, IfOk, IfSome, IfNone, length, vec_len};
 ghost use Rattle.hp_shared.specs.Marks.{AreMarkedOn, AreMarks, AreStrays, HasRoom};
 ghost use Rattle.hp_shared.specs.Comparing.{HasEach, IsCompared, IsOutcome, IsSeatAt, IsSeatOf, IsTwinless, IsUnseated, StraysHere};
@@ -14,7 +14,7 @@ use hp_machine::Machine;
 use hp_units::{Cpu, Record, Serial};
 use std::alloc::{AllocError, Global};
 
-/// Whether there is one seat for each processor, in any order.
+/// Returns whether there is exactly one seat per processor, in any order.
 pub fn has_each<L: Job>(seats: &Vec<Seat<L>>, cpus: u32) -> bool
     ensures each { result ≡ true → HasEach cpus seats.now.items }
     ensures missing { result ≡ false → HasEach cpus seats.now.items → ⊥ }
@@ -30,7 +30,7 @@ pub fn has_each<L: Job>(seats: &Vec<Seat<L>>, cpus: u32) -> bool
     true
 }
 
-/// Whether another seat is of the same processor.
+/// Returns whether another seat has the same processor.
 fn has_twin<L: Job>(seats: &Vec<Seat<L>>, place: usize) -> bool
     requires { place < vec_len seats.now }
     ensures alone { result ≡ false → IsTwinless seats.now.items place }
@@ -45,7 +45,7 @@ fn has_twin<L: Job>(seats: &Vec<Seat<L>>, place: usize) -> bool
     false
 }
 
-/// The place of a processor's seat, which mostly is the processor's number.
+/// Returns the place of a processor's seat. Tries the processor's number first: mostly it is there.
 fn place_of<L: Job>(seats: &Vec<Seat<L>>, cpu: Cpu) -> Option<usize>
     ensures found { IfSome result (λ place. IsSeatAt seats.now.items cpu place) }
     ensures none { IfNone result (IsUnseated seats.now.items cpu) }
@@ -62,10 +62,10 @@ fn place_of<L: Job>(seats: &Vec<Seat<L>>, cpu: Cpu) -> Option<usize>
     None
 }
 
-/// Compares the receipts of all seats, no two of which are of the same processor, with all records:
-/// those of the volumes, which are all that the machine sealed, and then the machine's own. None
-/// where each seat's receipts are its processor's records and there are no others; else the lowest
-/// serial at which they differ. An error is out of memory.
+/// Compares the receipts of all seats, no two of which have the same processor, with all records:
+/// those of the volumes, which are all that the machine sealed, then the machine's own. Returns
+/// `None` if each seat's receipts are its processor's records and there are no others; otherwise
+/// the lowest serial at which they differ.
 pub fn compare<L: Job>(
     alloc: Global,
     volumes: &Vec<Volume>,
@@ -76,7 +76,7 @@ pub fn compare<L: Job>(
     requires reach { ReachSealed volumes.now.items machine.now.before }
     ensures { IfOk result (IsCompared (all_records volumes.now.items machine.now) seats.now.items) }
 {
-    // No effect at run time: the proof reads the bound on the number of all records from this call.
+    // No effect at run time: from this call the proof reads the bound on the number of all records.
     let _ = machine.last_serial();
     let mut marks = vec![in alloc; Mark::start(); seats.len()]?;
     let sealed = mark_volumes(seats, &mut marks, volumes);
@@ -89,7 +89,8 @@ pub fn compare<L: Job>(
     Ok(lowest)
 }
 
-/// Marks the records of volumes, before any others. The lowest serial of a record of no seat.
+/// Marks the records of volumes, before any others. Returns the lowest serial of a record that
+/// belongs to no seat.
 fn mark_volumes<L: Job>(
     seats: &Vec<Seat<L>>,
     marks: &mut Vec<Mark>,
@@ -112,7 +113,8 @@ fn mark_volumes<L: Job>(
     lowest
 }
 
-/// Marks more records, each at its seat. The lowest serial of a record of no seat.
+/// Marks more records, each at its seat. Returns the lowest serial of a record that belongs to no
+/// seat.
 fn mark_records<L: Job>(
     seats: &Vec<Seat<L>>,
     marks: &mut Vec<Mark>,
@@ -131,7 +133,7 @@ fn mark_records<L: Job>(
     lowest
 }
 
-/// Marks one more record at its seat. The record's serial where it is of no seat.
+/// Marks one more record at its seat. Returns the record's serial if it belongs to no seat.
 fn mark_record<L: Job>(
     seats: &Vec<Seat<L>>,
     marks: &mut Vec<Mark>,

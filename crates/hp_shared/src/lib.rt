@@ -1,17 +1,13 @@
-//! A machine that several threads share: one lock round it, a seat for each processor, and at the
-//! end the comparison of all receipts with all records.
+//! A machine that several threads share: a lock around it, a seat per processor, and at the end a
+//! check of all receipts against all records.
 //!
-//! The crate owns the lock (`Shared`), what lies under it (`Locked`), the processors' accesses
-//! (`Seat`, and `SeatPort` for the driver of a plan) and the end (`close`). The machine it only
-//! calls and reads: a turn under the lock is one `Machine::answer`, a seal one `Machine::seal`. It
-//! starts no thread, and waits for the lock alone, which nobody holds between two calls.
+//! The crate owns the lock (`Shared`), what is under it (`Locked`), the processors' access (`Seat`,
+//! and `SeatPort` for a plan's driver) and the end (`close`). It only calls and reads the machine,
+//! starts no thread, and waits only for the lock, which nobody holds between two calls. Ledgers of
+//! std tie the seats' counts to the machine's.
 //!
-//! What ties a seat to the machine are three of std's ledgers: the total of the first is the number
-//! of all records, sealed ones included, and each seat's share of it the number of its receipts; the
-//! total of the second is the number of sealed records, and each seat's share how many of them its
-//! seals handed out. The third counts the calls that found the history full, in all and by seat:
-//! where there was one, all records are as many as the limit, or there is no further serial. Read `locked` first, then `seat` and `closing`; `volumes`, `marks` and
-//! `comparing` are how `close` compares.
+//! Read `locked` first, then `seat` and `closing`; `volumes`, `marks` and `comparing` serve
+//! `close`.
 #![tactic(auto)]
 
 mod closing;

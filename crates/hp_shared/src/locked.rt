@@ -1,4 +1,4 @@
-//! What lies under the lock.
+//! What is under the lock.
 ghost use Rattle.std.specs.Prelude.{◌≡◌, ◌↔◌, ◌+◌, ◌^◌, ◌≤◌, ◌<◌, Err, IfOk, OnErr, OnOk, IsTrue, length};
 ghost use Rattle.hp_units.specs.declared.replies.CallFault.TheVariants.{HistoryFull};
 ghost use Rattle.hp_machine.specs.Machine.{IsCalled, is_full, sealed};
@@ -14,9 +14,11 @@ use std::alloc::{AllocError, Global};
 use std::marker::Model;
 use std::sync::ledger::{Book, Share};
 
-/// A machine of the job's layout, and the totals of its records, of its sealed records and of the
-/// calls that found its history full, which the ledgers of the seats' shares carry: one part for each
-/// processor (own rule).
+/// A machine of the job's layout, with the totals that the ledgers of the seats' shares count: of
+/// all records, sealed ones included, of sealed records, and of calls that found the history full.
+/// Each ledger has one part per processor.
+///
+/// If a call found the history full, all records are as many as the limit, or no serial is left.
 #[derive(Drop)]
 pub struct Locked<L: Job> {
     machine: Machine,
@@ -40,8 +42,8 @@ impl<L: Job> Model for Locked<L> {
 }
 
 impl<L: Job> Locked<L> {
-    /// A machine at its start, whose records, sealed records and calls that find its history full the
-    /// ledgers count from now on.
+    /// Returns a machine without records. From now on the ledgers count its records, its sealed
+    /// records and the calls that find its history full.
     pub(crate) fn new(
         machine: Machine,
         book: Book<L>,
@@ -63,16 +65,17 @@ impl<L: Job> Locked<L> {
         }
     }
 
-    /// The one step of a seat: a call of the machine, answered by the serial of its record and the
-    /// reply (own rule). Where it was recorded, the total and the seat's share each rise by one; no
-    /// share is above the total. Where it found the history full, `told` rises by one; a seat for
-    /// which it rose gets only serials above the limit from then on. It waits for nobody, since
-    /// whoever calls it holds the lock.
+    /// Makes one call of the machine for a seat, and returns the serial of its record and the
+    /// reply. If it was recorded, the total and the seat's share each rise by one; no share is
+    /// above the total. If it found the history full, `told` rises by one; from then on a seat for
+    /// which it rose gets only serials above the limit. Waits for nobody: the caller holds the
+    /// lock.
     ///
-    /// Errors are those of `Machine::answer`, `HistoryFull` exactly where the history holds its
-    /// limit or the last serial is 2^64 - 1; they leave all as it was. To a share of a part for each
-    /// processor, which counts all records, `HistoryFull` comes only where these, without the sealed
-    /// ones that the seat counts, are as many as the limit, or they are 2^64 - 1.
+    /// Errors are those of `Machine::answer`, with `HistoryFull` if and only if the history holds
+    /// its limit or the last serial is 2^64 - 1. On an error, nothing but `told` changes. A share
+    /// with a part for each processor counts all records: it gets `HistoryFull` only if these,
+    /// without the sealed ones that the seat counts, are as many as the limit, or they are 2^64 -
+    /// 1.
     pub fn turn(
         &mut self,
         alloc: Global,
@@ -113,11 +116,9 @@ impl<L: Job> Locked<L> {
         answer
     }
 
-    /// Hands out the records since the last seal, with the state before them (own rule). It makes
-    /// no record: total and share stay as they were. The seat's share of the sealed records rises by
-    /// as many as are handed out. It waits for nobody.
-    ///
-    /// An error is out of memory; then all is as it was.
+    /// Hands out the records since the last seal, with the state before them. Makes no record:
+    /// total and share stay as they were. `handed`, the seat's share of the sealed records, rises
+    /// by as many as are handed out. Waits for nobody. On an error, nothing changes.
     pub fn seal(
         &mut self,
         alloc: Global,
@@ -141,7 +142,8 @@ impl<L: Job> Locked<L> {
     {
         self.book.audit(share);
         self.sealed.audit(handed);
-        // No effect at run time: the proof reads the bound on the number of all records from this call.
+        // No effect at run time: from this call the proof reads the bound on the number of all
+        // records.
         let _ = self.machine.last_serial();
         let volume = self.machine.seal(alloc)?;
         self.sealed
@@ -149,7 +151,7 @@ impl<L: Job> Locked<L> {
         Ok(volume)
     }
 
-    /// Tells how shares stand to the totals: those with a part for each processor have them. It has no
+    /// Called for its contract: shares with a part for each processor equal the totals. Has no
     /// effect.
     pub(crate) fn audit(&mut self, share: &mut Share<L>, handed: &mut Share<Sealed<L>>)
         ensures locked { self.new ≡ self.old }
@@ -164,8 +166,8 @@ impl<L: Job> Locked<L> {
         self.sealed.audit(handed);
     }
 
-    /// Tells that all records reach the limit where a share counts a call that found the history full.
-    /// It has no effect.
+    /// Called for its contract: if a share counts a call that found the history full, all records
+    /// reach the limit. Has no effect.
     pub(crate) fn audit_full(&mut self, told: &mut Share<Fulls<L>>)
         ensures locked { self.new ≡ self.old }
         ensures told { (told.new.parts ≡ told.old.parts) × (told.new.amount ≡ told.old.amount) }
@@ -182,7 +184,7 @@ impl<L: Job> Locked<L> {
         self.machine.layout().cpus()
     }
 
-    /// Returns the machine, to look at.
+    /// Returns the machine.
     pub fn machine(&self) -> &Machine
         ensures machine { result.now ≡ self.now.machine }
         ensures kept { IsShared L.layout self.now }
@@ -190,7 +192,7 @@ impl<L: Job> Locked<L> {
         &self.machine
     }
 
-    /// Returns the machine alone. Nobody's calls are counted any more.
+    /// Returns only the machine: calls are no longer counted.
     pub fn into_machine(self) -> Machine
         ensures { result ≡ self.machine }
     {
@@ -204,7 +206,7 @@ impl<L: Job> Locked<L> {
     }
 }
 
-/// Counts an answer that says that the history is full.
+/// Counts a result that is `HistoryFull`.
 fn count_full<L: Job>(
     fulls: &mut Book<Fulls<L>>,
     told: &mut Share<Fulls<L>>,

@@ -1,4 +1,4 @@
-//! How far a seat's receipts were compared with its processor's records.
+//! How far a seat's receipts have been compared with its processor's records.
 ghost use Rattle.std.specs.Prelude.{◌≡◌, ◌<◌, ◌^◌, ◌-◌, ◌++◌, ◌∷◌, [], List, None, Some, IsTrue, ◌↔◌, slice_get};
 ghost use Rattle.hp_units.specs.Receipts.{DifferAt, receipt_of};
 ghost use Rattle.hp_units.specs.declared.replies.Receipt.{Receipt};
@@ -7,7 +7,7 @@ ghost use Rattle.hp_shared.specs.Comparing.{IsOutcome};
 
 use hp_units::{Receipt, Record, Serial};
 
-/// How far a seat's receipts were compared with its processor's records.
+/// How far a seat's receipts have been compared with its processor's records.
 #[derive(Clone, Copy, Drop)]
 pub struct Mark {
     /// How many of the processor's records were compared.
@@ -17,7 +17,7 @@ pub struct Mark {
 }
 
 impl Mark {
-    /// Before any record.
+    /// Returns the mark before any record.
     pub fn start() -> Mark
         ensures { result ≡ record { next = 0; lowest = None } }
     {
@@ -27,7 +27,7 @@ impl Mark {
         }
     }
 
-    /// After one more record of the seat's processor.
+    /// Returns the mark after one more record of the seat's processor.
     pub fn step(self, receipts: &[Receipt], latest: &Record) -> Mark
         requires { self.next < 2 ^ 64 - 1 }
         ensures { (done : List Receipt) → IsMark receipts.now done self
@@ -40,8 +40,8 @@ impl Mark {
         }
     }
 
-    /// The lowest serial at which the receipts differ from the records that were compared; those
-    /// after them do.
+    /// Returns the lowest serial at which the receipts differ from the records that were compared.
+    /// Receipts past these records differ.
     pub fn finish(self, receipts: &[Receipt]) -> Option<Serial>
         ensures { (done : List Receipt) → IsMark receipts.now done self
             → IsOutcome (receipts.now ≡ done) (DifferAt receipts.now done) result }
@@ -54,7 +54,7 @@ impl Mark {
     }
 }
 
-/// The lower of two serials, where there are any.
+/// Returns the lower of two serials, or the one that there is.
 pub fn lower(one: Option<Serial>, other: Option<Serial>) -> Option<Serial>
     ensures { result ≡ lower one other }
 {
@@ -67,7 +67,8 @@ pub fn lower(one: Option<Serial>, other: Option<Serial>) -> Option<Serial>
     }
 }
 
-/// The lowest serial at which the receipt at a place differs from a record; none where it is the record's.
+/// Returns the lowest serial at which the receipt at a place differs from a record; `None` if it is
+/// the record's.
 fn difference(receipts: &[Receipt], place: usize, latest: &Record) -> Option<Serial>
     ensures { IsOutcome (slice_get receipts.now place ≡ Some (receipt_of latest.now))
         (EntryDiffersAt (slice_get receipts.now place) (receipt_of latest.now)) result }
@@ -83,7 +84,7 @@ fn difference(receipts: &[Receipt], place: usize, latest: &Record) -> Option<Ser
     }
 }
 
-/// Whether a receipt is a record's.
+/// Returns whether a receipt is a record's.
 fn is_of(receipt: &Receipt, latest: &Record) -> bool
     ensures { IsTrue result ↔ (receipt.now ≡ receipt_of latest.now) }
 {

@@ -15,10 +15,10 @@ use std::marker::Model;
 use std::sync::Wait;
 use std::sync::ledger::Share;
 
-/// The one access of a processor to the shared machine (own rule). It keeps a receipt of each of
-/// its calls, and holds shares of one part of the machine's totals: the number of its receipts, how
-/// many records its seals handed out, which it counts, and how many of its calls found the history
-/// full. Shares take no memory.
+/// A processor's only access to the shared machine. It keeps a receipt of each of its calls, and
+/// holds shares of one part of the machine's totals: how many receipts it has, how many records its
+/// seals handed out, which it also counts, and how many of its calls found the history full. Shares
+/// take no memory.
 #[derive(Drop)]
 pub struct Seat<L: Job> {
     cpu: Cpu,
@@ -49,7 +49,7 @@ impl<L: Job> Model for Seat<L> {
 }
 
 impl<L: Job> Seat<L> {
-    /// A seat with shares that count nothing yet.
+    /// Returns a seat whose shares count nothing yet.
     pub(crate) fn new(
         alloc: Global,
         cpu: Cpu,
@@ -73,13 +73,13 @@ impl<L: Job> Seat<L> {
         }
     }
 
-    /// One call of the seat's processor, under one holding of the lock, for which it may wait: it
-    /// answers the reply, and keeps the receipt. Room for the receipt and its copy of the event are
-    /// made before the lock is taken.
+    /// Makes one call for the seat's processor. Returns the reply, and keeps the receipt. Takes the
+    /// lock once, for which it may wait; room for the receipt and its copy of the event is made
+    /// before.
     ///
-    /// Errors: `HistoryFull` as `Locked::turn` answers it, on a machine of one processor only where
-    /// the seat has as many receipts since its last seal as the history may hold records;
-    /// `OutOfMemory` before the lock or under it. Either leaves seat and machine as they were, but that
+    /// Errors: `HistoryFull` as from `Locked::turn`; on a machine with one processor, only if the
+    /// seat has as many receipts since its last seal as the history may hold records. `OutOfMemory`
+    /// before the lock or under it. Both leave the seat and the machine as they were, except that
     /// the seat counts how often the history was full.
     pub fn call(
         &mut self,
@@ -119,18 +119,16 @@ impl<L: Job> Seat<L> {
         }
     }
 
-    /// Makes room for so many further receipts, so that they need not be moved as more come. An
-    /// error is out of memory; the seat is as before, with or without it.
+    /// Reserves room for `receipts` more receipts, so that they need not be moved as more come.
     pub fn reserve(&mut self, receipts: usize) -> Result<(), AllocError>
         ensures { self.new ≡ self.old }
     {
         self.receipts.reserve(receipts)
     }
 
-    /// Hands out the shared machine's records since its last seal, with the state before them,
-    /// under one holding of the lock, for which it may wait. It makes no record and no receipt.
-    ///
-    /// An error is out of memory; it leaves the machine as it was.
+    /// Hands out the shared machine's records since its last seal, with the state before them.
+    /// Takes the lock once, for which it may wait. Makes no record and no receipt. On an error, the
+    /// machine stays as it was.
     pub fn seal(
         &mut self,
         rt: &impl Wait,
@@ -146,14 +144,14 @@ impl<L: Job> Seat<L> {
         Ok(volume)
     }
 
-    /// The processor's number, below the layout's number of processors.
+    /// Returns the processor's number, which is below the layout's number of processors.
     pub fn cpu(&self) -> Cpu
         ensures { result ≡ self.now.cpu }
     {
         self.cpu
     }
 
-    /// The receipts of the seat's calls, oldest first.
+    /// Returns the receipts of the seat's calls, oldest first.
     pub fn receipts(&self) -> &[Receipt]
         ensures { result.now ≡ self.now.receipts }
     {
@@ -161,9 +159,8 @@ impl<L: Job> Seat<L> {
     }
 }
 
-/// Tells how all seats stand to the totals: where there are as many as processors, at most 64, they
-/// count all records, and all that are sealed, and the records reach the limit where a seat found the
-/// history full. It has no effect.
+/// Called for its contract: as many seats as processors, at most 64, count all records and all that
+/// are sealed, and the records reach the limit if a seat found the history full. Has no effect.
 pub(crate) fn audit_all<L: Job>(locked: &mut Locked<L>, seats: &mut Vec<Seat<L>>)
     ensures locked { locked.new ≡ locked.old }
     ensures seats { seats.new.items ≡ seats.old.items }
@@ -181,7 +178,7 @@ pub(crate) fn audit_all<L: Job>(locked: &mut Locked<L>, seats: &mut Vec<Seat<L>>
     seats.push_reserved(seat);
 }
 
-/// Tells how a seat and the others stand to the totals. It has no effect.
+/// Called for its contract: how the counts of a seat and the others add up. Has no effect.
 fn audit_first<L: Job>(locked: &mut Locked<L>, seat: &mut Seat<L>, others: &mut Vec<Seat<L>>)
     ensures locked { locked.new ≡ locked.old }
     ensures seat { seat.new ≡ seat.old }
@@ -199,7 +196,8 @@ fn audit_first<L: Job>(locked: &mut Locked<L>, seat: &mut Seat<L>, others: &mut 
     audit_beside(locked, seat, others, &mut share, &mut handed);
 }
 
-/// Tells how a seat, the others and two more shares stand to the totals. It has no effect.
+/// Called for its contract: how the counts of a seat, the others and two more shares add up. Has no
+/// effect.
 #[cycle(audits)]
 fn audit_beside<L: Job>(
     locked: &mut Locked<L>,
@@ -233,7 +231,7 @@ fn audit_beside<L: Job>(
     handed.give(&mut seat.sealed, 1, count);
 }
 
-/// Tells how seats and two more shares stand to the totals. It has no effect.
+/// Called for its contract: how the counts of seats and two more shares add up. Has no effect.
 #[cycle(audits)]
 fn audit_others<L: Job>(
     locked: &mut Locked<L>,

@@ -9,22 +9,22 @@ use hp_units::{CallFault, Event, Reply};
 use std::alloc::Global;
 use std::sync::Wait;
 
-/// A seat and the machine that it calls, as a port for the driver of a plan (own rule). It shows
-/// the seat's receipts. Each of its calls takes the lock anew, for which it may wait.
+/// A seat and the machine that it calls, as a port for the driver of a plan. It shows the seat's
+/// receipts. Each of its calls takes the lock anew, for which it may wait.
 #[derive(Drop)]
 pub struct SeatPort<'a, L: Job, R> {
-    /// The leave to wait.
+    /// The capability to wait.
     pub rt: &'a R,
     /// The seat that calls.
     pub seat: &'a mut Seat<L>,
     /// The machine under its lock.
     pub shared: &'a Shared<L>,
-    /// The fault of the last call; none at first and after a receipt.
+    /// The fault of the last call; `None` at first and after a receipt.
     pub fault: Option<CallFault>,
 }
 
 impl<'a, L: Job, R> SeatPort<'a, L, R> {
-    /// A seat's port, with no call made yet.
+    /// Returns a seat's port, before its first call.
     pub fn new(rt: &'a R, seat: &'a mut Seat<L>, shared: &'a Shared<L>) -> SeatPort<'a, L, R>
         ensures same_reference { result.seat.ghost_name ≡ seat.entry.ghost_name }
         ensures seat { result.seat.now ≡ seat.old }

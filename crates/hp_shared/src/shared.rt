@@ -1,4 +1,4 @@
-//! The lock round the machine.
+//! The lock around the machine.
 ghost use Rattle.std.specs.Prelude.{◌≡◌, ◌+◌, ◌^◌, ◌<◌, Err, IfErr, IfOk, OnErr, OnOk, length};
 ghost use Rattle.hp_units.specs.declared.replies.CallFault.TheVariants.{HistoryFull};
 ghost use Rattle.hp_history.specs.Course.{receipt_for};
@@ -16,7 +16,7 @@ use std::marker::Model;
 use std::sync::ledger::{Blank, Share};
 use std::sync::{Mutex, Wait};
 
-/// A machine under a lock (own rule).
+/// A machine under a lock.
 #[derive(Drop)]
 pub struct Shared<L: Job> {
     locked: Mutex<Locked<L>>,
@@ -34,9 +34,9 @@ impl<L: Job> Model for Shared<L> {
 }
 
 impl<L: Job> Shared<L> {
-    /// Shares a machine that has no records and sealed nothing, with one seat for each processor,
-    /// in order. The ledgers of its records, of its sealed records and of the calls that find its
-    /// history full have one part for each. An error is out of memory; then all comes back.
+    /// Shares a machine that has no records and sealed nothing. Returns it with one seat per
+    /// processor, in order. The ledgers of its records, of its sealed records and of the calls that
+    /// find its history full have one part per processor. On an error, everything comes back.
     pub fn new(
         alloc: Global,
         records: Blank,
@@ -74,14 +74,15 @@ impl<L: Job> Shared<L> {
         Ok((shared, seats))
     }
 
-    /// The number of processors.
+    /// Returns the number of processors.
     pub fn cpus(&self) -> u32
         ensures { result ≡ L.layout.cpus }
     {
         self.cpus
     }
 
-    /// One turn of a seat under the lock, for which it may wait: the serial and the reply.
+    /// Makes one turn of a seat under the lock, for which it may wait. Returns the serial and the
+    /// reply.
     pub(crate) fn turn(
         &self,
         rt: &impl Wait,
@@ -111,7 +112,7 @@ impl<L: Job> Shared<L> {
             .turn(alloc, share, handed, told, cpu, event)
     }
 
-    /// One seal under the lock, for which it may wait.
+    /// Seals under the lock, for which it may wait.
     pub(crate) fn seal(
         &self,
         rt: &impl Wait,
@@ -140,7 +141,7 @@ impl<L: Job> Shared<L> {
         }
     }
 
-    /// Takes the lock off. It waits for nobody, since nobody else has a part in the machine.
+    /// Takes the lock off. Waits for nobody, since nobody else has a part in the machine.
     pub fn into_locked(self) -> Locked<L> {
         let Shared { locked, cpus: _ } = self;
         locked.into_inner()

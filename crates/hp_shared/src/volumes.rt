@@ -1,12 +1,12 @@
-//! Whether volumes are all that a shared machine sealed.
+//! Checks that volumes are all that a shared machine sealed.
 ghost use Rattle.std.specs.Prelude.{IfNone, IfSome};
 ghost use Rattle.hp_shared.specs.Volumes.{IsWrongAt, ReachSealed};
 
 use hp_history::Volume;
 
-/// The place, from 0, of the first volume whose `before` is not the number of records in the
-/// volumes before it; the number of volumes where each is right and together they do not hold
-/// `sealed` records. None where they do.
+/// Returns the place, from 0, of the first volume whose `before` is not the number of records in
+/// the volumes before it; or the number of volumes, if each is right but together they do not hold
+/// `sealed` records. `None` if they do.
 pub fn wrong_volume(volumes: &Vec<Volume>, sealed: u64) -> Option<u64>
     ensures wrong { IfSome result (λ at. IsWrongAt volumes.now.items sealed at) }
     ensures right { IfNone result (ReachSealed volumes.now.items sealed) }

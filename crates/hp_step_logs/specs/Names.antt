@@ -1,4 +1,4 @@
--- The types and variants of the crate's enums, passed on from one place. Declares nothing.
+-- The types and variants of the crate's enums, exported again from one place. Declares nothing.
 pub use Rattle.hp_step_logs.specs.declared.holders.FrameHolder.{FrameHolder}
 pub use Rattle.hp_step_logs.specs.declared.holders.FrameHolder.TheVariants.{Nobody, Kernel, Owner as OwnerPage}
 pub use Rattle.hp_step_logs.specs.declared.phases.Phase.{Phase}

@@ -12,7 +12,7 @@ use Rattle.hp_step_logs.specs.Names.{FrameHolder, Nobody, Kernel, OwnerPage}
 
 -- ---- one frame
 
--- what has the memory that starts at a frame: a block of the kernel, or else a page
+-- what holds the memory that starts at a frame: a block of the kernel, otherwise a page
 abbrev pub holder_by : Option Order → Option (Owner × Page) → FrameHolder
 holder_by (Some order) page = Kernel order
 holder_by None (Some page) = OwnerPage page.0 page.1
@@ -37,7 +37,7 @@ piece_in holder = piece_by (kernel_in holder) (is_some (page_in holder))
 
 -- ---- a state
 
--- what has each frame, and the row of each memory block
+-- what holds each frame, and the row of each memory block
 pub record SnapshotValue : Type 0 where
   pub holders : List FrameHolder
   pub rows : List Row
@@ -45,7 +45,7 @@ pub record SnapshotValue : Type 0 where
 abbrev pub snapshot_of : LayoutParts → Memory → SnapshotValue
 snapshot_of l s = record { holders = map (holder_of s) (all_frames l); rows = s.blocks.rows }
 
--- it shows a well placed state of a layout
+-- the snapshot shows a well placed state of a layout
 pub record Shows (l : LayoutParts) (s : Memory) (snapshot : SnapshotValue) : Type 0 where
   pub limits : IsLayout l
   pub placed : IsWellPlaced l s

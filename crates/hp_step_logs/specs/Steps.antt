@@ -1,4 +1,4 @@
--- Which events a move can be made of.
+-- The events that can be a move.
 use Rattle.std.specs.Prelude.{◌==◌, ◌&&◌, not, if◌then◌else◌, Option, Some, None}
 use Rattle.hp_numbers.specs.Numbers.{Frame, Owner, Page}
 use Rattle.hp_lawful.specs.Logs.{same_page}

@@ -1,4 +1,4 @@
--- The phases of a memory block as the code has them, and how a block gets from one to another.
+-- The phases of a memory block as in the code, and how a block gets from one to another.
 use Rattle.std.specs.Prelude.{Bool, true, false, List, [], ◌∷◌, Option, Some, None}
 use Rattle.hp_numbers.specs.Numbers.{Block}
 use Rattle.hp_lawful.specs.Names.{LogEvent, OnlineEnds, OfflineBegins, OfflineEnds}
@@ -11,7 +11,7 @@ phase_seen (PhaseGoingOnline zone) = GoingOnline zone
 phase_seen (PhaseOnline zone) = Online zone
 phase_seen (PhaseGoingOffline zone) = GoingOffline zone
 
--- the events of a turn; none that is told here where it goes through offline
+-- the events of a turn; `None` if it goes through offline
 abbrev pub turn_events : Block → Turn → Option (List LogEvent)
 turn_events block Stays = Some []
 turn_events block ComesOnline = Some (OnlineEnds block true ∷ [])
@@ -19,7 +19,7 @@ turn_events block BeginsOffline = Some (OfflineBegins block ∷ [])
 turn_events block StaysOnline = Some (OfflineEnds block false ∷ [])
 turn_events block ThroughOffline = None
 
--- whether a block in this phase goes offline on its way to offline
+-- a block in this phase goes offline on its way to offline
 abbrev pub goes_offline : BlockPhase → Bool
 goes_offline Offline = false
 goes_offline (GoingOnline zone) = true

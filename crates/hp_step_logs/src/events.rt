@@ -1,4 +1,4 @@
-//! A log that grows.
+//! Adds events to a log.
 ghost use Rattle.std.specs.Prelude.{◌≡◌, ◌++◌, ◌∷◌, [], OnOk};
 
 use hp_judge::LogEvent;

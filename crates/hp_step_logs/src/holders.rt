@@ -1,4 +1,4 @@
-//! What has the memory that starts at a frame.
+//! What holds the memory that starts at a frame.
 ghost use Rattle.std.specs.Prelude.{ℕ, ◌≡◌, ◌++◌, OnOk};
 ghost use Rattle.hp_lawful.specs.Pieces.{alloc_events, free_events, same_piece};
 ghost use Rattle.hp_step_logs.specs.Snapshots.{holder_by, page_in, piece_in};
@@ -8,7 +8,7 @@ use hp_judge::LogEvent;
 use hp_units::{Frame, Order, Owner, Page};
 use std::alloc::AllocError;
 
-/// What has the memory that starts at a frame.
+/// What holds the memory that starts at a frame.
 #[derive(Clone, Copy, Drop)]
 pub enum FrameHolder {
     /// Nothing starts there.
@@ -20,8 +20,8 @@ pub enum FrameHolder {
 }
 
 impl FrameHolder {
-    /// Makes the holder of a frame from the kernel's block that starts there and the page that the
-    /// frame holds. The kernel's block counts where there are both.
+    /// Returns the holder of a frame from the kernel's block that starts there and the page that
+    /// the frame holds. If there are both, the kernel's block counts.
     pub fn new(kernel: Option<Order>, page: Option<(Owner, Page)>) -> FrameHolder
         ensures { result ≡ holder_by kernel page }
     {
@@ -31,7 +31,7 @@ impl FrameHolder {
         }
     }
 
-    /// Makes the holder of a frame at which no block of the kernel starts.
+    /// Returns the holder of a frame where no block of the kernel starts.
     fn of_page(page: Option<(Owner, Page)>) -> FrameHolder
         ensures { result ≡ holder_by None page }
     {
@@ -87,7 +87,7 @@ impl FrameHolder {
     }
 }
 
-/// Adds that the memory that starts at a frame comes back.
+/// Adds the event that the memory that starts at a frame comes back.
 pub(crate) fn push_free(
     log: &mut Vec<LogEvent>,
     frame: Frame,
@@ -108,7 +108,7 @@ pub(crate) fn push_free(
     }
 }
 
-/// Adds that the memory that starts at a frame is handed out.
+/// Adds the event that the memory that starts at a frame is handed out.
 pub(crate) fn push_alloc(
     log: &mut Vec<LogEvent>,
     frame: Frame,

@@ -9,7 +9,7 @@ pub fn write_size(out: &mut String, block_frames: u32) -> Result<(), AllocError>
     writeln!(out, "{{\"block_frames\": {block_frames}}}")
 }
 
-/// Writes an event as an object of JSON, in a line of its own.
+/// Writes an event as a JSON object in a line of its own.
 pub fn write_event(out: &mut String, event: &LogEvent) -> Result<(), AllocError> {
     match event {
         LogEvent::Alloc {
@@ -40,7 +40,7 @@ fn write_free(out: &mut String, frame: u32, order: u32) -> Result<(), AllocError
     writeln!(out, "{{\"free\": {frame}, \"order\": {order}}}")
 }
 
-/// Writes that a page is at another frame.
+/// Writes that a page moved to another frame.
 fn write_move(out: &mut String, from: u32, to: u32) -> Result<(), AllocError> {
     writeln!(out, "{{\"move\": {from}, \"to\": {to}}}")
 }

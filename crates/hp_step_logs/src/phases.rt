@@ -26,7 +26,7 @@ pub(crate) enum Turn {
     Stays,
     /// By the end of an online.
     ComesOnline,
-    /// By the begin of an offline.
+    /// By the start of an offline.
     BeginsOffline,
     /// By an offline that fails.
     StaysOnline,
@@ -116,8 +116,7 @@ impl Phase {
         }
     }
 
-    /// Returns whether a block that is in this phase, and then in another, is offline in between or
-    /// goes offline.
+    /// Returns whether a block in this phase goes offline on its way to another phase.
     pub(crate) fn goes_offline(self, to: Phase) -> bool
         ensures { (block : ℕ) → result
             ≡ list_any leaves_offline (phase_events block (phase_seen self) (phase_seen to)) }
@@ -138,7 +137,7 @@ impl Phase {
         }
     }
 
-    /// Adds that a block in this phase goes offline.
+    /// Adds the events of a block that goes offline from this phase.
     fn push_to_offline(self, log: &mut Vec<LogEvent>, block: Block) -> Result<(), AllocError>
         ensures { OnOk result (log.new.items ≡ log.old.items ++ to_offline block (phase_seen self)) }
     {
@@ -153,7 +152,7 @@ impl Phase {
         }
     }
 
-    /// Adds that an offline block enters this phase.
+    /// Adds the events of an offline block that goes into this phase.
     fn push_from_offline(self, log: &mut Vec<LogEvent>, block: Block) -> Result<(), AllocError>
         ensures { OnOk result (log.new.items ≡ log.old.items ++ from_offline block (phase_seen self)) }
     {
@@ -195,7 +194,7 @@ pub(crate) fn push_phase_events(
     }
 }
 
-/// Returns a turn if the zones are the same, and else the one through offline.
+/// Returns `turn` if the zones are the same, otherwise the turn through offline.
 fn turn_within(from: Zone, to: Zone, turn: Turn) -> Turn
     ensures { result ≡ (if same_zone from to then turn else Turn.ThroughOffline) }
 {

@@ -10,8 +10,8 @@ use crate::phases::Phase;
 use hp_units::{Block, Frame, Row};
 use std::marker::Model;
 
-/// What the log of a step depends on in a state: what has the memory that starts at each frame, and
-/// the row of each memory block. It takes 12 bytes per frame.
+/// What the log of a step depends on in a state: what holds the memory that starts at each frame,
+/// and the row of each memory block. Takes 12 bytes per frame.
 #[derive(Drop)]
 pub struct Snapshot {
     holders: Vec<FrameHolder>,
@@ -27,14 +27,14 @@ impl Model for Snapshot {
 }
 
 impl Snapshot {
-    /// Makes a snapshot from the holder of each frame and the row of each memory block.
+    /// Returns a snapshot with the holder of each frame and the row of each memory block.
     pub fn new(holders: Vec<FrameHolder>, rows: Vec<Row>) -> Snapshot
         ensures { result ≡ record { holders = holders.items; rows = rows.items } }
     {
         Snapshot { holders, rows }
     }
 
-    /// Returns what has the memory that starts at a frame.
+    /// Returns what holds the memory that starts at a frame.
     pub(crate) fn holder(&self, frame: Frame) -> FrameHolder
         ensures { result ≡ holder_at self.now frame }
     {

@@ -16,8 +16,8 @@ use hp_judge::LogEvent;
 use hp_units::{Block, Frame, Layout, Owner, Page, block_of};
 use std::alloc::{AllocError, Global};
 
-/// Returns the log of a step that leads from one state of the layout to another. It takes time in
-/// proportion to the number of frames.
+/// Returns the log of a step that leads from one state of the layout to another. Time is linear in
+/// the number of frames.
 pub fn step_log(
     alloc: Global,
     layout: &Layout,
@@ -113,7 +113,7 @@ fn push_allocs(
     Ok(())
 }
 
-/// Adds the alloc of the piece that starts at a frame now, unless it stayed in use.
+/// Adds the alloc of the piece that starts at a frame, unless it stayed in use.
 fn push_allocated(
     log: &mut Vec<LogEvent>,
     layout: &Layout,
@@ -145,7 +145,7 @@ fn stays(layout: &Layout, before: &Snapshot, after: &Snapshot, frame: Frame) -> 
     !before.phase(block).goes_offline(after.phase(block))
 }
 
-/// Returns the move that a log is, if all that changes is that one page is at another frame.
+/// Returns the move that a log is, if the only change is that one page is at another frame.
 fn found_move(before: &Snapshot, after: &Snapshot, log: &[LogEvent]) -> Option<LogEvent>
     ensures { (l : LayoutParts) (s t : Memory) → Shows l s before.now → Shows l t after.now
         → with_move s t log.now ≡ option_map_or (λ event. event ∷ []) result log.now }
@@ -158,7 +158,7 @@ fn found_move(before: &Snapshot, after: &Snapshot, log: &[LogEvent]) -> Option<L
     move_of_page(before, after, from, to)
 }
 
-/// Returns the move of a page from one frame to another, if it is one.
+/// Returns the move of a page from one frame to another, if it is the same page.
 fn move_of_page(before: &Snapshot, after: &Snapshot, from: Frame, to: Frame) -> Option<LogEvent>
     ensures { result
         ≡ page_move (page_in (holder_at before.now from)) (page_in (holder_at after.now to)) from to }
@@ -194,7 +194,7 @@ fn movable_alloc(event: &LogEvent) -> Option<Frame>
     }
 }
 
-/// Returns whether both are a page, and the same.
+/// Returns whether both are pages, and the same.
 fn is_same_page(page: Option<(Owner, Page)>, other: Option<(Owner, Page)>) -> bool
     ensures { result ≡ same_page page other }
 {

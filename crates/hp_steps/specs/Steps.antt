@@ -1,4 +1,4 @@
--- What a contract sees of a memory that goes forth and back, and what a step makes of it.
+-- The value of a memory that goes forward and back, and what a step makes of it.
 use Rattle.std.specs.Prelude.{◌≡◌, ℕ, List, [], ◌∷◌, ◌++◌, length}
 use Rattle.hp_units.specs.LayoutParts.{LayoutParts}
 use Rattle.hp_units.specs.Memory.{Memory}
@@ -20,7 +20,7 @@ abbrev pub record_of_step : LayoutParts → Memory → (serial cpu : ℕ) → Ev
 record_of_step l s serial cpu event =
     record { serial = serial; cpu = cpu; event = event; reply = (step l s serial cpu event).reply }
 
--- there is one record more, and the deltas after the first `mark` lead back
+-- one more record, and the deltas after the first `mark` lead back
 pub record IsLater (old : StepsValue) (r : Record) (mark : ℕ) (new : StepsValue) : Type 0 where
   pub since : List Delta
   pub layout : new.layout ≡ old.layout

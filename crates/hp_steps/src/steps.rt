@@ -11,14 +11,15 @@ use hp_units::{Cpu, Event, Record, Serial};
 use std::alloc::{AllocError, Global};
 use std::marker::Model;
 
-/// A memory with the records of the steps that led to it, and with the deltas of those that were made here.
+/// A memory with the records of the steps that led to it, and the deltas of those that were made
+/// here.
 pub struct Steps {
     memory: Memory,
     tape: Tape,
     records: Vec<Record>,
 }
 
-/// A function of its own, so that no proof of a caller takes the fields apart.
+/// Keeps callers from proving again how each field is dropped.
 impl Drop for Steps {
     fn drop(self) {
         let Steps {
@@ -43,7 +44,7 @@ impl Model for Steps {
 }
 
 impl Steps {
-    /// A well placed state, after the steps of these records. An error is out of memory.
+    /// Starts at a well placed state, after the steps of these records.
     pub fn start(alloc: Global, image: &Image, records: Vec<Record>) -> Result<Steps, AllocError>
         requires placed { IsWellPlaced image.now.layout image.now.memory }
         ensures { IfOk result (λ steps. steps ≡ record {
@@ -62,23 +63,22 @@ impl Steps {
         })
     }
 
-    /// The present memory.
+    /// Returns the present memory.
     pub fn memory(&self) -> &Memory
         ensures { result.now ≡ record { layout = self.now.layout; state = self.now.state } }
     {
         &self.memory
     }
 
-    /// The records, oldest first.
+    /// Returns the records, oldest first.
     pub fn records(&self) -> &[Record]
         ensures { result.now ≡ self.now.records }
     {
         self.records.as_slice()
     }
 
-    /// Makes the step of a processor's event, and records it under a serial. It answers how many
-    /// deltas there were before: by this mark `take_back` comes back. An error is out of memory;
-    /// then all is as before.
+    /// Makes the step of a processor's event, and records it under `serial`. Returns the number of
+    /// deltas before the step, which `take_back` needs. On an error, nothing changes.
     pub fn make(
         &mut self,
         alloc: Global,
@@ -103,7 +103,7 @@ impl Steps {
         Ok(mark)
     }
 
-    /// Takes the latest step back, by the mark that `make` answered: all is as before it. It takes no memory.
+    /// Takes the latest step back. `mark` is what `make` returned for it. Allocates nothing.
     pub fn take_back(&mut self, mark: usize)
         requires { (old : StepsValue) × (r : StepRecord) × IsLater old r mark self.old }
         ensures { (old : StepsValue) (r : StepRecord) → IsLater old r mark self.old → self.new ≡ old }

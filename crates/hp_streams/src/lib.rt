@@ -1,9 +1,9 @@
-//! All the bytes of a stream: reading them up to a limit, and writing them.
+//! All the bytes of a stream: reads them up to a limit, and writes them.
 //!
-//! `read_all` reads a `Source` to its end, `write_all` writes bytes to a `Sink`; what both do is
-//! proved of any source and sink. `Counted` makes one of each reader and writer of the standard
-//! library. This crate owns the limit of an input and the faults of reading it. It opens no file
-//! and no stream, prints nothing, and stands on no other crate. Read src/streams.rt first: what a
+//! `read_all` reads a `Source` to its end, and `write_all` writes bytes to a `Sink`; both are
+//! proved for any source and sink. `Counted` makes one of each reader and writer of the standard
+//! library. The crate owns the limit of an input and the faults of reading it. It opens no file and
+//! no stream, prints nothing, and depends on no other crate. Read src/streams.rt first: what a
 //! source and a sink must do.
 #![tactic(auto)]
 

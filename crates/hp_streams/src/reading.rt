@@ -1,4 +1,4 @@
-//! All the bytes that a source has.
+//! Reads all the bytes of a source.
 
 ghost use Rattle.std.specs.Prelude.{◌≡◌, ◌<◌, ◌≤◌, ◌-◌, ◌^◌, length, IfOk, IfErr, OnOk};
 ghost use Rattle.std.specs.Io.KnownBytes.{Consumes, IsAtEnd};
@@ -8,7 +8,7 @@ ghost use Rattle.hp_streams.specs.declared.reading.ReadFault.TheVariants.{OutOfM
 use crate::streams::Source;
 use std::alloc::{AllocError, Global};
 
-/// The greatest length of an input, in bytes (own rule).
+/// The greatest length of an input, in bytes.
 pub const LIMIT: usize = 16_777_216;
 
 /// Why an input was not read.
@@ -30,7 +30,7 @@ impl From<AllocError> for ReadFault {
     }
 }
 
-/// Reads all there is, unless it is longer than the limit.
+/// Reads all bytes of a source, at most the limit.
 pub fn read_all<R: Source>(alloc: Global, reader: &mut R) -> Result<Vec<u8>, ReadFault>
     requires { R.failures reader.old < 2 ^ 64 - 1 }
     ensures bytes { IfOk result (λ v. Consumes (R.remaining reader.old) (R.remaining reader.new) v.items) }

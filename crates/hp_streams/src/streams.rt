@@ -11,15 +11,15 @@ use std::io::{Read, Write};
 #[derive(Clone, Copy, Debug, PartialEq, Eq)]
 pub struct Failed;
 
-/// Where bytes are read from.
+/// A source of bytes.
 pub trait Source {
-    /// The bytes that are left, where they are known.
+    /// The bytes that are left, if they are known.
     ghost remaining: { Self → Option (List ℕ) };
 
     /// How many calls failed.
     ghost failures: { Self → ℕ };
 
-    /// Reads some bytes, and none only at the end.
+    /// Reads some bytes; none only at the end.
     fn read(&mut self, buffer: &mut [u8]) -> Result<usize, Failed>
         requires { failures self.old < 2 ^ 64 - 1 }
         ensures bound { ReadsAtMost result buffer.new }
@@ -28,15 +28,15 @@ pub trait Source {
         ensures err { OnErr result (failures self.new ≡ failures self.old + 1) };
 }
 
-/// Where bytes are written to.
+/// A sink for bytes.
 pub trait Sink {
-    /// The bytes that were written, where they are known.
+    /// The bytes that were written, if they are known.
     ghost contents: { Self → Option (List ℕ) };
 
     /// How many calls failed.
     ghost failures: { Self → ℕ };
 
-    /// Writes some of the bytes, at least one where there is one.
+    /// Writes some of the bytes; at least one, if there is one.
     fn write(&mut self, bytes: &[u8]) -> Result<usize, Failed>
         requires { failures self.old < 2 ^ 64 - 1 }
         ensures bound { WritesSome result bytes.now }
@@ -45,8 +45,8 @@ pub trait Sink {
         ensures err { OnErr result (failures self.new ≡ failures self.old + 1) };
 }
 
-/// A reader or a writer of the standard library, and how many of its calls failed: any error of it,
-/// and a write that takes none of the bytes.
+/// A reader or a writer of the standard library that counts its failed calls: any error, and a
+/// write that takes none of the bytes.
 #[derive(Drop)]
 pub struct Counted<S> {
     inner: S,
@@ -54,7 +54,7 @@ pub struct Counted<S> {
 }
 
 impl<S> Counted<S> {
-    /// A stream none of whose calls failed yet.
+    /// Wraps a stream; no call has failed yet.
     pub fn new(inner: S) -> Counted<S>
         ensures { result ≡ record { inner = inner; failures = 0 } }
     {

@@ -1,11 +1,11 @@
-//! All of some bytes, to a sink.
+//! Writes all bytes to a sink.
 
 ghost use Rattle.std.specs.Prelude.{◌<◌, ◌-◌, ◌^◌, OnOk, OnErr};
 ghost use Rattle.std.specs.Io.KnownBytes.{Appends};
 
 use crate::streams::{Failed, Sink};
 
-/// Writes all the bytes. Where a call of the writer fails, some of them may be written.
+/// Writes all bytes. If a call of the writer fails, some of them may have been written.
 pub fn write_all<W: Sink>(writer: &mut W, bytes: &[u8]) -> Result<(), Failed>
     requires { W.failures writer.old < 2 ^ 64 - 1 }
     ensures ok { OnOk result (Appends (W.contents writer.old) (W.contents writer.new) bytes.now) }

@@ -1,4 +1,4 @@
--- How the answer to an event is written.
+-- The text of the reply to an event.
 use Rattle.std.specs.Prelude.{ℕ, List, ◌++◌, codes}
 use Rattle.std.specs.Fmt.{decimal}
 use Rattle.hp_units.specs.Texts.{call_fault_text, reply_text}
@@ -6,15 +6,15 @@ use Rattle.hp_units.specs.declared.replies.CallFault.{CallFault}
 use Rattle.hp_units.specs.declared.replies.Reply.{Reply}
 use Rattle.hp_text.specs.State.{newline}
 
--- a reply alone
+-- only the reply
 abbrev pub bare_reply_line : Reply → List ℕ
 bare_reply_line reply = reply_text reply ++ newline
 
--- a serial, and the reply to it
+-- a serial and its reply
 abbrev pub reply_line : ℕ → Reply → List ℕ
 reply_line serial reply = decimal serial ++ codes ": " ++ reply_text reply ++ newline
 
--- why an event left no record, alone
+-- why an event left no record
 abbrev pub fault_line : CallFault → List ℕ
 fault_line fault = codes "fault " ++ call_fault_text fault ++ newline
 

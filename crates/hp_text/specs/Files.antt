@@ -1,4 +1,4 @@
--- How the fault of a control file is written.
+-- The text of the fault of a control file.
 use Rattle.std.specs.Prelude.{ℕ, List, ◌++◌, codes}
 use Rattle.hp_requests.specs.declared.fault.ControlFault.{ControlFault}
 use Rattle.hp_requests.specs.FaultName.{fault_name}

@@ -1,4 +1,4 @@
--- How a call, an event and a plan are written as a scenario has them (own rule).
+-- Calls, events and plans as lines of a scenario.
 use Rattle.std.specs.Prelude.{ℕ, List, ◌++◌, codes, false}
 use Rattle.std.specs.Fmt.{decimal, digits}
 use Rattle.std.specs.List.{flat_map}
@@ -19,11 +19,11 @@ wish_word wish.Movable = codes " movable"
 abbrev pub item_word : Item → List ℕ
 item_word item = wish_word item.wish ++ number_word item.block
 
--- an access to a page of an owner, who has a name
+-- an access to an owner's page, with the owner's name
 abbrev pub access_text : (verb : List ℕ) → (names : List (List ℕ)) → (owner page : ℕ) → List ℕ
 access_text verb names owner page = verb ++ codes " " ++ name_of names owner ++ number_word page
 
--- what is asked for; what a control file alone takes is written to it (Linux guide: probe,
+-- an event; one that only a control file takes is an `echo` (Linux guide: probe,
 -- auto_online_blocks)
 abbrev pub event_text : (names : List (List ℕ)) → Event → List ℕ
 event_text names (KernelAlloc order) = codes "kalloc" ++ number_word order
@@ -45,10 +45,10 @@ event_text names (Probe address) = codes "echo 0x" ++ digits 16 false address ++
 event_text names (Remove block) = codes "remove" ++ number_word block
 event_text names (SetAuto auto) = codes "echo " ++ auto_text auto ++ codes " auto_online_blocks"
 
--- what a line asks for that has a plan carried out with so many turns
+-- a plan to be carried out with at most `turns` migrations
 abbrev pub plan_text : List Item → (turns : ℕ) → List ℕ
 plan_text items turns = codes "plan" ++ number_word turns ++ flat_map item_word items
 
--- the line: the processor, and what it asks for
+-- a line: the processor, then the event
 abbrev pub call_text : (names : List (List ℕ)) → (cpu : ℕ) → Event → List ℕ
 call_text names cpu event = decimal cpu ++ codes " " ++ event_text names event

@@ -1,4 +1,4 @@
--- How a state is written: part by part, each only where it has something.
+-- The text of a state: part by part, without the parts that are empty.
 use Rattle.std.specs.Prelude.{ℕ, zero, suc, ◌+◌, Bool, true, false, if◌then◌else◌, List, [], ◌∷◌, ◌++◌, codes, Option, Some, None, slice_get, unwrap_or}
 use Rattle.std.specs.List.{flat_map}
 use Rattle.std.specs.Fmt.{decimal}
@@ -26,7 +26,7 @@ use Rattle.hp_text.specs.declared.state.Mark.TheVariants as mark
 
 -- ---- words and lines
 
--- the end of a line
+-- a newline
 abbrev pub newline : List ℕ
 newline = 10 ∷ []
 
@@ -34,22 +34,22 @@ newline = 10 ∷ []
 abbrev pub number_word : ℕ → List ℕ
 number_word n = codes " " ++ decimal n
 
--- a number, where there is one
+-- a number, if there is one
 abbrev pub decimal_of : Option ℕ → List ℕ
 decimal_of None = []
 decimal_of (Some n) = decimal n
 
--- the texts of the numbers below n, one after another
+-- the texts of the numbers below `n`, one after another
 unfoldable pub texts_below : (ℕ → List ℕ) → ℕ → List ℕ
 texts_below text zero = []
 texts_below text (suc n) = texts_below text n ++ text n
 
--- a line of a head and words, where there are words
+-- a line of a head and words, if there are words
 unfoldable pub words_line : (head words : List ℕ) → List ℕ
 words_line head [] = []
 words_line head (c ∷ cs) = head ++ (c ∷ cs) ++ newline
 
--- a line of a head and numbers, where there are numbers
+-- a line of a head and numbers, if there are numbers
 unfoldable pub numbers_line : (head numbers : List ℕ) → List ℕ
 numbers_line head [] = []
 numbers_line head (n ∷ ns) = head ++ flat_map number_word (n ∷ ns) ++ newline
@@ -60,7 +60,7 @@ abbrev pub zone_word : Option Zone → List ℕ
 zone_word None = []
 zone_word (Some zone) = codes " " ++ zone_text zone
 
--- a memory block's state, with its zone where it is online or going
+-- a memory block's state, with its zone if it is online or going offline
 abbrev pub state_words : State → Option Zone → List ℕ
 state_words OfflineState _ = codes "offline"
 state_words OnlineState zone = codes "online" ++ zone_word zone
@@ -77,7 +77,7 @@ row_line block row =
     codes "block " ++ decimal block ++ codes " " ++ state_words row.state row.zone ++ claim_words row.claim
     ++ newline
 
--- the line of a memory block that there is
+-- the line of a memory block, if there is such a block
 abbrev pub block_line : ℕ → Option Row → List ℕ
 block_line block None = []
 block_line block (Some row) = row_line block row
@@ -85,7 +85,7 @@ block_line block (Some row) = row_line block row
 unfoldable pub blocks_text : LayoutParts → Blocks → List ℕ
 blocks_text l bs = texts_below (λ block. block_line block (slice_get bs.rows block)) l.blocks
 
--- what a block that is added becomes, where it isn't offline
+-- what a block becomes when it is added, unless that is offline
 unfoldable pub auto_line : Auto → List ℕ
 auto_line OfflineAuto = []
 auto_line OnlineAuto = codes "auto: " ++ auto_text OnlineAuto ++ newline
@@ -102,12 +102,12 @@ abbrev pub is_unmovable : Mobility → Bool
 is_unmovable Unmovable = true
 is_unmovable Movable = false
 
--- whether a pageblock of a kind has the mark
+-- a pageblock of this kind has the mark
 abbrev pub has_mark : Mark → Kind → Bool
 has_mark mark.Unmovable kind = is_unmovable kind.mobility
 has_mark mark.Isolated kind = kind.isolated
 
--- the number of a pageblock that has the mark
+-- the number of a pageblock, if it has the mark
 abbrev pub marked_word : Mark → ℕ → Option Kind → List ℕ
 marked_word m pageblock None = []
 marked_word m pageblock (Some kind) = if has_mark m kind then number_word pageblock else []
@@ -130,7 +130,7 @@ abbrev pub cached_line : (cpu : ℕ) → Pool → List ℕ → List ℕ
 cached_line cpu pool frames =
     numbers_line (codes "cpu " ++ decimal cpu ++ codes " " ++ pool_text pool ++ codes ":") frames
 
--- a class's lists by rising order
+-- a class's lists in increasing order
 unfoldable pub class_lists_text : LayoutParts → FreeAreas → Class → List ℕ
 class_lists_text l a class =
     texts_below (λ order. free_line class order (free_list a class order)) (l.order + 1)
@@ -160,7 +160,7 @@ kernel_line frame (Some order) =
 unfoldable pub kernel_text : LayoutParts → Memory → List ℕ
 kernel_text l s = texts_below (λ frame. kernel_line frame (kernel_order s frame)) (frame_count l)
 
--- the name of an owner by its number, and none for a number that has no name
+-- the name of an owner by its number; empty if the number has no name
 abbrev pub name_of : List (List ℕ) → ℕ → List ℕ
 name_of names owner = unwrap_or (slice_get names owner) []
 
@@ -172,7 +172,7 @@ page_head name page frame =
 unfoldable pub page_line : (name : List ℕ) (page frame : ℕ) (words : List ℕ) → List ℕ
 page_line name page frame words = page_head name page frame ++ flat_map number_word words ++ newline
 
--- the line of a page that is mapped
+-- the line of a page, if it is mapped
 abbrev pub page_text : (name : List ℕ) (page : ℕ) → Option ℕ → Option (List ℕ) → List ℕ
 page_text name page None words = []
 page_text name page (Some frame) words = page_line name page frame (unwrap_or words [])

@@ -1,4 +1,4 @@
-//! The answer to an event.
+//! The reply to an event.
 ghost use Rattle.std.specs.Prelude.{◌≡◌, ◌++◌, OnOk, string_bytes};
 ghost use Rattle.hp_units.specs.Texts.{reply_text};
 ghost use Rattle.hp_text.specs.Answers.{bare_reply_line, fault_line, reply_line, sealed_line, unrecorded_line};
@@ -8,7 +8,7 @@ use crate::refusals::{write_call_fault_name, write_refused};
 use hp_units::{CallFault, Reply, Serial};
 use std::alloc::AllocError;
 
-/// Writes the serial of a record and its reply, as `3: frame 0` (own rule).
+/// Writes the serial of a record and its reply, as `3: frame 0`.
 pub fn write_answer(out: &mut String, serial: Serial, reply: Reply) -> Result<(), AllocError>
     ensures { OnOk result (string_bytes out.new ≡ string_bytes out.old ++ reply_line serial reply) }
 {
@@ -17,7 +17,7 @@ pub fn write_answer(out: &mut String, serial: Serial, reply: Reply) -> Result<()
     write_reply(out, reply)
 }
 
-/// Writes a reply without its serial, as `frame 0` (own rule).
+/// Writes a reply without its serial, as `frame 0`.
 pub fn write_reply(out: &mut String, reply: Reply) -> Result<(), AllocError>
     ensures { OnOk result (string_bytes out.new ≡ string_bytes out.old ++ bare_reply_line reply) }
 {
@@ -25,7 +25,7 @@ pub fn write_reply(out: &mut String, reply: Reply) -> Result<(), AllocError>
     out.push('\n')
 }
 
-/// Writes the words of a reply, as `write_reply` does, but not the end of the line (own rule).
+/// Writes the words of a reply like `write_reply`, without the newline.
 pub fn write_reply_words(out: &mut String, reply: Reply) -> Result<(), AllocError>
     ensures { OnOk result (string_bytes out.new ≡ string_bytes out.old ++ reply_text reply) }
 {
@@ -44,8 +44,7 @@ pub fn write_reply_words(out: &mut String, reply: Reply) -> Result<(), AllocErro
     }
 }
 
-/// Writes why an event left no record, with a dash in place of a serial, as `-: fault HistoryFull`
-/// (own rule).
+/// Writes why an event left no record, with a dash in place of a serial, as `-: fault HistoryFull`.
 pub fn write_unrecorded(out: &mut String, fault: CallFault) -> Result<(), AllocError>
     ensures { OnOk result (string_bytes out.new ≡ string_bytes out.old ++ unrecorded_line fault) }
 {
@@ -53,7 +52,7 @@ pub fn write_unrecorded(out: &mut String, fault: CallFault) -> Result<(), AllocE
     write_call_fault(out, fault)
 }
 
-/// Writes why an event left no record, as `fault HistoryFull` (own rule).
+/// Writes why an event left no record, as `fault HistoryFull`.
 pub fn write_call_fault(out: &mut String, fault: CallFault) -> Result<(), AllocError>
     ensures { OnOk result (string_bytes out.new ≡ string_bytes out.old ++ fault_line fault) }
 {
@@ -62,7 +61,7 @@ pub fn write_call_fault(out: &mut String, fault: CallFault) -> Result<(), AllocE
     out.push('\n')
 }
 
-/// Writes how many records a seal handed out, as `sealed 3` (own rule).
+/// Writes how many records a seal handed out, as `sealed 3`.
 pub fn write_sealed(out: &mut String, count: u64) -> Result<(), AllocError>
     ensures { OnOk result (string_bytes out.new ≡ string_bytes out.old ++ sealed_line count) }
 {

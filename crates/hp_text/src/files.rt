@@ -5,14 +5,14 @@ ghost use Rattle.hp_text.specs.Files.{read_fault_line, write_fault_line};
 use hp_requests::ControlFault;
 use std::alloc::AllocError;
 
-/// Writes why a file was not read, as `cat: fault NoFile` (own rule).
+/// Writes why a file was not read, as `cat: fault NoFile`.
 pub fn write_read_fault(out: &mut String, fault: ControlFault) -> Result<(), AllocError>
     ensures { OnOk result (string_bytes out.new ≡ string_bytes out.old ++ read_fault_line fault) }
 {
     writeln!(out, "cat: fault {fault}")
 }
 
-/// Writes why a file did not take a text, as `echo: fault BadText` (own rule).
+/// Writes why a file did not take a text, as `echo: fault BadText`.
 pub fn write_echo_fault(out: &mut String, fault: ControlFault) -> Result<(), AllocError>
     ensures { OnOk result (string_bytes out.new ≡ string_bytes out.old ++ write_fault_line fault) }
 {

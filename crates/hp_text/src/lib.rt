@@ -1,10 +1,11 @@
-//! Texts: how a call, its answer, a plan and its end, the fault of a control file and a whole state
-//! are written. Each function appends to a `String` exactly the text that specs/ gives for its
-//! value, and changes nothing else; its error is out of memory, and then the text may be there in
-//! part.
+//! Writes calls, replies, plans and their ends, the faults of control files and whole states as
+//! text.
 //!
-//! The crate knows nothing of streams, scenarios or threads. Each program that prints such values
-//! stands on it. Read specs/Answers first, then specs/State.
+//! Each function appends to a `String` exactly the text that specs/ gives for its value, and
+//! changes nothing else. If it runs out of memory, part of the text may have been appended.
+//!
+//! The crate knows nothing of streams, scenarios or threads; each program that prints such values
+//! uses it. Read specs/Answers first, then specs/State.
 #![tactic(auto)]
 
 mod answers;

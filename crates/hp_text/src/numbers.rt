@@ -22,7 +22,7 @@ pub(crate) fn write_word(out: &mut String, number: u64) -> Result<(), AllocError
     write_number(out, number)
 }
 
-/// Writes words and a number after them.
+/// Writes words, then a number.
 pub(crate) fn write_numbered(out: &mut String, words: &str, number: u64) -> Result<(), AllocError>
     ensures { OnOk result (string_bytes out.new ≡ string_bytes out.old ++ words.now ++ decimal number) }
 {
@@ -30,7 +30,7 @@ pub(crate) fn write_numbered(out: &mut String, words: &str, number: u64) -> Resu
     write_number(out, number)
 }
 
-/// Writes words and two numbers after them, with a space between.
+/// Writes words, then two numbers with a space between.
 pub(crate) fn write_pair(
     out: &mut String,
     words: &str,

@@ -8,7 +8,7 @@ use crate::refusals::{write_call_fault_name, write_refusal, write_refused};
 use hp_units::{CallFault, OpEnd, Refusal, Serial};
 use std::alloc::AllocError;
 
-/// Writes how a plan ended, as `plan: cancelled NoFrame restored` (own rule).
+/// Writes how a plan ended, as `plan: cancelled NoFrame restored`.
 pub fn write_plan_end(out: &mut String, end: OpEnd) -> Result<(), AllocError>
     ensures { OnOk result (string_bytes out.new ≡ string_bytes out.old ++ plan_line end) }
 {
@@ -17,7 +17,7 @@ pub fn write_plan_end(out: &mut String, end: OpEnd) -> Result<(), AllocError>
     out.push('\n')
 }
 
-/// Writes how a plan ended.
+/// Writes the words of a plan's end.
 fn write_words(out: &mut String, end: OpEnd) -> Result<(), AllocError>
     ensures { OnOk result (string_bytes out.new ≡ string_bytes out.old ++ end_words end) }
 {
@@ -30,7 +30,7 @@ fn write_words(out: &mut String, end: OpEnd) -> Result<(), AllocError>
     }
 }
 
-/// Writes that a plan was cancelled: why, and what the Cancel did.
+/// Writes that a plan was cancelled, why, and what the Cancel did.
 fn write_cancelled(out: &mut String, why: Option<Refusal>, restored: bool) -> Result<(), AllocError>
     ensures { OnOk result (string_bytes out.new
         ≡ string_bytes out.old ++ codes "cancelled " ++ why_text why ++ codes " " ++ cancel_word restored) }
@@ -40,7 +40,7 @@ fn write_cancelled(out: &mut String, why: Option<Refusal>, restored: bool) -> Re
     out.push_str(if restored { " restored" } else { " released" })
 }
 
-/// Writes the last refusal, or a dash.
+/// Writes the last refusal, or a dash if there is none.
 fn write_why(out: &mut String, why: Option<Refusal>) -> Result<(), AllocError>
     ensures { OnOk result (string_bytes out.new ≡ string_bytes out.old ++ why_text why) }
 {
@@ -61,7 +61,7 @@ fn write_left(out: &mut String, op: Option<Serial>, fault: CallFault) -> Result<
     write_call_fault_name(out, fault)
 }
 
-/// Writes an operation's number, or a dash.
+/// Writes an operation's number, or a dash if there is none.
 fn write_operation(out: &mut String, op: Option<Serial>) -> Result<(), AllocError>
     ensures { OnOk result (string_bytes out.new ≡ string_bytes out.old ++ operation_text op) }
 {

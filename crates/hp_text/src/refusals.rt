@@ -16,7 +16,7 @@ pub(crate) fn write_refused(out: &mut String, refusal: Refusal) -> Result<(), Al
     write_refusal(out, refusal)
 }
 
-/// Writes a refusal: its name, and its number where it has one.
+/// Writes a refusal: its name, and its number if it has one.
 pub(crate) fn write_refusal(out: &mut String, refusal: Refusal) -> Result<(), AllocError>
     ensures { OnOk result (string_bytes out.new ≡ string_bytes out.old ++ refusal_text refusal) }
 {
@@ -28,7 +28,7 @@ pub(crate) fn write_refusal(out: &mut String, refusal: Refusal) -> Result<(), Al
     }
 }
 
-/// The name of a refusal, and its number where it has one.
+/// Returns the name of a refusal, and its number if it has one.
 fn name_of(refusal: Refusal) -> (&'static str, Option<u32>)
     ensures { refusal_text refusal ≡ result.0.now ++ decimal_of result.1 }
 {

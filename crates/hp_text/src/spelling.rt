@@ -1,4 +1,4 @@
-//! A call, an event and a plan as a scenario has them.
+//! Calls, events and plans as lines of a scenario.
 ghost use Rattle.std.specs.Prelude.{◌≡◌, ◌++◌, OnOk, codes, string_bytes};
 ghost use Rattle.std.specs.List.{flat_map};
 ghost use Rattle.hp_text.specs.Spelling.{access_text, call_text, event_text, item_word, plan_text};
@@ -9,9 +9,9 @@ use hp_units::{Cpu, Event, Item, Owner, Page, Plan, Text, Wish};
 use indexmap::IndexSet;
 use std::alloc::AllocError;
 
-/// Writes the line of a scenario that makes the call of a processor, as `0 map db 3`, with no
-/// newline (own rule). What a control file alone can ask for is written as an `echo` (Linux guide:
-/// probe, auto_online_blocks).
+/// Writes the line of a scenario that makes a processor's call, as `0 map db 3`, without a newline.
+/// An event that only a control file can ask for is written as an `echo` (Linux guide: probe,
+/// auto_online_blocks).
 pub fn write_call(
     out: &mut String,
     names: &IndexSet<Text>,
@@ -25,8 +25,8 @@ pub fn write_call(
     write_event(out, names, event)
 }
 
-/// Writes what a line asks for that makes a call with this event, as `map db 3`: the words after
-/// its processor (own rule).
+/// Writes the work of a line that makes a call with this event, as `map db 3`: the words after its
+/// processor.
 pub fn write_event(
     out: &mut String,
     names: &IndexSet<Text>,
@@ -67,7 +67,7 @@ pub fn write_event(
     }
 }
 
-/// Writes the words of an access to a page of an owner, whose name is written.
+/// Writes the words of an access to an owner's page, with the owner's name.
 fn write_access(
     out: &mut String,
     verb: &str,
@@ -91,8 +91,8 @@ fn write_begin(out: &mut String, plan: &Plan) -> Result<(), AllocError>
     write_items(out, plan.as_slice())
 }
 
-/// Writes what a line asks for that has a plan carried out with at most `turns` migrations, as
-/// `plan 8 off 2`: the words after its processor (own rule).
+/// Writes the work of a line that carries out a plan with at most `turns` migrations, as `plan 8
+/// off 2`: the words after its processor.
 pub fn write_plan(out: &mut String, plan: &Plan, turns: u32) -> Result<(), AllocError>
     ensures { OnOk result (string_bytes out.new ≡ string_bytes out.old ++ plan_text plan.now turns) }
 {

@@ -1,4 +1,4 @@
-//! How a state is written, part by part.
+//! A state, part by part.
 ghost use Rattle.std.specs.Prelude.{◌≡◌, ◌++◌, Some, OnOk, string_bytes};
 ghost use Rattle.std.specs.List.{flat_map};
 ghost use Rattle.hp_text.specs.State.{auto_line, block_line, blocks_text, cached_line, class_lists_text, frames_text, free_lists_text, free_line, has_mark, kernel_line, kernel_text, mark_text, marked_line, marked_word, marked_words, newline, number_word, processor_lists_text, processors_lists_text, row_line, rows_text, state_text, state_words};
@@ -15,16 +15,16 @@ use hp_units::{
 use indexmap::IndexSet;
 use std::alloc::{AllocError, Global};
 
-/// What a pageblock can be marked by.
+/// What can mark a pageblock.
 #[derive(Clone, Copy)]
 enum Mark {
     Unmovable,
     Isolated,
 }
 
-/// Writes a state, each part only where it has something: the memory blocks, what an added block
-/// becomes, the unmovable and the isolated pageblocks, the free lists, the processors' lists, the
-/// kernel's blocks and the mapped pages. Owners are written by their names.
+/// Writes a state without the parts that are empty: the memory blocks, what a block becomes when it
+/// is added, the unmovable and the isolated pageblocks, the free lists, the processors' lists, the
+/// kernel's blocks and the mapped pages. Owners are written by name.
 #[tactic(auto, unfolding(crate::specs::State::state_text, crate::specs::State::rows_text))]
 pub fn write_state(
     out: &mut String,
@@ -43,7 +43,7 @@ pub fn write_state(
     write_frames(out, image, names)
 }
 
-/// Writes the frames that are free, and those that are in use.
+/// Writes the frames that are free, then those that are in use.
 #[tactic(auto, unfolding(crate::specs::State::frames_text))]
 fn write_frames(out: &mut String, image: &Image, names: &IndexSet<Text>) -> Result<(), AllocError>
     ensures { OnOk result (string_bytes out.new
@@ -68,7 +68,7 @@ fn write_blocks(out: &mut String, image: &Image) -> Result<(), AllocError>
     Ok(())
 }
 
-/// Writes the line of a memory block that there is.
+/// Writes the line of a memory block, if there is such a block.
 fn write_block(out: &mut String, block: Block, row: Option<Row>) -> Result<(), AllocError>
     ensures { OnOk result (string_bytes out.new ≡ string_bytes out.old ++ block_line block row) }
 {
@@ -78,8 +78,8 @@ fn write_block(out: &mut String, block: Block, row: Option<Row>) -> Result<(), A
     }
 }
 
-/// Writes the line of a memory block: its state, its zone where it is online or going, and the
-/// operation that holds it, as `block 2 going movable op 3` (own rule).
+/// Writes the line of a memory block: its state, its zone if it is online or going offline, and the
+/// operation that holds it, as `block 2 going movable op 3`.
 #[tactic(auto, unfolding(crate::specs::State::row_line))]
 pub fn write_row(out: &mut String, block: Block, row: Row) -> Result<(), AllocError>
     ensures { OnOk result (string_bytes out.new ≡ string_bytes out.old ++ row_line block row) }
@@ -94,7 +94,7 @@ pub fn write_row(out: &mut String, block: Block, row: Row) -> Result<(), AllocEr
     }
 }
 
-/// The state of a memory block, with its zone where it is online or going.
+/// Returns the words for a memory block's state, with its zone if it is online or going offline.
 fn words_of(state: State, zone: Option<Zone>) -> &'static str
     ensures { result.now ≡ state_words state zone }
 {
@@ -110,7 +110,7 @@ fn words_of(state: State, zone: Option<Zone>) -> &'static str
     }
 }
 
-/// Writes what a block that is added becomes, where it isn't offline.
+/// Writes what a block becomes when it is added, unless that is offline.
 #[tactic(auto, unfolding(crate::specs::State::auto_line))]
 fn write_auto(out: &mut String, auto: Auto) -> Result<(), AllocError>
     ensures { OnOk result (string_bytes out.new ≡ string_bytes out.old ++ auto_line auto) }
@@ -121,7 +121,7 @@ fn write_auto(out: &mut String, auto: Auto) -> Result<(), AllocError>
     Ok(())
 }
 
-/// Writes the line of the pageblocks that have a mark.
+/// Writes the line of the pageblocks with a mark.
 #[tactic(auto, unfolding(crate::specs::State::marked_line, crate::specs::State::words_line))]
 fn write_marked(
     out: &mut String,
@@ -141,7 +141,7 @@ fn write_marked(
     writeln!(out, "{name}:{words}")
 }
 
-/// The name of a mark.
+/// Returns the name of a mark.
 fn name_of_mark(mark: Mark) -> &'static str
     ensures { result.now ≡ mark_text mark }
 {
@@ -151,7 +151,7 @@ fn name_of_mark(mark: Mark) -> &'static str
     }
 }
 
-/// Writes the numbers of the pageblocks that have a mark.
+/// Writes the numbers of the pageblocks with a mark.
 #[tactic(auto, unfolding(crate::specs::State::marked_words))]
 fn write_marked_words(out: &mut String, image: &Image, mark: Mark) -> Result<(), AllocError>
     ensures { OnOk result (string_bytes out.new
@@ -165,7 +165,7 @@ fn write_marked_words(out: &mut String, image: &Image, mark: Mark) -> Result<(),
     Ok(())
 }
 
-/// Writes the number of a pageblock that has a mark.
+/// Writes the number of a pageblock, if it has the mark.
 fn write_marked_word(
     out: &mut String,
     mark: Mark,
@@ -182,7 +182,7 @@ fn write_marked_word(
     Ok(())
 }
 
-/// Whether a pageblock of a kind has a mark.
+/// Returns whether a pageblock of this kind has the mark.
 fn has_mark(mark: Mark, kind: Kind) -> bool
     ensures { result ≡ has_mark mark kind }
 {
@@ -205,7 +205,7 @@ fn write_free_lists(out: &mut String, image: &Image) -> Result<(), AllocError>
     write_class(out, image, Class::IsoM)
 }
 
-/// Writes a class's lists by rising order.
+/// Writes a class's lists in increasing order.
 #[tactic(auto, unfolding(crate::specs::State::class_lists_text))]
 fn write_class(out: &mut String, image: &Image, class: Class) -> Result<(), AllocError>
     ensures { OnOk result (string_bytes out.new
@@ -241,7 +241,7 @@ fn write_processor(out: &mut String, image: &Image, cpu: Cpu) -> Result<(), Allo
     write_cached_list(out, cpu, Pool::Mm, image.cpu_list(cpu, Pool::Mm))
 }
 
-/// Writes the line of a processor's list for a pool that has something, front first.
+/// Writes the line of a processor's list for a pool, front first, unless the list is empty.
 #[tactic(auto, unfolding(crate::specs::State::numbers_line))]
 fn write_cached_list(
     out: &mut String,
@@ -258,7 +258,7 @@ fn write_cached_list(
     write_frames_line(out, frames)
 }
 
-/// Writes the line of a class's list of an order that has something, front first.
+/// Writes the line of a class's list of an order, front first, unless the list is empty.
 #[tactic(auto, unfolding(crate::specs::State::numbers_line))]
 fn write_free_list(
     out: &mut String,
@@ -275,7 +275,7 @@ fn write_free_list(
     write_frames_line(out, frames)
 }
 
-/// Writes frames, each after a space, and the end of the line.
+/// Writes frames, each after a space, and a newline.
 fn write_frames_line(out: &mut String, frames: &[Frame]) -> Result<(), AllocError>
     ensures { OnOk result
         (string_bytes out.new ≡ string_bytes out.old ++ flat_map number_word frames.now ++ newline) }
@@ -299,7 +299,7 @@ fn write_kernel_blocks(out: &mut String, image: &Image) -> Result<(), AllocError
     Ok(())
 }
 
-/// Writes the line of the kernel's block that starts at a frame.
+/// Writes the line of the kernel's block that starts at a frame, if there is one.
 fn write_kernel_block(
     out: &mut String,
     frame: Frame,

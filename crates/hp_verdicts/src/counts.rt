@@ -155,7 +155,8 @@ impl BlockTallies {
         self.rows.resize(blocks, BlockCounts::none())
     }
 
-    /// Counts an event. `is_late` if its frames are handed out while their block is going offline.
+    /// Counts an event. `is_late` is whether its frames are handed out while their block is going
+    /// offline.
     pub fn note(
         &mut self,
         size: &MachineSize,

@@ -1,4 +1,4 @@
--- What running lines makes of a seat, and how the lines end (own rule).
+-- What running lines makes of a seat, and how the lines end.
 use Rattle.std.specs.Prelude.{◌≡◌, ◌⊎◌, ℕ, ◌≤◌, List, [], ◌∷◌, ◌++◌, Option, Some, None, length, take}
 use Rattle.hp_units.specs.Driver.{IsDriverRun}
 use Rattle.hp_units.specs.LayoutParts.{LayoutParts}
@@ -20,13 +20,12 @@ use Rattle.hp_shared.specs.Volumes.{IsSealOf, sealed_by}
 use Rattle.hp_workers.specs.declared.lines.LineEnd.{LineEnd}
 use Rattle.hp_workers.specs.declared.lines.LineEnd.TheVariants.{Reply as Replied, Fault as Faulted, Plan as Planned, Control as Untaken, Sealed}
 
--- what the calls for one line are: the receipts that they gained, the fault that the last of them
--- left, and the line's end
+-- the calls for one line: the receipts that they gained, the fault of the last of them, and the
+-- line's end
 abbrev pub Run : Type 1
 Run = List Receipt → Option CallFault → LineEnd → Type 0
 
--- an event was asked for: one receipt of it, whose reply is the end; or none, and the end is the
--- fault that its call left
+-- one event: a receipt of it whose reply is the end, or no receipt and the call's fault
 abbrev pub IsEventRun : Event → Run
 IsEventRun event gained fault (Replied reply) =
     (r : Receipt) × (gained ≡ r ∷ []) × (fault ≡ None) × (r.event ≡ event) × (r.reply ≡ reply)
@@ -35,14 +34,13 @@ IsEventRun event gained fault (Planned end) = ⊥
 IsEventRun event gained fault (Untaken why) = ⊥
 IsEventRun event gained fault (Sealed count) = ⊥
 
--- memory was refused before the first call of a plan
+-- memory ran out before the first call of a plan
 pub record IsUnasked (gained : List Receipt) (fault : Option CallFault) (end : OpEnd) : Type 0 where
   pub receipts : gained ≡ []
   pub none : fault ≡ None
   pub left : end ≡ Left None call.OutOfMemory
 
--- a plan was carried out: a run of its driver, which ends as the last call's fault makes it; or no
--- call was made
+-- a plan: a run of its driver, with the end that the last call's fault makes; or no call was made
 abbrev pub IsPlanRun : (cpus turns : ℕ) → List Item → Run
 IsPlanRun cpus turns plan gained fault (Replied reply) = ⊥
 IsPlanRun cpus turns plan gained fault (Faulted named) = ⊥
@@ -59,7 +57,7 @@ IsUntaken why gained fault end = (gained ≡ []) × (fault ≡ None) × (end ≡
 abbrev pub IsNoRun : Run
 IsNoRun gained fault end = ⊥
 
--- what a line asks for was done by calls
+-- a line's work was done by calls
 abbrev pub IsAskedRun : (cpus : ℕ) → asks.Meaning → Run
 IsAskedRun cpus (asks.event e) = IsEventRun e
 IsAskedRun cpus (asks.plan items turns) = IsPlanRun cpus turns items
@@ -67,7 +65,7 @@ IsAskedRun cpus (asks.not_taken why) = IsUntaken why
 IsAskedRun cpus (asks.cat path) = IsNoRun
 IsAskedRun cpus asks.seal = IsNoRun
 
--- it was run through a port, of whose calls at most the last left a fault
+-- it was done through a port, of whose calls at most the last failed
 pub record IsPortRun {S : Type 0} (shows : S → PortValue) (makes : S → List Receipt → S → Type 0)
     (leaves : S → CallFault → S → Type 0) (old : S) (Ran : Run) (end : LineEnd) (new : S) : Type 0 where
   pub gained : List Receipt
@@ -75,13 +73,13 @@ pub record IsPortRun {S : Type 0} (shows : S → PortValue) (makes : S → List 
   pub made : AreMade makes leaves old gained fault new
   pub ran : Ran gained fault end
 
--- a seat after calls, of which at most the last left a fault
+-- a seat after calls, of which at most the last failed
 abbrev pub left_with : SeatValue → Option CallFault → SeatValue
 left_with seat None = seat
 left_with seat (Some fault) = left_by seat fault
 
--- what a line asks for was done by calls of a seat, which keeps the receipts that it gained; the last call
--- left HistoryFull only where the seat may find the history full then, and the seat counts that it did
+-- a line's work was done by calls of a seat, which keeps their receipts; the last call fails with
+-- `HistoryFull` only if the seat may find the history full, and the seat counts that
 pub record IsCallsRun (l : LayoutParts) (old : SeatValue) (asked : asks.Meaning) (end : LineEnd)
     (new : SeatValue) : Type 0 where
   pub gained : List Receipt
@@ -92,8 +90,8 @@ pub record IsCallsRun (l : LayoutParts) (old : SeatValue) (asked : asks.Meaning)
   pub line : IsAskedRun l.cpus asked gained fault end
   pub caused : fault ≡ Some call.HistoryFull → MayBeFull l called
 
--- a seat made no call: it handed out one volume, whose number of records is the end; or none, since
--- it was out of memory
+-- a seat's seal: it handed out one volume, whose number of records is the end; or none, since
+-- memory ran out
 abbrev pub IsSealRun : LayoutParts → SeatValue → List Volume → LineEnd → SeatValue → Type 0
 IsSealRun l old handed (Replied reply) new = ⊥
 IsSealRun l old handed (Faulted named) new = (handed ≡ []) × (named ≡ call.OutOfMemory) × (new ≡ old)
@@ -109,14 +107,14 @@ IsLine l old asked handed end new =
     ((handed ≡ []) × IsCallsRun l old asked end new)
     ⊎ ((asked ≡ asks.seal) × IsSealRun l old handed end new)
 
--- a line was run by a seat; what it handed out stands after the volumes before it
+-- a line was run by a seat; its volumes come after those before
 pub record IsLineRun (l : LayoutParts) (old : SeatValue) (before : List Volume) (asked : asks.Meaning)
     (end : LineEnd) (new : SeatValue) (after : List Volume) : Type 0 where
   pub handed : List Volume
   pub line : IsLine l old asked handed end new
   pub kept : after ≡ before ++ handed
 
--- a line ended since the history was full
+-- a line ended because the history was full
 abbrev pub EndsFull : LineEnd → Type 0
 EndsFull (Replied reply) = ⊥
 EndsFull (Faulted named) = named ≡ call.HistoryFull
@@ -124,7 +122,7 @@ EndsFull (Planned end) = (op : Option ℕ) × (end ≡ Left op call.HistoryFull)
 EndsFull (Untaken why) = ⊥
 EndsFull (Sealed count) = ⊥
 
--- lines, one after another, were run by a seat, handed out these volumes and ended so
+-- lines, one after another, were run by a seat, with these volumes and these ends
 abbrev pub AreLines : LayoutParts → SeatValue → List Line → List Volume → List LineEnd → SeatValue → Type 0
 AreLines l old [] handed ends new = (handed ≡ []) × (ends ≡ []) × (new ≡ old)
 AreLines l old (line ∷ lines) handed ends new =
@@ -132,7 +130,7 @@ AreLines l old (line ∷ lines) handed ends new =
     × (others : List LineEnd) × (handed ≡ out ++ more) × (ends ≡ end ∷ others)
     × (IsLine l old (asks.asked_by line.work) out end mid × AreLines l mid lines more others new)
 
--- a seat ran a beginning of the lines, with an end for each, and its seals handed out these volumes
+-- a seat ran the first of its lines, with an end per line, and its seals handed out these volumes
 pub record IsWorked (l : LayoutParts) (old : SeatValue) (lines : List Line) (new : SeatValue)
     (handed : List Volume) (ends : List LineEnd) : Type 0 where
   pub ran : AreLines l old (take (length ends) lines) handed ends new

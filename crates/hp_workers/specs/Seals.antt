@@ -1,4 +1,4 @@
--- How many volumes lines can hand out, and in which order all come.
+-- How many volumes lines can hand out, and the order of all.
 use Rattle.std.specs.Prelude.{ℕ, ◌+◌, ◌*◌, Bool, true, false, List, [], ◌∷◌, ◌++◌, length, sum_by}
 use Rattle.std.specs.List.{All}
 use Rattle.std.specs.List.Sorted.{IsNonDecreasingBy}
@@ -8,7 +8,7 @@ use Rattle.hp_scenario.specs.Asked.{is_seal}
 use Rattle.hp_scenario.specs.declared.lines.Line.{Line}
 use Rattle.hp_shared.specs.Volumes.{IsSealOf}
 
--- one where the test holds
+-- 1 if the test holds, otherwise 0
 abbrev pub one_if : Bool → ℕ
 one_if true = 1
 one_if false = 0
@@ -29,7 +29,7 @@ abbrev pub joined : List (List Volume) → List Volume
 joined [] = []
 joined (volumes ∷ lists) = volumes ++ joined lists
 
--- by the number of earlier records, and then by the number of their own, which is below 2^64
+-- by the number of earlier records, then by the number of their own, which is below 2^64
 abbrev pub rank : Volume → ℕ
 rank v = v.before * 18446744073709551616 + length v.records
 

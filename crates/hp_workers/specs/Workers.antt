@@ -12,21 +12,20 @@ use Rattle.hp_workers.specs.declared.fault.RunFault.TheVariants.{NotStarted, Out
 use Rattle.hp_workers.specs.Lines.{EndsFull, IsWorked}
 use Rattle.hp_workers.specs.Seals.{AreInOrder, AreSealed, joined, seals_in_all}
 
--- how a worker ended: without a fault it ran all its lines; with one it ran none, and NotStarted
--- names its processor
+-- a worker without a fault ran all its lines; with one it ran none, and `NotStarted` names its
+-- processor
 abbrev pub HasEnded : (cpu : ℕ) → List Line → List LineEnd → Option RunFault → Type 0
 HasEnded cpu lines ends None = length ends ≡ length lines
 HasEnded cpu lines ends (Some (NotStarted named)) = (named ≡ cpu) × (ends ≡ [])
 HasEnded cpu lines ends (Some OutOfMemory) = ends ≡ []
 
--- a worker was started: it is not NotStarted
+-- a worker was started: its fault is not `NotStarted`
 abbrev pub IsStarted : Option RunFault → Type 0
 IsStarted None = ⊤
 IsStarted (Some (NotStarted named)) = ⊥
 IsStarted (Some OutOfMemory) = ⊤
 
--- a worker ran a beginning of its lines by a seat, which handed out these volumes: all lines, or
--- with a fault none
+-- a worker ran all its lines by a seat, which handed out these volumes; or none, with a fault
 pub record IsWorker (l : LayoutParts) (old : SeatValue) (lines : List Line) (new : SeatValue)
     (handed : List Volume) (ends : List LineEnd) (fault : Option RunFault) : Type 0 where
   pub worked : IsWorked l old lines new handed ends
@@ -36,14 +35,14 @@ pub record IsWorker (l : LayoutParts) (old : SeatValue) (lines : List Line) (new
 abbrev pub IsBare : List SeatValue → List Volume → List (List LineEnd) → Option RunFault → Type 0
 IsBare news volumes lists fault = (news ≡ []) × (volumes ≡ []) × (lists ≡ []) × (fault ≡ None)
 
--- a worker of the script at a place
+-- a worker of the script at this place
 pub record IsWorkerAt (l : LayoutParts) (old : SeatValue) (scripts : List (List Line)) (place : ℕ)
     (new : SeatValue) (handed : List Volume) (ends : List LineEnd) (fault : Option RunFault) : Type 0 where
   pub lines : List Line
   pub script : slice_get scripts place ≡ Some lines
   pub worker : IsWorker l old lines new handed ends fault
 
--- the worker of the seat and the script at a place
+-- the worker of the seat and the script at this place
 pub record HasWorker (l : LayoutParts) (old : SeatValue) (lines : List Line) (news : List SeatValue)
     (lists : List (List Volume)) (ends : List (List LineEnd)) (faults : List (Option RunFault))
     (place : ℕ) : Type 0 where
@@ -57,9 +56,9 @@ pub record HasWorker (l : LayoutParts) (old : SeatValue) (lines : List Line) (ne
   pub why : slice_get faults place ≡ Some fault
   pub worker : IsWorker l old lines new handed own fault
 
--- all seats are back, each after the lines that its worker ran, and the volumes are those that
--- these handed out, seat by seat; the fault is that of the first worker that has one: without one
--- all lines were run. The first seat's worker is started in any case, in the caller's thread
+-- all seats are back after their lines, and the volumes are what these handed out, seat by seat;
+-- the fault is the first worker's that has one. The first worker is always started, in the caller's
+-- thread
 pub record AreWorkers (l : LayoutParts) (olds : List SeatValue) (scripts : List (List Line))
     (news : List SeatValue) (volumes : List Volume) (lists : List (List LineEnd))
     (fault : Option RunFault) : Type 0 where
@@ -76,7 +75,7 @@ pub record AreWorkers (l : LayoutParts) (olds : List SeatValue) (scripts : List 
   pub each : (place : ℕ) (seat : SeatValue) (lines : List Line) → slice_get olds place ≡ Some seat
       → slice_get scripts place ≡ Some lines → HasWorker l seat lines news handed lists faults place
 
--- the seats as they were, where memory was refused before any thread
+-- the seats as they were: memory ran out before any thread
 pub record AreUnstarted (olds news : List SeatValue) (volumes : List Volume) (lists : List (List LineEnd))
     (fault : Option RunFault) : Type 0 where
   pub seats : news ≡ olds
@@ -84,7 +83,7 @@ pub record AreUnstarted (olds news : List SeatValue) (volumes : List Volume) (li
   pub ends : lists ≡ []
   pub fault_is : fault ≡ Some OutOfMemory
 
--- all after their workers; the volumes are in order, and no more than lines seal
+-- all after their workers; the volumes are in order, and no more than there are lines that seal
 pub record AreGathered (l : LayoutParts) (olds : List SeatValue) (scripts : List (List Line))
     (news : List SeatValue) (volumes : List Volume) (lists : List (List LineEnd))
     (fault : Option RunFault) : Type 0 where
@@ -94,7 +93,7 @@ pub record AreGathered (l : LayoutParts) (olds : List SeatValue) (scripts : List
   pub order : AreInOrder volumes
   pub few : length volumes ≤ seals_in_all scripts
 
--- where some line ended since the history was full, all records reach the limit
+-- if some line ended because the history was full, all records reach the limit
 abbrev pub ReachWhereFull : LayoutParts → List (List LineEnd) → (all : ℕ) → Type 0
 ReachWhereFull l lists all =
     (cpu : ℕ) (own : List LineEnd) (at : ℕ) (end : LineEnd) → slice_get lists cpu ≡ Some own

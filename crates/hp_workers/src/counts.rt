@@ -1,11 +1,12 @@
-//! How many lines seal, so that there is room for all volumes before the first thread.
+//! Counts the lines that seal, so that there is room for all volumes before the first thread
+//! starts.
 ghost use Rattle.std.specs.Prelude.{◌≡◌, ◌+◌, IfSome};
 ghost use Rattle.hp_workers.specs.Seals.{one_if, seals_in, seals_in_all};
 ghost use Rattle.hp_scenario.specs.Asked.{is_seal};
 
 use hp_scenario::{Line, Script};
 
-/// How many lines of all scripts seal; None where that is no number of the machine.
+/// Returns how many lines of all scripts seal, or `None` on overflow.
 pub(crate) fn count_all(scripts: &Vec<Script>) -> Option<usize>
     ensures { IfSome result (λ count. count ≡ seals_in_all scripts.now.items) }
 {
@@ -16,7 +17,7 @@ pub(crate) fn count_all(scripts: &Vec<Script>) -> Option<usize>
     Some(count)
 }
 
-/// A count and how many of the lines seal.
+/// Returns `before` plus the number of lines that seal.
 fn count_lines(lines: &[Line], before: usize) -> Option<usize>
     ensures { IfSome result (λ count. count ≡ before + seals_in lines.now) }
 {
@@ -27,7 +28,7 @@ fn count_lines(lines: &[Line], before: usize) -> Option<usize>
     Some(count)
 }
 
-/// A count, and one more where the line seals.
+/// Returns the count, plus one if the line seals.
 fn count_line(line: &Line, count: usize) -> Option<usize>
     ensures { IfSome result (λ next. next ≡ count + one_if (is_seal line.now.work)) }
 {

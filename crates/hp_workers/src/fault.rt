@@ -1,11 +1,11 @@
 //! Why not all lines were run.
 use hp_units::Cpu;
 
-/// Why a worker did not run all its lines (own rule).
+/// Why a worker did not run its lines.
 #[derive(Clone, Copy, Drop)]
 pub enum RunFault {
-    /// No thread could be made for the worker of this processor.
+    /// No thread could be started for the worker of this processor.
     NotStarted { cpu: Cpu },
-    /// Memory was refused.
+    /// Out of memory.
     OutOfMemory,
 }

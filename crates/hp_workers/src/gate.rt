@@ -1,14 +1,14 @@
-//! What stands round each call and each seal of a worker.
+//! The gate around each call and each seal of a worker.
 use hp_units::Cpu;
 
-/// What a worker passes before and after each call of its seat, and each seal (own rule). `nth` counts
-/// the calls and seals of this worker, from 1; the calls of a plan count like all others. The machine's
-/// lock is not held.
+/// A gate that a worker passes before and after each call of its seat, and each seal. `nth` counts
+/// the calls and seals of this worker, from 1; the calls of a plan count like all others. The
+/// machine's lock is not held.
 pub trait Gate {
-    /// Comes before a call or a seal.
+    /// Called before a call or a seal.
     fn before(&self, cpu: Cpu, nth: u64);
 
-    /// Comes after the call or the seal, once it was answered.
+    /// Called after the call or the seal has returned.
     fn after(&self, cpu: Cpu, nth: u64);
 }
 

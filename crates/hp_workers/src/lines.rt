@@ -1,4 +1,4 @@
-//! One line of a worker, and what became of it.
+//! Runs one line of a worker.
 ghost use Rattle.std.specs.Prelude.{◌≡◌, false, None};
 ghost use Rattle.hp_scenario.specs.Asked as asks;
 ghost use Rattle.hp_scenario.specs.Scripts.{IsForRun};
@@ -17,12 +17,12 @@ use std::alloc::{AllocError, Global};
 use std::marker::Model;
 use std::sync::Wait;
 
-/// What became of a line (own rule).
+/// How a line ended.
 #[derive(Clone, Copy, PartialEq, Eq, Drop)]
 pub enum LineEnd {
     /// The reply to its event.
     Reply(Reply),
-    /// The fault that its call left; out of memory where that refused its seal.
+    /// The fault of its call; `OutOfMemory` if its seal ran out of memory.
     Fault(CallFault),
     /// The end of its plan's operation.
     Plan(OpEnd),
@@ -32,7 +32,7 @@ pub enum LineEnd {
     Sealed(u64),
 }
 
-/// What became of lines, in order.
+/// How lines ended, in order.
 #[derive(Drop)]
 pub struct Ends {
     ends: Vec<LineEnd>,
@@ -48,14 +48,14 @@ impl Model for Ends {
 }
 
 impl Ends {
-    /// The ends of a vector, with no memory taken.
+    /// Wraps ends without copying them.
     pub fn new(ends: Vec<LineEnd>) -> Ends
         ensures { result ≡ ends.items }
     {
         Ends { ends }
     }
 
-    /// The ends in order.
+    /// Returns the ends in order.
     pub fn as_slice(&self) -> &[LineEnd]
         ensures { result.now ≡ self.now }
     {
@@ -63,8 +63,8 @@ impl Ends {
     }
 }
 
-/// Runs one line by a seat. `calls` counts the seat's calls and seals; what a seal hands out goes
-/// to the end of `volumes`.
+/// Runs one line by a seat. `calls` counts the seat's calls and seals. A volume that a seal hands
+/// out is appended to `volumes`.
 pub(crate) fn run_line<'a, L: Job, G: Gate, R: Wait>(
     rt: &'a R,
     alloc: Global,
@@ -85,7 +85,7 @@ pub(crate) fn run_line<'a, L: Job, G: Gate, R: Wait>(
     }
 }
 
-/// Seals by a seat, with the gate round it as round a call.
+/// Seals by a seat, with the gate around it as around a call.
 fn seal<L: Job, G: Gate, R: Wait>(
     rt: &R,
     alloc: Global,
@@ -105,7 +105,7 @@ fn seal<L: Job, G: Gate, R: Wait>(
     end
 }
 
-/// Seals by a seat, and keeps the volume, for which room is made before.
+/// Seals by a seat and keeps the volume, for which it makes room before.
 fn take_volume<L: Job, R: Wait>(
     rt: &R,
     alloc: Global,
@@ -128,7 +128,7 @@ fn take_volume<L: Job, R: Wait>(
     }
 }
 
-/// Does by calls of a seat what a line asks for.
+/// Does a line's work by calls of a seat.
 fn run_calls<'a, L: Job, G: Gate, R: Wait>(
     rt: &'a R,
     alloc: Global,
@@ -144,12 +144,12 @@ fn run_calls<'a, L: Job, G: Gate, R: Wait>(
 {
     let mut port = GatedPort::new(rt, seat, shared, gate, calls);
     let end = run_asked(alloc, &mut port, asked);
-    // No effect at run time: the proof reads what the seat is from this use.
+    // No effect at run time: from this use the proof reads what the seat is.
     let _ = &*port.seat;
     end
 }
 
-/// Does through a port what a line asks for.
+/// Does a line's work through a port.
 fn run_asked<P: Port>(alloc: Global, port: &mut P, asked: Asked<'_>) -> LineEnd
     requires clear { (P.shows port.old).fault ≡ None }
     requires run { asks.asks_text (asked_seen asked) ≡ false }

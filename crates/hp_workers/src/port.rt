@@ -1,4 +1,4 @@
-//! A port on a seat, with a gate round each call.
+//! A port on a seat, with a gate around each call.
 ghost use Rattle.std.specs.Prelude.{◌≡◌, None};
 
 use crate::gate::Gate;
@@ -8,7 +8,7 @@ use hp_units::{CallFault, Event, Reply};
 use std::alloc::Global;
 use std::sync::Wait;
 
-/// A seat with a gate round its calls, which are counted. It shows the seat's receipts.
+/// A seat with a gate around its calls, which it counts. It shows the seat's receipts.
 #[derive(Drop)]
 pub(crate) struct GatedPort<'a, L: Job, G: Gate, R: Wait> {
     rt: &'a R,
@@ -20,7 +20,7 @@ pub(crate) struct GatedPort<'a, L: Job, G: Gate, R: Wait> {
 }
 
 impl<'a, L: Job, G: Gate, R: Wait> GatedPort<'a, L, G, R> {
-    /// A seat's port, of which so many calls were made before.
+    /// Returns a seat's port. `calls` is how many calls were made before.
     pub(crate) fn new(
         rt: &'a R,
         seat: &'a mut Seat<L>,

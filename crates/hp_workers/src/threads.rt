@@ -1,4 +1,4 @@
-//! Workers in threads, one for each seat: that of the first seat is the caller's.
+//! Runs workers in threads, one per seat; the first seat's is the caller's thread.
 ghost use Rattle.std.specs.Prelude.{◌≡◌, ◌+◌, ◌*◌, ◌<◌, ◌≤◌, ◌++◌, ◌∷◌, [], IfSome, Some, length, take, vec_len, vec_capacity};
 ghost use Rattle.std.specs.List.{All};
 ghost use Rattle.std.specs.List.Sorted.{IsPermutation};
@@ -24,7 +24,7 @@ use std::sync::atomic::{AtomicBool, Ordering};
 use std::thread;
 use std::thread::{Promise, Threads};
 
-/// What a worker's thread promises: its seat and its script as they were.
+/// The promise of a worker's thread, about its seat and its script as they were at first.
 #[derive(Drop)]
 pub struct Task<L: Job> {
     seat: Snapshot<Seat<L>>,
@@ -39,7 +39,7 @@ impl<L: Job> Promise<Worked<L>> for Task<L> {
 }
 
 impl<L: Job> Task<L> {
-    /// That of a seat and a script as they are now.
+    /// Returns the promise for a seat and a script as they are now.
     fn of(seat: &Seat<L>, script: &Script) -> Task<L>
         ensures seat { result.seat.value ≡ seat.now }
         ensures script { result.script.value ≡ script.now }
@@ -54,27 +54,28 @@ impl<L: Job> Task<L> {
 /// What a run of workers leaves.
 #[derive(Drop)]
 pub struct RunEnd<L: Job> {
-    /// All seats, in the order in which they came, each after the lines that it ran.
+    /// All seats, in the order in which they were given, each after the lines that it ran.
     pub seats: Vec<Seat<L>>,
-    /// What all seals handed out, ordered by the number of earlier records, and then by the number
-    /// of their own.
+    /// What all seals handed out, ordered by the number of earlier records, then by the number of
+    /// their own.
     pub volumes: Vec<Volume>,
-    /// For each seat the ends of the lines that it ran; no item at all where memory was refused
-    /// before any line.
+    /// For each seat the ends of the lines that it ran; empty if memory ran out before any line.
     pub ends: Vec<Ends>,
-    /// None where all lines were run.
+    /// `None` if all lines were run.
     pub fault: Option<RunFault>,
 }
 
-/// Runs each script by the seat at its place, each in a thread of its own, and waits for all (own rule). The
-/// first seat's thread is the caller's, so that a run of one processor's lines costs no memory of a second
-/// thread. Each call and each seal of a seat takes the machine's lock anew, with the gate before and after.
+/// Runs each script by the seat at its place, each in a thread of its own, and waits for all. The
+/// first seat's thread is the caller's, so that a run of one processor's lines needs no memory for
+/// a second thread. Each call and each seal of a seat takes the machine's lock anew, with the gate
+/// before and after.
 ///
-/// In every case all seats come back, with the receipts of the lines that they ran, in order, and all
-/// volumes that the lines' seals handed out. A worker runs all its lines, or none: where no thread can be
-/// made for it, NotStarted with its processor, which is never the first seat's, and where memory is refused
-/// before its first line, OutOfMemory. The fault is that of the first seat that has one; without a fault all
-/// lines were run. Out of memory in a line is that line's end and no fault of the run.
+/// All seats come back in every case, with the receipts of the lines that they ran, in order, and
+/// so do all volumes that the lines' seals handed out. A worker runs all its lines or none. It runs
+/// none if no thread can be started for it (`NotStarted` with its processor, which is never the
+/// first seat's), or if memory runs out before its first line (`OutOfMemory`). The fault is that of
+/// the first seat that has one; without a fault all lines were run. If memory runs out in a line,
+/// that is the line's end, and not a fault of the run.
 pub fn run_workers<L: Job + Send + Sync, G: Gate + Sync, R: Threads + Wait + Sync>(
     rt: &R,
     alloc: Global,
@@ -94,8 +95,8 @@ pub fn run_workers<L: Job + Send + Sync, G: Gate + Sync, R: Threads + Wait + Syn
     in_order(run_rest(rt, alloc, shared, gate, seats, &scripts, room))
 }
 
-/// Room for what workers leave of so many seats, and for a volume of each line that seals. None where memory
-/// is refused.
+/// Makes room for the results of `seats` workers, with a volume for each line that seals. Returns
+/// `None` if memory runs out.
 fn room_for<L: Job>(alloc: Global, seats: usize, scripts: &Vec<Script>) -> Option<RunEnd<L>>
     ensures bare { IfSome result (λ room. IsBare room.seats.items room.volumes.items room.ends.items room.fault) }
     ensures room { IfSome result (λ room. (seats ≤ vec_capacity room.seats) × (seats ≤ vec_capacity room.ends)
@@ -112,7 +113,7 @@ fn room_for<L: Job>(alloc: Global, seats: usize, scripts: &Vec<Script>) -> Optio
     })
 }
 
-/// The end of a run with its volumes in order.
+/// Sorts the volumes of a run's end.
 fn in_order<L: Job>(end: RunEnd<L>) -> RunEnd<L>
     ensures seats { result.seats.items ≡ end.seats.items }
     ensures ends { result.ends.items ≡ end.ends.items }
@@ -125,7 +126,7 @@ fn in_order<L: Job>(end: RunEnd<L>) -> RunEnd<L>
     end
 }
 
-/// The number by which volumes are in order.
+/// Returns the number by which volumes are sorted.
 fn rank_of(volume: &Volume) -> u128
     ensures { result ≡ rank volume.now }
 {
@@ -134,7 +135,7 @@ fn rank_of(volume: &Volume) -> u128
     before * 18_446_744_073_709_551_616 + own
 }
 
-/// The seats as they were, since memory was refused.
+/// Returns the end of a run that started no worker, since memory ran out.
 fn unstarted<L: Job>(alloc: Global, seats: Vec<Seat<L>>) -> RunEnd<L>
     ensures seats { result.seats.items ≡ seats.items }
     ensures volumes { result.volumes.items ≡ [] }
@@ -180,8 +181,8 @@ fn run_rest<L: Job + Send + Sync, G: Gate + Sync, R: Threads + Wait + Sync>(
     gather(worked, done)
 }
 
-/// Runs the worker of the seat after others in a thread beside those of the others, that of the first seat in
-/// the caller's.
+/// Runs the worker of a seat in a thread of its own beside those of `others`, or in the caller's
+/// thread if it is the first seat.
 #[cycle(workers)]
 fn run_beside<L: Job + Send + Sync, G: Gate + Sync, R: Threads + Wait + Sync>(
     rt: &R,
@@ -254,7 +255,8 @@ fn run_beside<L: Job + Send + Sync, G: Gate + Sync, R: Threads + Wait + Sync>(
     )
 }
 
-/// The end of a run with that of one more worker, for which there is room. The fault is the first.
+/// Adds one more worker's results to the end of a run, which has room for them. The first fault
+/// counts.
 fn gather<L: Job>(worked: Worked<L>, done: RunEnd<L>) -> RunEnd<L>
     requires seats { vec_len done.seats < vec_capacity done.seats }
     requires ends { vec_len done.ends < vec_capacity done.ends }

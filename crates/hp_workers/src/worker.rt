@@ -14,7 +14,7 @@ use std::alloc::Global;
 use std::sync::Wait;
 use std::sync::atomic::{AtomicBool, Ordering};
 
-/// A seat after the lines that it ran, what became of these, and why not all were run.
+/// A seat after the lines that it ran, how these ended, and why not all were run.
 #[derive(Drop)]
 pub struct Worked<L: Job> {
     /// The seat.
@@ -23,11 +23,11 @@ pub struct Worked<L: Job> {
     pub ends: Ends,
     /// What its seals handed out, in order.
     pub volumes: Vec<Volume>,
-    /// None where all lines were run.
+    /// `None` if all lines were run.
     pub fault: Option<RunFault>,
 }
 
-/// Runs a script by a seat, if it is to start.
+/// Runs a script by a seat, unless its thread could not be started.
 pub(crate) fn run_if_started<L: Job, G: Gate, R: Wait>(
     rt: &R,
     alloc: Global,
@@ -67,7 +67,7 @@ pub(crate) fn run_script<L: Job, G: Gate, R: Wait>(
         return stopped(alloc, seat, RunFault::OutOfMemory);
     };
     let mut seat = seat;
-    // Without this room the receipts find theirs as they come.
+    // If this fails, the receipts get their room as they come.
     let _ = seat.reserve(lines.len());
     let mut ends = ends;
     let mut volumes = Vec::new(alloc);
@@ -94,7 +94,7 @@ pub(crate) fn run_script<L: Job, G: Gate, R: Wait>(
     }
 }
 
-/// A worker that ran no line.
+/// Returns a worker that ran no line.
 fn stopped<L: Job>(alloc: Global, seat: Seat<L>, fault: RunFault) -> Worked<L>
     ensures seat { result.seat ≡ seat }
     ensures ends { result.ends ≡ [] }

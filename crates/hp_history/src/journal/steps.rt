@@ -9,30 +9,29 @@ use hp_tape::Delta;
 use std::alloc::AllocError;
 
 impl Journal {
-    /// Makes room for so many further steps, so that they need not be moved as more come. An error
-    /// is out of memory; the journal is as before, with or without it.
+    /// Reserves room for `steps` more steps, so that they need not be moved as more come.
     pub fn reserve(&mut self, steps: usize) -> Result<(), AllocError>
         ensures { self.new ≡ self.old }
     {
         self.entries.reserve(steps)
     }
 
-    /// How many records there are since the base.
+    /// Returns how many records there are since the base.
     pub fn len(&self) -> u64
         ensures { result ≡ length self.now.history }
     {
         self.count
     }
 
-    /// The number of steps that are not undone (own rule).
+    /// Returns the number of steps that are not undone.
     pub fn journal_len(&self) -> u64
         ensures { result ≡ length (net_of self.now.history) }
     {
         self.entries.len() as u64
     }
 
-    /// What a step that is not undone did, counted from 0; None past the last. Its deltas, latest
-    /// first, lead back from the state after the step to the state before it (own rule).
+    /// Returns the deltas of step `at` of those that are not undone, counted from 0; `None` past
+    /// the last. Latest first, they lead back from the state after the step to the state before it.
     pub fn entry(&self, at: u64) -> Option<&[Delta]>
         ensures { MatchOption result (length (net_of self.now.history) ≤ at)
             (λ deltas. IsEntry self.now at deltas.now) }
@@ -48,9 +47,9 @@ impl Journal {
         Some(between(deltas, start, end))
     }
 
-    /// What the steps from one on did, counted from 0; None past the end of the journal. Their
-    /// deltas, latest first, lead back from the present state to the state before the first of
-    /// them: an undo that drops these steps takes these deltas off.
+    /// Returns the deltas of the steps from `at` on, counted from 0; `None` past the end of the
+    /// journal. Latest first, they lead back from the present state to the state before step `at`:
+    /// an undo that drops these steps takes these deltas off.
     pub fn way_back(&self, at: u64) -> Option<&[Delta]>
         ensures { MatchOption result (length (net_of self.now.history) < at)
             (λ deltas. IsWayBack self.now at deltas.now) }

@@ -45,7 +45,7 @@ impl Judge {
         self.count += 1;
     }
 
-    /// Counts an event that the laws do not speak of.
+    /// Counts an event without a law.
     fn apply_other(&mut self)
         requires { self.old.count < 2 ^ 63 }
         ensures size { self.new.size ≡ self.old.size }
@@ -105,7 +105,7 @@ impl Judge {
             .set(to.0, 1, FrameState::InUse { since: number });
     }
 
-    /// Updates the tables by the begin of an online.
+    /// Updates the tables by the start of an online.
     fn apply_online(&mut self, block: Block, zone: Zone)
         requires inside { block < self.old.size.blocks }
         requires room { block < length self.old.blocks }

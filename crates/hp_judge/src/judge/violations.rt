@@ -1,4 +1,4 @@
-//! Which law an event breaks, by the judge's tables.
+//! Finds the law that an event breaks, from the judge's tables.
 ghost use Rattle.std.specs.Prelude.{◌≡◌, ◌<◌, length, true};
 ghost use Rattle.hp_judge.specs.Events.{block_of, is_move, is_of, is_piece, is_well_formed, leaves_offline};
 ghost use Rattle.hp_judge.specs.Tables.{LiesBelow, block_at};
@@ -129,7 +129,7 @@ impl Judge {
         self.wrong_transition(block, event)
     }
 
-    /// Returns the first law that an event breaks by which its block is offline from then on.
+    /// Returns the first law that an event breaks which leaves its block offline.
     fn violation_of_offlining(&self, block: Block, event: &LogEvent) -> Option<Violation>
         requires inside { block < self.now.size.blocks }
         requires room { block < length self.now.blocks }
@@ -190,7 +190,7 @@ fn wrong_transition(phase: Phase, block: Block, event: &LogEvent) -> Option<Viol
     }
 }
 
-/// Returns the violation of a law by an event of a block, unless the event is what the law wants.
+/// Returns the violation of a law by an event of a block, unless the law holds.
 fn violation_unless(holds: bool, law: Law, block: Block, since: u64) -> Option<Violation>
     ensures { result ≡ violation_unless holds law block since }
 {

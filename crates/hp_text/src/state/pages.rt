@@ -1,4 +1,4 @@
-//! How the mapped pages of a state are written.
+//! The mapped pages of a state.
 ghost use Rattle.std.specs.Prelude.{◌≡◌, ◌++◌, OnOk, option_map, string_bytes};
 ghost use Rattle.std.specs.List.{flat_map};
 ghost use Rattle.hp_text.specs.State.{name_of, newline, number_word, owner_text, page_head, page_line, page_text, pages_text};
@@ -50,7 +50,7 @@ fn write_owner(
     Ok(())
 }
 
-/// The name of an owner by its number, and an empty one for a number that has no name.
+/// Returns the name of an owner by its number; empty if the number has no name.
 pub(crate) fn name_of<'a>(names: &'a IndexSet<Text>, owner: Owner) -> &'a str
     ensures { result.now ≡ name_of names.now.keys owner }
 {
@@ -60,7 +60,7 @@ pub(crate) fn name_of<'a>(names: &'a IndexSet<Text>, owner: Owner) -> &'a str
     }
 }
 
-/// Writes the line of a page that is mapped, with all its words.
+/// Writes the line of a page with all its words, if the page is mapped.
 fn write_page(
     out: &mut String,
     name: &str,
@@ -105,7 +105,7 @@ fn write_page_head(out: &mut String, name: &str, page: Page, frame: Frame) -> Re
     Ok(())
 }
 
-/// Writes words, each after a space, and the end of the line.
+/// Writes words, each after a space, and a newline.
 fn write_words(out: &mut String, words: &[u64]) -> Result<(), AllocError>
     ensures { OnOk result
         (string_bytes out.new ≡ string_bytes out.old ++ flat_map number_word words.now ++ newline) }
