@@ -1,4 +1,4 @@
--- What a word writes of the bytes of a scenario, the exit status, and when each fault comes.
+-- The text and the exit status of each word, and when each fault comes.
 use Rattle.std.specs.Prelude.{◌≡◌, ◌⊎◌, ℕ, ◌<◌, ◌≤◌, Bool, List, length, Option, IfSome, if◌then◌else◌}
 use Rattle.std.specs.Io.KnownBytes.{Appends}
 use Rattle.hp_wanted.specs.declared.wanted.Wanted.{Wanted}
@@ -29,13 +29,13 @@ use Rattle.hp_lab_shell.specs.declared.words.Word.{Word}
 use Rattle.hp_lab_shell.specs.declared.words.Word.TheVariants.{Check, Explore, Find, Log, Never, Part, Picture, Sum, Trace}
 use Rattle.hp_lab_shell.specs.Needs.{HasLines, IsPastEnd}
 
--- the text of an exploration; the status is 0 where what is asked for is found, and 3 where it is not
+-- the text of an exploration; the status is 0 if it finds what was asked for, and 3 if not
 abbrev pub IsExploringOf : Exploration → EndsForm → (input text : List ℕ) → (status : ℕ) → Type 0
 IsExploringOf asked form input text status =
     (found : Bool) × IsExplorationOf form input asked.setup asked.limit text found
     × (status ≡ (if found then 0 else 3))
 
--- the text of one part; and of the sum of all
+-- the text of one part; the text of the sum
 abbrev pub IsPartialOf : Exploration → NumberValue → (input text : List ℕ) → (status : ℕ) → Type 0
 IsPartialOf asked part input text status =
     (found : Bool) × IsPartOf part input asked.setup asked.limit text found
@@ -45,7 +45,7 @@ abbrev pub IsAddedOf : EndsForm → (input text : List ℕ) → (status : ℕ) �
 IsAddedOf form input text status =
     (found : Bool) × IsSumOf form input text found × (status ≡ (if found then 0 else 3))
 
--- the text of a search; the status is one where an interleaving is found, and another where none is
+-- the text of a search; one status if it finds an interleaving, and another if there is none
 abbrev pub IsSearchOf : Exploration → List Wanted → ScheduleForm → (found_status absent_status : ℕ)
     → (input text : List ℕ) → (status : ℕ) → Type 0
 IsSearchOf asked wanted form found_status absent_status input text status =
@@ -65,12 +65,12 @@ IsAnswerOf (Picture drawing) input text status =
     IsPictureOf drawing.view drawing.cell input text × (status ≡ 0)
 IsAnswerOf Log input text status = HasLog input × (status ≡ 0)
 
--- the answer of a word to a scenario that has the lines that the word names
+-- the text and the status of a word, for a scenario that has the lines that the word names
 abbrev pub Answers : Word → (input text : List ℕ) → (status : ℕ) → Type 0
 Answers word input text status = HasLines word input × IsAnswerOf word input text status
 
--- why a word has no answer: the fault of the exploration or the search, or of the scenario that is
--- to be traced; else out of memory alone
+-- why a word fails: the fault of the exploration or the search, or of the scenario that is traced;
+-- otherwise only out of memory
 abbrev pub IsLabCause : Word → (input : List ℕ) → LabFault → Type 0
 IsLabCause (Check setup) input fault = fault ≡ OutOfMemory
 IsLabCause (Explore asked form jobs) input fault = IsFaultWithin input asked.setup asked.limit fault
@@ -95,7 +95,7 @@ IsScenarioCause (Trace view) input fault = Fails fault (scenario_in input)
 IsScenarioCause (Picture drawing) input fault = Fails fault (scenario_in input)
 IsScenarioCause Log input fault = Fails fault (scenario_in input)
 
--- why parts have no sum
+-- why parts cannot be added up
 abbrev pub IsPartCause : Word → (input : List ℕ) → PartFault → Type 0
 IsPartCause (Sum form) input fault = IsSumFault input fault
 IsPartCause word input fault = ⊥
@@ -112,13 +112,13 @@ IsUnanswered word input WriteFailed = ⊥
 
 -- ---- from a reader to a writer
 
--- it has written the word's text of the bytes that were read, and nothing else, and this is the status
+-- the word's text for the bytes that were read was written, and nothing else, with this status
 abbrev pub Serves : Word → (known old new : Option (List ℕ)) → (status : ℕ) → Type 0
 Serves word known old new status =
     IfSome known (λ input. (text : List ℕ) × Appends old new text × Answers word input text status)
 
--- when each fault comes: `read` and `written` say that a reader's or a writer's call failed. No
--- file is opened here
+-- when each fault comes; `read` and `written` are that a call of the reader or the writer failed,
+-- and no file is opened here
 abbrev pub IsServeFault : Word → (known : Option (List ℕ)) → (read written : Type 0) → ProgramFault → Type 0
 IsServeFault word known read written NotOpened = ⊥
 IsServeFault word known read written ReadFailed = read

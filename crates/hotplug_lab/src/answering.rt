@@ -1,4 +1,4 @@
-//! What each word makes of the bytes of a scenario.
+//! The text and the exit status of each word, from a scenario's bytes.
 
 ghost use Rattle.std.specs.Prelude.{◌≡◌, if◌then◌else◌, IfErr, IfOk, string_bytes};
 ghost use Rattle.hotplug_lab.specs.Words.{IsAddedOf, IsAnswerOf, IsExploringOf, IsPartialOf, IsSearchOf, IsUnanswered};
@@ -16,7 +16,8 @@ use hp_wanted::Wanted;
 use std::alloc::Global;
 use std::thread::Threads;
 
-/// What a word makes of the bytes of a scenario. The watch is told how far a search has come.
+/// Returns the text and the exit status of a word for a scenario. `watch` gets the progress of a
+/// search.
 pub(crate) fn answer_to<W: Watch>(
     rt: &(impl Threads + Sync),
     alloc: Global,
@@ -51,7 +52,7 @@ pub(crate) fn answer_to<W: Watch>(
     }
 }
 
-/// Every interleaving of the scripts, by so many threads.
+/// Explores every interleaving of the scripts, in `jobs` threads.
 fn explored<W: Watch>(
     rt: &(impl Threads + Sync),
     alloc: Global,
@@ -70,7 +71,7 @@ fn explored<W: Watch>(
     Ok(answer_with(finding, 0, 3))
 }
 
-/// A part of an exploration.
+/// Searches one part of an exploration.
 fn partial<W: Watch>(
     alloc: Global,
     input: &[u8],
@@ -86,7 +87,7 @@ fn partial<W: Watch>(
     Ok(answer_with(finding, 0, 3))
 }
 
-/// The sum of all parts of an exploration.
+/// Adds up all parts of an exploration.
 fn summed(alloc: Global, input: &[u8], form: EndsForm) -> Result<Answer, ProgramFault>
     ensures ok { IfOk result
         (λ answer. IsAddedOf form input.now (string_bytes answer.text) answer.status) }
@@ -96,7 +97,8 @@ fn summed(alloc: Global, input: &[u8], form: EndsForm) -> Result<Answer, Program
     Ok(answer_with(finding, 0, 3))
 }
 
-/// An interleaving whose end has each of the wanted lines. The status is 0 where there is one.
+/// Searches for an interleaving whose end has each of the wanted lines. The status is 0 if there is
+/// one, and 3 if there is none.
 fn found<W: Watch>(
     alloc: Global,
     input: &[u8],
@@ -113,7 +115,7 @@ fn found<W: Watch>(
     Ok(answer_with(finding, 0, 3))
 }
 
-/// The same, but the status is 0 where there is none.
+/// Searches in the same way, with the status the other way round: 3 if there is one.
 fn never<W: Watch>(
     alloc: Global,
     input: &[u8],
@@ -130,7 +132,7 @@ fn never<W: Watch>(
     Ok(answer_with(finding, 3, 0))
 }
 
-/// What a search found, with the status where it found an interleaving, and where there is none.
+/// Returns a search's text, with the status `found` if it found something, and `absent` if not.
 fn answer_with(finding: Finding, found: u8, absent: u8) -> Answer
     ensures text { string_bytes result.text ≡ string_bytes finding.text }
     ensures status { result.status ≡ (if finding.is_found then found else absent) }

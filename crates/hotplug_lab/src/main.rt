@@ -1,15 +1,16 @@
-//! Looks into scenarios of the memory machine: `hotplug_lab WORD`, a file or standard input to
-//! standard output.
+//! Looks into scenarios of the memory machine: `hotplug_lab WORD` reads a file or standard input,
+//! and writes to standard output.
 //!
-//! What a word writes stands in a library of its own: `check` in hp_check, `explore` in hp_lab, its
-//! parts and their `sum` in hp_part_files, `trace` and its log in hp_trace, its picture in hp_svg, and
-//! `judge`, which reads no scenario, in hp_verdicts. The command line, and all that is around the answers,
-//! stands in hp_lab_shell; here the other words are answered. The exit status is 0; or 1 after a
-//! fault, which standard error names, and after a check that finds faults; or 2 where the command
-//! line is wrong; or 3 where a search finds nothing, or what is never to be, where an end that is
-//! asked for is not there, where only the first interleavings are told, and where a log is unlawful.
-//! It is the same where standard error takes no text. The help is a text like any other: where
-//! standard output does not take it, the status is 1.
+//! The libraries write the texts: hp_check that of `check`; hp_lab that of `explore`, and
+//! hp_part_files that of its parts and their `sum`; hp_trace that of `trace` and its log, and
+//! hp_svg its picture; hp_verdicts that of `judge`, which reads no scenario. hp_lab_shell has the
+//! command line, the files and the messages; this program serves the other words.
+//!
+//! The exit status is 0; 1 after a fault, which standard error names, and after a check that finds
+//! faults; 2 for a wrong command line; 3 if a search finds nothing, or finds what it should not; if
+//! there is no end with the number that was asked for; if only the first interleavings are counted;
+//! and if a log is unlawful. It is the same if standard error takes no text. The help is a text
+//! like any other: if standard output does not take it, the status is 1.
 #![tactic(auto)]
 
 mod answering;
@@ -24,7 +25,7 @@ use std::alloc::Global;
 use std::process::ExitCode;
 use std::thread::Threads;
 
-/// What answers the words.
+/// Serves the words of the program.
 #[derive(Drop)]
 struct Searches;
 

@@ -1,4 +1,4 @@
-//! Bytes in to bytes out.
+//! Serves a word from a reader to a writer.
 
 ghost use Rattle.std.specs.Prelude.{◌≡◌, ◌≢◌, ◌<◌, ◌-◌, ◌^◌, IfErr, IfOk, IfSome, OnOk, string_bytes};
 ghost use Rattle.std.specs.Io.KnownBytes.{Appends, Keeps};
@@ -15,8 +15,9 @@ use hp_streams::{Failed, Sink, Source, read_all, write_all};
 use std::alloc::Global;
 use std::thread::Threads;
 
-/// Does a word on what the reader gives, writes its text, and answers what it came to. The watch is
-/// told how far a search has come, and is dropped before anything is written.
+/// Reads a scenario, does a word on it, and writes the text. Returns the exit status, with the
+/// script lines that deserve a warning. `watch` gets the progress of a search, and is dropped
+/// before anything is written.
 pub fn serve_word<R: Source, W: Sink, P: Watch + Drop>(
     rt: &(impl Threads + Sync),
     alloc: Global,
@@ -30,16 +31,16 @@ pub fn serve_word<R: Source, W: Sink, P: Watch + Drop>(
 
     // The reader gave all that it had, at most the limit.
     ensures read { OnOk result (ReadsAll (R.remaining reader.old) (R.remaining reader.new)) }
-    // The word's text of the bytes that were read, and nothing else, and its status.
+    // The writer got the word's text for the bytes that were read, and nothing else.
     ensures ok { IfOk result (λ served. Serves word.entry (R.remaining reader.old) (W.contents writer.old)
         (W.contents writer.new) served.status) }
-    // The lines of its scripts that are worth a warning.
+    // The script lines that deserve a warning.
     ensures told { IfOk result (λ served. IfSome (R.remaining reader.old)
         (λ input. served.unbegun.items ≡ unbegun_of word.entry (scenario_in input))) }
-    // After another fault nothing was written.
+    // After any other fault, nothing was written.
     ensures silent { IfErr result
         (λ fault. fault ≢ ProgramFault.WriteFailed → Keeps (W.contents writer.old) (W.contents writer.new)) }
-    // Each fault comes only where it has a cause.
+    // Each fault comes only from its cause.
     ensures err { IfErr result (IsServeFault word.entry (R.remaining reader.old)
         (R.failures reader.old < R.failures reader.new) (W.failures writer.old < W.failures writer.new)) }
 {
@@ -50,7 +51,7 @@ pub fn serve_word<R: Source, W: Sink, P: Watch + Drop>(
     Ok(Served { status, unbegun })
 }
 
-/// Writes an answer's text, and answers its status.
+/// Writes an answer's text, and returns its status.
 fn write_answer<W: Sink>(writer: &mut W, answer: &Answer) -> Result<u8, ProgramFault>
     requires { W.failures writer.old < 2 ^ 64 - 1 }
     ensures status { IfOk result (λ status. status ≡ answer.now.status) }
@@ -65,7 +66,8 @@ fn write_answer<W: Sink>(writer: &mut W, answer: &Answer) -> Result<u8, ProgramF
     }
 }
 
-/// What a word makes of the bytes of a scenario. The watch is told how far a search has come, and is dropped.
+/// Returns the text and the exit status of a word for a scenario. `watch` gets the progress of a
+/// search, and is dropped.
 fn watched_answer<P: Watch + Drop>(
     rt: &(impl Threads + Sync),
     alloc: Global,

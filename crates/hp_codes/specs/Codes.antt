@@ -1,4 +1,4 @@
--- States as texts of bytes, and the numbers that stand for them.
+-- States as byte strings, and the numbers under which a table stores them.
 use Rattle.std.specs.Prelude.{ℕ, ◌≡◌, List, [], ◌∷◌, ◌++◌, Some, slice_get}
 use Rattle.std.specs.List.{flat_map}
 use Rattle.hp_units.specs.LayoutParts.{LayoutParts}
@@ -7,7 +7,7 @@ use Rattle.hp_units.specs.Placement.{IsShaped}
 use Rattle.hp_codes.specs.Numbers.{option_code}
 use Rattle.hp_codes.specs.Parts.{auto_number, counted_code, kind_code, row_code, words_code}
 
--- a state of a layout: its parts one after another (own rule)
+-- the code of a state of a layout: its parts one after another
 unfoldable pub state_code : LayoutParts → Memory → List ℕ
 state_code l m =
     flat_map counted_code m.free.areas.lists ++ flat_map kind_code m.free.areas.kinds
@@ -15,11 +15,11 @@ state_code l m =
     ++ flat_map (flat_map words_code) m.pages.contents ++ flat_map option_code m.kernel
     ++ flat_map row_code m.blocks.rows ++ auto_number m.blocks.auto ∷ []
 
--- each number means the code that it meant
+-- each number in use keeps its code
 abbrev pub KeepCodes : (old new : List (List ℕ)) → Type 0
 KeepCodes old new = (n : ℕ) (c : List ℕ) → slice_get old n ≡ Some c → slice_get new n ≡ Some c
 
--- a number means a state of a layout: its code is that of the state, whose lists have the layout's lengths
+-- the number's code is that of the state, whose lists have the lengths that the layout gives them
 pub record IsCoded (l : LayoutParts) (codes : List (List ℕ)) (number : ℕ) (m : Memory) : Type 0 where
   pub code : slice_get codes number ≡ Some (state_code l m)
   pub shaped : IsShaped l m

@@ -1,4 +1,4 @@
--- The parts of a state as bytes. Where the layout says how many there are, no count stands in front of them.
+-- The parts of a state as bytes. A count is written only if the layout does not give it.
 use Rattle.std.specs.Prelude.{ℕ, ◌+◌, Bool, true, false, List, [], ◌∷◌, ◌++◌, Option, None, Some, length}
 use Rattle.std.specs.List.{flat_map}
 use Rattle.hp_units.specs.declared.rows.Auto.{Auto}
@@ -13,11 +13,11 @@ use Rattle.hp_units.specs.declared.rows.Wish.TheVariants.{Off as OffWish, Normal
 use Rattle.hp_units.specs.Rows.{state_number, zone_number}
 use Rattle.hp_codes.specs.Numbers.{number_code}
 
--- numbers whose count the layout doesn't say, as a list of frames
+-- numbers after their count, for lists whose length the layout does not give
 abbrev pub counted_code : List ℕ → List ℕ
 counted_code numbers = number_code (length numbers) ++ flat_map number_code numbers
 
--- the words of a page: 0 where it isn't mapped, and else one more than their count in front of them
+-- a page's words after their count plus one, or 0 if the page is not mapped
 abbrev pub words_code : Option (List ℕ) → List ℕ
 words_code None = number_code 0
 words_code (Some words) = number_code (length words + 1) ++ flat_map number_code words
@@ -45,7 +45,7 @@ claim_code (Some claim) = wish_number claim.wish ∷ number_code claim.op
 abbrev pub row_code : Row → List ℕ
 row_code row = state_number row.state ∷ zone_number row.zone ∷ claim_code row.claim
 
--- what a block that is added becomes
+-- the policy that decides what an added block becomes
 abbrev pub auto_number : Auto → ℕ
 auto_number OfflineAuto = 0
 auto_number OnlineAuto = 1

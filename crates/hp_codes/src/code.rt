@@ -1,4 +1,4 @@
-//! A code as it is written.
+//! The buffer that a state is encoded into.
 ghost use Rattle.std.specs.Prelude.{◌≡◌, [], ◌∷◌, ◌++◌, OnOk, option_map};
 ghost use Rattle.std.specs.List.{flat_map};
 ghost use Rattle.hp_codes.specs.Numbers.{number_code, option_code, wide_code};
@@ -8,7 +8,7 @@ use hp_units::{Frame, Order};
 use std::alloc::{AllocError, Global};
 use std::marker::Model;
 
-/// Bytes that are written one after another.
+/// A buffer of bytes that grows at its end.
 #[derive(Drop)]
 pub(crate) struct Code {
     bytes: Vec<u8>,
@@ -23,7 +23,7 @@ impl Model for Code {
 }
 
 impl Code {
-    /// No byte.
+    /// Creates an empty buffer. Allocates nothing.
     pub(crate) fn new(alloc: Global) -> Code
         ensures { result ≡ [] }
     {
@@ -32,21 +32,21 @@ impl Code {
         }
     }
 
-    /// No byte again; the room stays.
+    /// Removes all bytes but keeps the capacity, so that the next state reuses it.
     pub(crate) fn clear(&mut self)
         ensures { self.new ≡ [] }
     {
         self.bytes.clear();
     }
 
-    /// The bytes.
+    /// Returns the bytes written so far.
     pub(crate) fn bytes(&self) -> &[u8]
         ensures { result.now ≡ self.now }
     {
         self.bytes.as_slice()
     }
 
-    /// One byte more. An error is out of memory.
+    /// Appends one byte.
     #[inline(always)]
     pub(crate) fn byte(&mut self, byte: u8) -> Result<(), AllocError>
         ensures { OnOk result (self.new ≡ self.old ++ byte ∷ []) }
@@ -58,7 +58,7 @@ impl Code {
         self.byte_past_room(byte)
     }
 
-    /// One byte more than there is room for. An error is out of memory.
+    /// Appends one byte when the buffer is full. Kept out of line, since it is rare.
     #[inline(never)]
     fn byte_past_room(&mut self, byte: u8) -> Result<(), AllocError>
         ensures { OnOk result (self.new ≡ self.old ++ byte ∷ []) }
@@ -67,7 +67,7 @@ impl Code {
         Ok(())
     }
 
-    /// One number more. An error is out of memory.
+    /// Appends a number: in one byte if it is below 253, and in 3, 5 or 9 bytes otherwise.
     #[inline(always)]
     #[tactic(auto, unfolding(crate::specs::Numbers::number_code))]
     pub(crate) fn number(&mut self, number: u64) -> Result<(), AllocError>
@@ -80,7 +80,7 @@ impl Code {
         }
     }
 
-    /// A number of more than one byte. An error is out of memory.
+    /// Appends a number that needs more than one byte.
     #[inline(never)]
     fn wide(&mut self, number: u64) -> Result<(), AllocError>
         ensures { OnOk result (self.new ≡ self.old ++ wide_code number) }
@@ -94,7 +94,7 @@ impl Code {
         }
     }
 
-    /// A mark, and bytes after it. An error is out of memory.
+    /// Appends a mark and the bytes that belong to it.
     fn marked(&mut self, mark: u8, bytes: &[u8]) -> Result<(), AllocError>
         ensures { OnOk result (self.new ≡ self.old ++ mark ∷ bytes.now) }
     {
@@ -103,7 +103,7 @@ impl Code {
         Ok(())
     }
 
-    /// The number of a frame, if there is one. An error is out of memory.
+    /// Appends an optional frame: 0 for none, and its number plus one otherwise.
     pub(crate) fn frame_or_none(&mut self, frame: Option<Frame>) -> Result<(), AllocError>
         ensures { OnOk result (self.new ≡ self.old ++ option_code frame) }
     {
@@ -113,7 +113,7 @@ impl Code {
         }
     }
 
-    /// The order of a block, if there is one. An error is out of memory.
+    /// Appends an optional order: 0 for none, and the order plus one otherwise.
     pub(crate) fn order_or_none(&mut self, order: Option<Order>) -> Result<(), AllocError>
         ensures { OnOk result (self.new ≡ self.old ++ option_code order) }
     {
@@ -123,7 +123,7 @@ impl Code {
         }
     }
 
-    /// The words of a page, if it is mapped. An error is out of memory.
+    /// Appends a page's words after their count plus one, or 0 if the page is not mapped.
     pub(crate) fn words(&mut self, words: Option<&[u64]>) -> Result<(), AllocError>
         ensures { OnOk result
             (self.new ≡ self.old ++ words_code (option_map (λ w. w.now) words.entry)) }
@@ -137,7 +137,7 @@ impl Code {
         }
     }
 
-    /// Numbers one after another. An error is out of memory.
+    /// Appends several numbers without their count.
     fn numbers(&mut self, numbers: &[u64]) -> Result<(), AllocError>
         ensures { OnOk result (self.new ≡ self.old ++ flat_map number_code numbers.now) }
     {

@@ -1,4 +1,4 @@
-//! States by number.
+//! The table of encoded states.
 ghost use Rattle.std.specs.Prelude.{◌≡◌, [], IfOk};
 ghost use Rattle.hp_codes.specs.Codes.{IsCoded, KeepCodes};
 
@@ -9,7 +9,10 @@ use hp_memory::Memory;
 use std::alloc::{AllocError, Global};
 use std::marker::Model;
 
-/// Codes of states by their numbers, from 0 on; the value is the codes.
+/// A table that interns states: it stores each state's code and gives it a number, from 0 on.
+///
+/// A search compares and keeps these numbers in place of whole states. The contract sees
+/// the table as the list of codes.
 pub struct Codes {
     written: Code,
     texts: Texts,
@@ -23,7 +26,7 @@ impl Model for Codes {
     ghost view = { λ c. c.texts };
 }
 
-/// A function of its own, so that no proof of a caller takes the fields apart.
+/// Keeps callers from proving again how each field is dropped.
 impl Drop for Codes {
     fn drop(self) {
         let Codes {
@@ -34,7 +37,7 @@ impl Drop for Codes {
 }
 
 impl Codes {
-    /// No code yet; it takes no memory.
+    /// Creates an empty table. Allocates nothing.
     pub fn new(alloc: Global) -> Codes
         ensures { result ≡ [] }
     {
@@ -44,8 +47,9 @@ impl Codes {
         }
     }
 
-    /// The number of the code of a memory's state: one that it has, or a new one. An error is out of
-    /// memory; the codes that there were keep their numbers also then.
+    /// Returns the number of the memory's state, and adds the state if it is not found.
+    ///
+    /// If memory runs out, all earlier numbers still mean the same states.
     pub fn number_of(&mut self, alloc: Global, memory: &Memory) -> Result<usize, AllocError>
         ensures kept { KeepCodes self.old self.new }
         ensures ok { IfOk result (λ n. IsCoded memory.now.layout self.new n memory.now.state) }

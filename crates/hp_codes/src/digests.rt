@@ -1,6 +1,6 @@
-//! Digests by which texts are found. What is found is compared, so nothing is claimed of them.
+//! Hashes of byte strings. A hit is compared byte by byte, so nothing is proved about them.
 
-/// A digest of bytes, eight at a time.
+/// Returns a hash of the bytes, taken eight at a time.
 pub(crate) fn digest_of(bytes: &[u8]) -> u64 {
     let mut digest = bytes.len() as u64;
     for chunk in bytes.chunks(8) {
@@ -9,14 +9,14 @@ pub(crate) fn digest_of(bytes: &[u8]) -> u64 {
     digest
 }
 
-/// A digest with one word more.
+/// Mixes one word into the hash.
 fn mixed(digest: u64, word: u64) -> u64 {
     (digest ^ word)
         .wrapping_mul(0x9e37_79b9_7f4a_7c15)
         .rotate_left(29)
 }
 
-/// The first eight bytes as one word; where there are fewer, all of them.
+/// Returns the first eight bytes as one word, or all bytes if there are fewer.
 fn word_of(bytes: &[u8]) -> u64 {
     match bytes.split_first_chunk::<8>() {
         Some((first, _later)) => u64::from_le_bytes(*first),
@@ -24,7 +24,7 @@ fn word_of(bytes: &[u8]) -> u64 {
     }
 }
 
-/// The last eight bytes as one word.
+/// Returns up to eight bytes as one word.
 fn short_word_of(bytes: &[u8]) -> u64 {
     let mut word = 0u64;
     for byte in bytes {

@@ -1,8 +1,9 @@
-//! States as short texts of bytes, each kept once, by number.
+//! Encodes states as byte strings and interns them.
 //!
-//! A memory's state is written as bytes (`code`, `memories`): its code. Codes stand in one buffer, and
-//! equal ones have one number, mostly (`texts`), so that a search compares and keeps numbers in place
-//! of states (`Codes`). A number means one state of a layout alone (`laws`).
+//! A memory's state is encoded part by part (`code`, `memories`). The codes are stored in
+//! one buffer, and equal codes share a number in nearly all cases (`texts`), so that a
+//! search compares and keeps numbers in place of states (`Codes`). A number means only
+//! one state of a layout (`laws`).
 //!
 //! Read first: specs/Numbers and specs/Parts (the code of each part), then specs/Codes.
 #![tactic(auto)]

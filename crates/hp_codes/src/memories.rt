@@ -1,4 +1,4 @@
-//! The code of a memory's state, part by part.
+//! The encoding of a memory's state, part by part.
 ghost use Rattle.std.specs.Prelude.{◌≡◌, ◌<◌, ◌≤◌, [], ◌++◌, OnOk, length, option_map, slice_index_or};
 ghost use Rattle.std.specs.List.{flat_map};
 ghost use Rattle.hp_units.specs.Memory.{cached_list, free_list};
@@ -16,7 +16,7 @@ use hp_units::{
 };
 use std::alloc::AllocError;
 
-/// The code of the state comes after the bytes that are there. An error is out of memory.
+/// Appends the code of the memory's state.
 #[tactic(auto, unfolding(crate::specs::Codes::state_code))]
 pub(crate) fn put_memory(code: &mut Code, memory: &Memory) -> Result<(), AllocError>
     ensures { OnOk result (code.new ≡ code.old ++ state_code memory.now.layout memory.now.state) }
@@ -32,7 +32,7 @@ pub(crate) fn put_memory(code: &mut Code, memory: &Memory) -> Result<(), AllocEr
     code.byte(auto_number(memory.auto()))
 }
 
-/// The free lists.
+/// Appends all free lists.
 fn put_areas(code: &mut Code, memory: &Memory) -> Result<(), AllocError>
     requires { IsShaped memory.now.layout memory.now.state }
     ensures { OnOk result (code.new ≡ code.old ++ flat_map counted_code memory.now.state.free.areas.lists) }
@@ -44,7 +44,7 @@ fn put_areas(code: &mut Code, memory: &Memory) -> Result<(), AllocError>
     Ok(())
 }
 
-/// The free list of a class and an order of the layout.
+/// Appends the free list of one class and order: its length, then its frames from the front.
 fn put_area(code: &mut Code, memory: &Memory, class: Class, order: Order) -> Result<(), AllocError>
     requires { order ≤ memory.now.layout.order }
     ensures { OnOk result
@@ -63,7 +63,7 @@ fn put_area(code: &mut Code, memory: &Memory, class: Class, order: Order) -> Res
     Ok(())
 }
 
-/// The kinds of the pageblocks.
+/// Appends the kind of each pageblock, one byte each.
 fn put_kinds(code: &mut Code, memory: &Memory) -> Result<(), AllocError>
     requires { IsShaped memory.now.layout memory.now.state }
     ensures { OnOk result (code.new ≡ code.old ++ flat_map kind_code memory.now.state.free.areas.kinds) }
@@ -74,7 +74,7 @@ fn put_kinds(code: &mut Code, memory: &Memory) -> Result<(), AllocError>
     Ok(())
 }
 
-/// The number of a kind.
+/// Returns the byte for a pageblock's kind.
 fn kind_number(kind: Kind) -> u8
     ensures { result ≡ kind_number kind.mobility kind.isolated }
 {
@@ -86,7 +86,7 @@ fn kind_number(kind: Kind) -> u8
     }
 }
 
-/// The processors' lists.
+/// Appends the lists of all processors.
 fn put_cached(code: &mut Code, memory: &Memory) -> Result<(), AllocError>
     requires { IsShaped memory.now.layout memory.now.state }
     ensures { OnOk result (code.new ≡ code.old ++ flat_map counted_code memory.now.state.free.cached) }
@@ -99,7 +99,7 @@ fn put_cached(code: &mut Code, memory: &Memory) -> Result<(), AllocError>
     Ok(())
 }
 
-/// A processor's list of a pool.
+/// Appends one processor's list of one pool: its length, then its frames from the front.
 fn put_list(code: &mut Code, memory: &Memory, cpu: Cpu, pool: Pool) -> Result<(), AllocError>
     requires { cpu < memory.now.layout.cpus }
     ensures { OnOk result (code.new ≡ code.old ++ counted_code (cached_list memory.now.state.free cpu pool)) }
@@ -117,7 +117,7 @@ fn put_list(code: &mut Code, memory: &Memory, cpu: Cpu, pool: Pool) -> Result<()
     Ok(())
 }
 
-/// The frames of all owners' pages.
+/// Appends the frame of each page of each owner.
 fn put_table(code: &mut Code, memory: &Memory) -> Result<(), AllocError>
     requires { IsShaped memory.now.layout memory.now.state }
     ensures { OnOk result
@@ -129,7 +129,7 @@ fn put_table(code: &mut Code, memory: &Memory) -> Result<(), AllocError>
     Ok(())
 }
 
-/// The frames of an owner's pages.
+/// Appends the frame of each page of one owner.
 fn put_frames(code: &mut Code, memory: &Memory, owner: Owner) -> Result<(), AllocError>
     requires shaped { IsShaped memory.now.layout memory.now.state }
     requires owner { owner < memory.now.layout.owners }
@@ -142,7 +142,7 @@ fn put_frames(code: &mut Code, memory: &Memory, owner: Owner) -> Result<(), Allo
     Ok(())
 }
 
-/// The words of all owners' pages.
+/// Appends the words of all pages of all owners.
 fn put_contents(code: &mut Code, memory: &Memory) -> Result<(), AllocError>
     requires { IsShaped memory.now.layout memory.now.state }
     ensures { OnOk result
@@ -154,7 +154,7 @@ fn put_contents(code: &mut Code, memory: &Memory) -> Result<(), AllocError>
     Ok(())
 }
 
-/// The words of an owner's pages.
+/// Appends the words of all pages of one owner.
 fn put_words(code: &mut Code, memory: &Memory, owner: Owner) -> Result<(), AllocError>
     requires shaped { IsShaped memory.now.layout memory.now.state }
     requires owner { owner < memory.now.layout.owners }
@@ -168,7 +168,7 @@ fn put_words(code: &mut Code, memory: &Memory, owner: Owner) -> Result<(), Alloc
     Ok(())
 }
 
-/// The words of a page of the layout, if it is mapped.
+/// Returns the page's words, or `None` if it is not mapped.
 fn page_words(memory: &Memory, owner: Owner, page: Page) -> Option<&[u64]>
     requires owner { owner < memory.now.layout.owners }
     requires page { page < memory.now.layout.pages }
@@ -178,7 +178,7 @@ fn page_words(memory: &Memory, owner: Owner, page: Page) -> Option<&[u64]>
     memory.pages().words(owner, page)
 }
 
-/// The orders of the kernel's blocks.
+/// Appends for each frame the order of the kernel's block that starts there, if any.
 fn put_kernel(code: &mut Code, memory: &Memory) -> Result<(), AllocError>
     requires { IsShaped memory.now.layout memory.now.state }
     ensures { OnOk result (code.new ≡ code.old ++ flat_map option_code memory.now.state.kernel) }
@@ -189,7 +189,7 @@ fn put_kernel(code: &mut Code, memory: &Memory) -> Result<(), AllocError>
     Ok(())
 }
 
-/// The rows of the memory blocks.
+/// Appends the row of each memory block.
 fn put_rows(code: &mut Code, memory: &Memory) -> Result<(), AllocError>
     requires { IsShaped memory.now.layout memory.now.state }
     ensures { OnOk result (code.new ≡ code.old ++ flat_map row_code memory.now.state.blocks.rows) }
@@ -200,7 +200,7 @@ fn put_rows(code: &mut Code, memory: &Memory) -> Result<(), AllocError>
     Ok(())
 }
 
-/// One row.
+/// Appends one row: its state, its zone and its claim.
 fn put_row(code: &mut Code, row: Row) -> Result<(), AllocError>
     ensures { OnOk result (code.new ≡ code.old ++ row_code row) }
 {
@@ -210,7 +210,7 @@ fn put_row(code: &mut Code, row: Row) -> Result<(), AllocError>
     put_claim(code, claim)
 }
 
-/// A claim, if there is one.
+/// Appends an optional claim: 0 for none, and otherwise its wish and its operation.
 fn put_claim(code: &mut Code, claim: Option<Claim>) -> Result<(), AllocError>
     ensures { OnOk result (code.new ≡ code.old ++ claim_code claim) }
 {
@@ -223,7 +223,7 @@ fn put_claim(code: &mut Code, claim: Option<Claim>) -> Result<(), AllocError>
     }
 }
 
-/// The number of a wish.
+/// Returns the byte for a wish; 0 is left for "no claim".
 fn wish_number(wish: Wish) -> u8
     ensures { result ≡ wish_number wish }
 {
@@ -234,7 +234,7 @@ fn wish_number(wish: Wish) -> u8
     }
 }
 
-/// The number of what a block that is added becomes.
+/// Returns the byte for the policy that decides what an added block becomes.
 fn auto_number(auto: Auto) -> u8
     ensures { result ≡ auto_number auto }
 {

@@ -1,4 +1,4 @@
-//! Texts of bytes, each kept once, by number.
+//! Interned byte strings.
 ghost use Rattle.std.specs.Prelude.{◌≡◌, ◌<◌, [], IfOk, IfSome, Some, length, slice_get};
 ghost use Rattle.hp_codes.specs.Codes.{KeepCodes};
 ghost use Rattle.hp_codes.specs.Texts.{AreTextsFrom, start_of, texts_from};
@@ -8,8 +8,9 @@ use indexmap::IndexMap;
 use std::alloc::{AllocError, Global};
 use std::marker::Model;
 
-/// Texts one after another in a buffer, and where each ends; and by a digest the latest number whose
-/// text has it.
+/// Byte strings in one buffer, with the end of each.
+///
+/// `latest` maps a hash to the newest string that has it.
 pub(crate) struct Texts {
     bytes: Vec<u8>,
     ends: Vec<usize>,
@@ -27,7 +28,7 @@ impl Model for Texts {
     ghost invariant = { λ t. AreTextsFrom (length t.bytes.items) 0 t.ends.items };
 }
 
-/// A function of its own, so that no proof of a caller takes the fields apart.
+/// Keeps callers from proving again how each field is dropped.
 impl Drop for Texts {
     fn drop(self) {
         let Texts {
@@ -39,7 +40,7 @@ impl Drop for Texts {
 }
 
 impl Texts {
-    /// No text.
+    /// Creates an empty collection. Allocates nothing.
     pub(crate) fn new(alloc: Global) -> Texts
         ensures { result ≡ [] }
     {
@@ -50,8 +51,9 @@ impl Texts {
         }
     }
 
-    /// The number of a text: one that it has, or a new one. An error is out of memory; the texts that
-    /// there were keep their numbers also then.
+    /// Returns the number of `text`, and adds it if it is not found.
+    ///
+    /// If memory runs out, all earlier numbers still mean the same strings.
     pub(crate) fn number_of(&mut self, text: &[u8]) -> Result<usize, AllocError>
         ensures kept { KeepCodes self.old self.new }
         ensures ok { IfOk result (λ n. slice_get self.new n ≡ Some text.now) }
@@ -63,7 +65,10 @@ impl Texts {
         }
     }
 
-    /// The number of a text, where the latest of its digest is the same.
+    /// Returns the number of `text` if it is the newest string with its hash.
+    ///
+    /// An older string with the same hash is not looked for: a collision costs a
+    /// second copy, never a wrong number.
     fn found(&self, digest: u64, text: &[u8]) -> Option<usize>
         ensures { IfSome result (λ n. slice_get self.now n ≡ Some text.now) }
     {
@@ -76,7 +81,7 @@ impl Texts {
         if kept == text { Some(*number) } else { None }
     }
 
-    /// The text of a number, if there is one.
+    /// Returns the string with this number, if there is one.
     fn text(&self, number: usize) -> Option<&[u8]>
         ensures { IfSome result (λ text. slice_get self.now number ≡ Some text.now) }
     {
@@ -87,7 +92,7 @@ impl Texts {
         }
     }
 
-    /// The text of a number that there is.
+    /// Returns the string with a number that is in use.
     fn text_at(&self, number: usize) -> &[u8]
         requires { number < length self.now }
         ensures { slice_get self.now number ≡ Some result.now }
@@ -95,7 +100,7 @@ impl Texts {
         text_in(&self.bytes, &self.ends, number)
     }
 
-    /// A text comes after the others. An error is out of memory.
+    /// Appends a string and returns its number.
     fn add(&mut self, digest: u64, text: &[u8]) -> Result<usize, AllocError>
         ensures kept { KeepCodes self.old self.new }
         ensures ok { IfOk result (λ n. slice_get self.new n ≡ Some text.now) }
@@ -112,7 +117,7 @@ impl Texts {
     }
 }
 
-/// The text of a number in a buffer, by where each ends.
+/// Returns one string from the buffer.
 fn text_in<'a>(bytes: &'a [u8], ends: &[usize], number: usize) -> &'a [u8]
     requires texts { AreTextsFrom (length bytes.now) 0 ends.now }
     requires number { number < length ends.now }
@@ -123,7 +128,7 @@ fn text_in<'a>(bytes: &'a [u8], ends: &[usize], number: usize) -> &'a [u8]
     &bytes[start..end]
 }
 
-/// Where a text starts, by where each ends.
+/// Returns the place where a string starts, which is where the one before it ends.
 fn start_of(ends: &[usize], number: usize) -> usize
     requires { number < length ends.now }
     ensures { result ≡ start_of 0 ends.now number }

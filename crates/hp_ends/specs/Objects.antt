@@ -1,4 +1,4 @@
--- How ends, and a schedule that was found, are written as JSON, an object a line.
+-- Ends, and a schedule that was found, as JSON, one object per line.
 use Rattle.std.specs.Prelude.{ℕ, true, List, [], ◌++◌, codes, Option, Some, None}
 use Rattle.std.specs.Fmt.{decimal}
 use Rattle.hp_units.specs.Texts.{reply_text}
@@ -14,14 +14,14 @@ use Rattle.hp_spelling.specs.Separated.{separated}
 
 -- ---- an end
 
--- what a processor was answered
+-- a reply between quotation marks; the replies of a processor
 abbrev pub reply_string : Reply → List ℕ
 reply_string reply = codes "\"" ++ reply_text reply ++ codes "\""
 
 abbrev pub answer_list : List Reply → List ℕ
 answer_list replies = codes "[" ++ separated (codes ", ") reply_string true replies ++ codes "]"
 
--- what became of a memory block
+-- a memory block's state between quotation marks
 abbrev pub block_string : Row → List ℕ
 block_string row = codes "\"" ++ state_words row.state row.zone ++ codes "\""
 
@@ -30,9 +30,8 @@ abbrev pub played_list : (names : List (List ℕ)) → (calls : Option (List Rec
 played_list names None = []
 played_list names (Some calls) = calls_text (codes ", ") names calls
 
--- its number, how many interleavings lead to it, what each processor was answered, from processor 0 on,
--- what became of the memory blocks, from block 0 on, and the calls of the first; without the bracket at
--- its end
+-- an end without its closing bracket: number, count, replies from processor 0, states from block 0,
+-- and the calls of its first interleaving
 abbrev pub keys_text : (names : List (List ℕ)) → (number : ℕ) → Ending → (calls : Option (List Record))
     → List ℕ
 keys_text names number e calls =
@@ -43,13 +42,13 @@ keys_text names number e calls =
 
 -- ---- how many there are
 
--- where not all were counted: null where that is not known
+-- how many interleavings there are; `null` if that is not known
 abbrev pub known_number : HowMany → List ℕ
 known_number (Exactly count) = decimal count
 known_number MoreThanLimit = codes "null"
 known_number Unknown = codes "null"
 
--- and how many were
+-- how many were counted, and how many there are; nothing if all were counted
 abbrev pub first_object : (counted : ℕ) → HowMany → List ℕ
 first_object counted known =
     codes "{\"first\": " ++ decimal counted ++ codes ", \"interleavings\": " ++ known_number known
@@ -59,7 +58,7 @@ abbrev pub more_object : (counted : ℕ) → Option HowMany → List ℕ
 more_object counted None = []
 more_object counted (Some known) = first_object counted known
 
--- ---- a search
+-- ---- a search: the schedule that was found, or that there is none
 
 abbrev pub found_object : (names : List (List ℕ)) → (changes : ℕ) → (calls : Option (List Record)) → List ℕ
 found_object names changes calls =

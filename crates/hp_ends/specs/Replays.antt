@@ -5,7 +5,7 @@ use Rattle.hp_units.specs.declared.replies.Record.{Record}
 use Rattle.hp_scenario.specs.declared.lines.Line.{Line}
 use Rattle.hp_spelling.specs.Scenarios.{scenario_text}
 
--- if it can be played: the lines that were run first, and then its calls
+-- the lines of the setup, then the schedule's calls; empty if it cannot be played
 abbrev pub replayed_text : (names : List (List ℕ)) → (before : List Line) → LayoutParts
     → (calls : Option (List Record)) → List ℕ
 replayed_text names before l None = []

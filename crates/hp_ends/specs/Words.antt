@@ -1,4 +1,4 @@
--- How ends, and a schedule that was found, are written as words.
+-- Ends, and a schedule that was found, as words.
 use Rattle.std.specs.Prelude.{ℕ, List, [], ◌∷◌, ◌++◌, codes, Option, Some, None, length, slice_get, sum_by}
 use Rattle.std.specs.Fmt.{decimal}
 use Rattle.std.specs.List.{flat_map}
@@ -13,9 +13,9 @@ use Rattle.hp_schedules.specs.declared.multinomials.HowMany.TheVariants.{Exactly
 use Rattle.hp_schedules.specs.declared.tally.Ending.{Ending}
 use Rattle.hp_spelling.specs.Entries.{calls_text}
 
--- ---- how it ends
+-- ---- the outcome
 
--- what a processor was answered
+-- a processor's number and its replies
 abbrev pub answers_text : (cpu : ℕ) → Option (List Reply) → List ℕ
 answers_text cpu None = []
 answers_text cpu (Some replies) = codes "cpu " ++ decimal cpu ++ newline ++ flat_map bare_reply_line replies
@@ -23,14 +23,14 @@ answers_text cpu (Some replies) = codes "cpu " ++ decimal cpu ++ newline ++ flat
 abbrev pub processors_text : (cpus : ℕ) → List (List Reply) → List ℕ
 processors_text cpus replies = texts_below (λ cpu. answers_text cpu (slice_get replies cpu)) cpus
 
--- what became of the memory blocks
+-- the states of the memory blocks
 abbrev pub blocks_text : (blocks : ℕ) → List Row → List ℕ
 blocks_text blocks rows = texts_below (λ block. block_line block (slice_get rows block)) blocks
 
 -- ---- the calls
 
--- those of a schedule, if it can be played, as texts of a scenario's `calls`, one a line, with a comma
--- between two
+-- the calls of a schedule, if it can be played: strings of `calls`, one per line, with commas
+-- between
 abbrev pub played_text : (names : List (List ℕ)) → (calls : Option (List Record)) → List ℕ
 played_text names None = []
 played_text names (Some []) = []
@@ -38,8 +38,7 @@ played_text names (Some (r ∷ rs)) = calls_text (codes ",\n") names (r ∷ rs) 
 
 -- ---- an end
 
--- its number, after an empty line, how many interleavings lead to it, the outcome, and the calls of the
--- first
+-- an empty line, the end's number, its count, its outcome, and the calls of its first interleaving
 abbrev pub end_text : (names : List (List ℕ)) → LayoutParts → (number : ℕ) → Ending
     → (calls : Option (List Record)) → List ℕ
 end_text names l number e calls =
@@ -49,13 +48,13 @@ end_text names l number e calls =
 
 -- ---- how many there are
 
--- how many interleavings there are, where not all were counted
+-- how many interleavings there are, if not all were counted
 abbrev pub many_text : (counted : ℕ) → HowMany → List ℕ
 many_text counted (Exactly count) = decimal count ++ codes " interleavings"
 many_text counted MoreThanLimit = codes "more than " ++ decimal counted ++ codes " interleavings"
 many_text counted Unknown = codes "more than " ++ decimal counted ++ codes " interleavings"
 
--- so many were counted: all there are, or the first of more
+-- how many there are; if not all were counted, also how many were
 abbrev pub total_text : (counted : ℕ) → Option HowMany → List ℕ
 total_text counted None = codes "interleavings: " ++ decimal counted
 total_text counted (Some known) =
@@ -68,11 +67,11 @@ counts_text ends more =
 
 -- ---- a search
 
--- a schedule that was found: how often it changes the processor, and its calls
+-- a schedule that was found: its number of processor changes, and its calls
 abbrev pub nearest_text : (names : List (List ℕ)) → (changes : ℕ) → (calls : Option (List Record)) → List ℕ
 nearest_text names changes calls =
     codes "changes: " ++ decimal changes ++ codes "\nfirst:\n" ++ played_text names calls
 
--- no schedule ends so, and there are so many
+-- none of `schedules` interleavings ends as wanted
 abbrev pub absent_text : (schedules : ℕ) → List ℕ
 absent_text schedules = codes "interleavings: " ++ decimal schedules ++ codes "\nends so: 0\n"

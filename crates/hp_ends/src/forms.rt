@@ -1,11 +1,11 @@
-//! How an answer is written.
+//! The forms in which results are written.
 
 /// How the ends of an exploration are written.
 #[derive(Clone, Copy, Drop)]
 pub enum EndsForm {
     /// All of them, as words.
     Words,
-    /// All of them, as JSON, an object a line.
+    /// All of them, as JSON, one object per line.
     Objects,
     /// The first interleaving of the end with this number, as a scenario; ends are counted from 1.
     Scenario(u64),
@@ -14,9 +14,9 @@ pub enum EndsForm {
 /// How a schedule that was found is written.
 #[derive(Clone, Copy, Drop)]
 pub enum ScheduleForm {
-    /// How often it changes the processor, and its calls, as words.
+    /// Its number of processor changes and its calls, as words.
     Words,
-    /// The same as an object of JSON.
+    /// The same as a JSON object.
     Object,
     /// As a scenario.
     Scenario,

@@ -1,10 +1,9 @@
-//! The text of ends, and of a schedule that was found: as words, as JSON, and as a scenario.
+//! The text of ends, and of a schedule that a search found: as words, as JSON, and as a scenario.
 //!
-//! An end of hp_schedules is how many interleavings lead to it, what the processors were answered,
-//! what became of the memory blocks, and the calls of the first interleaving. The crate owns how
-//! these are spelled alone, and names the forms in which they are asked for: it is given the records
-//! of the calls, plays no schedule, and opens no stream; hp_prepared plays, and hp_lab searches. Each
-//! function's text stands in specs/.
+//! An end (hp_schedules) has the number of interleavings that lead to it, the processors' replies,
+//! the states of the memory blocks, and the first interleaving. The crate owns only their spelling,
+//! and the names of the forms. It is given the records of the calls, plays no schedule and opens no
+//! stream: hp_prepared plays, and hp_lab searches. specs/ has each function's text.
 //!
 //! Read specs/Words first, then specs/Objects and specs/Replays.
 #![tactic(auto)]

@@ -1,4 +1,4 @@
-//! How ends, and a schedule that was found, are written as JSON, an object a line.
+//! Ends, and a schedule that was found, as JSON, one object per line.
 ghost use Rattle.std.specs.Prelude.{◌≡◌, ◌++◌, IfOk, OnOk, codes, option_map, string_bytes, true};
 ghost use Rattle.hp_spelling.specs.Separated.{separated};
 ghost use Rattle.hp_text.specs.State.{zone_word};
@@ -11,11 +11,11 @@ use hp_units::{Record, Reply, Row, State, Text, Zone};
 use indexmap::IndexSet;
 use std::alloc::{AllocError, Global};
 
-/// What stands between two values of a list.
+/// The separator of two values of a list.
 const BETWEEN: &str = ", ";
 
-/// Writes an object that says how many interleavings were counted and how many there are, where not
-/// all were counted; else nothing. An error is out of memory.
+/// Writes an object with how many interleavings were counted and how many there are. Writes nothing
+/// if all were counted.
 pub fn write_more(out: &mut String, counted: u128, more: Option<HowMany>) -> Result<(), AllocError>
     ensures { OnOk result (string_bytes out.new ≡ string_bytes out.old ++ more_object counted more) }
 {
@@ -25,8 +25,8 @@ pub fn write_more(out: &mut String, counted: u128, more: Option<HowMany>) -> Res
     }
 }
 
-/// Writes an object that says that so many interleavings were counted, and how many there are, where
-/// that is known.
+/// Writes an object with how many interleavings were counted, and how many there are if that is
+/// known.
 fn write_first(out: &mut String, counted: u128, known: HowMany) -> Result<(), AllocError>
     ensures { OnOk result (string_bytes out.new ≡ string_bytes out.old ++ first_object counted known) }
 {
@@ -41,10 +41,9 @@ fn write_first(out: &mut String, counted: u128, known: HowMany) -> Result<(), Al
     }
 }
 
-/// Writes the object of an end up to the bracket at its end: its number, how many interleavings
-/// lead to it, what the processors were answered, what became of the memory blocks, and the calls
-/// of the first interleaving, if it can be played. Owners are written by their names. An error is
-/// out of memory.
+/// Writes the object of an end without its closing bracket: its number, how many interleavings lead
+/// to it, the processors' replies, the states of the memory blocks, and the calls of the first
+/// interleaving, if it can be played. Owners are written by name.
 pub fn write_keys(
     out: &mut String,
     names: &IndexSet<Text>,
@@ -71,7 +70,7 @@ pub fn write_keys(
     Ok(())
 }
 
-/// Writes what each processor was answered.
+/// Writes the replies of each processor, from processor 0.
 fn write_answers(out: &mut String, all: &[Answers]) -> Result<(), AllocError>
     ensures { OnOk result
         (string_bytes out.new ≡ string_bytes out.old ++ separated (codes ", ") answer_list true all.now) }
@@ -108,7 +107,7 @@ fn write_reply(out: &mut String, reply: Reply) -> Result<(), AllocError>
     out.push('"')
 }
 
-/// Writes what became of memory blocks.
+/// Writes the states of the memory blocks, from block 0.
 fn write_blocks(out: &mut String, rows: &[Row]) -> Result<(), AllocError>
     ensures { OnOk result (string_bytes out.new
         ≡ string_bytes out.old ++ separated (codes ", ") block_string true rows.now) }
@@ -122,8 +121,8 @@ fn write_blocks(out: &mut String, rows: &[Row]) -> Result<(), AllocError>
     Ok(())
 }
 
-/// Writes the state of a memory block between quotation marks, with its zone where it is online or
-/// going.
+/// Writes a memory block's state between quotation marks, with its zone if it is online or going
+/// offline.
 fn write_block(out: &mut String, row: Row) -> Result<(), AllocError>
     ensures { OnOk result (string_bytes out.new ≡ string_bytes out.old ++ block_string row) }
 {
@@ -135,7 +134,7 @@ fn write_block(out: &mut String, row: Row) -> Result<(), AllocError>
     }
 }
 
-/// Writes a word between quotation marks, with a zone after it.
+/// Writes a word between quotation marks, with the zone after it.
 fn write_zoned(out: &mut String, word: &str, zone: Option<Zone>) -> Result<(), AllocError>
     ensures { OnOk result (string_bytes out.new
         ≡ string_bytes out.old ++ codes "\"" ++ (word.now ++ zone_word zone) ++ codes "\"") }
@@ -161,8 +160,8 @@ fn write_played(
     }
 }
 
-/// The object of a schedule that was found: how often it changes the processor, and its calls, if
-/// it can be played. Owners are written by their names. An error is out of memory.
+/// Returns the object of a schedule that was found: its number of processor changes, and its calls
+/// if it can be played. Owners are written by name.
 pub fn found_object(
     alloc: Global,
     names: &IndexSet<Text>,
@@ -178,7 +177,7 @@ pub fn found_object(
     Ok(text)
 }
 
-/// The object that says that no schedule ends so, and of how many. An error is out of memory.
+/// Returns the object that reports that none of `schedules` interleavings ends as wanted.
 pub fn absent_object(alloc: Global, schedules: u128) -> Result<String, AllocError>
     ensures { IfOk result (λ text. string_bytes text ≡ absent_object schedules) }
 {

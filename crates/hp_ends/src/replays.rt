@@ -8,8 +8,8 @@ use hp_units::{Layout, Record, Text};
 use indexmap::IndexSet;
 use std::alloc::{AllocError, Global};
 
-/// A schedule as a scenario of this layout, with the lines that were run first before its calls;
-/// empty where it cannot be played. Owners are written by their names. An error is out of memory.
+/// Returns a schedule as a scenario of `layout`: the lines of the setup, then the schedule's calls.
+/// The text is empty if the schedule cannot be played. Owners are written by name.
 pub fn replay_text(
     alloc: Global,
     names: &IndexSet<Text>,

@@ -1,4 +1,4 @@
-//! How ends, and a schedule that was found, are written as words.
+//! Ends, and a schedule that was found, as words.
 ghost use Rattle.std.specs.Prelude.{◌≡◌, ◌++◌, IfOk, OnOk, option_map, string_bytes};
 ghost use Rattle.std.specs.List.{flat_map};
 ghost use Rattle.hp_text.specs.Answers.{bare_reply_line};
@@ -12,8 +12,8 @@ use hp_units::{Block, Cpu, Layout, Record, Reply, Row, Text};
 use indexmap::IndexSet;
 use std::alloc::{AllocError, Global};
 
-/// Writes how many interleavings and ends there are. Where not all interleavings were counted it is
-/// given what is known of how many there are. An error is out of memory.
+/// Writes how many interleavings and ends there are. If not all interleavings were counted, `more`
+/// is what is known of their number.
 pub fn write_counts(
     out: &mut String,
     ends: &[Ending],
@@ -26,7 +26,7 @@ pub fn write_counts(
     writeln!(out, "\nends: {count}")
 }
 
-/// Writes how many interleavings there are, and how many of them were counted, where not all were.
+/// Writes how many interleavings there are, and how many were counted if not all were.
 fn write_total(out: &mut String, counted: u128, more: Option<HowMany>) -> Result<(), AllocError>
     ensures { OnOk result (string_bytes out.new ≡ string_bytes out.old ++ total_text counted more) }
 {
@@ -44,10 +44,9 @@ fn write_total(out: &mut String, counted: u128, more: Option<HowMany>) -> Result
     }
 }
 
-/// Writes an end on a machine of this layout: its number after an empty line, how many
-/// interleavings lead to it, what the processors were answered, what became of the memory blocks,
-/// and the calls of the first interleaving, if it can be played. Owners are written by their names.
-/// An error is out of memory.
+/// Writes an end on a machine of `layout`, after an empty line: its number, how many interleavings
+/// lead to it, the processors' replies, the states of the memory blocks, and the calls of the first
+/// interleaving, if it can be played. Owners are written by name.
 pub fn write_end(
     out: &mut String,
     names: &IndexSet<Text>,
@@ -70,7 +69,7 @@ pub fn write_end(
     write_played(out, names, calls)
 }
 
-/// Writes what each processor was answered, from processor 0 on.
+/// Writes the replies of each processor, from processor 0.
 fn write_processors(out: &mut String, cpus: u32, replies: &[Answers]) -> Result<(), AllocError>
     ensures { OnOk result (string_bytes out.new ≡ string_bytes out.old ++ processors_text cpus replies.now) }
 {
@@ -80,7 +79,7 @@ fn write_processors(out: &mut String, cpus: u32, replies: &[Answers]) -> Result<
     Ok(())
 }
 
-/// Writes a processor's number and what it was answered.
+/// Writes a processor's number and its replies.
 fn write_answers(out: &mut String, cpu: Cpu, answers: Option<&Answers>) -> Result<(), AllocError>
     ensures { OnOk result (string_bytes out.new
         ≡ string_bytes out.old ++ answers_text cpu (option_map (λ a. a.now) answers.entry)) }
@@ -105,7 +104,7 @@ fn write_replies(out: &mut String, replies: &[Reply]) -> Result<(), AllocError>
     Ok(())
 }
 
-/// Writes what became of each memory block, from block 0 on.
+/// Writes the state of each memory block, from block 0.
 fn write_blocks(out: &mut String, blocks: u32, rows: &[Row]) -> Result<(), AllocError>
     ensures { OnOk result (string_bytes out.new ≡ string_bytes out.old ++ blocks_text blocks rows.now) }
 {
@@ -115,7 +114,7 @@ fn write_blocks(out: &mut String, blocks: u32, rows: &[Row]) -> Result<(), Alloc
     Ok(())
 }
 
-/// Writes what became of a memory block.
+/// Writes the state of a memory block.
 fn write_block(out: &mut String, block: Block, row: Option<Row>) -> Result<(), AllocError>
     ensures { OnOk result (string_bytes out.new ≡ string_bytes out.old ++ block_line block row) }
 {
@@ -125,8 +124,8 @@ fn write_block(out: &mut String, block: Block, row: Option<Row>) -> Result<(), A
     }
 }
 
-/// Writes the calls of a schedule, if it can be played, as texts of a scenario's `calls`, one a
-/// line, with a comma between two.
+/// Writes the calls of a schedule, if it can be played, as strings of a scenario's `calls`, one per
+/// line, separated by commas.
 fn write_played(
     out: &mut String,
     names: &IndexSet<Text>,
@@ -145,8 +144,8 @@ fn write_played(
     }
 }
 
-/// A schedule that was found: how often it changes the processor, and its calls, if it can be
-/// played. Owners are written by their names. An error is out of memory.
+/// Returns the text of a schedule that was found: its number of processor changes, and its calls if
+/// it can be played. Owners are written by name.
 pub fn nearest_text(
     alloc: Global,
     names: &IndexSet<Text>,
@@ -161,7 +160,7 @@ pub fn nearest_text(
     Ok(text)
 }
 
-/// That no schedule ends so, and of how many. An error is out of memory.
+/// Returns the text that reports that none of `schedules` interleavings ends as wanted.
 pub fn absent_text(alloc: Global, schedules: u128) -> Result<String, AllocError>
     ensures { IfOk result (λ text. string_bytes text ≡ absent_text schedules) }
 {

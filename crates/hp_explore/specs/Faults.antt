@@ -13,15 +13,15 @@ use Rattle.hp_units.specs.declared.replies.CallFault.{CallFault}
 use Rattle.hp_units.specs.declared.replies.CallFault.TheVariants.{HistoryFull as CallFull, OutOfMemory as CallMemory}
 use Rattle.hp_schedules.specs.Parts.{ComesTo, PartValue}
 
--- where some schedule leads to the history has no room for a call that a processor has to make
+-- the history has no room for a call that a processor has to make, where some schedule leads
 abbrev pub FillsHistory : Setting → Type 0
 FillsHistory g = (s : List ℕ) × HasNoRoom g s
 
--- such a call is one of this schedule
+-- the same for a call of this schedule
 abbrev pub FillsAlong : Setting → List ℕ → Type 0
 FillsAlong g schedule = (s : List ℕ) × (h : HasNoRoom g s) × Extends schedule (s ++ h.cpu ∷ [])
 
--- the history has no room for the call that a processor has to make after new records
+-- the history has no room for the call that a processor has to make after the new records
 abbrev pub FillsHere : Setting → List Record → (cpu : ℕ) → Type 0
 FillsHere g news cpu =
     (event : Event) × (next_call g cpu news ≡ Some event) × (is_full_after g news ≡ true)
@@ -36,10 +36,10 @@ abbrev pub IsCause : Setting → ExploreFault → Type 0
 IsCause g HistoryFull = FillsHistory g
 IsCause g OutOfMemory = Unit {0}
 
--- ---- of one part
+-- ---- for one part
 
--- where a schedule of a part's search leads to the history has no room for a call that a processor
--- has to make
+-- the history has no room for a call that a processor has to make, where a
+-- schedule of the part's search leads
 abbrev pub FillsPart : Setting → PartValue → Type 0
 FillsPart g part = (s : List ℕ) × HasNoRoom g s × ComesTo (length g.scripts) part s
 
@@ -50,15 +50,15 @@ IsCausePart g part OutOfMemory = Unit {0}
 
 -- ---- in a search with a limit
 
--- it comes to a call for which the history has no room: the first such in the order of the walk,
--- before which there are no more complete schedules than the limit
+-- the search reaches a call for which the history has no room: the first such call in the order of
+-- the walk, with no more complete schedules before it than the limit
 pub record FillsWithin (g : Setting) (limit : ℕ) : Type 0 where
   pub place : List ℕ
   pub call : HasNoRoom g place
   pub first : HasRoomBefore g (place ++ call.cpu ∷ [])
   pub few : HasMoreThan (λ s. (x : OutcomeValue) × Before g (place ++ call.cpu ∷ []) s x) limit → ⊥
 
--- the same of a part's search, and of its schedules
+-- the same for a part's search and its schedules
 pub record FillsPartWithin (g : Setting) (part : PartValue) (limit : ℕ) : Type 0 where
   pub place : List ℕ
   pub call : HasNoRoom g place
@@ -76,9 +76,9 @@ abbrev pub IsCausePartWithin : Setting → PartValue → (limit : ℕ) → Explo
 IsCausePartWithin g part limit HistoryFull = FillsPartWithin g part limit
 IsCausePartWithin g part limit OutOfMemory = Unit {0}
 
--- ---- of a call
+-- ---- for one call
 
--- a call's fault as the exploration's
+-- a call's fault as one of the exploration
 abbrev pub fault_of : CallFault → ExploreFault
 fault_of CallFull = HistoryFull
 fault_of CallMemory = OutOfMemory

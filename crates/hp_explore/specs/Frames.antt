@@ -1,4 +1,5 @@
--- The stack of a walk: what it knows of each place between where the scripts begin and where it stands.
+-- The stack of a walk: what it knows of each place from the beginning
+-- of the scripts to where it is.
 use Rattle.std.specs.Prelude.{◌≡◌, ℕ, ◌+◌, ◌-◌, ◌*◌, ◌^◌, ◌<◌, ◌≤◌, Bool, true, false, List, [], ◌∷◌, ◌++◌, Some, length, reverse}
 use Rattle.hp_units.specs.declared.events.Event.{Event}
 use Rattle.hp_units.specs.declared.replies.Record.{Record}
@@ -15,16 +16,16 @@ use Rattle.hp_explore.specs.declared.walk.Turned.{Turned}
 use Rattle.hp_explore.specs.declared.walk.Turned.TheVariants.{On, Over, Full}
 use Rattle.hp_explore.specs.declared.walk.Walk.{Walk}
 
--- the turns of a place whose next processor is this: all before it was walked, and whether a script
--- asked for anything so far is known
+-- all before the frame's next processor is walked, and it is known
+-- whether a processor so far had a call
 pub record AreTurns (g : Setting) (part : PartValue) (news : List Record) (ends : List Ending)
     (frame : Frame) : Type 0 where
   pub walked : IsPartWalkedBefore g part (schedule_of news ++ frame.next ∷ []) ends
   pub over : IsOverBelow g news frame.next frame.is_over
   pub within : frame.next ≤ length g.scripts
 
--- the places below one, latest first: each led on by the turn before its next processor, for whose
--- call there was room
+-- the places below one, latest first: each led on by a call of the processor before its next, and
+-- the history had room for that call
 abbrev pub AreBelow : Setting → PartValue → List Ending → List Record → List Frame → Type 0
 AreBelow g part ends news [] = news ≡ []
 AreBelow g part ends news (frame ∷ frames) =
@@ -34,7 +35,7 @@ AreBelow g part ends news (frame ∷ frames) =
     × (is_full_after g before ≡ false) × IsFrame g part before ends frame
     × AreBelow g part ends before frames
 
--- the places of a walk, latest first; without any all is walked
+-- the places of a walk, latest first; with none left, everything is walked
 abbrev pub AreWalked : Setting → PartValue → List Ending → List Record → List Frame → Type 0
 AreWalked g part ends news [] = IsPartWalkedThrough g part [] ends
 AreWalked g part ends news (frame ∷ frames) =
@@ -42,7 +43,7 @@ AreWalked g part ends news (frame ∷ frames) =
 
 -- ---- the walk
 
--- what a walk keeps, where these are its frames, latest first
+-- what holds of a walk whose frames, latest first, are these
 pub record IsWalking (w : Walk) (frames : List Frame) : Type 0 where
   pub walked : AreWalked w.path.setting w.part w.tally.ends w.path.news frames
   pub memo : IsMemo w.path.setting w.tally.ends w.memo
@@ -54,7 +55,7 @@ pub record IsWalking (w : Walk) (frames : List Frame) : Type 0 where
 abbrev pub frames_of : Walk → List Frame
 frames_of w = reverse w.frames.items
 
--- how much of a walk is left: a number with a digit for each place, in which a later place counts less
+-- how much of a walk is left: a number with one digit per place, in which a later place counts less
 abbrev pub digits : (processors : ℕ) → List Frame → ℕ
 digits n [] = 0
 digits n (frame ∷ frames) = digits n frames * (n + 2) + (n + 1 - frame.next)
@@ -65,19 +66,19 @@ left_of n most frames = digits n frames * (n + 2) ^ (most + 1 - length frames)
 abbrev pub left : Walk → List Frame → ℕ
 left w frames = left_of w.processors w.path.setting.layout.history frames
 
--- so much is left before a turn by which this is left after it and its place
+-- how much is left before a turn, if this is left after the turn and its place
 abbrev pub left_before : Walk → List Frame → ℕ
 left_before w frames =
     (digits w.processors frames + 1)
     * (w.processors + 2) ^ (w.path.setting.layout.history + 1 - length frames)
 
--- a walk stays that of its scripts, its part and its limit
+-- the walk keeps its scripts, its part and its limit
 abbrev pub IsSameWalk : Walk → Walk → Type 0
 IsSameWalk old new =
     (new.path.setting ≡ old.path.setting) × (new.tally.limit ≡ old.tally.limit) × (new.part ≡ old.part)
 
--- a walk has come to a place by a call, or begins: all before it was walked, and where these are its
--- frames, latest first, they are those of the places below
+-- the walk has just reached a place by a call, or begins: all before it is walked, and the frames,
+-- latest first, are those of the places below
 pub record IsComing (w : Walk) (frames : List Frame) : Type 0 where
   pub walked : IsPartWalkedBefore w.path.setting w.part (schedule_of w.path.news) w.tally.ends
   pub on : IsOn (length w.path.setting.scripts) w.part (schedule_of w.path.news)
@@ -88,15 +89,15 @@ pub record IsComing (w : Walk) (frames : List Frame) : Type 0 where
   pub few : w.processors < 2 ^ 32
   pub short : length w.path.news ≤ w.path.setting.layout.history
 
--- what a turn of a walk came to: less of it is left; all is walked; or as many schedules are counted
--- as the limit says, and there is a further one
+-- the result of a turn: less is left; all is walked; or the limit is
+-- reached and there is another schedule
 abbrev pub IsTurnedTo : (old new : Walk) → Turned → Type 0
 IsTurnedTo old new On =
     IsWalking new (frames_of new) × (left new (frames_of new) < left old (frames_of old))
 IsTurnedTo old new Over = IsPartWalkedThrough new.path.setting new.part [] new.tally.ends
 IsTurnedTo old new Full = AreFirstInPart new.path.setting new.part new.tally.limit new.tally.ends
 
--- what a walk came to in the end
+-- the result of the whole walk
 abbrev pub IsDone : Walk → (is_whole : Bool) → Type 0
 IsDone w true = IsPartWalkedThrough w.path.setting w.part [] w.tally.ends
 IsDone w false = AreFirstInPart w.path.setting w.part w.tally.limit w.tally.ends

@@ -1,4 +1,4 @@
--- Where a walk over the schedules stands, and its way back.
+-- The place of a walk over schedules, and the way back.
 use Rattle.std.specs.Prelude.{◌≡◌, ℕ, ◌<◌, Bool, true, false, List, [], ◌∷◌, ◌++◌, Option, Some, None, length, reverse, slice_set}
 use Rattle.hp_units.specs.History.{value_of}
 use Rattle.hp_units.specs.Memory.{Memory}
@@ -19,36 +19,36 @@ pub record PathValue : Type 0 where
   pub setting : Setting
   pub news : List Record
 
--- the state after them
+-- the state after the new records
 abbrev pub state_at : PathValue → Memory
 state_at p = value_of p.setting.layout p.setting.base (p.setting.start ++ p.news)
 
--- whether a processor made its next call: the history had room for its record, which is the last;
--- or its script asks for nothing and all stays
+-- the processor made its next call, for whose record the history had room; or it had no call to
+-- make, and nothing changed
 abbrev pub IsForth : PathValue → (cpu : ℕ) → (went : Bool) → PathValue → Type 0
 IsForth p cpu true q =
     (event : Event) × (next_call p.setting cpu p.news ≡ Some event) × (is_full_after p.setting p.news ≡ false)
     × (q ≡ record { setting = p.setting; news = p.news ++ record_of_call p.setting p.news cpu event ∷ [] })
 IsForth p cpu false q = (next_call p.setting cpu p.news ≡ None) × (q ≡ p)
 
--- the latest call, a processor's, was taken back, or there was none
+-- the latest call, of this processor, was taken back; or there was none
 abbrev pub IsBack : PathValue → Option ℕ → PathValue → Type 0
 IsBack p None q = (p.news ≡ []) × (q ≡ p)
 IsBack p (Some cpu) q =
     (r : Record) × (r.cpu ≡ cpu) × (p ≡ record { setting = q.setting; news = q.news ++ r ∷ [] })
 
--- all scripts are over
+-- all scripts are finished
 abbrev pub IsOver : PathValue → Type 0
 IsOver p = (cpu : ℕ) → next_call p.setting cpu p.news ≡ None
 
 -- ---- what a path keeps
 
--- what leads back over a turn leads back to these steps over this record
+-- the way leads back from the new steps over this record to the old steps
 abbrev pub IsWayOver : Way → StepsValue → Record → StepsValue → Type 0
 IsWayOver (Mark mark) old r new = IsLater old r mark new
 IsWayOver (Kept steps) old r new = (steps.value ≡ old) × (new.records ≡ old.records ++ r ∷ [])
 
--- a processor's event was made, and there is a way back over it
+-- the processor's event was made, and there is a way back over it
 pub record IsTurned (g : Setting) (old : StepsValue) (cpu : ℕ) (event : Event) (way : Way)
     (new : StepsValue) : Type 0 where
   pub at : IsAt g new
@@ -56,8 +56,8 @@ pub record IsTurned (g : Setting) (old : StepsValue) (cpu : ℕ) (event : Event)
   pub records : new.records ≡ old.records ++ record_of_call g old.records cpu event ∷ []
   pub over : IsWayOver way old (record_of_call g old.records cpu event) new
 
--- the turns lead back to where the scripts begin, latest first: over each record, and its
--- processor's cursor back to where it was
+-- the turns lead back to the beginning of the scripts, latest first: each over its record, with its
+-- processor's cursor put back
 abbrev pub IsWayBack : Setting → StepsValue → List Cursor → List Turn → Type 0
 IsWayBack g here cursors [] = here.records ≡ []
 IsWayBack g here cursors (turn ∷ turns) =
@@ -66,13 +66,14 @@ IsWayBack g here cursors (turn ∷ turns) =
     × AreCursors g old.records (slice_set cursors r.cpu turn.from)
     × IsWayBack g old (slice_set cursors r.cpu turn.from) turns
 
--- a path stands where its schedule leads to, its cursors where the scripts are, and its turns lead back
+-- a path is where its schedule leads, its cursors are where the
+-- scripts are, and its turns lead back
 pub record IsPath (g : Setting) (here : StepsValue) (cursors : List Cursor) (turns : List Turn) : Type 0 where
   pub at : IsAt g here
   pub cursors_at : AreCursors g here.records cursors
   pub back : IsWayBack g here cursors (reverse turns)
 
--- whether a processor's call was made: it has a way back, or its script asks for nothing and all stays
+-- the processor's call was made and has a way back; or it had no call to make, and nothing changed
 abbrev pub IsAdvanced : Setting → StepsValue → List Cursor → List Turn → (cpu : ℕ) → (went : Bool)
     → StepsValue → List Cursor → List Turn → Type 0
 IsAdvanced g old cursors turns cpu true new moved later =
@@ -82,7 +83,7 @@ IsAdvanced g old cursors turns cpu true new moved later =
 IsAdvanced g old cursors turns cpu false new moved later =
     (next_call g cpu old.records ≡ None) × (new ≡ old) × (moved ≡ cursors) × (later ≡ turns)
 
--- the latest turn, a processor's, was taken back, or there was none
+-- the latest turn, of this processor, was taken back; or there was none
 abbrev pub IsTakenBack : Setting → StepsValue → Option ℕ → StepsValue → List Cursor → List Turn → Type 0
 IsTakenBack g old None new cursors turns = (old.records ≡ []) × (new ≡ old) × IsPath g new cursors turns
 IsTakenBack g old (Some cpu) new cursors turns =

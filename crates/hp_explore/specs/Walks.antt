@@ -10,8 +10,7 @@ use Rattle.hp_places.specs.Rooms.{HasNoRoom}
 use Rattle.hp_places.specs.Walks.{IsAt}
 use Rattle.hp_schedules.specs.Schedules.{Setting, next_call, plays, schedule_of}
 
--- the records of a machine since another, and since the scripts began; and the schedule that the
--- latter came from
+-- the records of a machine since another, those since the scripts began, and the schedule of these
 abbrev pub news_since : MachineValue → MachineValue → List Record
 news_since start m = drop (length start.history) m.history
 
@@ -21,12 +20,12 @@ news_in g m = drop (length g.start) m.history
 abbrev pub place_of : Setting → MachineValue → List ℕ
 place_of g m = schedule_of (news_in g m)
 
--- where a schedule leads to; none where it can't be played
+-- where a schedule leads; None if it cannot be played
 abbrev pub LeadsTo : Setting → List ℕ → Option StepsValue → Type 0
 LeadsTo g schedule None = plays g schedule ≡ None
 LeadsTo g schedule (Some p) = IsAt g p × (schedule_of p.records ≡ schedule)
 
--- a machine is where a schedule of the scripts leads to
+-- the machine is where a schedule of the scripts leads
 pub record IsReached (g : Setting) (m : MachineValue) : Type 0 where
   pub layout : m.layout ≡ g.layout
   pub base : m.base ≡ g.base
@@ -34,7 +33,7 @@ pub record IsReached (g : Setting) (m : MachineValue) : Type 0 where
   pub history : m.history ≡ g.start ++ news_in g m
   pub played : plays g (place_of g m) ≡ Some (news_in g m)
 
--- a machine is one call of a processor further than another
+-- the machine `n` is one call of the processor further than `m`
 pub record IsFurther (g : Setting) (m : MachineValue) (cpu : ℕ) (n : MachineValue) : Type 0 where
   pub event : Event
   pub asked : next_call g cpu (news_in g m) ≡ Some event
@@ -43,39 +42,39 @@ pub record IsFurther (g : Setting) (m : MachineValue) (cpu : ℕ) (n : MachineVa
   pub longer : length n.history ≡ length m.history + 1
   pub room : length m.history < m.layout.history
 
--- whether a processor made its next call on a machine, or its script asks for nothing and all stays
+-- the processor made its next call; or it had no call to make, and nothing changed
 abbrev pub IsMade : Setting → MachineValue → (cpu : ℕ) → (made : Bool) → MachineValue → Type 0
 IsMade g m cpu true n = IsFurther g m cpu n
 IsMade g m cpu false n = (next_call g cpu (news_in g m) ≡ None) × (n ≡ m)
 
--- the history of a machine has no room for a processor's next call
+-- the machine's history has no room for the processor's next call
 abbrev pub FillsAt : Setting → MachineValue → (cpu : ℕ) → Type 0
 FillsAt g m cpu = (h : HasNoRoom g (place_of g m)) × (h.cpu ≡ cpu)
 
--- the serial of the next record after the new ones of a machine, whose history has room for it
+-- the serial of the next record after the new ones, for which the history has room
 abbrev pub IsNextSerial : (start : MachineValue) → List Record → (serial : ℕ) → Type 0
 IsNextSerial start news serial =
     (serial ≡ start.before + length (start.history ++ news) + 1)
     × (length (start.history ++ news) < start.layout.history)
 
--- an event is an undo of the steps above a serial that is no earlier one, by a processor of the layout
+-- the event undoes the steps above a serial that is not used yet, by a processor of the layout
 abbrev pub IsGone : (start : MachineValue) → (cpu serial : ℕ) → Event → Type 0
 IsGone start cpu serial event =
     (kept : ℕ) × (event ≡ UndoAfter kept) × (serial ≤ kept) × (cpu < start.layout.cpus)
 
--- the same state after one record more, with no way back
+-- the same state after one more record, with no way back
 abbrev pub with_record : StepsValue → Record → StepsValue
 with_record p latest =
     record { layout = p.layout; state = p.state; deltas = []; records = p.records ++ latest ∷ [] }
 
--- whether an event may go back to an earlier state
+-- an event that may go back to an earlier state
 abbrev pub may_go_back : Effect → Bool
 may_go_back Looks = false
 may_go_back (Undoes serial) = true
 may_go_back (Cancels op) = true
 may_go_back Acts = false
 
--- where a schedule leads to
+-- where a schedule leads on a machine; None if it cannot be played
 abbrev pub IsPlayed : Setting → List ℕ → Option MachineValue → Type 0
 IsPlayed g schedule None = plays g schedule ≡ None
 IsPlayed g schedule (Some n) = IsReached g n × (place_of g n ≡ schedule)

@@ -1,4 +1,4 @@
-//! The exploration of scripts on a machine.
+//! The exploration of all schedules of scripts on a machine.
 ghost use Rattle.std.specs.Prelude.{◌^◌, ◌<◌, ◌≤◌, IfErr, IfOk, length, sum_by};
 ghost use Rattle.hp_schedules.specs.Ends.{AreCounted, AreEnds, AreInOrder};
 ghost use Rattle.hp_explore.specs.Faults.{FillsHistory, FillsPart, IsCause, IsCausePart, IsCausePartWithin, IsCauseWithin};
@@ -17,23 +17,24 @@ use hp_units::CallFault;
 use std::alloc::{AllocError, Global};
 use thiserror::Error;
 
-/// The ends of schedules, each with its count and its first schedule, in the order of these.
+/// What an exploration found: the ends, each with its count and its first schedule, in the order of
+/// these first schedules.
 #[derive(Drop)]
 pub struct Exploration {
     /// The ends.
     pub ends: Vec<Ending>,
-    /// Whether they are those of all complete schedules; else of the first ones, as many as the
-    /// limit.
+    /// True if all complete schedules are counted. Otherwise only the first
+    /// ones are, as many as the limit.
     pub is_whole: bool,
 }
 
 /// Why schedules were not counted.
 #[derive(Error, Clone, Copy, Debug, PartialEq, Eq, Drop)]
 pub enum ExploreFault {
-    /// The layout's history has no room for a call that a schedule leads to.
+    /// The layout's history has no room for a call of some schedule.
     #[error("no room in the history for all calls of a schedule")]
     HistoryFull,
-    /// Memory was refused.
+    /// Memory allocation failed.
     #[error("out of memory")]
     OutOfMemory,
 }
@@ -63,16 +64,18 @@ impl From<CallFault> for ExploreFault {
     }
 }
 
-/// The ends of all complete schedules of the processors' scripts on a machine as it stands (own
-/// rule): what each processor was answered, how many schedules end so, and the first of them in the
-/// order of a walk that takes processor 0 first; the ends stand in the order of these. Where there
-/// are more schedules than the limit, they are the ends of the first ones in that order, exactly as
-/// many as the limit. Script k is that of processor k. The machine stays as it is. The watch is told
-/// how far the search has come.
+/// Explores all complete schedules of the scripts on a machine, and returns how they end. Script k
+/// is that of processor k.
 ///
-/// An error is `HistoryFull` where the walk comes to a call for which the layout's history has no
-/// room, before it comes to more schedules than the limit; or `OutOfMemory`. Where neither holds,
-/// there is no error.
+/// An end holds the replies to each processor, the number of schedules that end so, and the first
+/// of them in the order of the walk, which tries processor 0 first. If there are more schedules
+/// than `limit`, exactly the first `limit` schedules in that order are counted. The machine is not
+/// changed. `watch` is called with the progress.
+///
+/// # Errors
+///
+/// `HistoryFull` if the walk reaches a call for which the layout's history has no room, before it
+/// finds more schedules than `limit`. `OutOfMemory` if memory allocation fails.
 pub fn explore<W: Watch>(
     alloc: Global,
     machine: &Machine,
@@ -82,17 +85,17 @@ pub fn explore<W: Watch>(
 ) -> Result<Exploration, ExploreFault>
     requires { length scripts.now < 2 ^ 32 }
 
-    // Where all schedules were counted.
+    // If all schedules were counted:
     ensures ok { IfOk result (λ x. IfWhole x (AreEnds (setting machine.now scripts.now))) }
     ensures few { IfOk result
         (λ x. IfWhole x (λ _. HasMoreThan (IsComplete (setting machine.now scripts.now)) limit → ⊥)) }
     ensures room { IfOk result
         (λ x. IfWhole x (λ _. FillsHistory (setting machine.now scripts.now) → ⊥)) }
-    // Where the first ones were.
+    // If only the first ones were:
     ensures first { IfOk result (λ x. IfFirst x (AreFirst (setting machine.now scripts.now) limit)) }
     ensures many { IfOk result
         (λ x. IfFirst x (λ _. HasMoreThan (IsComplete (setting machine.now scripts.now)) limit)) }
-    // In both cases.
+    // In both cases:
     ensures within { IfOk result (λ x. sum_by (λ e. e.count) x.ends.items ≤ limit) }
     ensures ordered { IfOk result (λ x. AreInOrder x.ends.items) }
     ensures err { IfErr result (IsCause (setting machine.now scripts.now)) }
@@ -101,14 +104,17 @@ pub fn explore<W: Watch>(
     explore_part(alloc, machine, scripts, Part::whole(), limit, watch)
 }
 
-/// The ends of the complete schedules that belong to a part (own rule), as `explore` gives those of
-/// all: so the parts can be searched side by side, and the counts of their ends add up to all. Where
-/// more schedules belong to the part than the limit, they are the ends of the first of these.
+/// Explores one part of the complete schedules, like `explore`. The parts can be searched side by
+/// side, and the counts of their ends add up to those of the whole search.
 ///
-/// An error is `HistoryFull` where the search of the part comes to a call for which the layout's
-/// history has no room, before it comes to more of its schedules than the limit: that of a schedule
-/// with fewer calls than the parts go by, or of one that belongs to the part; or `OutOfMemory`. Where
-/// neither holds, there is no error.
+/// If more schedules belong to the part than `limit`, exactly the
+/// first `limit` of these are counted.
+///
+/// # Errors
+///
+/// `HistoryFull` if the search reaches a call for which the layout's history has no room, before it
+/// finds more schedules of the part than `limit`. The schedule up to that call belongs to the part,
+/// or is too short to decide its part. `OutOfMemory` if memory allocation fails.
 pub fn explore_part<W: Watch>(
     alloc: Global,
     machine: &Machine,
@@ -119,19 +125,19 @@ pub fn explore_part<W: Watch>(
 ) -> Result<Exploration, ExploreFault>
     requires { length scripts.now < 2 ^ 32 }
 
-    // Where all schedules of the part were counted.
+    // If all schedules of the part were counted:
     ensures ok { IfOk result
         (λ x. IfWhole x (AreCounted (EndsInPart (setting machine.now scripts.now) part))) }
     ensures few { IfOk result (λ x. IfWhole x
         (λ _. HasMoreThan (IsCompleteInPart (setting machine.now scripts.now) part) limit → ⊥)) }
     ensures room { IfOk result
         (λ x. IfWhole x (λ _. FillsPart (setting machine.now scripts.now) part → ⊥)) }
-    // Where the first ones were.
+    // If only the first ones were:
     ensures first { IfOk result
         (λ x. IfFirst x (AreFirstInPart (setting machine.now scripts.now) part limit)) }
     ensures many { IfOk result (λ x. IfFirst x
         (λ _. HasMoreThan (IsCompleteInPart (setting machine.now scripts.now) part) limit)) }
-    // In both cases.
+    // In both cases:
     ensures within { IfOk result (λ x. sum_by (λ e. e.count) x.ends.items ≤ limit) }
     ensures ordered { IfOk result (λ x. AreInOrder x.ends.items) }
     ensures err { IfErr result (IsCausePart (setting machine.now scripts.now) part) }
@@ -145,9 +151,11 @@ pub fn explore_part<W: Watch>(
     })
 }
 
-/// How many records the history needs room for, so that it has room for each call of each schedule:
-/// those that it has, and one for each line of the scripts. None where a script holds a plan, whose
-/// calls only a search counts, or where the number is 2^64 or more. An error is out of memory.
+/// Returns how many records the history must hold so that every call of every schedule has room:
+/// those it has, and one per line of the scripts.
+///
+/// Returns `None` if a script carries a plan, whose calls only a search can count, or
+/// if the number is 2^64 or more.
 pub fn room_needed(
     alloc: Global,
     machine: &Machine,

@@ -1,11 +1,10 @@
-//! The explorer: every interleaving of short scripts on a machine, each counted once under its end.
+//! Explores every interleaving of short scripts on a machine and counts how they end.
 //!
-//! hp_schedules says what scripts, schedules and their ends are, and hp_places which places are
-//! alike, and what is kept of them. This crate owns the walk over all schedules: it makes its calls
-//! on a memory of its own, and takes each back. It changes no machine of its caller, and knows
-//! nothing of scenarios and of texts.
-//!
-//! Schedules can be counted in parts, side by side (specs/Parts of hp_schedules).
+//! hp_schedules defines scripts, schedules and ends; hp_places decides which places are alike
+//! and keeps their counts. This crate owns the walk over all schedules. It makes its calls on
+//! a memory of its own and takes each back, so that the caller's machine never changes. It
+//! knows nothing of scenarios or texts. Schedules can be counted in parts, side by side
+//! (specs/Parts of hp_schedules).
 //!
 //! Read specs/Settings first, then specs/Faults and specs/Walks, and `explore` in `exploring`.
 #![tactic(auto)]

@@ -1,12 +1,11 @@
-//! Whether all scripts are over.
+//! A test for the end of all scripts.
 ghost use Rattle.std.specs.Prelude.{◌≡◌, ◌↔◌, IfOk, IsTrue, length};
 ghost use Rattle.hp_explore.specs.Paths.{IsOver};
 
 use crate::path::Path;
 use std::alloc::{AllocError, Global};
 
-/// Whether the scripts of all of so many processors are over where a schedule led to. An error is out
-/// of memory.
+/// Returns whether every script has finished.
 pub fn is_over(alloc: Global, path: &Path<'_>, processors: u32) -> Result<bool, AllocError>
     requires { processors ≡ length path.now.setting.scripts }
     ensures { IfOk result (λ over. IsTrue over ↔ IsOver path.now) }

@@ -1,4 +1,4 @@
-//! Where a walk over the schedules stands, with its way back.
+//! The place of a walk over schedules, with the way back.
 ghost use Rattle.std.specs.Prelude.{◌≡◌, [], Some, IfErr, IfOk, OnErr};
 ghost use Rattle.hp_explore.specs.Faults.{IsCauseHere};
 ghost use Rattle.hp_schedules.specs.Cursors.{AreCursors};
@@ -19,9 +19,10 @@ use hp_units::{Cpu, Event, Record};
 use std::alloc::{AllocError, Global};
 use std::marker::Model;
 
-/// Where a schedule of scripts leads to from a machine as it stands, where each processor is in its
-/// script then, and the way back over it, turn by turn. A contract sees the setting, which is the
-/// machine and the scripts, and the new records. The machine stays as it is.
+/// A walk along one schedule, call by call, that can go back call by call.
+///
+/// It starts at the machine as it is, and never changes it. A contract sees the setting, which is
+/// the machine and the scripts, and the records made since.
 pub struct Path<'a> {
     machine: &'a Machine,
     scripts: &'a [Script],
@@ -42,7 +43,7 @@ impl<'a> Model for Path<'a> {
         p.positions.cursors.items p.turns.items };
 }
 
-/// A function of its own, so that no proof of a caller takes the fields apart.
+/// Keeps callers from proving again how each field is dropped.
 impl<'a> Drop for Path<'a> {
     fn drop(self) {
         let Path {
@@ -56,7 +57,7 @@ impl<'a> Drop for Path<'a> {
 }
 
 impl<'a> Path<'a> {
-    /// The place where the scripts begin: before any call. An error is out of memory.
+    /// Creates a path before any call.
     pub fn start(
         alloc: Global,
         machine: &'a Machine,
@@ -76,7 +77,7 @@ impl<'a> Path<'a> {
         })
     }
 
-    /// The new records, oldest first.
+    /// Returns the new records, oldest first.
     pub fn records(&self) -> &[Record]
         ensures { result.now ≡ self.now.news }
     {
@@ -84,7 +85,7 @@ impl<'a> Path<'a> {
         here.records()
     }
 
-    /// The memory after the new records.
+    /// Returns the memory after the new records.
     pub fn memory(&self) -> &Memory
         ensures { result.now ≡ record { layout = self.now.setting.layout; state = state_at self.now } }
     {
@@ -92,15 +93,14 @@ impl<'a> Path<'a> {
         here.memory()
     }
 
-    /// The new records are those of the schedule of their processors.
+    /// Called for its contract: the new records are those of the schedule of their processors.
     pub fn is_played(&self)
         ensures { plays self.now.setting (schedule_of self.now.news) ≡ Some self.now.news }
     {
         let _ = &self.here;
     }
 
-    /// The event that a processor asks for here; none where it has no script, or its script is over.
-    /// An error is out of memory.
+    /// Returns the processor's next event, or `None` if it has no script or its script is finished.
     pub fn next_call(&self, alloc: Global, cpu: u32) -> Result<Option<Event>, AllocError>
         ensures { IfOk result (λ next. next_call self.now.setting cpu self.now.news ≡ next) }
     {
@@ -111,14 +111,14 @@ impl<'a> Path<'a> {
         }
     }
 
-    /// Where each processor is in its script here.
+    /// Returns each processor's position in its script.
     pub(crate) fn positions(&self) -> &Positions
         ensures { AreCursors self.now.setting self.now.news result.now.cursors.items }
     {
         &self.positions
     }
 
-    /// How the schedule ends here, if it is complete, for so many processors. An error is out of memory.
+    /// Returns how the schedule ends here for `processors` processors, provided it is complete.
     pub fn outcome(&self, alloc: Global, processors: u32) -> Result<Outcome, AllocError>
         ensures { IfOk result (λ x.
             x ≡ outcome processors self.now.news self.now.setting.layout (state_at self.now)) }
@@ -126,9 +126,13 @@ impl<'a> Path<'a> {
         outcome_at(alloc, processors, &self.here)
     }
 
-    /// Makes a processor's next call, and says so; where it has no script, or its script is over,
-    /// nothing changes. An error is `HistoryFull` where the layout's history has no room for it, or
-    /// `OutOfMemory`; then nothing changes either.
+    /// Makes the processor's next call and returns true. Returns false, and changes nothing, if it
+    /// has no script or its script is finished.
+    ///
+    /// # Errors
+    ///
+    /// `HistoryFull` if the layout's history has no room for the call, `OutOfMemory` if memory
+    /// allocation fails. Nothing changes then either.
     pub fn forward(&mut self, alloc: Global, cpu: u32) -> Result<bool, ExploreFault>
         ensures ok { IfOk result (λ went. IsForth self.old cpu went self.new) }
         ensures err { OnErr result (self.new ≡ self.old) }
@@ -145,8 +149,8 @@ impl<'a> Path<'a> {
         )
     }
 
-    /// Takes the latest call back: all is as before it. It answers whose call that was; none where
-    /// the scripts begin, and then nothing changes. It takes no memory.
+    /// Takes the latest call back and returns its processor. Returns `None`, and changes nothing,
+    /// at the beginning of the scripts. Allocates nothing.
     pub fn back(&mut self) -> Option<Cpu>
         ensures { IsBack self.old result self.new }
     {

@@ -1,4 +1,4 @@
-//! A schedule played: each call in turn on a copy of the machine.
+//! Plays one schedule on a copy of the machine.
 ghost use Rattle.std.specs.Prelude.{◌≡◌, ◌≤◌, IfErr, IfOk, OnOk, drop, length};
 ghost use Rattle.hp_schedules.specs.Cursors.{AreCursors};
 ghost use Rattle.hp_explore.specs.Faults.{FillsAlong, IsCause};
@@ -13,10 +13,15 @@ use hp_schedules::{Positions, Script};
 use hp_units::{Cpu, Record};
 use std::alloc::Global;
 
-/// The machine that a schedule of the scripts leads to, on a copy; none where it asks a processor
-/// for a call when its script is over. So the records of an end's first schedule can be read.
-/// An error is `HistoryFull` where the layout's history has no room for a call of this schedule, or
-/// `OutOfMemory`.
+/// Plays a schedule on a copy of the machine and returns the copy, whose history
+/// then shows the schedule's records.
+///
+/// Returns `None` if the schedule names a processor whose script is finished.
+///
+/// # Errors
+///
+/// `HistoryFull` if the layout's history has no room for a call of this schedule, `OutOfMemory` if
+/// memory allocation fails.
 pub fn play(
     alloc: Global,
     machine: &Machine,
@@ -38,8 +43,8 @@ pub fn play(
     Ok(Some(played))
 }
 
-/// Makes a processor's next call on a machine that a schedule led to, and says so; where it has no
-/// script, or its script asks for nothing, nothing changes.
+/// Makes the processor's next call on the machine and returns true. Returns false, and changes
+/// nothing, if it has no script or its script is finished.
 fn make_call(
     alloc: Global,
     start: &Machine,
@@ -71,7 +76,7 @@ fn make_call(
     }
 }
 
-/// The records from a place on.
+/// Returns the records from index `place` on.
 pub(crate) fn records_from(records: &[Record], place: usize) -> &[Record]
     requires { place ≤ length records.now }
     ensures { result.now ≡ drop place records.now }

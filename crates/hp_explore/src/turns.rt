@@ -1,4 +1,4 @@
-//! A turn: a processor's next call, and what leads back over it.
+//! One turn of a walk: a processor's next call, and how to take it back.
 ghost use Rattle.std.specs.Prelude.{◌≡◌, ◌<◌, ◌≤◌, [], ◌∷◌, ◌++◌, List, Some, true, IfErr, IfOk, IsTrue, OnErr, OnOk, drop, false, length};
 ghost use Rattle.hp_units.specs.History.{effect_of};
 ghost use Rattle.hp_units.specs.declared.replies.Record.{Record as NewRecord};
@@ -23,8 +23,9 @@ use hp_steps::Steps;
 use hp_units::{Cpu, Event, Record, Refusal, Reply, Serial};
 use std::alloc::{AllocError, Global};
 
-/// Makes a processor's next call, says so, and notes what leads back over it; where it has no
-/// script, or its script is over, nothing changes. An error leaves all as it was.
+/// Makes the processor's next call, pushes the turn that leads back over it, and returns true.
+/// Returns false, and changes nothing, if it has no script or its script is finished. After an
+/// error, everything is as it was.
 pub(crate) fn advance(
     alloc: Global,
     start: &Machine,
@@ -57,7 +58,7 @@ pub(crate) fn advance(
     }
 }
 
-/// Takes the latest turn back, and answers whose it was; none where there was none.
+/// Takes the latest turn back and returns its processor, or `None` if there was no turn.
 pub(crate) fn step_back(
     here: &mut Steps,
     positions: &mut Positions,
@@ -78,9 +79,11 @@ pub(crate) fn step_back(
     }
 }
 
-/// Makes a processor's next call, and answers what leads back over it. The call is a step that is
-/// taken back; only after an undo or a Cancel, which may go back themselves, the steps from before
-/// it are kept. An error leaves all as it was.
+/// Makes the processor's next call and returns the way back over it. After an
+/// error, everything is as it was.
+///
+/// Most calls are steps that can be taken back. An undo or a Cancel may itself go back, so the
+/// earlier steps are kept whole for it.
 fn make_turn(
     alloc: Global,
     start: &Machine,
@@ -107,8 +110,8 @@ fn make_turn(
     Ok(Way::Mark(mark))
 }
 
-/// The serial of the next record after the new ones. An error is that the history has no room for
-/// it, or that there is none.
+/// Returns the serial of the next record. Fails with `HistoryFull` if the history has no room for
+/// it, or no serial is left.
 fn next_serial(start: &Machine, news: &[Record]) -> Result<Serial, ExploreFault>
     ensures ok { IfOk result (λ serial. IsNextSerial start.now news.now serial) }
     ensures room { OnOk result (is_full_after (setting start.now []) news.now ≡ false) }
@@ -125,15 +128,17 @@ fn next_serial(start: &Machine, news: &[Record]) -> Result<Serial, ExploreFault>
     Ok(Serial(last + calls + 1))
 }
 
-/// Whether an event may go back to an earlier state.
+/// Returns whether an event may go back to an earlier state.
 fn may_go_back(event: &Event) -> bool
     ensures { result ≡ may_go_back (effect_of event.now) }
 {
     matches!(event, Event::UndoAfter { .. } | Event::Cancel { .. })
 }
 
-/// Where a processor's next call leads to that may go back. An undo of steps that there are not
-/// leaves the state as it is; after any other all calls are played again.
+/// Returns the steps after a call that may go back.
+///
+/// An undo with nothing to undo leaves the state as it is. After any other call of this kind, all
+/// calls are played again from the start.
 fn steps_after(
     alloc: Global,
     start: &Machine,
@@ -163,8 +168,8 @@ fn steps_after(
     Ok(Some(steps))
 }
 
-/// Whether an event is an undo of the steps above a serial that is above the last one, by a
-/// processor of the layout.
+/// Returns whether the event is an undo above a serial that is not used
+/// yet, by a processor of the layout.
 fn is_gone(start: &Machine, cpu: u32, serial: Serial, event: &Event) -> bool
     ensures { IsTrue result → IsGone start.now cpu serial event.now }
 {
@@ -174,7 +179,7 @@ fn is_gone(start: &Machine, cpu: u32, serial: Serial, event: &Event) -> bool
     }
 }
 
-/// The same state after one record more. An error is out of memory.
+/// Returns the same state with one more record.
 fn with_record(alloc: Global, here: &Steps, latest: Record) -> Result<Steps, AllocError>
     ensures { IfOk result (λ steps. steps ≡ with_record here.now latest) }
 {
@@ -187,8 +192,8 @@ fn with_record(alloc: Global, here: &Steps, latest: Record) -> Result<Steps, All
     Steps::start(alloc, &image, news)
 }
 
-/// Where a processor's next call after new records leads to, none where its script asks for
-/// nothing: on a machine that plays all calls again. Errors come as those of `play`.
+/// Returns where the processor's next call leads, by playing all calls again on a copy of the
+/// machine. Returns `None` if its script is finished. Fails like `play`.
 fn replayed(
     alloc: Global,
     start: &Machine,
@@ -209,7 +214,7 @@ fn replayed(
     }
 }
 
-/// Where a machine stands, with its records since another. An error is out of memory.
+/// Returns the machine's state as steps, with its records since `start`.
 pub(crate) fn steps_of(
     alloc: Global,
     start: &Machine,
@@ -231,7 +236,7 @@ pub(crate) fn steps_of(
     Steps::start(alloc, &image, news)
 }
 
-/// Copies of records. An error is out of memory.
+/// Returns copies of the records.
 fn copies(alloc: Global, records: &[Record]) -> Result<Vec<Record>, AllocError>
     ensures { IfOk result (λ copies. copies.items ≡ records.now) }
 {
@@ -248,7 +253,7 @@ fn copies(alloc: Global, records: &[Record]) -> Result<Vec<Record>, AllocError>
     Ok(copies)
 }
 
-/// The latest of records.
+/// Returns the latest record.
 pub(crate) fn latest(records: &[Record]) -> &Record
     requires { 0 < length records.now }
     ensures { (before : List NewRecord) (r : NewRecord) → records.now ≡ before ++ r ∷ [] → result.now ≡ r }

@@ -1,4 +1,4 @@
-//! The walk over all schedules, depth first and processor 0 first, on a stack of its own.
+//! The walk over all schedules: depth first, processor 0 first, on an explicit stack.
 ghost use Rattle.std.specs.Prelude.{◌≡◌, ◌∷◌, ◌++◌, [], ◌<◌, ◌≤◌, ◌^◌, ℕ, List, Option, true, false, IfErr, IfOk, IsTrue, OnOk, length, sum_by};
 ghost use Rattle.hp_schedules.specs.Alike.{UndoNothing};
 ghost use Rattle.hp_explore.specs.Frames.{IsComing, IsDone, IsSameWalk, IsTurnedTo, IsWalking, frames_of, left, left_before};
@@ -21,18 +21,18 @@ use hp_places::{Entry, Frame, Memo, Watch, arrive, leave, note};
 use hp_schedules::{Ending, Part, Script, Tally, is_closed, undo_nothing};
 use std::alloc::{AllocError, Global};
 
-/// What a turn of a walk came to.
+/// The result of one turn of a walk.
 #[derive(Clone, Copy, Drop)]
 pub(crate) enum Turned {
-    /// It goes on.
+    /// The walk continues.
     On,
     /// All schedules are counted.
     Over,
-    /// As many are counted as the limit says, and there is a further one.
+    /// The limit is reached, and there is another schedule.
     Full,
 }
 
-/// A walk over the schedules of scripts that belong to a part, and what it counted so far.
+/// A walk over the schedules of one part, with what it has counted.
 pub(crate) struct Walk<'a> {
     path: Path<'a>,
     processors: u32,
@@ -42,7 +42,7 @@ pub(crate) struct Walk<'a> {
     frames: Vec<Frame>,
 }
 
-/// A function of its own, so that no proof of a caller takes the fields apart.
+/// Keeps callers from proving again how each field is dropped.
 impl<'a> Drop for Walk<'a> {
     fn drop(self) {
         let Walk {
@@ -57,7 +57,7 @@ impl<'a> Drop for Walk<'a> {
 }
 
 impl<'a> Walk<'a> {
-    /// The walk before any call. An error is out of memory.
+    /// Creates a walk before any call.
     pub(crate) fn start(
         alloc: Global,
         machine: &'a Machine,
@@ -84,8 +84,8 @@ impl<'a> Walk<'a> {
         })
     }
 
-    /// Walks over the schedules, and says whether over all of them: else as many are counted as the
-    /// limit says.
+    /// Walks to the end and returns true if all schedules are counted. Returns
+    /// false if it stopped at the limit.
     pub(crate) fn run<W: Watch>(
         &mut self,
         alloc: Global,
@@ -107,7 +107,7 @@ impl<'a> Walk<'a> {
         }
     }
 
-    /// Goes on by one turn.
+    /// Makes one turn.
     fn step<W: Watch>(&mut self, alloc: Global, watch: &mut W) -> Result<Turned, ExploreFault>
         requires { IsWalking self.old (frames_of self.old) }
         ensures same { OnOk result (IsSameWalk self.old self.new) }
@@ -130,7 +130,7 @@ impl<'a> Walk<'a> {
         Ok(Turned::On)
     }
 
-    /// Whether a schedule of the part ends at a place where all processors had their turn.
+    /// Returns whether a schedule of the part ends here, once all processors have been tried.
     fn is_end(&self, frame: &Frame) -> bool
         requires kept { IsWalking self.now (frame.now ∷ frames_of self.now) }
         requires all { self.now.processors ≤ frame.now.next }
@@ -142,8 +142,7 @@ impl<'a> Walk<'a> {
         self.part.is_of(self.processors, self.path.records())
     }
 
-    /// Whether a schedule of the part ends where all before the walk's place was walked, and as many are
-    /// counted as the limit says.
+    /// Returns whether another schedule ends here although the limit is reached.
     fn is_full(&self, is_end: bool) -> bool
         requires walked { IsPartWalkedBefore self.now.path.setting self.now.part
             (schedule_of self.now.path.news ++ self.now.processors ∷ []) self.now.tally.ends }
@@ -160,7 +159,7 @@ impl<'a> Walk<'a> {
         self.tally.room() == 0
     }
 
-    /// Makes the next processor's call at a place, where its script asks for one.
+    /// Tries the next processor of a place: makes its call if it has one.
     fn go_on<W: Watch>(
         &mut self,
         alloc: Global,
@@ -178,7 +177,7 @@ impl<'a> Walk<'a> {
     {
         self.frames.reserve(1)?;
         self.path.is_played();
-        // Asked for what it says: no more schedules are counted than the limit allows.
+        // Called for its contract: the count is within the limit.
         let _ = self.tally.room();
         if !self.path.forward(alloc, frame.next)? {
             self.frames.push_reserved(frame.passed());
@@ -190,8 +189,8 @@ impl<'a> Walk<'a> {
         Ok(())
     }
 
-    /// Comes to a place by a call, or begins: the place gets a frame of its own, or is left at once
-    /// where what goes on from there is known, or is another part's.
+    /// Treats the place just reached: gives it a frame, or goes back at once if its counts are
+    /// known or it belongs to another part.
     fn come_to<W: Watch>(&mut self, alloc: Global, watch: &mut W) -> Result<(), AllocError>
         requires { IsComing self.old (frames_of self.old) }
         ensures kept { OnOk result (IsWalking self.new (frames_of self.new)) }
@@ -221,7 +220,8 @@ impl<'a> Walk<'a> {
         Ok(())
     }
 
-    /// Leaves a place where all processors had their turn, and takes its call back.
+    /// Leaves a place at which all processors have been tried, and
+    /// takes back the call that led to it.
     fn go_back<W: Watch>(
         &mut self,
         alloc: Global,
@@ -261,7 +261,7 @@ impl<'a> Walk<'a> {
         Ok(())
     }
 
-    /// The ends with their counts.
+    /// Returns the ends with their counts.
     pub(crate) fn into_ends(self) -> Vec<Ending>
         ensures is { result.items ≡ self.entry.tally.ends }
         ensures within { sum_by (λ e. e.count) self.entry.tally.ends ≤ self.entry.tally.limit }
@@ -278,7 +278,7 @@ impl<'a> Walk<'a> {
     }
 }
 
-/// No place is kept before any call. An error is out of memory.
+/// Returns an empty memo for the beginning of the scripts.
 fn memo_at(alloc: Global, machine: &Machine, scripts: &[Script]) -> Result<Memo, AllocError>
     ensures memo { IfOk result
         (λ memo. (ends : List Ending) → IsMemo (setting machine.now scripts.now) ends memo) }
@@ -289,8 +289,8 @@ fn memo_at(alloc: Global, machine: &Machine, scripts: &[Script]) -> Result<Memo,
     Ok(memo)
 }
 
-/// Whether places are kept: none is where a script undoes steps by their serials, or there is one
-/// script alone.
+/// Returns whether walked places are worth keeping: there are several scripts, and none of them
+/// undoes steps by their serials.
 fn keeps_places(scripts: &[Script]) -> bool
     ensures { result ≡ true → UndoNothing scripts.now }
 {
@@ -300,7 +300,7 @@ fn keeps_places(scripts: &[Script]) -> bool
     undo_nothing(scripts)
 }
 
-/// Takes the latest call back, where there is one.
+/// Takes back the latest call, if there is one.
 fn take_back(path: &mut Path, memo: &mut Memo)
     ensures back { (cpu : Option ℕ) × IsBack path.old cpu path.new }
     ensures same { AreSamePlaces memo.old memo.new

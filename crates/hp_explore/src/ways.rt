@@ -1,4 +1,4 @@
-//! What leads back over a turn.
+//! How a turn is taken back.
 ghost use Rattle.std.specs.Prelude.{◌≡◌, ◌∷◌, ◌++◌, [], IfOk, OnErr, OnOk};
 ghost use Rattle.hp_units.specs.declared.replies.Record.{Record as NewRecord};
 ghost use Rattle.hp_steps.specs.Steps.{StepsValue};
@@ -9,17 +9,17 @@ use hp_steps::Steps;
 use std::alloc::{AllocError, Global};
 use std::mem::swap;
 
-/// What leads back over a turn.
+/// The way back over one turn.
 #[derive(Drop)]
 pub(crate) enum Way {
-    /// Its step is taken back, by this mark.
+    /// Take the step back, down to this mark.
     Mark(usize),
-    /// Its call may go back itself, so the steps from before it are kept, on the heap, since most
-    /// turns keep none.
+    /// Put these earlier steps back, because the call may go back itself.
+    /// Boxed, since most turns keep none.
     Kept(Box<Steps>),
 }
 
-/// A turn that was made: what leads back over it, and where its processor's script was before it.
+/// A turn that was made: the way back over it, and its processor's position before it.
 #[derive(Drop)]
 pub(crate) struct Turn {
     pub way: Way,
@@ -27,8 +27,7 @@ pub(crate) struct Turn {
 }
 
 impl Way {
-    /// Comes to other steps, and keeps those from before. An error is out of memory, and leaves all
-    /// as it was.
+    /// Moves to the steps `there` and keeps the earlier ones. If memory runs out, nothing changes.
     pub(crate) fn keep(alloc: Global, here: &mut Steps, there: Steps) -> Result<Way, AllocError>
         ensures there { OnOk result (here.new ≡ there) }
         ensures over { IfOk result (λ way. (r : NewRecord)
@@ -44,7 +43,7 @@ impl Way {
         }
     }
 
-    /// Leads steps back over the turn. It takes no memory.
+    /// Puts the steps back to before the turn. Allocates nothing.
     pub(crate) fn lead_back(self, here: &mut Steps)
         requires { (old : StepsValue) × (r : NewRecord) × IsWayOver self old r here.old }
         ensures { (old : StepsValue) (r : NewRecord) → IsWayOver self old r here.old → here.new ≡ old }

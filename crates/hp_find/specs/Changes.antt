@@ -1,11 +1,11 @@
--- How often a schedule goes from one processor to another.
+-- Changes of processor in a schedule.
 use Rattle.std.specs.Prelude.{ℕ, ◌+◌, ◌==◌, if◌then◌else◌, List, [], ◌∷◌}
 
--- 1 where two calls in a row are of different processors
+-- 1 if two calls in a row are by different processors
 abbrev pub change : (cpu next : ℕ) → ℕ
 change cpu next = if cpu == next then 0 else 1
 
--- the changes of what comes after a processor's call
+-- the changes of the calls that follow a processor's call
 abbrev pub changes_after : (cpu : ℕ) → List ℕ → ℕ
 changes_after cpu [] = 0
 changes_after cpu (next ∷ rest) = change cpu next + changes_after next rest

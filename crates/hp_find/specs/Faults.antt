@@ -1,4 +1,4 @@
--- Why nothing was found, and what an answer excludes.
+-- Why nothing was found, and what a result excludes.
 use Rattle.std.specs.Prelude.{ℕ, ◌<◌, ◌≤◌, ◌⊎◌, List, [], ◌∷◌, ◌++◌}
 use Rattle.hp_explore.specs.Faults.{FillsHistory, FillsWithin}
 use Rattle.hp_places.specs.Rooms.{HasNoRoom}
@@ -14,22 +14,22 @@ use Rattle.hp_find.specs.declared.finding.Found.{Found}
 use Rattle.hp_find.specs.declared.finding.Found.TheVariants.{Nearest, Absent}
 use Rattle.hp_wanted.specs.declared.wanted.Wanted.{Wanted}
 
--- the schedules with fewer changes than this are searched before all are counted (own rule)
+-- schedules with fewer changes than this are searched before all are counted
 abbrev pub few_changes : ℕ
 few_changes = 3
 
 -- ---- a full history
 
--- the history has no room for a call of a search that may change the processor so often: no schedule
--- that ends as is wanted stands before it
+-- the history has no room for a call of a search within this budget, and no schedule
+-- before that call ends as wanted
 pub record FillsPass (g : Setting) (wanted : List Wanted) (budget : ℕ) : Type 0 where
   pub place : List ℕ
   pub call : HasNoRoom g place
   pub few : changes (place ++ call.cpu ∷ []) ≤ budget
   pub passed : IsPassed g wanted budget (place ++ call.cpu ∷ [])
 
--- the history has no room for a call up to which there are fewer changes than so many: no schedule
--- that ends as is wanted has fewer than this call, and none that stands before it as many
+-- the history has no room for a call up to which there are fewer than `below` changes; no schedule
+-- that ends as wanted has fewer changes than this call, and none before it has as many
 pub record FillsNear (g : Setting) (wanted : List Wanted) (below : ℕ) : Type 0 where
   pub place : List ℕ
   pub call : HasNoRoom g place
@@ -37,7 +37,7 @@ pub record FillsNear (g : Setting) (wanted : List Wanted) (below : ℕ) : Type 0
   pub needs : NeedsChanges g wanted (changes (place ++ call.cpu ∷ []))
   pub passed : IsPassed g wanted (changes (place ++ call.cpu ∷ [])) (place ++ call.cpu ∷ [])
 
--- there are more schedules than the limit, one of the first ones ends as is wanted, and the history
+-- there are more schedules than the limit, one of the first ones ends as wanted, and the history
 -- has no room for a call with fewer changes than that one
 abbrev pub FillsLed : Setting → List Wanted → (limit : ℕ) → Type 0
 FillsLed g wanted limit =
@@ -53,12 +53,11 @@ abbrev pub IsNearCause : Setting → List Wanted → (below : ℕ) → ExploreFa
 IsNearCause g wanted below explore.HistoryFull = FillsNear g wanted below
 IsNearCause g wanted below explore.OutOfMemory = Unit {0}
 
--- ---- of the whole search
+-- ---- for the whole search
 
--- the cause of a fault: there are too many schedules only where none with few changes ends as is
--- wanted, and none of the first ones; the history is full only for a call with few changes, or, where
--- none with few changes ends so, for one that the count comes to within its limit, or one to which
--- the first ones led
+-- the cause of a fault. Too many: no schedule with few changes ends as wanted, and none of the
+-- first ones. Full history: a call with few changes; or, if no schedule with few changes ends so, a
+-- call that the count reaches within its limit, or one to which the first ones led
 abbrev pub IsFindCause : Setting → List Wanted → (limit : ℕ) → FindFault → Type 0
 IsFindCause g wanted limit TooMany =
     NeedsChanges g wanted few_changes × HasMoreThan (IsComplete g) limit × IsAbsentAmongFirst g wanted limit
@@ -67,15 +66,15 @@ IsFindCause g wanted limit HistoryFull =
     ⊎ (NeedsChanges g wanted few_changes × (FillsWithin g limit ⊎ FillsLed g wanted limit))
 IsFindCause g wanted limit OutOfMemory = Unit {0}
 
--- what was found by counting keeps within the limit: none is absent where there are more schedules,
--- and one with more changes was led to by one of the first ones
+-- what the count found is within the limit: a schedule is absent only if there are no more
+-- schedules, and one with more changes was found through one of the first ones
 abbrev pub IsWithin : Setting → List Wanted → (limit : ℕ) → Found → Type 0
 IsWithin g wanted limit (Nearest schedule) =
     few_changes ≤ changes schedule.items → HasMoreThan (IsComplete g) limit → IsMetAmongFirst g wanted limit
 IsWithin g wanted limit (Absent schedules) = HasMoreThan (IsComplete g) limit → ⊥
 
--- no schedule fills the history where none is told to end so, nor where one with more changes is and
--- there are no more schedules than the limit
+-- no schedule fills the history if none ends as wanted, or if one with more changes does and there
+-- are no more schedules than the limit
 abbrev pub SparesHistory : Setting → (limit : ℕ) → Found → Type 0
 SparesHistory g limit (Nearest schedule) =
     few_changes ≤ changes schedule.items → (HasMoreThan (IsComplete g) limit → ⊥) → FillsHistory g → ⊥
@@ -86,7 +85,7 @@ abbrev pub IsRecorded : Setting → Found → Type 0
 IsRecorded g (Nearest schedule) = HasRoomAlong g schedule.items
 IsRecorded g (Absent schedules) = Unit {0}
 
--- a fault of the exploration as the search's
+-- a fault of the exploration as one of the search
 abbrev pub find_fault_from : ExploreFault → FindFault
 find_fault_from explore.HistoryFull = HistoryFull
 find_fault_from explore.OutOfMemory = OutOfMemory

@@ -1,4 +1,4 @@
--- Which schedules end as is wanted, and what is said of the nearest.
+-- Which schedules end as wanted, and which of them is the nearest.
 use Rattle.std.specs.Prelude.{ℕ, ◌+◌, ◌<◌, ◌≤◌, List, Option, Some, None}
 use Rattle.hp_explore.specs.Faults.{FillsAlong}
 use Rattle.hp_schedules.specs.Orders.{HasCount, IsBefore}
@@ -11,33 +11,33 @@ use Rattle.hp_find.specs.declared.finding.Found.{Found}
 use Rattle.hp_find.specs.declared.finding.Found.TheVariants.{Nearest, Absent}
 use Rattle.hp_wanted.specs.declared.wanted.Wanted.{Wanted}
 
--- a complete schedule of the scripts whose end has each of the wanted lines
+-- a complete schedule of the scripts whose end has all wanted lines
 abbrev pub Reaches : Setting → List Wanted → List ℕ → Type 0
 Reaches g wanted s = (x : OutcomeValue) × EndsWith g s x × Meets wanted x
 
--- each that does has so many changes of processor or more
+-- each schedule that ends as wanted has at least this many changes
 abbrev pub NeedsChanges : Setting → List Wanted → (least : ℕ) → Type 0
 NeedsChanges g wanted least = (s : List ℕ) → Reaches g wanted s → least ≤ changes s
 
--- each that does and stands before a place has more changes than a budget
+-- each schedule that ends as wanted and is before the place has more changes than the budget
 abbrev pub IsPassed : Setting → List Wanted → (budget : ℕ) → (place : List ℕ) → Type 0
 IsPassed g wanted budget place = (s : List ℕ) → Reaches g wanted s → IsBefore s place → budget < changes s
 
--- a schedule does, none with fewer changes of processor does, and none before it with as many
+-- the schedule ends as wanted; none with fewer changes does, and none before it with as many
 abbrev pub IsNearest : Setting → List Wanted → List ℕ → Type 0
 IsNearest g wanted s =
     Reaches g wanted s × NeedsChanges g wanted (changes s) × IsPassed g wanted (changes s) s
 
--- a schedule does, and none that stands before it
+-- the schedule ends as wanted, and none before it does
 abbrev pub ReachesFirst : Setting → List Wanted → List ℕ → Type 0
 ReachesFirst g wanted s = Reaches g wanted s × ((t : List ℕ) → Reaches g wanted t → IsBefore t s → ⊥)
 
--- none does, and there are so many complete schedules
+-- no schedule ends as wanted, and there are `n` complete schedules
 abbrev pub IsAbsent : Setting → List Wanted → ℕ → Type 0
 IsAbsent g wanted n = ((s : List ℕ) → Reaches g wanted s → ⊥) × HasCount (IsComplete g) n
 
--- the schedules before a place are as many as a limit: none of these first ones ends as is wanted,
--- or this one does, or one
+-- the schedules before some place are as many as the limit. Of these first ones none ends as
+-- wanted; or this one does; or some one does
 abbrev pub IsAbsentAmongFirst : Setting → List Wanted → (limit : ℕ) → Type 0
 IsAbsentAmongFirst g wanted limit =
     (place : List ℕ) × HasCount (λ s. (x : OutcomeValue) × Before g place s x) limit
@@ -51,22 +51,23 @@ IsAmongFirst g wanted limit s =
 abbrev pub IsMetAmongFirst : Setting → List Wanted → (limit : ℕ) → Type 0
 IsMetAmongFirst g wanted limit = (s : List ℕ) × IsAmongFirst g wanted limit s
 
--- the history has room for each call of a schedule
+-- the history has room for each call of the schedule
 abbrev pub HasRoomAlong : Setting → List ℕ → Type 0
 HasRoomAlong g s = FillsAlong g s → ⊥
 
--- what was found is so
+-- the search's result is right
 abbrev pub IsFound : Setting → List Wanted → Found → Type 0
 IsFound g wanted (Nearest schedule) = IsNearest g wanted schedule.items
 IsFound g wanted (Absent schedules) = IsAbsent g wanted schedules
 
--- what was found from some number of changes on is the nearest, with fewer than so many, and can be
--- recorded; where there is none, each has so many changes or more
+-- the nearest schedule, with fewer than `below` changes, all of whose calls have room; if None,
+-- each that ends as wanted has `below` changes or more
 abbrev pub IsNearestBelow : Setting → List Wanted → (below : ℕ) → Option (List ℕ) → Type 0
 IsNearestBelow g wanted below None = NeedsChanges g wanted below
 IsNearestBelow g wanted below (Some s) = IsNearest g wanted s × (changes s < below) × HasRoomAlong g s
 
--- the first that has at most so many changes, and can be recorded; where none has, each has more
+-- the first schedule with at most `budget` changes, all of whose calls have room; if None, each
+-- that ends as wanted has more
 abbrev pub IsFirstWithin : Setting → List Wanted → (budget : ℕ) → Option (List ℕ) → Type 0
 IsFirstWithin g wanted budget None = NeedsChanges g wanted (budget + 1)
 IsFirstWithin g wanted budget (Some s) =

@@ -1,4 +1,4 @@
--- How far a search is that may change the processor only so often.
+-- How far a search within a budget of changes is.
 use Rattle.std.specs.Prelude.{◌≡◌, ◌⊎◌, ℕ, zero, suc, ◌+◌, ◌-◌, ◌*◌, ◌<◌, ◌≤◌, true, List, [], ◌∷◌, ◌++◌, None, Some, length}
 use Rattle.hp_explore.specs.Paths.{IsBack, IsForth, PathValue}
 use Rattle.hp_schedules.specs.Schedules.{Setting, next_call, schedule_of}
@@ -10,8 +10,8 @@ use Rattle.hp_wanted.specs.declared.wanted.Wanted.{Wanted}
 
 -- ---- how many turns are left
 
--- the most turns that a search takes below one continuation of a place, where so many calls may
--- still be made, each by one of so many processors
+-- the most turns that a search takes below one continuation of a place, if this many calls may
+-- still be made, each by one of the processors
 abbrev pub turns_below : (processors calls : ℕ) → ℕ
 turns_below processors zero = 0
 turns_below processors (suc calls) = processors * (turns_below processors calls + 2) + 1
@@ -29,7 +29,7 @@ room_of g = g.layout.history - length g.start
 
 -- ---- a search
 
--- where it stands: the place, its schedule, and the processor whose call is tried next there
+-- the state of a search: the place, its schedule, and the processor whose call is tried next
 pub record SearchValue : Type 0 where
   pub path : PathValue
   pub schedule : List ℕ
@@ -38,8 +38,8 @@ pub record SearchValue : Type 0 where
 abbrev pub search_at : (path : PathValue) → (schedule : List ℕ) → (next : ℕ) → SearchValue
 search_at path schedule next = record { path = path; schedule = schedule; next = next }
 
--- the next processor's call was made; or the processor after it is tried, since that would be a
--- change too many, or its script is over
+-- the next processor's call was made; or the search moved on to the processor after it, because the
+-- call would be one change too many or its script is finished
 pub record IsMade (budget : ℕ) (v w : SearchValue) : Type 0 where
   pub path : PathValue
   pub within : changes (v.schedule ++ v.next ∷ []) ≤ budget
@@ -54,7 +54,8 @@ pub record IsPast (budget : ℕ) (v w : SearchValue) : Type 0 where
 abbrev pub IsDown : (budget : ℕ) → SearchValue → SearchValue → Type 0
 IsDown budget v w = IsMade budget v w ⊎ IsPast budget v w
 
--- the latest call was taken back, and the processor after its own is tried; or there was none
+-- the latest call was taken back, and the processor after the one that made it
+-- is tried; or there was no call
 pub record IsTakenBack (v w : SearchValue) : Type 0 where
   pub path : PathValue
   pub cpu : ℕ
@@ -66,7 +67,7 @@ IsUp v w On = IsTakenBack v w
 IsUp v w Found = ⊥
 IsUp v w Over = v.path.news ≡ []
 
--- it keeps within its budget and its room, and passed by what stands before it
+-- the search is within its budget and its room, and passed all that is before its place
 pub record IsSearching (wanted : List Wanted) (budget : ℕ) (v : SearchValue) : Type 0 where
   pub schedule : v.schedule ≡ schedule_of v.path.news
   pub within : changes v.schedule ≤ budget
@@ -75,17 +76,17 @@ pub record IsSearching (wanted : List Wanted) (budget : ℕ) (v : SearchValue) :
   pub along : HasRoomAlong v.path.setting v.schedule
   pub passed : IsPassed v.path.setting wanted budget (v.schedule ++ v.next ∷ [])
 
--- the most turns that are left to it
+-- the most turns that are left to the search
 abbrev pub turns_of : SearchValue → ℕ
 turns_of v = turns_left (length v.path.setting.scripts) (room_of v.path.setting) v.schedule v.next
 
--- it goes on from another with fewer turns left
+-- the search goes on from another with fewer turns left
 pub record IsCloser (wanted : List Wanted) (budget : ℕ) (v w : SearchValue) : Type 0 where
   pub searching : IsSearching wanted budget w
   pub same : w.path.setting ≡ v.path.setting
   pub fewer : turns_of w < turns_of v
 
--- what a turn came to
+-- the result of one turn
 abbrev pub IsTurned : List Wanted → (budget : ℕ) → SearchValue → SearchValue → Turn → Type 0
 IsTurned wanted budget v w On = IsCloser wanted budget v w
 IsTurned wanted budget v w Found = IsFirstWithin v.path.setting wanted budget (Some w.schedule)

@@ -1,11 +1,11 @@
-//! How often a schedule goes from one processor to another.
+//! Changes of processor in a schedule.
 ghost use Rattle.std.specs.Prelude.{◌≡◌, ◌≤◌, ◌++◌, ◌∷◌, []};
 ghost use Rattle.hp_find.specs.Changes.{change, changes};
 
 use hp_units::Cpu;
 
-/// How often a schedule goes from one processor to another: the calls that are another processor's
-/// than the call before (own rule).
+/// Returns how often the schedule changes the processor: the number of calls by another
+/// processor than the call before.
 pub fn changes_of(schedule: &[Cpu]) -> usize
     ensures { result ≡ changes schedule.now }
 {
@@ -16,7 +16,7 @@ pub fn changes_of(schedule: &[Cpu]) -> usize
     count
 }
 
-/// The same of a schedule with one call more.
+/// Returns the same for the schedule with one more call.
 #[tactic(auto, using(crate::proofs::Growing::changes_none, crate::proofs::Growing::changes_last))]
 pub(crate) fn changes_with(schedule: &[Cpu], next: Cpu) -> u128
     ensures { result ≡ changes (schedule.now ++ next ∷ []) }
@@ -30,7 +30,7 @@ pub(crate) fn changes_with(schedule: &[Cpu], next: Cpu) -> u128
     so_far + more
 }
 
-/// 1 where two calls in a row are of different processors.
+/// Returns 1 if the two processors differ.
 fn change(cpu: Cpu, next: Cpu) -> usize
     ensures is { result ≡ change cpu next }
     ensures one { result ≤ 1 }

@@ -1,17 +1,17 @@
-//! Why a search has no answer.
+//! Why a search has no result.
 
 use hp_explore::ExploreFault;
 use std::alloc::AllocError;
 
-/// Why a search has no answer.
+/// Why a search has no result.
 #[derive(Clone, Copy, Debug, PartialEq, Eq, Drop)]
 pub enum FindFault {
-    /// There are more schedules than the limit, and none that was looked at ends as is wanted: none
+    /// There are more schedules than the limit, and none of those searched ends as wanted: none
     /// with few changes of processor, and none of the first ones, as many as the limit.
     TooMany,
-    /// The layout's history has no room for a call that a schedule leads to.
+    /// The layout's history has no room for a call of some schedule.
     HistoryFull,
-    /// Memory was refused.
+    /// Memory allocation failed.
     OutOfMemory,
 }
 

@@ -1,4 +1,4 @@
-//! The search by rising number of changes.
+//! The search for a schedule with few changes of processor.
 ghost use Rattle.std.specs.Prelude.{◌≡◌, ◌<◌, ◌≤◌, ◌^◌, IfErr, IfOk, length, option_map};
 ghost use Rattle.hp_explore.specs.Settings.{setting};
 ghost use Rattle.hp_find.specs.Changes.{changes};
@@ -15,32 +15,40 @@ use hp_units::Cpu;
 use hp_wanted::{Wanted, end_with};
 use std::alloc::Global;
 
-/// The schedules with fewer changes than this are searched before all schedules are counted (own rule).
+/// Schedules with fewer changes than this are searched before all schedules are counted.
 const FEW: u64 = 3;
 
 /// What a search found.
 #[derive(Drop)]
 pub enum Found {
-    /// The first schedule that ends as is wanted with the fewest changes of processor: the processors
-    /// in the order of their calls.
+    /// The first schedule that ends as wanted with the fewest changes of processor, as the
+    /// processors in the order of their calls.
     Nearest(Vec<Cpu>),
-    /// None ends so, and there are so many complete schedules.
+    /// No schedule ends so. The number is that of all complete schedules.
     Absent(u128),
 }
 
-/// A complete schedule of the processors' scripts on a machine as it stands whose end has each of
-/// the wanted lines, with the fewest changes of processor, the first of these in the order of
-/// `explore`; or that there is none, and how many schedules there are (own rule). Script k is that
-/// of processor k. The machine stays as it is. The watch is told how far the count of all schedules
-/// has come.
+/// Finds a complete schedule whose end has all wanted lines, with the fewest changes of processor.
+/// Script k is that of processor k.
 ///
-/// An error is `HistoryFull` where the search comes to a call for which the layout's history has no
-/// room: in the schedules with fewer than three changes; where none of these ends so, in the count,
-/// within its limit; and where this stopped at its limit, in the schedules with fewer changes than
-/// the one that it found. Each comes before any schedule that ends so, but for the count's. Others
-/// are `OutOfMemory`, and `TooMany` where there are more schedules than the limit, and none with
-/// fewer than three changes ends so, and none of the first ones in the order of `explore`, as many
-/// as the limit.
+/// Of several such schedules, returns the first in the order of `explore`. If there is none,
+/// returns how many complete schedules there are. The machine is not changed. `watch` is called
+/// with the progress of the count of all schedules.
+///
+/// The search has three steps. It tries the schedules with fewer than three changes. If none of
+/// these ends as wanted, it counts all schedules, up to `limit`. If one of these does, it tries the
+/// schedules with fewer changes than that one.
+///
+/// # Errors
+///
+/// `HistoryFull` if the search reaches a call for which the layout's history has no room. The first
+/// and the third step reach such a call only before any schedule that ends as wanted, and the third
+/// only if the count stopped at `limit`.
+///
+/// `TooMany` if there are more schedules than `limit`, and neither a schedule with fewer than three
+/// changes ends as wanted nor one of the first `limit` schedules in the order of `explore`.
+///
+/// `OutOfMemory` if memory allocation fails.
 pub fn find<W: Watch>(
     alloc: Global,
     machine: &Machine,
@@ -75,8 +83,8 @@ pub fn find<W: Watch>(
     }
 }
 
-/// The first schedule with the fewest changes, where the first of all that end so is known and none
-/// has fewer than `FEW`.
+/// Returns the first schedule with the fewest changes, given the first of all that end so. No such
+/// schedule has fewer than `FEW` changes.
 #[tactic(auto, using(crate::proofs::Levels::known_nearest))]
 fn nearest_to(
     alloc: Global,
@@ -101,8 +109,8 @@ fn nearest_to(
     }
 }
 
-/// The first schedule with the fewest changes, where none has fewer than the first number, if any has
-/// fewer than the second.
+/// Returns the first schedule with the fewest changes, if any has fewer than
+/// `below`. None has fewer than `from`.
 #[tactic(auto, using(crate::proofs::Levels::nearest_found))]
 fn nearest_below(
     alloc: Global,

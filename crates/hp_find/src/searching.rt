@@ -1,5 +1,4 @@
-//! The search of the schedules that change the processor only so often, depth first and processor 0
-//! first.
+//! The search of the schedules within a budget of changes: depth first, processor 0 first.
 ghost use Rattle.std.specs.Prelude.{◌≡◌, ◌<◌, ◌≤◌, ◌+◌, ◌++◌, ◌∷◌, ◌^◌, ◌↔◌, [], IfErr, IfOk, IsTrue, OnOk, option_map, length};
 ghost use Rattle.hp_explore.specs.Faults.{IsCauseHere};
 ghost use Rattle.hp_schedules.specs.Schedules.{schedule_of};
@@ -18,18 +17,18 @@ use hp_wanted::{Wanted, are_met};
 use std::alloc::{AllocError, Global};
 use std::marker::Model;
 
-/// What a turn of a search came to.
+/// The result of one turn of a search.
 #[derive(Clone, Copy, PartialEq, Eq, Drop)]
 enum Turn {
-    /// It goes on.
+    /// The search continues.
     On,
-    /// It stands at a schedule that ends as is wanted.
+    /// It is at a schedule that ends as wanted.
     Found,
     /// No schedule is left.
     Over,
 }
 
-/// Where a search stands: a place with its schedule, and the processor whose call is tried next there.
+/// The state of a search: a place, its schedule, and the processor whose call is tried next.
 #[derive(Drop)]
 struct Search<'a> {
     path: Path<'a>,
@@ -45,9 +44,13 @@ impl<'a> Model for Search<'a> {
     ghost view = { λ s. record { path = s.path; schedule = s.schedule.items; next = s.next } };
 }
 
-/// The first schedule in the order of the search that ends as is wanted and changes the processor
-/// at most so often. An error is `HistoryFull` where the search comes to a call for which the history
-/// has no room, or `OutOfMemory`.
+/// Returns the first schedule, in the order of the search, that ends as wanted with at most
+/// `budget` changes of processor.
+///
+/// # Errors
+///
+/// `HistoryFull` if the search reaches a call for which the history has no room, `OutOfMemory` if
+/// memory allocation fails.
 pub(crate) fn first_within(
     alloc: Global,
     machine: &Machine,
@@ -72,7 +75,7 @@ pub(crate) fn first_within(
 }
 
 impl<'a> Search<'a> {
-    /// The search before any call. An error is out of memory.
+    /// Creates a search before any call.
     fn start(
         alloc: Global,
         machine: &'a Machine,
@@ -92,7 +95,7 @@ impl<'a> Search<'a> {
         })
     }
 
-    /// One turn: a call more, or the next processor, or back.
+    /// Makes one turn: makes a call, tries the next processor, or goes back.
     fn turn(
         &mut self,
         alloc: Global,
@@ -116,8 +119,8 @@ impl<'a> Search<'a> {
         Ok(self.up())
     }
 
-    /// Makes the next processor's call; or tries the processor after it, where that is a change too
-    /// many, or the script is over.
+    /// Makes the next processor's call. If that is one change too many, or its script is finished,
+    /// moves on to the processor after it.
     fn down(&mut self, alloc: Global, budget: u64) -> Result<(), ExploreFault>
         requires { self.old.next + 1 < 2 ^ 32 }
         ensures ok { OnOk result (IsDown budget self.old self.new) }
@@ -141,7 +144,7 @@ impl<'a> Search<'a> {
         Ok(())
     }
 
-    /// Takes the latest call back, and goes on with the processor after its own.
+    /// Takes the latest call back and moves on to the processor after the one that made it.
     fn up(&mut self) -> Turn
         requires schedule { self.old.schedule ≡ schedule_of self.old.path.news }
         requires room { length self.old.path.setting.scripts < 2 ^ 32 }
@@ -158,7 +161,7 @@ impl<'a> Search<'a> {
         }
     }
 
-    /// Whether the schedule is complete, and ends as is wanted. An error is out of memory.
+    /// Returns whether the schedule is complete and ends as wanted.
     #[tactic(auto, using(crate::proofs::SearchTurns::no_end))]
     fn is_end(&self, alloc: Global, processors: u32, wanted: &[Wanted]) -> Result<bool, AllocError>
         requires { processors ≡ length self.now.path.setting.scripts }
@@ -173,7 +176,7 @@ impl<'a> Search<'a> {
         Ok(are_met(wanted, &outcome))
     }
 
-    /// The schedule, with no memory taken.
+    /// Returns the schedule. Allocates nothing.
     fn into_schedule(self) -> Vec<Cpu>
         ensures { result.items ≡ self.entry.schedule }
     {

@@ -1,4 +1,4 @@
--- What is promised of an exploration.
+-- What an exploration promises.
 use Rattle.std.specs.Prelude.{ℕ, ◌-◌, ◌^◌, ◌≤◌, Bool, List, Option, Some, None, sum_by}
 use Rattle.hp_schedules.specs.declared.multinomials.HowMany.{HowMany}
 use Rattle.hp_schedules.specs.declared.tally.Ending.{Ending}
@@ -17,15 +17,15 @@ use Rattle.hp_prepared.specs.Holding.{HoldsIn}
 
 -- ---- on a machine
 
--- the ends are those of all complete schedules, which are no more than the limit, and none of which
--- fills the history; or of the first ones, which are as many as the limit, and there are more
+-- the ends are those of all complete schedules, at most `limit`, and none fills the history; or
+-- there are more, and the ends are those of the first `limit`
 abbrev pub AreExplored : Setting → (limit : ℕ) → List Ending → Option HowMany → Type 0
 AreExplored g limit ends None =
     AreEnds g ends × (HasMoreThan (IsComplete g) limit → ⊥) × (FillsHistory g → ⊥)
 AreExplored g limit ends (Some known) =
     AreFirst g limit ends × HasMoreThan (IsComplete g) limit × IsKnown g.scripts (2 ^ 64 - 1) known
 
--- of ends that are no more than the limit, in the order of their first schedules
+-- the text has the ends of at most `limit` schedules, in the order of their first schedules
 pub record IsExploredOn (form : EndsForm) (names : List (List ℕ)) (before : List Line) (g : Setting)
     (limit : ℕ) (text : List ℕ) (found : Bool) : Type 0 where
   pub ends : List Ending
@@ -37,14 +37,14 @@ pub record IsExploredOn (form : EndsForm) (names : List (List ℕ)) (before : Li
 
 -- ---- in a scenario
 
--- the text is that of the exploration of the scripts
+-- the text is that of an exploration of the scenario's scripts
 abbrev pub IsExplorationOf : EndsForm → (input : List ℕ) → (setup limit : ℕ) → (text : List ℕ)
     → (found : Bool)
     → Type 0
 IsExplorationOf form input setup limit text found =
     HoldsIn (λ names before g. IsExploredOn form names before g limit text found) input setup
 
--- when each fault comes: a full history only by a call to which the search comes within its limit
+-- when each fault comes; a full history only from a call that the search makes within its limit
 abbrev pub IsFaultWithin : (input : List ℕ) → (setup limit : ℕ) → LabFault → Type 0
 IsFaultWithin input setup limit fault =
     IsFaultWith (λ g. ⊥) (λ g. IsCauseWithin g limit) input setup limit fault

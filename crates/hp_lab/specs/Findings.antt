@@ -1,4 +1,4 @@
--- What is promised of a search, and when each fault comes.
+-- What a search for an end promises, and when each fault comes.
 use Rattle.std.specs.Prelude.{◌≡◌, ℕ, Bool, true, false, List}
 use Rattle.hp_schedules.specs.Schedules.{Setting}
 use Rattle.hp_explore.specs.declared.exploring.ExploreFault.{ExploreFault}
@@ -20,7 +20,7 @@ use Rattle.hp_lab.specs.Texts.{absent_told, found_text}
 
 -- ---- on a machine
 
--- the text is that of a schedule that was found, in a form; or that none ends so, and of how many
+-- the text is that of a schedule that was found; or it reports that none ends as wanted
 abbrev pub IsFoundTold : ScheduleForm → (names : List (List ℕ)) → (before : List Line) → Setting → Found
     → (text : List ℕ) → (found : Bool) → Type 0
 IsFoundTold form names before g (Nearest schedule) text found =
@@ -28,9 +28,8 @@ IsFoundTold form names before g (Nearest schedule) text found =
 IsFoundTold form names before g (Absent schedules) text found =
     (text ≡ absent_told form schedules) × (found ≡ false)
 
--- of the first whose end has each of the wanted lines with the fewest changes of processor, or of
--- none, as far as the limit and the history allow it to be told; its calls have room. None of the
--- lines names what is past the layout
+-- the text has the first schedule with the fewest changes of processor whose end has each wanted
+-- line, or that there is none, within the limit and the history's room; no line is past the layout
 pub record IsFoundOn (form : ScheduleForm) (names : List (List ℕ)) (before : List Line) (g : Setting)
     (wanted : List Wanted) (limit : ℕ) (text : List ℕ) (found : Bool) : Type 0 where
   pub within : AreWithin g.layout wanted
@@ -41,7 +40,7 @@ pub record IsFoundOn (form : ScheduleForm) (names : List (List ℕ)) (before : L
   pub along : IsRecorded g what
   pub told : IsFoundTold form names before g what text found
 
--- a fault of a search is told so
+-- the laboratory's fault for a fault of the search
 abbrev pub IsFindTold : (limit : ℕ) → Setting → FindFault → LabFault → Type 0
 IsFindTold limit g search.TooMany fault = fault ≡ TooMany limit
 IsFindTold limit g search.HistoryFull fault = IsFullTold g fault
@@ -49,26 +48,26 @@ IsFindTold limit g search.OutOfMemory fault = fault ≡ OutOfMemory
 
 -- ---- in a scenario
 
--- the text is that of the search for an end
+-- the text is that of a search in the scenario's scripts
 abbrev pub IsFindingOf : ScheduleForm → (input : List ℕ) → (setup limit : ℕ) → List Wanted
     → (text : List ℕ) → (found : Bool) → Type 0
 IsFindingOf form input setup limit wanted text found =
     HoldsIn (λ names before g. IsFoundOn form names before g wanted limit text found) input setup
 
--- a line is the first that names what is past the layout
+-- line `number` is the first wanted line that names something past the layout
 abbrev pub IsPastLayout : List Wanted → (number : ℕ) → Setting → Type 0
 IsPastLayout wanted number g = IsFirstPast g.layout wanted number
 
--- the cause of too many interleavings, where no line does
+-- there are too many interleavings, and no wanted line is past the layout
 abbrev pub IsTooMany : List Wanted → (limit : ℕ) → Setting → Type 0
 IsTooMany wanted limit g = AreWithin g.layout wanted × IsFindCause g wanted limit search.TooMany
 
--- the causes of a call's fault in a search
+-- why a call fails in a search
 abbrev pub IsSearchCause : List Wanted → (limit : ℕ) → Setting → ExploreFault → Type 0
 IsSearchCause wanted limit g fault =
     AreWithin g.layout wanted × IsFindCause g wanted limit (find_fault_from fault)
 
--- when each fault comes: a full history only by a call to which the search comes
+-- when each fault comes; a full history only from a call that the search makes
 abbrev pub IsFindFaultOf : (input : List ℕ) → (setup limit : ℕ) → List Wanted → LabFault → Type 0
 IsFindFaultOf input setup limit wanted (PastLayout number) =
     InScenario input (IsStoppedAfter (IsPastLayout wanted number) setup)

@@ -1,4 +1,4 @@
--- How a schedule that was found is written, and that there is none.
+-- The text of a schedule that was found, or that there is none.
 use Rattle.std.specs.Prelude.{ℕ, List, Option}
 use Rattle.hp_units.specs.LayoutParts.{LayoutParts}
 use Rattle.hp_units.specs.declared.replies.Record.{Record}
@@ -11,7 +11,7 @@ use Rattle.hp_ends.specs.Words.{absent_text, nearest_text}
 use Rattle.hp_ends.specs.declared.forms.ScheduleForm.{ScheduleForm}
 use Rattle.hp_ends.specs.declared.forms.ScheduleForm.TheVariants.{Words, Object, Scenario}
 
--- in a form, with its calls, if it can be played
+-- a schedule in a form, with its calls if it can be played
 abbrev pub schedule_text : ScheduleForm → (names : List (List ℕ)) → (before : List Line) → LayoutParts
     → (schedule : List ℕ) → (calls : Option (List Record)) → List ℕ
 schedule_text Words names before l schedule calls = nearest_text names (changes schedule) calls
@@ -23,7 +23,7 @@ abbrev pub found_text : ScheduleForm → (names : List (List ℕ)) → (before :
 found_text form names before g schedule =
     schedule_text form names before g.layout schedule (plays g schedule)
 
--- no schedule ends so, and there are so many: a scenario that is not there is told in words
+-- none of `schedules` interleavings ends as wanted; also the form of a scenario has this in words
 abbrev pub absent_told : ScheduleForm → (schedules : ℕ) → List ℕ
 absent_told Words schedules = absent_text schedules
 absent_told Object schedules = absent_object schedules

@@ -1,4 +1,4 @@
-//! A scenario explored.
+//! Explores a scenario.
 ghost use Rattle.std.specs.Prelude.{◌≡◌, ◌^◌, ◌<◌, IfErr, IfOk, length, string_bytes};
 ghost use Rattle.hp_explore.specs.Faults.{IsCauseWithin};
 ghost use Rattle.hp_prepared.specs.Faults.{IsFaultOf};
@@ -11,25 +11,24 @@ use hp_lab_faults::LabFault;
 use hp_prepared::{Finding, Prepared, prepare};
 use std::alloc::Global;
 
-/// An exploration of the scenario that the bytes are. The first `setup` lines are run in order; each
-/// later line goes to the script of its processor, where 0 for the number of an operation stands
-/// for the one that this processor began last. All interleavings of the scripts' calls are counted;
-/// where there are more than `limit`, the first `limit` of them.
+/// Explores the scenario in `input`: counts all interleavings of its scripts' calls, or the first
+/// `limit` if there are more. The first `setup` lines are run in order; each later line goes to the
+/// script of its processor, where operation 0 is the one that the processor began last.
 ///
-/// As words the text says how many there are, and for each different end how many lead to it, what
-/// the processors were answered, what became of the memory blocks, and the calls of the first that
-/// leads to it. As objects it has a line of JSON for each end. In both, nothing is found where there
-/// are more interleavings than the limit, and the text says so. As a scenario it has the layout, the
-/// lines of the setup, and the calls of the first interleaving that leads to the end with the
-/// number; where no end has that number, it says how many interleavings and ends there are, and
-/// nothing is found (own rule).
+/// As words, the text has the number of interleavings, and for each different end how many lead to
+/// it, the processors' replies, the states of the memory blocks, and the calls of the first
+/// interleaving that leads to it. As objects, it has one line of JSON per end. In both forms
+/// nothing is found if there are more interleavings than the limit, and the text reports that. As a
+/// scenario, it has the layout, the lines of the setup, and the calls of the first interleaving
+/// that leads to the end with the number; if no end has that number, the text reports how many
+/// interleavings and ends there are, and nothing is found.
 ///
-/// The watch is told while the search runs how many interleavings are counted so far.
+/// While the search runs, `watch` gets the number of interleavings counted so far.
 ///
-/// Errors: those of reading the scenario; NotForScript with the first line after the setup that
-/// cannot stand in a script; HistoryFull where the search comes to a call for which the history has
-/// no room, before it comes to more interleavings than the limit; OutOfMemory, which may come in place
-/// of any answer.
+/// Errors: those of reading the scenario; `NotForScript` with the first line after the setup that
+/// may not be in a script; `HistoryFull` if the history has no room for a call that the search
+/// makes before it has counted more interleavings than the limit; `OutOfMemory`, which may come in
+/// place of any other result.
 pub fn explore_text<W: Watch>(
     alloc: Global,
     input: &[u8],
@@ -50,7 +49,7 @@ pub fn explore_text<W: Watch>(
     }
 }
 
-/// The exploration of a scenario that was made ready, in a form.
+/// Explores a prepared scenario, and writes the result in a form.
 fn explored<W: Watch>(
     alloc: Global,
     prepared: &Prepared,
@@ -66,7 +65,7 @@ fn explored<W: Watch>(
     let machine = &prepared.start.machine;
     let scripts = prepared.start.scripts.as_slice();
     let explored = explore(alloc, machine, scripts, limit, watch)?;
-    // The search has made the calls of each first interleaving, so that only memory can be lacking.
+    // The search has made the calls of each first interleaving, so only memory can run out.
     let Ok(finding) = prepared.exploration_told(alloc, &explored, form) else {
         return Err(ExploreFault::OutOfMemory);
     };

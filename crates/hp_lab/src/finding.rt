@@ -1,4 +1,4 @@
-//! A scenario searched for an end.
+//! Searches a scenario for an end.
 ghost use Rattle.std.specs.Prelude.{◌≡◌, ◌^◌, ◌<◌, IfErr, IfOk, length, option_map, string_bytes};
 ghost use Rattle.hp_find.specs.Faults.{IsFindCause};
 ghost use Rattle.hp_prepared.specs.Prepared.{before_of, names_of, setting_of};
@@ -15,21 +15,23 @@ use hp_units::{Cpu, Record};
 use hp_wanted::{Wanted, first_past};
 use std::alloc::{AllocError, Global};
 
-/// The text of a search in the scenario that the bytes are, for an interleaving whose end has each
-/// of the wanted lines. The first `setup` lines are run in order; each later line goes to the
-/// script of its processor, as for `explore_text`. Where there is such an interleaving, the text
-/// has one with the fewest changes of processor: as words or as an object how many it has, and its calls;
-/// or as a scenario. Else it says how many interleavings there are, at most `limit` (own rule).
+/// Searches the scenario in `input` for an interleaving whose end has each of the wanted lines,
+/// with the fewest changes of processor. The first `setup` lines are run in order; each later line
+/// goes to the script of its processor, as for `explore_text`.
 ///
-/// The watch is told how many interleavings are counted so far, once those with few changes were
-/// searched.
+/// If there is such an interleaving, the text has one: as words or as an object with its number of
+/// changes and its calls, or as a scenario. If there is none, the text has the number of
+/// interleavings, which is at most `limit`.
 ///
-/// Errors: those of reading the scenario; NotForScript with the first line after the setup that
-/// cannot stand in a script; PastLayout with the first wanted line that names what is past the
-/// layout; TooMany, where there are more interleavings than `limit`, and none with
-/// fewer than three changes ends so, and none of the first `limit`; HistoryFull where the search comes
-/// to a call for which the history has no room: as `find` of hp_find says; OutOfMemory, which may come
-/// in place of any answer.
+/// The search tries schedules with few changes first; after these, `watch` gets the number of
+/// interleavings counted so far.
+///
+/// Errors: those of reading the scenario; `NotForScript` with the first line after the setup that
+/// may not be in a script; `PastLayout` with the first wanted line that names something past the
+/// layout; `TooMany` if there are more interleavings than `limit`, and neither one with fewer than
+/// three changes nor one of the first `limit` ends as wanted; `HistoryFull` if the history has no
+/// room for a call that the search makes, as for `find` of hp_find; `OutOfMemory`, which may come
+/// in place of any other result.
 pub fn find_text<W: Watch>(
     alloc: Global,
     input: &[u8],
@@ -53,7 +55,7 @@ pub fn find_text<W: Watch>(
     }
 }
 
-/// A search for an end with each of the wanted lines, in a scenario that was made ready, in a form.
+/// Searches a prepared scenario, and writes the result in a form.
 fn found<W: Watch>(
     alloc: Global,
     prepared: &Prepared,
@@ -75,7 +77,7 @@ fn found<W: Watch>(
     Ok(finding)
 }
 
-/// The fault of a search, with what is known of it.
+/// Returns the laboratory's fault for a fault of the search.
 fn told_fault(alloc: Global, prepared: &Prepared, limit: u64, fault: FindFault) -> LabFault
     ensures { IsFindTold limit (setting_of prepared.now) fault result }
 {
@@ -86,7 +88,7 @@ fn told_fault(alloc: Global, prepared: &Prepared, limit: u64, fault: FindFault) 
     }
 }
 
-/// What a search found, in a form: its calls are made once more. An error is out of memory.
+/// Writes what a search found in a form. Plays the schedule once more.
 fn found_told(
     alloc: Global,
     prepared: &Prepared,
@@ -114,7 +116,7 @@ fn found_told(
     }
 }
 
-/// A schedule of the scripts in a form, which is played once more. An error is out of memory.
+/// Writes a schedule of the scripts in a form. Plays it once more.
 fn schedule_told(
     alloc: Global,
     prepared: &Prepared,
@@ -124,7 +126,7 @@ fn schedule_told(
     ensures { IfOk result (λ text. string_bytes text ≡ found_text form (names_of prepared.now)
         (before_of prepared.now) (setting_of prepared.now) schedule.now) }
 {
-    // The search has made these calls, so that only memory can be lacking.
+    // The search has made these calls, so only memory can run out.
     let Ok(played) = prepared.played(alloc, schedule) else {
         return Err(AllocError);
     };
@@ -132,7 +134,7 @@ fn schedule_told(
     Ok(text)
 }
 
-/// A schedule with its calls in a form.
+/// Writes a schedule with its calls in a form.
 fn text_of(
     alloc: Global,
     prepared: &Prepared,
@@ -152,7 +154,7 @@ fn text_of(
     }
 }
 
-/// That no schedule ends so, and of how many, in a form.
+/// Writes in a form that none of `schedules` interleavings ends as wanted.
 fn absent_told(alloc: Global, schedules: u128, form: ScheduleForm) -> Result<String, AllocError>
     ensures { IfOk result (λ text. string_bytes text ≡ absent_told form schedules) }
 {

@@ -1,4 +1,4 @@
-//! A scenario explored in threads.
+//! Explores a scenario in threads.
 ghost use Rattle.std.specs.Prelude.{◌≡◌, ◌^◌, ◌<◌, IfErr, IfOk, length, string_bytes};
 ghost use Rattle.hp_explore.specs.Faults.{IsCauseWithin};
 ghost use Rattle.hp_prepared.specs.Faults.{IsFaultOf};
@@ -13,11 +13,10 @@ use hp_prepared::{Finding, Prepared, prepare};
 use std::alloc::Global;
 use std::thread::Threads;
 
-/// The same as `explore_text`, by so many threads.
+/// Explores a scenario like `explore_text`, in `jobs` threads, with the same result and the same
+/// errors.
 ///
-/// The watch is told what it can be told of several searches side by side.
-///
-/// Errors: those of `explore_text`.
+/// While the searches run, `watch` gets what is known of their progress.
 pub fn explore_text_with_jobs<W: Watch>(
     rt: &(impl Threads + Sync),
     alloc: Global,
@@ -40,7 +39,7 @@ pub fn explore_text_with_jobs<W: Watch>(
     }
 }
 
-/// The exploration of a scenario that was made ready.
+/// Explores a prepared scenario in threads, and writes the result in a form.
 fn explored<W: Watch>(
     rt: &(impl Threads + Sync),
     alloc: Global,
@@ -58,7 +57,7 @@ fn explored<W: Watch>(
     let machine = &prepared.start.machine;
     let scripts = prepared.start.scripts.as_slice();
     let explored = explore_with_jobs(rt, alloc, machine, scripts, limit, jobs, watch)?;
-    // The search has made the calls of each first interleaving, so that only memory can be lacking.
+    // The search has made the calls of each first interleaving, so only memory can run out.
     let Ok(finding) = prepared.exploration_told(alloc, &explored, form) else {
         return Err(ExploreFault::OutOfMemory);
     };

@@ -3,19 +3,19 @@
 use clap::{Arg, ArgAction, Command, value_parser};
 use std::alloc::{AllocError, Global};
 
-/// The option that searches an end.
+/// The option that searches for an end.
 pub const FIND: &str = "find";
 
-/// The option that wants no such end.
+/// The option that expects no such end.
 pub const NEVER: &str = "never";
 
 /// The option that writes an interleaving as a scenario.
 pub const SCENARIO: &str = "scenario";
 
-/// The option that tells how far a search has come.
+/// The option that reports how far a search has come.
 pub const PROGRESS: &str = "progress";
 
-/// The option that writes JSON, an object a line.
+/// The option that writes JSON, one object per line.
 pub const JSON: &str = "json";
 
 /// The option that searches one part.
@@ -30,16 +30,16 @@ pub const LOG: &str = "log";
 /// The option that reads the text of ftrace.
 pub const FTRACE: &str = "ftrace";
 
-/// The option that says how many frames a memory block has.
+/// The option that sets the number of frames per memory block.
 pub const BLOCK_FRAMES: &str = "block-frames";
 
-/// The option that judges some memory blocks alone.
+/// The option that judges only some memory blocks.
 pub const BLOCKS: &str = "blocks";
 
-/// The option that allows a kind of faults.
+/// The option that allows a kind of fault.
 pub const ALLOW: &str = "allow";
 
-/// The option that prints more faults, or fewer.
+/// The option that limits how many faults are printed.
 pub const MOST: &str = "most";
 
 /// The option that draws a picture.
@@ -48,23 +48,23 @@ pub const SVG: &str = "svg";
 /// The argument that names files.
 pub const FILE: &str = "FILE";
 
-/// What an argument takes.
+/// The values that an argument takes.
 enum Takes {
     /// Nothing: it is a flag.
     Nothing,
     /// A number.
     Number,
-    /// One of how many parts.
+    /// A part's number and the number of parts.
     Part,
-    /// Some memory blocks.
+    /// A range of memory blocks.
     Blocks,
-    /// A kind of faults; it may stand several times.
+    /// A kind of fault; may be given several times.
     Kinds,
-    /// A text; it may stand several times.
+    /// A text; may be given several times.
     Texts,
-    /// The name of a file, with no name of its own before it.
+    /// A file name, without an option before it.
     File,
-    /// Any number of such names.
+    /// Any number of file names.
     Files,
 }
 
@@ -73,7 +73,7 @@ struct Argument {
     name: &'static str,
     takes: Takes,
     help: &'static str,
-    /// The options that cannot stand beside it.
+    /// The options that it cannot be combined with.
     against: &'static [&'static str],
 }
 
@@ -85,7 +85,7 @@ struct Word {
     arguments: &'static [Argument],
 }
 
-/// A scenario's file.
+/// The scenario's file.
 const SCENARIO_FILE: Argument = Argument {
     name: FILE,
     takes: Takes::File,
@@ -101,7 +101,7 @@ const AS_SCENARIO: Argument = Argument {
     against: &[],
 };
 
-/// The flag that asks for JSON.
+/// The flag that writes JSON.
 const AS_JSON: Argument = Argument {
     name: JSON,
     takes: Takes::Nothing,
@@ -109,7 +109,7 @@ const AS_JSON: Argument = Argument {
     against: &[SCENARIO],
 };
 
-/// What `check` takes.
+/// The arguments of `check`.
 const CHECK: [Argument; 2] = [
     Argument {
         name: "setup",
@@ -120,7 +120,7 @@ const CHECK: [Argument; 2] = [
     SCENARIO_FILE,
 ];
 
-/// What `explore` takes.
+/// The arguments of `explore`.
 const EXPLORE: [Argument; 10] = [
     Argument {
         name: "setup",
@@ -169,7 +169,7 @@ const EXPLORE: [Argument; 10] = [
     SCENARIO_FILE,
 ];
 
-/// What `sum` takes.
+/// The arguments of `sum`.
 const SUM: [Argument; 3] = [
     AS_SCENARIO,
     AS_JSON,
@@ -181,7 +181,7 @@ const SUM: [Argument; 3] = [
     },
 ];
 
-/// What `trace` takes.
+/// The arguments of `trace`.
 const TRACE: [Argument; 9] = [
     Argument {
         name: "from",
@@ -234,7 +234,7 @@ const TRACE: [Argument; 9] = [
     SCENARIO_FILE,
 ];
 
-/// What `judge` takes.
+/// The arguments of `judge`.
 const JUDGE: [Argument; 8] = [
     Argument {
         name: FTRACE,
@@ -315,8 +315,7 @@ const WORDS: [Word; 5] = [
     },
 ];
 
-/// The command line of `hotplug_lab`: a word for each thing it does, with its options and their help.
-/// An error is out of memory.
+/// Returns the command line of `hotplug_lab`: its words with their options and help.
 pub fn lab_command<'a>(alloc: Global) -> Result<Command<'a>, AllocError> {
     let mut program = without_words(alloc);
     for word in &WORDS {
@@ -325,7 +324,7 @@ pub fn lab_command<'a>(alloc: Global) -> Result<Command<'a>, AllocError> {
     Ok(program)
 }
 
-/// The program, as yet without words.
+/// Returns the program without its words.
 fn without_words<'a>(alloc: Global) -> Command<'a> {
     Command::new(alloc, "hotplug_lab")
         .version("1.0")
@@ -339,8 +338,8 @@ fn without_words<'a>(alloc: Global) -> Command<'a> {
         .subcommand_required(true)
 }
 
-/// A command with one more word, unless that is out of memory. The word is handed on as it is, so
-/// that a command is owned where nothing else can end early.
+/// Adds a word, unless making it ran out of memory. Takes the word's `Result` as it is, so that a
+/// command is never owned where something else can return early.
 fn with_word<'a>(
     program: Command<'a>,
     word: Result<Command<'a>, AllocError>,
@@ -348,7 +347,7 @@ fn with_word<'a>(
     program.subcommand(word?)
 }
 
-/// A word with its arguments.
+/// Returns a word with its arguments.
 fn command_of<'a>(alloc: Global, word: &Word) -> Result<Command<'a>, AllocError> {
     let mut command = Command::new(alloc, word.name).about(word.about);
     for argument in word.arguments {
@@ -357,7 +356,7 @@ fn command_of<'a>(alloc: Global, word: &Word) -> Result<Command<'a>, AllocError>
     Ok(command)
 }
 
-/// A command with one more argument, unless that is out of memory.
+/// Adds an argument, unless making it ran out of memory.
 fn with_argument<'a>(
     command: Command<'a>,
     arg: Result<Arg<'a>, AllocError>,
@@ -365,13 +364,13 @@ fn with_argument<'a>(
     command.arg(arg?)
 }
 
-/// An argument as clap has it.
+/// Returns an argument as clap has it.
 fn arg_of<'a>(alloc: Global, argument: &Argument) -> Result<Arg<'a>, AllocError> {
     let arg = Arg::new(alloc, argument.name).help(argument.help);
     taking(arg, argument).conflicts_with_all(argument.against)
 }
 
-/// An argument with its name and its values, as what it takes wants them.
+/// Sets an argument's name and its values.
 fn taking<'a>(arg: Arg<'a>, argument: &Argument) -> Arg<'a> {
     match argument.takes {
         Takes::Nothing => arg.long(argument.name).action(ArgAction::SetTrue),

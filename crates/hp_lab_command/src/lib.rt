@@ -1,7 +1,8 @@
-//! The command line of `hotplug_lab`: its words, their options and what the help says of each.
+//! The command line of `hotplug_lab`: its words, their options, and the help.
 //!
-//! A crate of its own, since it stands on clap alone and so is proved beside the laboratory's
-//! libraries. What the words mean is hp_lab_shell's, and is tried on the built program.
+//! It depends only on clap, so it is a crate of its own and proved beside the laboratory's
+//! libraries. hp_lab_shell owns the meaning of the words; docs/check_lab.py tries them on the built
+//! program.
 #![tactic(auto)]
 
 mod command;

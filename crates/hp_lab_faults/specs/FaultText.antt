@@ -1,4 +1,4 @@
--- What is said of a fault.
+-- The texts of the faults.
 use Rattle.std.specs.Prelude.{ℕ, List, [], ◌++◌, codes, Some, None}
 use Rattle.std.specs.Fmt.{decimal}
 use Rattle.hp_units.specs.Texts.{layout_fault_text}
@@ -14,7 +14,7 @@ use Rattle.hp_lab_faults.specs.declared.program_fault.ProgramFault.TheVariants a
 use Rattle.hp_lab_faults.specs.declared.said.Said.{Said}
 use Rattle.hp_lab_faults.specs.declared.said.Said.TheVariants.{Nothing, Number, Past, Lab, Layout as OfLayout}
 
--- why a scenario is not explored
+-- why an exploration or a search failed
 abbrev pub fault_text : LabFault → List ℕ
 fault_text NotJson = codes "not JSON"
 fault_text BadShape = codes "wrong shape"
@@ -32,7 +32,7 @@ fault_text (HistoryFull (Some needed)) =
     ++ codes " records"
 fault_text OutOfMemory = codes "out of memory"
 
--- what a fault says between two texts
+-- the middle piece of a fault's text
 abbrev pub said_text : Said → List ℕ
 said_text Nothing = []
 said_text (Number number) = decimal number
@@ -40,7 +40,7 @@ said_text (OfLayout fault) = layout_fault_text fault
 said_text (Past asked lines) = decimal asked ++ codes " is past the last line, " ++ decimal lines
 said_text (Lab fault) = fault_text fault
 
--- why parts have no sum
+-- why parts cannot be added up
 abbrev pub part_fault_text : PartFault → List ℕ
 part_fault_text (parts.NotPart line) = codes "line " ++ decimal line ++ codes " is none of a part"
 part_fault_text (parts.OtherSearch line) =
@@ -58,7 +58,7 @@ part_fault_text (parts.Twice part) = codes "part " ++ decimal part ++ codes " co
 part_fault_text parts.TooMany = codes "more than 2^64-1 interleavings"
 part_fault_text (parts.Lab fault) = fault_text fault
 
--- why a text is no scenario
+-- why a text is not a scenario
 abbrev pub scenario_fault_text : ScenarioFault → List ℕ
 scenario_fault_text scenario.NotJson = codes "not JSON"
 scenario_fault_text scenario.BadShape = codes "wrong shape"

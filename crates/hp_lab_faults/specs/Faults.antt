@@ -1,5 +1,4 @@
--- What the faults of the crates below are to the laboratory and to its program, and of what its own say
--- something.
+-- The conversions from the faults of the crates below, and which faults concern the input.
 use Rattle.std.specs.Prelude.{Bool, true, false}
 use Rattle.hp_scenario.specs.declared.fault.ScenarioFault.{ScenarioFault}
 use Rattle.hp_scenario.specs.declared.fault.ScenarioFault.TheVariants as scenario
@@ -12,7 +11,8 @@ use Rattle.hp_lab_faults.specs.declared.fault.LabFault.TheVariants.{NotJson, Bad
 use Rattle.hp_lab_faults.specs.declared.program_fault.ProgramFault.{ProgramFault}
 use Rattle.hp_lab_faults.specs.declared.program_fault.ProgramFault.TheVariants.{Lab, NotOpened, ReadFailed, Scenario, TooLong}
 
--- the fault of reading a scenario, which is never that a line is not for workers
+-- a scenario cannot be read; `NotForRun` comes only from making workers' scripts, never from
+-- reading
 abbrev pub fault_from : ScenarioFault → LabFault
 fault_from scenario.NotJson = NotJson
 fault_from scenario.BadShape = BadShape
@@ -21,27 +21,27 @@ fault_from (scenario.BadLine line) = BadLine line
 fault_from (scenario.NotForRun line) = BadLine line
 fault_from scenario.OutOfMemory = OutOfMemory
 
--- that no search begins
+-- a search cannot start
 abbrev pub start_fault_from : StartFault → LabFault
 start_fault_from (start.NotForScript line why) = NotForScript line why
 start_fault_from start.OutOfMemory = OutOfMemory
 
--- that the input was not read
+-- the input cannot be read
 abbrev pub read_fault_from : ReadFault → ProgramFault
 read_fault_from reading.ReadFailed = ReadFailed
 read_fault_from reading.TooLong = TooLong
 read_fault_from reading.OutOfMemory = Lab OutOfMemory
 
--- ---- of what the program's faults say something
+-- ---- which faults concern the input
 
--- that the input was not read
+-- the input could not be read
 abbrev pub is_of_input : ProgramFault → Bool
 is_of_input NotOpened = true
 is_of_input ReadFailed = true
 is_of_input TooLong = true
 is_of_input fault = false
 
--- that the input is no scenario: by an exploration's fault, and by any
+-- the input is not a scenario, by an exploration's fault and by any fault
 abbrev pub is_of_text : LabFault → Bool
 is_of_text NotJson = true
 is_of_text BadShape = true

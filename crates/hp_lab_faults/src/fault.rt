@@ -1,4 +1,4 @@
-//! Why a scenario is not explored.
+//! Why an exploration or a search of a scenario failed.
 ghost use Rattle.std.specs.Prelude.{◌≡◌, Some};
 ghost use Rattle.hp_lab_faults.specs.declared.fault.LabFault.TheVariants.{OutOfMemory};
 
@@ -9,27 +9,28 @@ use std::alloc::AllocError;
 use std::error::Error;
 use std::fmt;
 
-/// Why a scenario is not explored. Out of memory may come in place of any.
+/// Why an exploration or a search of a scenario failed. `OutOfMemory` may come in place of any
+/// other.
 #[derive(Clone, Copy, Debug, PartialEq, Eq, Drop)]
 pub enum LabFault {
-    /// The input is no JSON.
+    /// The input is not JSON.
     NotJson,
-    /// The input is no scenario: its keys, kinds or words differ.
+    /// The input is not a scenario: keys, types or words differ.
     BadShape,
     /// The scenario's layout is out of its limits.
     Layout(LayoutFault),
-    /// A text of `calls` is no line; lines are counted from 1.
+    /// A string of `calls` is not a line; lines are counted from 1.
     BadLine { line: u64 },
-    /// A line after the setup cannot stand in a script; lines are counted from 1.
+    /// A line after the setup may not be in a script; lines are counted from 1.
     NotForScript { line: u64, why: Unfit },
-    /// A line that is wanted of an end names a processor, a memory block or a frame past the layout's
-    /// last; the wanted lines are counted from 1.
+    /// A wanted line names a processor, a memory block or a frame past the layout's last; wanted
+    /// lines are counted from 1.
     PastLayout { number: u64 },
-    /// There are more interleavings than the limit, and none that was looked at ends as is wanted:
-    /// none with few changes of processor, and none of the first ones, as many as the limit.
+    /// There are more interleavings than the limit, and none of those looked at ends as wanted:
+    /// neither those with few changes of processor, nor the first `limit`.
     TooMany { limit: u64 },
-    /// The layout's history has no room for all calls of an interleaving. It needs room for so many
-    /// records, where that is known: where no script holds a plan.
+    /// The layout's history has no room for all calls of an interleaving. It needs room for
+    /// `needed` records; `None` if a script holds a plan, since its calls are not known before.
     HistoryFull { needed: Option<u64> },
     /// Out of memory.
     OutOfMemory,

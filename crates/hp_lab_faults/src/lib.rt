@@ -1,9 +1,9 @@
-//! Why the laboratory gives no answer: the faults of its searches, of the sum of parts, and of the
-//! program `hotplug_lab`, each with what is said of it.
+//! The faults of the laboratory: of its searches, of the sum of parts, and of the program
+//! `hotplug_lab`, each with its text.
 //!
-//! The crate owns these faults, their texts, and what the faults of the crates below are to them. It
-//! says nothing of when a fault comes: the crates that answer do. It stands on no search, and so is
-//! proved beside them. Read specs/FaultText first, then specs/Faults.
+//! The crate owns these faults, their texts, and the conversions from the faults of the crates
+//! below. It does not say when a fault comes: the crates that return it do. It depends on no
+//! search, so it is proved beside them. Read specs/FaultText first, then specs/Faults.
 #![tactic(auto)]
 
 mod fault;

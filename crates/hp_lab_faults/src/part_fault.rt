@@ -1,4 +1,4 @@
-//! Why parts have no sum.
+//! Why parts cannot be added up.
 ghost use Rattle.std.specs.Prelude.{◌≡◌, ◌++◌, Some};
 ghost use Rattle.hp_lab_faults.specs.FaultText.{part_fault_text, said_text};
 ghost use Rattle.hp_lab_faults.specs.declared.fault.LabFault.TheVariants.{OutOfMemory};
@@ -10,22 +10,24 @@ use std::alloc::AllocError;
 use std::error::Error;
 use std::fmt;
 
-/// Why parts have no sum. Lines are counted from 1, and so are parts.
+/// Why parts cannot be added up. Lines and parts are counted from 1.
 #[derive(Clone, Copy, Debug, PartialEq, Eq, Drop)]
 pub enum PartFault {
-    /// The line is none of a part; or line 1 is no head of a part; or the input is empty.
+    /// The line does not belong to a part; or line 1 is not the head of a part; or the input is
+    /// empty.
     NotPart { line: u64 },
-    /// The line is the head of a part of another search than the first: of another scenario or
-    /// setup, of another number of parts, or by another number of first calls; or its part is past
-    /// the last of this search; or it is not byte for byte as the search writes that part's head.
+    /// The line is the head of a part of another search than the first: another scenario or setup,
+    /// another number of parts, or another number of first calls. Or its part is past the last of
+    /// this search, or it is not byte for byte the head that the search writes for that part.
     OtherSearch { line: u64 },
-    /// The processors of the line are no complete interleaving of its part.
+    /// The processors of the line are not a complete interleaving of its part.
     NotOfPart { line: u64 },
-    /// The line is not what the search writes of its interleaving: something in it was changed.
+    /// The line is not what the search writes for its interleaving: something in it was changed.
     Changed { line: u64 },
-    /// A part stopped at its limit, as the line says.
+    /// A part stopped at its limit, as the line reports.
     Stopped { line: u64 },
-    /// A part has another number of ends than its head names: its file was cut off, or has lines too many.
+    /// A part has another number of ends than its head names: its file was cut off, or has too many
+    /// lines.
     OtherCount { part: u32 },
     /// A part is missing.
     Missing { part: u64 },
@@ -33,7 +35,7 @@ pub enum PartFault {
     Twice { part: u64 },
     /// There are 2^64 interleavings or more.
     TooMany,
-    /// The scenario that the heads name is not explored; or memory was refused, reading included.
+    /// The scenario that the heads name cannot be explored; or memory ran out, also while reading.
     Lab(LabFault),
 }
 
@@ -48,7 +50,7 @@ impl fmt::Display for PartFault {
     }
 }
 
-/// What is said of why parts have no sum: a text, what comes after it, and the end.
+/// Returns the text of a fault in three pieces: a text, what comes after it, and the end.
 pub(crate) fn said_of_parts(fault: PartFault) -> (&'static str, Said, &'static str)
     ensures { result.0.now ++ said_text result.1 ++ result.2.now ≡ part_fault_text fault }
 {

@@ -14,31 +14,31 @@ use std::alloc::AllocError;
 use std::error::Error;
 use std::fmt;
 
-/// Why the program failed. But for `WriteFailed`, after which some of the text may be out, nothing
-/// was written.
+/// Why the program failed. Nothing was written, except for `WriteFailed`: then some of the text may
+/// be out.
 #[derive(Clone, Copy, Debug, Drop)]
 pub enum ProgramFault {
     /// The file could not be opened.
     NotOpened,
     /// The reader failed.
     ReadFailed,
-    /// There are more than 16,777,216 bytes of input.
+    /// The input is longer than 16,777,216 bytes.
     TooLong,
-    /// The exploration failed; or memory was refused, at whatever the program was asked for, reading
-    /// included.
+    /// The exploration or the search failed; or memory ran out, whatever the command, also while
+    /// reading.
     Lab(LabFault),
-    /// The parts have no sum.
+    /// The parts cannot be added up.
     Parts(PartFault),
-    /// The scenario is none.
+    /// The input is not a scenario.
     Scenario(ScenarioFault),
-    /// A line was asked for by its number, counted from 1, and the scenario has only so many.
+    /// The line number `asked`, counted from 1, is past the scenario's last line, `lines`.
     PastEnd { asked: u64, lines: u64 },
     /// The writer failed.
     WriteFailed,
 }
 
 impl ProgramFault {
-    /// Whether it says that the input was not read.
+    /// Returns whether the input could not be read.
     pub fn is_of_input(&self) -> bool
         ensures { result ≡ is_of_input self.now }
     {
@@ -48,7 +48,7 @@ impl ProgramFault {
         )
     }
 
-    /// Whether it says that the input is no scenario, of which `check` says more.
+    /// Returns whether the input is not a scenario; `check` then tells more.
     pub fn is_of_scenario(&self) -> bool
         ensures { result ≡ is_of_scenario self.now }
     {
@@ -60,7 +60,7 @@ impl ProgramFault {
     }
 }
 
-/// Whether an exploration failed because the input is no scenario.
+/// Returns whether an exploration failed because the input is not a scenario.
 fn is_of_text(fault: LabFault) -> bool
     ensures { result ≡ is_of_text fault }
 {
@@ -84,7 +84,7 @@ impl fmt::Display for ProgramFault {
     }
 }
 
-/// What is said of why the program failed: a text, what comes after it, and the end.
+/// Returns the text of a fault in three pieces: a text, what comes after it, and the end.
 fn said_of(fault: ProgramFault) -> (&'static str, Said, &'static str)
     ensures { result.0.now ++ said_text result.1 ++ result.2.now ≡ program_fault_text fault }
 {
@@ -100,7 +100,7 @@ fn said_of(fault: ProgramFault) -> (&'static str, Said, &'static str)
     }
 }
 
-/// What is said of why a text is no scenario, likewise.
+/// Returns the text of a scenario's fault, in the same three pieces.
 fn said_of_scenario(fault: ScenarioFault) -> (&'static str, Said, &'static str)
     ensures { result.0.now ++ said_text result.1 ++ result.2.now ≡ scenario_fault_text fault }
 {

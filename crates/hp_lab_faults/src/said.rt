@@ -1,22 +1,22 @@
-//! What a fault says between two texts.
+//! The middle piece of a fault's text.
 ghost use Rattle.std.specs.Prelude.{Some};
 
 use crate::fault::LabFault;
 use hp_units::LayoutFault;
 use std::fmt;
 
-/// What a fault says between two texts.
+/// The middle piece of a fault's text: what comes between two fixed texts.
 #[derive(Clone, Copy)]
 pub(crate) enum Said {
     /// Nothing.
     Nothing,
     /// A number.
     Number(u64),
-    /// Why a layout is none.
+    /// Why a layout is out of its limits.
     Layout(LayoutFault),
-    /// That the number of a line is past the last one.
+    /// A line number that is past the last line.
     Past { asked: u64, lines: u64 },
-    /// Why a scenario is not explored.
+    /// Why an exploration or a search failed.
     Lab(LabFault),
 }
 

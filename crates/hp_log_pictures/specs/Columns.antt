@@ -1,4 +1,4 @@
--- The events of a log in columns of equal numbers of events, of which each keeps the greatest count.
+-- The events of a log in columns of equal numbers of events; each keeps the greatest count.
 use Rattle.std.specs.Prelude.{ℕ, zero, suc, ◌+◌, ◌-◌, ◌*◌, ◌/◌, List, min, slice_index}
 
 pub record Sampled : Type 0 where
@@ -6,12 +6,12 @@ pub record Sampled : Type 0 where
   pub width : ℕ
   pub events : ℕ
   pub room : ℕ
-  -- what the last event left
+  -- the count that the last event left
   pub count : ℕ
   -- the greatest count of each column
   pub peaks : List ℕ
 
--- event number e, from 0, lies in column number e / width: the count of that column
+-- event e, counted from 0, lies in column e / width; the count of that column
 abbrev pub peak_at : Sampled → ℕ → ℕ
 peak_at s e = slice_index s.peaks (e / s.width)
 

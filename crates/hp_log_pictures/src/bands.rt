@@ -8,24 +8,24 @@ use hp_numbers::Block;
 use hp_verdicts::JudgedLog;
 use std::alloc::{AllocError, Global};
 
-/// The most memory blocks that have a band: the first ones that the log names.
+/// At most this many memory blocks have a band: the first that the log names.
 const MOST_BANDS: usize = 1024;
 
-/// The number of an event is below this.
+/// The numbers of events are below this.
 const EVENT_LIMIT: u64 = 1 << 63;
 
 /// The columns of a log's memory blocks.
 #[derive(Drop)]
 pub struct LogBands {
     alloc: Global,
-    /// In the order in which the log names the blocks.
+    /// The columns, in the order in which the log names the blocks.
     bands: Vec<Columns>,
-    /// By block, the place of its columns.
+    /// Per block, the index of its columns.
     places: Vec<Option<u32>>,
 }
 
 impl LogBands {
-    /// Makes the bands of a log of no events.
+    /// Makes the bands of an empty log.
     pub fn new(alloc: Global) -> LogBands {
         LogBands {
             alloc,
@@ -64,7 +64,7 @@ impl LogBands {
         }
     }
 
-    /// Goes on to the end of the log, in each band.
+    /// Extends each band to the end of the log.
     pub fn finish(&mut self, log: &JudgedLog) -> Result<(), AllocError> {
         let events = log.verdict().event_count();
         for columns in self.bands.iter_mut() {
@@ -75,7 +75,7 @@ impl LogBands {
 }
 
 impl LogBands {
-    /// Adds what the last event left of a memory block, if the log names it.
+    /// Adds the last event to a memory block's band, if the log names the block.
     fn add(&mut self, log: &JudgedLog, block: u32, ends: Marks) -> Result<(), AllocError> {
         let Some(count) = count_in_use(log, block) else {
             return Ok(());
@@ -92,7 +92,7 @@ impl LogBands {
         }
     }
 
-    /// Returns the place of a block's band, if it has one.
+    /// Returns the index of a block's band, if it has one.
     fn place(&self, block: u32) -> Option<u32> {
         match self.places.get(block as usize) {
             Some(place) => *place,
@@ -100,7 +100,7 @@ impl LogBands {
         }
     }
 
-    /// Makes the band of a block, if it has none and there is room.
+    /// Makes a block's band, if it has none and there is room.
     fn make_band(&mut self, block: u32) -> Result<(), AllocError> {
         if self.place(block).is_some() || self.bands.len() >= MOST_BANDS {
             return Ok(());
@@ -110,7 +110,7 @@ impl LogBands {
         self.set_place(block as usize, place)
     }
 
-    /// Notes the place of a block's band.
+    /// Stores the index of a block's band.
     fn set_place(&mut self, block: usize, place: u32) -> Result<(), AllocError> {
         if self.places.len() <= block {
             self.places.resize(block.saturating_add(1), None)?;
@@ -122,7 +122,7 @@ impl LogBands {
     }
 }
 
-/// Adds an event, unless it has been added: a move within a block names it twice.
+/// Adds an event, unless it is there already: a move within a block names the block twice.
 fn read_event(
     columns: &mut Columns,
     event: u64,
@@ -136,7 +136,7 @@ fn read_event(
     columns.read(event, count, state, ends)
 }
 
-/// Goes on to `events` events in all.
+/// Extends the columns to `events` events.
 fn extend(columns: &mut Columns, events: u64) -> Result<(), AllocError> {
     if columns.event_count() > events || events >= EVENT_LIMIT {
         return Ok(());

@@ -1,4 +1,4 @@
-//! A block's frames in use over a log, in a limited number of columns.
+//! A memory block's frames in use over a log, in a limited number of columns.
 ghost use Rattle.std.specs.Prelude.{◌≡◌, ℕ, ◌+◌, ◌/◌, ◌<◌, ◌≤◌, ◌^◌, [], OnOk, IfOk, length, slice_index};
 ghost use Rattle.hp_log_pictures.specs.Columns.{events_below, peak_at};
 
@@ -9,10 +9,10 @@ use std::marker::Model;
 /// The greatest number of columns.
 pub const MOST_COLUMNS: usize = 1024;
 
-/// A memory block's frames in use over a log, by columns of equal numbers of events.
+/// A memory block's frames in use over a log, in columns of equal numbers of events.
 ///
-/// A column keeps the greatest count of its events. If all columns are full, neighbours are joined:
-/// the memory does not depend on the length of the log.
+/// A column keeps the greatest count of its events. When all columns are full, neighbours are
+/// joined, so the memory does not depend on the length of the log.
 #[derive(Drop)]
 pub struct Columns {
     alloc: Global,
@@ -21,7 +21,7 @@ pub struct Columns {
     events: u64,
     /// How many more events the last column takes.
     room: u64,
-    /// What the last event left.
+    /// The count that the last event left.
     count: u32,
     state: Marks,
     peaks: Vec<u32>,
@@ -47,7 +47,7 @@ impl Model for Columns {
 }
 
 impl Columns {
-    /// Makes the columns of no events, of a block with no frames in use.
+    /// Makes the columns of an empty log, for a block with no frames in use.
     pub fn new(alloc: Global) -> Columns
         ensures { result ≡ record { width = 1; events = 0; room = 0; count = 0; peaks = [] } }
     {
@@ -63,17 +63,16 @@ impl Columns {
         }
     }
 
-    /// Returns how many events there are.
+    /// Returns how many events the columns have.
     pub fn event_count(&self) -> u64
         ensures events { result ≡ self.now.events }
-        // each event lies in one column
+        // Each event lies in one column.
         ensures covered { events_below self.now (length self.now.peaks) ≡ result }
     {
         self.events
     }
 
-    /// Returns how many events a full column has: the event with number e lies in column number e /
-    /// width.
+    /// Returns how many events a full column has: event e lies in column e / width.
     pub fn width(&self) -> u64
         ensures width { result ≡ self.now.width }
         ensures some { 0 < result }
@@ -93,9 +92,8 @@ impl Columns {
         self.marks.as_slice()
     }
 
-    /// Adds the event with a number, which leaves `count` frames in use, and `state` as it is from
-    /// then on; `ends` are marks of this event alone. The events since the last one that was added
-    /// changed nothing.
+    /// Adds event number `event`, which leaves `count` frames in use and the marks `state`; `ends`
+    /// are marks of this event only. The events since the last one that was added changed nothing.
     pub fn read(
         &mut self,
         event: u64,
@@ -107,7 +105,7 @@ impl Columns {
         requires small { event < 2 ^ 63 }
         ensures events { OnOk result (self.new.events ≡ event + 1) }
         ensures count { OnOk result (self.new.count ≡ count) }
-        // no column is lower than a count that one of its events left
+        // No column is lower than a count that one of its events left.
         ensures told { OnOk result (count ≤ peak_at self.new event) }
         ensures held { OnOk result ((e : ℕ) → self.old.events ≤ e → e < event
             → self.old.count ≤ peak_at self.new e) }
@@ -120,7 +118,7 @@ impl Columns {
         Ok(())
     }
 
-    /// Goes on to `events` events in all. Those that are new changed nothing.
+    /// Extends the columns to `events` events. The new ones changed nothing.
     pub fn extend(&mut self, events: u64) -> Result<(), AllocError>
         requires more { self.old.events ≤ events }
         requires small { events < 2 ^ 63 }
@@ -140,7 +138,7 @@ impl Columns {
 }
 
 impl Columns {
-    /// Notes what the events from now on leave.
+    /// Sets the count and the marks that events leave from now on.
     fn set(&mut self, count: u32, state: Marks)
         ensures { self.new ≡ record self.old { count = count } }
     {
@@ -160,7 +158,7 @@ impl Columns {
         self.state.with(ends)
     }
 
-    /// Adds at least one event and at most `most`, all in one column, that left the count as it is.
+    /// Adds at least one event and at most `most`, all to one column, that left the count as it is.
     fn add_some(&mut self, most: u64, ends: Marks) -> Result<(), AllocError>
         requires some { 0 < most }
         requires small { self.old.events + most ≤ 2 ^ 63 }
@@ -182,7 +180,7 @@ impl Columns {
         Ok(())
     }
 
-    /// Joins neighbours if there are as many columns as there may be.
+    /// Joins neighbours if the number of columns is at its limit.
     fn make_room(&mut self) -> Result<(), AllocError>
         requires full { self.old.room ≡ 0 }
         requires small { self.old.events < 2 ^ 63 }
@@ -229,7 +227,7 @@ impl Columns {
         self.room -= added;
     }
 
-    /// Adds a column with its first events, where the last one is full.
+    /// Adds a column with its first events, after one that is full.
     fn push_column(&mut self, most: u64, marks: Marks) -> Result<(), AllocError>
         requires some { 0 < most }
         requires full { self.old.room ≡ 0 }
@@ -251,7 +249,7 @@ impl Columns {
         Ok(())
     }
 
-    /// Joins neighbours, where all columns are full.
+    /// Joins neighbours when all columns are full.
     fn join(&mut self) -> Result<(), AllocError>
         requires full { self.old.room ≡ 0 }
         requires many { length self.old.peaks ≡ 1024 }
@@ -279,7 +277,7 @@ fn mark_last(columns: &mut Vec<Marks>, marks: Marks) {
     }
 }
 
-/// Returns the greatest count of each two neighbours.
+/// Returns the greater count of each two neighbours.
 fn joined_peaks(alloc: Global, peaks: &[u32]) -> Result<Vec<u32>, AllocError>
     requires { length peaks.now ≡ 1024 }
     ensures half { IfOk result (λ v. length v.items ≡ 512) }
@@ -302,7 +300,7 @@ fn joined_marks(alloc: Global, marks: &[Marks]) -> Result<Vec<Marks>, AllocError
     Ok(out)
 }
 
-/// Returns all marks of some columns.
+/// Returns the marks of all these columns.
 fn all_of(columns: &[Marks]) -> Marks {
     let mut all = Marks::none();
     for marks in columns {

@@ -1,4 +1,4 @@
-//! The picture of a log.
+//! Draws the picture of a log.
 ghost use Rattle.std.specs.Prelude.{◌<◌, ◌-◌, ◌^◌};
 
 use crate::bands::LogBands;
@@ -10,7 +10,7 @@ use hp_streams::{Failed, Sink, Source, write_all};
 use hp_verdicts::{JudgeFault, JudgeOptions, JudgedLog, LogReading};
 use std::alloc::{AllocError, Global};
 
-/// Where the first band lies, and how far the next one is from it.
+/// The y coordinate of the first band, and the distance from one band to the next.
 const TOP: u64 = 92;
 
 const PITCH: u64 = 24;
@@ -18,13 +18,13 @@ const PITCH: u64 = 24;
 /// The width of the picture.
 const WIDTH: u64 = 1216;
 
-/// The greatest number of ticks.
+/// There are at most this many steps between ticks.
 const TICKS: u64 = 10;
 
-/// Judges the log that `source` has, and writes a picture of it as SVG. Returns whether the log is
-/// lawful, but for allowed faults.
+/// Judges the log in `source`, and writes a picture of it as SVG to `sink`. Returns whether the log
+/// is lawful, apart from allowed faults.
 ///
-/// The log is read as it comes, so that it can be of any length. The picture is written at its end.
+/// Keeps no events, so the log can be of any length. Writes the picture at the log's end.
 pub fn draw_log<R: Source, W: Sink>(
     alloc: Global,
     form: LogForm,
@@ -44,7 +44,7 @@ pub fn draw_log<R: Source, W: Sink>(
     }
 }
 
-/// Reads a log to its end, and what it did to each block into `bands`.
+/// Reads a log to its end, and adds each event to `bands`.
 fn read_log<R: Source>(
     alloc: Global,
     form: LogForm,
@@ -102,7 +102,7 @@ fn most_in_use(log: &JudgedLog) -> u32 {
     most
 }
 
-/// Writes how a picture of this height begins.
+/// Writes the start of a picture of this height.
 fn write_front(out: &mut String, height: u64) -> Result<(), AllocError> {
     writeln!(
         out,
@@ -130,7 +130,7 @@ fn write_title(out: &mut String, log: &JudgedLog) -> Result<(), AllocError> {
     )
 }
 
-/// Writes what colours and signs mean.
+/// Writes what the colours and signs mean.
 fn write_legend(
     out: &mut String,
     alloc: Global,
@@ -150,21 +150,21 @@ fn write_legend(
     write_meaning(out, 420, End::OfflineFailed, "offline failed")
 }
 
-/// Writes a colour of the legend and its meaning.
+/// Writes a colour of the legend, and what it means.
 fn write_colour(out: &mut String, place: u32, fill: &str, meaning: &str) -> Result<(), AllocError> {
     let x = LEFT + place as u64;
     write_box(out, x, 31, 12, 10, fill)?;
     write_text(out, x + 18, 40, meaning)
 }
 
-/// Writes a sign of the legend and its meaning.
+/// Writes a sign of the legend, and what it means.
 fn write_meaning(out: &mut String, place: u32, end: End, meaning: &str) -> Result<(), AllocError> {
     let x = LEFT + place as u64;
     write_end(out, x + 6, 49, end)?;
     write_text(out, x + 18, 58, meaning)
 }
 
-/// Writes the numbers of events above the bands, and a line down from each.
+/// Writes the numbers of events above the bands, with a line down from each.
 fn write_ticks(out: &mut String, scale: &Scale, bottom: u64) -> Result<(), AllocError> {
     let step = tick_step(scale.events);
     writeln!(out, "<text x='72' y='82' text-anchor='end'>event</text>")?;
@@ -183,7 +183,7 @@ fn write_ticks(out: &mut String, scale: &Scale, bottom: u64) -> Result<(), Alloc
     Ok(())
 }
 
-/// Returns how many events lie between two ticks: 1, 2 or 5, and zeros.
+/// Returns how many events lie between two ticks: 1, 2 or 5, followed by zeros.
 fn tick_step(events: u64) -> u64 {
     let mut unit = 1u64;
     for _zeros in 0..20 {
@@ -198,7 +198,7 @@ fn tick_step(events: u64) -> u64 {
     unit
 }
 
-/// Writes the bands, by the numbers of their blocks.
+/// Writes the bands, in the order of their blocks.
 fn write_bands(
     out: &mut String,
     log: &JudgedLog,
@@ -218,7 +218,7 @@ fn write_bands(
     Ok(())
 }
 
-/// Writes the number of a band's block, and the most frames of it that were in use.
+/// Writes the number of a band's block, and the most frames that it had in use.
 fn write_names(out: &mut String, top: u64, block: u32, most: u32) -> Result<(), AllocError> {
     let y = top.saturating_add(14);
     let right = LEFT + PLOT + 8;

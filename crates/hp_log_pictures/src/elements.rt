@@ -23,7 +23,7 @@ impl End {
         }
     }
 
-    /// Returns the sign's colours: it is full if all went well.
+    /// Returns the sign's colours: it is filled if all went well.
     fn colours(self) -> &'static str {
         match self {
             End::OnlineOk | End::OfflineOk => "fill='#16a34a' stroke='#ffffff'",
@@ -53,7 +53,7 @@ pub(crate) fn write_box(
     )
 }
 
-/// Writes a text. It has no characters that XML escapes.
+/// Writes a text, which must have no characters that XML escapes.
 pub(crate) fn write_text(out: &mut String, x: u64, y: u64, text: &str) -> Result<(), AllocError> {
     writeln!(out, "<text x='{x}' y='{y}'>{text}</text>")
 }

@@ -1,9 +1,9 @@
-//! A log as one SVG picture: for each memory block a band with its frames in use, when it is going
-//! online or offline, and where that ended.
+//! A log as one SVG picture: a band per memory block, with its frames in use, the times when it is
+//! going online or offline, and the ends of these.
 //!
-//! The log is read as it comes. A picture keeps at most 1,024 columns of equal numbers of events for
-//! each block: `Columns` owns them, and it is proved that each event lies in one of them, and that
-//! no column is lower than a count of its events. The text of a picture is tested. hp_verdicts reads
+//! Reads the log as it comes: no event is kept. A picture has at most 1,024 columns per block, of
+//! equal numbers of events. `Columns` owns them: each event lies in one of them, and no column is
+//! lower than a count of its events (proved). The text of a picture is tested. hp_verdicts reads
 //! and judges. Read specs/Columns first.
 #![tactic(auto)]
 

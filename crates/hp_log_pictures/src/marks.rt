@@ -1,4 +1,4 @@
-//! What a column shows of a memory block beside its frames in use.
+//! The marks of a column: what it shows of a memory block besides its frames in use.
 
 use hp_judge::Phase;
 
@@ -9,7 +9,7 @@ pub struct Marks {
     pub going_online: bool,
     pub going_offline: bool,
     pub offline: bool,
-    /// Whether an online or an offline ended.
+    /// Whether an online or an offline ended, and how.
     pub online_ok: bool,
     pub online_failed: bool,
     pub offline_ok: bool,

@@ -6,7 +6,7 @@ use crate::elements::{End, IN_USE, write_box, write_end};
 use crate::marks::Marks;
 use std::alloc::AllocError;
 
-/// Where the first event lies, and how many pixels all events take.
+/// The x coordinate of the first event, and the width of all events.
 pub(crate) const LEFT: u64 = 80;
 
 pub(crate) const PLOT: u64 = 1024;
@@ -14,7 +14,7 @@ pub(crate) const PLOT: u64 = 1024;
 /// The height of a band.
 pub(crate) const BAND: u64 = 20;
 
-/// How many events a log has, and the greatest number of frames in use of a block.
+/// The scale of a picture: how many events a log has, and the most frames that a block has in use.
 #[derive(Clone, Copy, Drop)]
 pub(crate) struct Scale {
     pub events: u64,
@@ -22,18 +22,18 @@ pub(crate) struct Scale {
 }
 
 impl Scale {
-    /// Returns where an event lies.
+    /// Returns the x coordinate of an event.
     pub(crate) fn x_of(&self, event: u64) -> u64 {
         let right = event.saturating_mul(PLOT) / self.events.max(1);
         LEFT + right.min(PLOT)
     }
 
-    /// Returns where a column begins.
+    /// Returns the x coordinate of a column's left edge.
     fn column_at(&self, columns: &Columns, column: usize) -> u64 {
         self.x_of((column as u64).saturating_mul(columns.width()))
     }
 
-    /// Returns the height of a count: at least a pixel unless it is 0.
+    /// Returns the height of a count: at least one pixel, unless the count is 0.
     fn height_of(&self, count: u32) -> u64
         ensures { result ≤ 20 }
     {
@@ -42,7 +42,7 @@ impl Scale {
     }
 }
 
-/// What a band is shaded for.
+/// What the shade of a band shows.
 #[derive(Clone, Copy, Drop)]
 pub(crate) enum Shade {
     GoingOnline,
@@ -111,7 +111,7 @@ fn write_shade(
     }
 }
 
-/// Writes the rectangle of a run: it is at least a pixel wide.
+/// Writes the rectangle of a run, at least one pixel wide.
 fn write_run(
     out: &mut String,
     from: u64,
@@ -148,8 +148,8 @@ fn write_peaks(
     writeln!(out, "H{right}V{base}Z' fill='{IN_USE}'/>")
 }
 
-/// Writes a sign in each column in which an online or an offline ended: above those that went well,
-/// below those that failed.
+/// Writes a sign in each column in which an online or an offline ended. Those that went well are
+/// above those that failed.
 fn write_ends(
     out: &mut String,
     scale: &Scale,

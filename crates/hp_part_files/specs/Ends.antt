@@ -5,12 +5,12 @@ use Rattle.hp_explore.specs.Paths.{PathValue}
 use Rattle.hp_schedules.specs.Schedules.{Setting, plays, schedule_of}
 use Rattle.hp_schedules.specs.Parts.{EndsInPart, PartValue}
 
--- it is complete with this outcome; or it is no complete schedule of the part
+-- the schedule is complete with this outcome; or it is not a complete schedule of the part
 abbrev pub IsEndOf : Setting → PartValue → (schedule : List ℕ) → Option OutcomeValue → Type 0
 IsEndOf g part schedule None = (x : OutcomeValue) → EndsInPart g part schedule x → ⊥
 IsEndOf g part schedule (Some x) = EndsInPart g part schedule x
 
--- it led to a path; or one of its processors has no call to make in its turn
+-- the schedule led to the path; or one of its processors has no call to make in its turn
 abbrev pub IsFollowed : Setting → (schedule : List ℕ) → (led : Bool) → PathValue → Type 0
 IsFollowed g schedule true path = (path.setting ≡ g) × (schedule_of path.news ≡ schedule)
 IsFollowed g schedule false path = plays g schedule ≡ None

@@ -1,4 +1,4 @@
--- Why parts have no sum: each fault only where it has this cause.
+-- Why parts cannot be added up: each fault comes only from its cause.
 use Rattle.std.specs.Prelude.{◌≡◌, ◌⊎◌, ℕ, ◌+◌, ◌<◌, ◌≤◌, ◌^◌, List, length, take}
 use Rattle.hp_schedules.specs.declared.tally.Ending.{Ending}
 use Rattle.hp_schedules.specs.Outcomes.{OutcomeValue}
@@ -40,29 +40,29 @@ fault_of_line Stopped line = part.Stopped line
 fault_of_line (OtherCount number) line = part.OtherCount number
 fault_of_line (Lab fault) line = part.Lab fault
 
--- the head of a part of the search, which names so many ends
+-- the head of part `number` of the search, which names `ends` ends
 abbrev pub IsOwnHead : SearchValue → (text : List ℕ) → (number ends : ℕ) → Type 0
 IsOwnHead s text number ends = IsNumber s number × (text ≡ head_line s number ends)
 
--- a head, and not that of a part of the search
+-- a head, but not of a part of the search
 abbrev pub IsOtherHead : SearchValue → (text : List ℕ) → Type 0
 IsOtherHead s text =
     (number : ℕ) × (ends : ℕ) × IsLine text (Head number ends) × (IsOwnHead s text number ends → ⊥)
 
--- the head of a part of the search, and the part before it has another number of ends than its own
--- head names
+-- a head of the search's next part, while the part before it has another number of ends than its
+-- own head names
 abbrev pub IsAfterOther : SearchValue → GatheringValue → (text : List ℕ) → (before : ℕ) → Type 0
 IsAfterOther s v text before =
     IsLastOther v before × (number : ℕ) × (ends : ℕ) × IsOwnHead s text number ends
 
--- an end whose schedule is no complete one of the part
+-- an end whose schedule is not a complete one of the part
 pub record IsOfNoPart (g : Setting) (s : SearchValue) (v : GatheringValue) (text : List ℕ) : Type 0 where
   pub count : ℕ
   pub schedule : Vec ℕ
   pub line : IsLine text (End count schedule)
   pub none : (x : OutcomeValue) → EndsInPart g (part_in s v.last.number) schedule.items x → ⊥
 
--- an end that is not written so
+-- an end's line that the search does not write so
 pub record IsChanged (names : List (List ℕ)) (g : Setting) (s : SearchValue) (v : GatheringValue)
     (text : List ℕ) : Type 0 where
   pub end : Ending
@@ -70,18 +70,18 @@ pub record IsChanged (names : List (List ℕ)) (g : Setting) (s : SearchValue) (
   pub own : EndsInPart g (part_in s v.last.number) end.first.items end.outcome
   pub other : text ≡ end_line names g (length v.last.ends + 1) end → ⊥
 
--- the cause of a fault of playing a schedule: the history has no room for a call of this very schedule
+-- why playing a schedule fails: the history has no room for a call of this very schedule
 abbrev pub IsCauseAlong : (schedule : List ℕ) → Setting → ExploreFault → Type 0
 IsCauseAlong schedule g explore.HistoryFull = FillsAlong g schedule
 IsCauseAlong schedule g explore.OutOfMemory = Unit {0}
 
--- and of playing the schedule that an end's line names
+-- why playing the schedule of an end's line fails
 abbrev pub IsCauseIn : (text : List ℕ) → Setting → ExploreFault → Type 0
 IsCauseIn text g explore.HistoryFull =
     (count : ℕ) × (schedule : Vec ℕ) × IsLine text (End count schedule) × FillsAlong g schedule.items
 IsCauseIn text g explore.OutOfMemory = Unit {0}
 
--- a schedule is not played
+-- a schedule could not be played
 abbrev pub IsUnplayed : Setting → (schedule : List ℕ) → LineFault → Type 0
 IsUnplayed g schedule fault = (why : LabFault) × (fault ≡ Lab why) × IsUntold (IsCauseAlong schedule) g why
 
@@ -92,7 +92,7 @@ IsUnpushed names g v text end Changed = text ≡ end_line names g (length v.last
 IsUnpushed names g v text end (Lab fault) = fault ≡ OutOfMemory
 IsUnpushed names g v text end fault = ⊥
 
--- why a line is not taken after the lines before it
+-- why a line is refused after the lines before it
 abbrev pub IsLineFault : (names : List (List ℕ)) → Setting → SearchValue → GatheringValue → (text : List ℕ)
     → LineFault → Type 0
 IsLineFault names g s v text NotPart = IsLine text Other
@@ -116,14 +116,14 @@ IsMisplaced parts of fault = (why : OrderFault) × (fault ≡ fault_of_order why
 
 -- ---- the whole
 
--- why the parts after a first head have no sum: a line, where each line before it is taken
+-- a line after the first head is refused, and each line before it is taken
 abbrev pub IsUnread : (input : List ℕ) → (names : List (List ℕ)) → Setting → SearchValue → PartFault → Type 0
 IsUnread input names g s fault =
     (place : ℕ) × (text : List ℕ) × (v : GatheringValue) × (cause : LineFault)
     × (fault ≡ fault_of_line cause (line_number input place)) × IsLineAt input place text
     × IsGathering names g s (take place input) v × IsLineFault names g s v text cause
 
--- a last line without a newline, after lines that are taken
+-- the last line has no newline, and the lines before it are taken
 abbrev pub IsUnended : (input : List ℕ) → (names : List (List ℕ)) → Setting → SearchValue → PartFault
     → Type 0
 IsUnended input names g s fault =
@@ -138,13 +138,13 @@ IsLastCut input names g s fault =
     (number : ℕ) × (v : GatheringValue) × (fault ≡ part.OtherCount number) × IsGathering names g s input v
     × IsLastOther v number
 
--- the counts of all parts add up to too much
+-- the counts of all parts add up to 2^64 or more
 abbrev pub IsTooMany : List (List Ending) → PartFault → Type 0
 IsTooMany lists part.TooMany = 2 ^ 64 ≤ counted_by lists
 IsTooMany lists (part.Lab fault) = fault ≡ OutOfMemory
 IsTooMany lists fault = ⊥
 
--- the parts of a text are not all there once, or there are too many interleavings
+-- the parts are not all there once, or there are too many interleavings
 pub record IsUnsummed (input : List ℕ) (names : List (List ℕ)) (g : Setting) (s : SearchValue)
     (fault : PartFault) : Type 0 where
   pub parts : List PartEndsValue
@@ -152,7 +152,7 @@ pub record IsUnsummed (input : List ℕ) (names : List (List ℕ)) (g : Setting)
   pub cause : IsMisplaced parts s.of fault
       ⊎ ((lists : List (List Ending)) × AreAll parts s.of lists × IsTooMany lists fault)
 
--- after a first head, the parts of a search of a scenario that was made ready have no sum
+-- why parts of a prepared scenario cannot be added up, after a first head
 abbrev pub IsUntoldSum : (input : List ℕ) → (names : List (List ℕ)) → Setting → SearchValue → PartFault
     → Type 0
 IsUntoldSum input names g s fault =
@@ -161,7 +161,7 @@ IsUntoldSum input names g s fault =
     ⊎ (IsUnended input names g s fault
     ⊎ (IsLastCut input names g s fault ⊎ IsUnsummed input names g s fault)))
 
--- the scenario is not made ready, or the parts have no sum after it is
+-- the scenario cannot be made ready, or its parts cannot be added up
 abbrev pub IsUnsummedIn : (input : List ℕ) → SearchValue → PartFault → Type 0
 IsUnsummedIn input s fault =
     ((why : LabFault) × (fault ≡ part.Lab why) × IsUnprepared s.scenario s.setup why)
@@ -171,7 +171,7 @@ IsUnsummedIn input s fault =
 abbrev pub BeginsWith : (input : List ℕ) → HeadValue → Type 0
 BeginsWith input h = (text : List ℕ) × IsLineAt input 0 text × IsHead text h
 
--- it has no line, or its first line is no head
+-- the text has no line, or its first line is not a head
 abbrev pub BeginsWithNone : (input : List ℕ) → Type 0
 BeginsWithNone input =
     HasNoNewline input 0

@@ -1,4 +1,4 @@
--- The parts that a text has: that it is theirs, and that their ends are their own.
+-- The parts in a text: the text is that of the parts, and their ends belong to them.
 use Rattle.std.specs.Prelude.{◌≡◌, ℕ, ◌≤◌, List, ◌++◌, length}
 use Rattle.std.specs.List.{All, flat_map}
 use Rattle.hp_schedules.specs.Schedules.{Setting}
@@ -7,7 +7,7 @@ use Rattle.hp_part_lines.specs.Gathering.{GatheringValue, PartEndsValue}
 use Rattle.hp_part_lines.specs.Heads.{SearchValue, part_in}
 use Rattle.hp_part_files.specs.Texts.{begun_lines, part_lines}
 
--- there is such a part, and each of its ends is that of the end's first schedule, which is complete
+-- the search has the part, and each of its ends is that of its first schedule, which is complete
 -- and the part's
 pub record IsOwn (g : Setting) (s : SearchValue) (p : PartEndsValue) : Type 0 where
   pub some : 1 ≤ p.number
@@ -21,18 +21,18 @@ AreOwn g s parts = All (IsOwn g s) parts
 abbrev pub lines_of : (names : List (List ℕ)) → Setting → SearchValue → List PartEndsValue → List ℕ
 lines_of names g s parts = flat_map (λ p. part_lines names g s p.number p.ends) parts
 
--- so far the text is that of parts
+-- the text so far is that of these parts
 pub record IsGathering (names : List (List ℕ)) (g : Setting) (s : SearchValue) (text : List ℕ)
     (v : GatheringValue) : Type 0 where
   pub is : text ≡ lines_of names g s v.done ++ begun_lines names g s v.last.number v.named v.last.ends
   pub done : AreOwn g s v.done
   pub last : IsOwn g s v.last
 
--- the last part, which has this number, has another number of ends than its head names
+-- the last part, `number`, has another number of ends than its head names
 abbrev pub IsLastOther : GatheringValue → (number : ℕ) → Type 0
 IsLastOther v number = (number ≡ v.last.number) × (v.named ≡ length v.last.ends → ⊥)
 
--- all of the text is that of parts
+-- the whole text is that of these parts
 pub record IsGathered (names : List (List ℕ)) (g : Setting) (s : SearchValue) (text : List ℕ)
     (parts : List PartEndsValue) : Type 0 where
   pub is : text ≡ lines_of names g s parts

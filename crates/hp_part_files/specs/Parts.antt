@@ -1,4 +1,4 @@
--- What is promised of the search of one part.
+-- What the search of one part promises.
 use Rattle.std.specs.Prelude.{◌≡◌, ℕ, ◌-◌, ◌*◌, ◌<◌, ◌≤◌, ◌^◌, Bool, List, Option, Some, None, length, sum_by}
 use Rattle.std.specs.Option.{is_none}
 use Rattle.hp_explore.specs.declared.exploring.Exploration.{Exploration}
@@ -21,8 +21,8 @@ use Rattle.hp_schedules.specs.PartNumbers.{NumberValue, part_by}
 use Rattle.hp_part_lines.specs.Heads.{SearchValue}
 use Rattle.hp_part_files.specs.Texts.{part_text}
 
--- the ends are those of all complete schedules of a part, which are no more than the limit, and none
--- of which fills the history; or of its first ones, which are as many as the limit, and it has more
+-- the ends are those of all complete schedules of the part, at most `limit`, and none fills the
+-- history; or there are more, and the ends are those of the first `limit`
 abbrev pub ArePartEnds : Setting → PartValue → (limit : ℕ) → List Ending → Option HowMany → Type 0
 ArePartEnds g part limit ends None =
     AreCounted (EndsInPart g part) ends × (HasMoreThan (IsCompleteInPart g part) limit → ⊥)
@@ -31,20 +31,20 @@ ArePartEnds g part limit ends (Some known) =
     AreFirstInPart g part limit ends × HasMoreThan (IsCompleteInPart g part) limit
     × IsKnown g.scripts (2 ^ 64 - 1) known
 
--- by how many first calls so many parts go (hp_parts): the fewest with at least 64 schedules for each,
--- where no script ends before them
+-- how many first calls decide a part (hp_parts): the fewest with at least 64 schedules per part, if
+-- no script ends before them
 pub record IsCallsFor (processors parts calls : ℕ) : Type 0 where
   pub one : parts < 2 → calls ≡ 0
   pub alone : processors < 2 → calls ≡ 0
   pub enough : 2 ≤ parts → 2 ≤ processors → 64 * parts ≤ processors ^ calls
   pub fewest : (d : ℕ) → d < calls → processors ^ d < 64 * parts
 
--- the search that parts are parts of
+-- the search that the part belongs to
 abbrev pub search_of : NumberValue → (calls setup : ℕ) → (scenario : List ℕ) → SearchValue
 search_of n calls setup scenario =
     record { of = n.of; calls = calls; setup = setup; scenario = scenario }
 
--- the text is that of the ends of a part, in the order of their first schedules
+-- the text has the ends of a part, in the order of their first schedules
 pub record IsPartOn (n : NumberValue) (setup : ℕ) (scenario : List ℕ) (limit : ℕ) (text : List ℕ)
     (found : Bool) (names : List (List ℕ)) (g : Setting) : Type 0 where
   pub calls : ℕ
@@ -57,7 +57,7 @@ pub record IsPartOn (n : NumberValue) (setup : ℕ) (scenario : List ℕ) (limit
   pub told : text ≡ part_text names g (search_of n calls setup scenario) n.number ends more
   pub is_found : found ≡ is_none more
 
--- an exploration of a part told
+-- the text of a part's exploration
 abbrev pub IsToldPart : (names : List (List ℕ)) → Setting → SearchValue → (number : ℕ) → Exploration
     → (text : List ℕ) → (found : Bool) → Type 0
 IsToldPart names g s number x text found =
@@ -69,18 +69,18 @@ abbrev pub FillsPartOf : NumberValue → (limit : ℕ) → Setting → Type 0
 FillsPartOf n limit g =
     (calls : ℕ) × IsCallsFor (length g.scripts) n.of calls × FillsPartWithin g (part_by n calls) limit
 
--- why a part is not told
+-- why the search of a part fails
 abbrev pub IsPartCause : NumberValue → (limit : ℕ) → Setting → ExploreFault → Type 0
 IsPartCause n limit g explore.HistoryFull = FillsPartOf n limit g
 IsPartCause n limit g explore.OutOfMemory = Unit {0}
 
--- in a scenario
+-- the text is that of a part of the scenario
 abbrev pub IsPartOf : NumberValue → (input : List ℕ) → (setup limit : ℕ) → (text : List ℕ) → (found : Bool)
     → Type 0
 IsPartOf n input setup limit text found =
     HoldsIn (λ names before g. IsPartOn n setup input limit text found names g) input setup
 
--- and of a full history there is said that a schedule of the part fills it, within the limit
+-- if the history is full, a schedule of the part fills it, within the limit
 abbrev pub IsFullPart : NumberValue → (input : List ℕ) → (setup limit : ℕ) → LabFault → Type 0
 IsFullPart n input setup limit (HistoryFull needed) =
     InScenario input (IsStoppedAfter (FillsPartOf n limit) setup)

@@ -1,4 +1,4 @@
--- What is promised of the sum of parts.
+-- What the sum of parts promises.
 use Rattle.std.specs.Prelude.{◌≡◌, ℕ, ◌<◌, Bool, List, None, length, sum_by}
 use Rattle.hp_schedules.specs.declared.tally.Ending.{Ending}
 use Rattle.hp_schedules.specs.Ends.{AreEnds, AreInOrder}
@@ -15,9 +15,9 @@ use Rattle.hp_part_lines.specs.Heads.{HeadValue, SearchValue}
 use Rattle.hp_part_files.specs.Faults.{BeginsWith}
 use Rattle.hp_part_files.specs.Gathered.{IsGathered}
 
--- what adding ends up promises (hp_parts): where the lists are those of all parts of a search, the ends
--- are those of the whole, in the order of their first schedules; and whatever they are, the ends are
--- the lists' added up and sorted, no two have the same outcome, and the counts add up
+-- the ends are sorted, with the lists' counts added up and no outcome twice; if the lists are all
+-- parts of a search, the ends are those of the whole, in the order of their first schedules
+-- (hp_parts)
 pub record IsSum (lists : List (List Ending)) (ends : List Ending) : Type 0 where
   pub are : (g : Setting) (calls : ℕ) → 0 < length lists → AreParts g calls lists → AreEnds g ends
   pub ordered : (g : Setting) (calls : ℕ) → 0 < length lists → AreParts g calls lists → AreInOrder ends
@@ -25,9 +25,9 @@ pub record IsSum (lists : List (List Ending)) (ends : List Ending) : Type 0 wher
   pub apart : AreApart ends
   pub total : sum_by (λ e. e.count) ends ≡ counted_by lists
 
--- the input is, byte for byte, the text of parts as their search writes them, each end with the outcome
--- of its own schedule, which is complete and its part's; each part is there once; and the text is
--- that of the sum of their ends
+-- the input is, byte for byte, what the search writes for its parts, each there once, and each end
+-- has the outcome of its own schedule, which is complete and the part's; the text has the sum of
+-- their ends
 pub record IsSumOn (form : EndsForm) (input : List ℕ) (s : SearchValue) (text : List ℕ) (found : Bool)
     (names : List (List ℕ)) (before : List Line) (g : Setting) : Type 0 where
   pub parts : List PartEndsValue
@@ -38,7 +38,7 @@ pub record IsSumOn (form : EndsForm) (input : List ℕ) (s : SearchValue) (text 
   pub sum : IsSum lists ends
   pub told : AreEndsTold form names before g ends None text found
 
--- of the scenario that the first head names
+-- the same for the scenario that the first head names
 abbrev pub IsSumOf : EndsForm → (input text : List ℕ) → (found : Bool) → Type 0
 IsSumOf form input text found =
     (h : HeadValue) × BeginsWith input h

@@ -8,14 +8,14 @@ use Rattle.hp_part_lines.specs.Heads.{HeadValue, SearchValue}
 use Rattle.hp_part_files.specs.Gathered.{IsGathering}
 use Rattle.hp_part_files.specs.Texts.{end_line}
 
--- a line was taken after the lines before it, and a newline
+-- a line and its newline were taken after the lines before it
 abbrev pub IsTaken : (names : List (List ℕ)) → Setting → SearchValue → (old : GatheringValue)
     → (text : List ℕ) → (new : GatheringValue) → Type 0
 IsTaken names g s old text new =
     (front : List ℕ) → IsGathering names g s front old
     → IsGathering names g s (front ++ (text ++ newline)) new
 
--- an end was added to the last part, of which the text is the line
+-- an end was added to the last part, and the text is its line
 pub record IsPushed (names : List (List ℕ)) (g : Setting) (old : GatheringValue) (text : List ℕ)
     (end : Ending) (new : GatheringValue) : Type 0 where
   pub line : text ≡ end_line names g (length old.last.ends + 1) end
@@ -26,7 +26,7 @@ pub record IsPushed (names : List (List ℕ)) (g : Setting) (old : GatheringValu
         named = old.named;
       }
 
--- so many bytes are the head of a part
+-- the first `start` bytes are the head of a part
 abbrev pub HasRead : (names : List (List ℕ)) → Setting → HeadValue → (input : List ℕ) → (start : ℕ) → Type 0
 HasRead names g h input start =
     (start ≤ length input)

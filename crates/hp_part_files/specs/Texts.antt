@@ -1,4 +1,4 @@
--- How a part is written: JSON, an object a line (own rule).
+-- The text of a part: JSON, one object per line.
 use Rattle.std.specs.Prelude.{ℕ, ◌+◌, List, [], ◌∷◌, ◌++◌, length, Option, sum_by}
 use Rattle.hp_text.specs.State.{newline}
 use Rattle.hp_schedules.specs.declared.multinomials.HowMany.{HowMany}
@@ -11,11 +11,11 @@ use Rattle.hp_part_lines.specs.Processors.{processor_list}
 
 -- ---- an end
 
--- that with a number: as an exploration writes it, and then its first schedule
+-- the line of end `number`: the object that an exploration writes, with its first schedule
 abbrev pub end_line : (names : List (List ℕ)) → Setting → (number : ℕ) → Ending → List ℕ
 end_line names g number e = end_keys names g number e ++ processor_list e.first.items
 
--- each in a line, numbered from this number on
+-- one line per end, numbered from `number`
 abbrev pub end_lines : (names : List (List ℕ)) → Setting → (number : ℕ) → List Ending → List ℕ
 end_lines names g number [] = []
 end_lines names g number (e ∷ ends) =
@@ -23,16 +23,16 @@ end_lines names g number (e ∷ ends) =
 
 -- ---- a part
 
--- its head, which names so many ends, and ends
+-- a part's head, which names `named` ends, and the ends so far
 abbrev pub begun_lines : (names : List (List ℕ)) → Setting → SearchValue → (number named : ℕ) → List Ending
     → List ℕ
 begun_lines names g s number named ends = head_line s number named ++ newline ++ end_lines names g 1 ends
 
--- its head, and as many ends as that names
+-- a part's head and all its ends
 abbrev pub part_lines : (names : List (List ℕ)) → Setting → SearchValue → (number : ℕ) → List Ending → List ℕ
 part_lines names g s number ends = begun_lines names g s number (length ends) ends
 
--- and how many interleavings were counted, where not all of them were
+-- a part, and how many interleavings were counted if not all were
 abbrev pub part_text : (names : List (List ℕ)) → Setting → SearchValue → (number : ℕ) → List Ending
     → Option HowMany → List ℕ
 part_text names g s number ends more =

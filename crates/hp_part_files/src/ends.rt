@@ -1,4 +1,4 @@
-//! How one schedule ends.
+//! How one schedule of a part ends.
 ghost use Rattle.std.specs.Prelude.{◌≡◌, ◌^◌, ◌<◌, [], IfErr, IfOk, length};
 ghost use Rattle.hp_explore.specs.Faults.{FillsAlong, IsCause};
 ghost use Rattle.hp_schedules.specs.Schedules.{schedule_of};
@@ -12,9 +12,10 @@ use hp_schedules::{Outcome, Part, Script};
 use hp_units::Cpu;
 use std::alloc::{AllocError, Global};
 
-/// How a schedule of a part of a search ends, where each processor has a script, from 0 on, and the
-/// calls are made on a machine from where it is; none where it is no complete schedule of the part. An
-/// error is `HistoryFull` where the layout's history has no room for one of this schedule's calls, or
+/// Returns how a schedule of `part` ends, or `None` if it is not a complete schedule of the part.
+/// Its calls start from the state of `machine`; script k is processor k's.
+///
+/// Errors: `HistoryFull` if the layout's history has no room for one of the schedule's calls;
 /// `OutOfMemory`.
 pub(crate) fn end_of(
     alloc: Global,
@@ -38,8 +39,8 @@ pub(crate) fn end_of(
     Ok(outcome)
 }
 
-/// Makes the calls of a schedule from where the scripts begin, and says whether each of its processors
-/// had a call to make in its turn. An error is as that of a call.
+/// Makes the calls of a schedule. Returns whether each of its processors had a call to make in its
+/// turn.
 fn follow(alloc: Global, path: &mut Path<'_>, schedule: &[Cpu]) -> Result<bool, ExploreFault>
     requires { path.old.news ≡ [] }
     ensures ok { IfOk result (λ led. IsFollowed path.old.setting schedule.now led path.new) }
@@ -55,8 +56,8 @@ fn follow(alloc: Global, path: &mut Path<'_>, schedule: &[Cpu]) -> Result<bool, 
     Ok(true)
 }
 
-/// How the schedule ends that led to a path, for so many processors; none where it is no complete
-/// schedule of the part. An error is out of memory.
+/// Returns how the schedule that led to `path` ends, or `None` if it is not a complete schedule of
+/// the part. `processors` is the number of scripts.
 fn end_at(
     alloc: Global,
     path: &Path<'_>,

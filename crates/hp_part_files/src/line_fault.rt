@@ -1,31 +1,31 @@
-//! Why a line is none of a part.
+//! Why a line of a part's file is refused.
 ghost use Rattle.std.specs.Prelude.{◌≡◌};
 ghost use Rattle.hp_part_files.specs.Faults.{fault_of_line};
 
 use hp_lab_faults::{LabFault, PartFault};
 use std::alloc::AllocError;
 
-/// Why a line is not taken after the lines before it.
+/// Why a line is refused after the lines before it.
 #[derive(Drop)]
 pub(crate) enum LineFault {
-    /// It is no line of a part.
+    /// It is not a line of a part.
     NotPart,
-    /// It is a head, and not that of a part of the search.
+    /// It is a head, but not of a part of this search.
     OtherSearch,
-    /// Its processors are no complete interleaving of its part.
+    /// Its processors are not a complete interleaving of its part.
     NotOfPart,
-    /// It is not what the search writes of its interleaving.
+    /// It is not what the search writes for its interleaving.
     Changed,
     /// The part stopped at its limit.
     Stopped,
     /// It begins a part, and the part before it has another number of ends than its head names.
     OtherCount { part: u32 },
-    /// Its interleaving is not played.
+    /// Its interleaving could not be played.
     Lab(LabFault),
 }
 
 impl LineFault {
-    /// The same of the line with this number, from 1 on.
+    /// Returns this fault for the line with the number `line`, counted from 1.
     pub(crate) fn of_line(self, line: u64) -> PartFault
         ensures { result ≡ fault_of_line self line }
     {

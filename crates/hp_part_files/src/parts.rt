@@ -1,4 +1,4 @@
-//! A search of one part.
+//! Searches one part of a scenario.
 ghost use Rattle.std.specs.Prelude.{◌≡◌, ◌^◌, ◌<◌, IfErr, IfOk, length, string_bytes};
 ghost use Rattle.hp_explore.specs.Faults.{IsCause};
 ghost use Rattle.hp_prepared.specs.Faults.{IsFaultOf};
@@ -16,17 +16,19 @@ use hp_schedules::{PartNumber, total_of};
 use simdutf8::basic::from_utf8;
 use std::alloc::Global;
 
-/// The search of one part of all interleavings of the scenario that the bytes are, as `explore_text`
-/// searches all of them: JSON, an object a line. The head says which part it is of what search; then
-/// each end that an interleaving of the part leads to has a line, as `explore_text` writes it as an
-/// object, with the processors of the first one's calls. A part without interleavings is its head
-/// alone. Where the part has more interleavings than the limit, its ends are those of the first ones,
-/// a last object says so, and nothing is found (own rule).
+/// Searches one part of all interleavings of the scenario in `input`, as `explore_text` searches
+/// all of them. The text is JSON, one object per line: the head, which names the search and the
+/// part; then each end that an interleaving of the part leads to, as `explore_text` writes it as an
+/// object, with the processors of the first one's calls. A part without interleavings has only its
+/// head.
 ///
-/// The watch is told while the search runs how many interleavings are counted so far.
+/// If the part has more interleavings than `limit`, its ends are those of the first `limit`, a last
+/// object reports that, and nothing is found.
 ///
-/// Errors: those of `explore_text`; HistoryFull where the history has no room for a call to which this
-/// part's search comes, before it comes to more interleavings than the limit.
+/// While the search runs, `watch` gets the number of interleavings counted so far.
+///
+/// Errors: those of `explore_text`, but `HistoryFull` only if the history has no room for a call
+/// that this part's search makes before it has counted more interleavings than the limit.
 pub fn part_text<W: Watch>(
     alloc: Global,
     input: &[u8],
@@ -50,7 +52,7 @@ pub fn part_text<W: Watch>(
     }
 }
 
-/// The search of one part of a scenario, by its text, that was made ready.
+/// Searches one part of a prepared scenario, whose text is `scenario`.
 fn part_on<W: Watch>(
     alloc: Global,
     prepared: &Prepared,
@@ -74,14 +76,14 @@ fn part_on<W: Watch>(
         setup: prepared.setup,
         scenario,
     };
-    // The search has made the calls of each first interleaving, so that only memory can be lacking.
+    // The search has made the calls of each first interleaving, so only memory can run out.
     let Ok(finding) = told(alloc, prepared, &search, number.number(), &explored) else {
         return Err(ExploreFault::OutOfMemory);
     };
     Ok(finding)
 }
 
-/// The text of a part's exploration.
+/// Returns the text of a part's exploration.
 fn told(
     alloc: Global,
     prepared: &Prepared,

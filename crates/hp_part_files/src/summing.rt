@@ -1,4 +1,4 @@
-//! The sum of parts.
+//! Adds up the parts of a search.
 ghost use Rattle.std.specs.Prelude.{◌≡◌, ◌+◌, ◌^◌, ◌<◌, IfErr, IfOk, Some, length, string_bytes};
 ghost use Rattle.serde_json.specs.View.{view};
 ghost use Rattle.hp_scenario.specs.Scenario.{json_of};
@@ -26,20 +26,22 @@ use hp_schedules::Ending;
 use serde_json::Value;
 use std::alloc::Global;
 
-/// The whole exploration that parts add up to, as `explore_text` tells it. The bytes are the text of
-/// all parts of one search, as `part_text` writes them, one after another in any order; the scenario
-/// is the one that the heads name. Of each end the count and the schedule are taken, and the schedule
-/// is played again on the scenario: so a line that does not say what its own schedule leads to is found
-/// out, and a count that was changed is not (own rule). With a limit in place of the parts' own,
-/// `explore_text` says the same of the scenario; that reading takes what `part_text` writes is tested,
-/// and not proved.
+/// Adds up the parts of a search, and returns the text of the whole exploration as `explore_text`
+/// does. `input` has the texts of all parts of one search, as `part_text` writes them, one after
+/// another in any order; the scenario is the one that the heads name.
 ///
-/// Errors: that of the first line that is none of a part, is changed, begins a part of another search,
-/// or says that a part stopped at its limit; OtherCount with the number of a part, counted from 1, that
-/// has fewer ends than its head names, or more; Twice or Missing with the first number that is so;
-/// TooMany where there are 2^64 interleavings or more; HistoryFull where the history has no room for a
-/// call of the schedule in the first line at fault; those of reading the scenario, and NotForScript, as
-/// `explore_text` has them; OutOfMemory, which may come in place of any answer.
+/// Takes the count and the schedule of each end, and plays the schedule again on the scenario. So
+/// it finds a line that does not match its own schedule, but not a count that was changed.
+/// `explore_text` returns the same text if its limit allows for all interleavings. That `sum_text`
+/// accepts whatever `part_text` writes is tested, not proved.
+///
+/// Errors: that of the first line that belongs to no part, was changed, begins a part of another
+/// search, or reports that a part stopped at its limit; `OtherCount` with the number, from 1, of a
+/// part that has fewer or more ends than its head names; `Twice` or `Missing` with the first number
+/// that comes twice or is missing; `TooMany` if there are 2^64 interleavings or more; `HistoryFull`
+/// if the history has no room for a call of the schedule in the first line at fault; those of
+/// reading the scenario, and `NotForScript`, as for `explore_text`; `OutOfMemory`, which may come
+/// in place of any other result.
 pub fn sum_text(alloc: Global, input: &[u8], form: EndsForm) -> Result<Finding, PartFault>
     ensures ok { IfOk result (λ f. IsSumOf form input.now (string_bytes f.text) f.is_found) }
     ensures err { IfErr result (IsSumFault input.now) }
@@ -53,7 +55,7 @@ pub fn sum_text(alloc: Global, input: &[u8], form: EndsForm) -> Result<Finding, 
     sum_of(alloc, input, text, &value, form)
 }
 
-/// The sum of parts, where the first line is the text that a value is read from.
+/// Adds up the parts. `text` is the first line, and `value` its JSON.
 fn sum_of(
     alloc: Global,
     input: &[u8],
@@ -75,7 +77,7 @@ fn sum_of(
     sum_after(alloc, input, &head, text.len() + 1, form)
 }
 
-/// The sum of the parts of a search, where so many bytes are the head of the first.
+/// Adds up the parts of a search. The first head takes `start` bytes.
 fn sum_after(
     alloc: Global,
     input: &[u8],
@@ -95,8 +97,7 @@ fn sum_after(
     sum_on(alloc, input, &prepared, head, start, form)
 }
 
-/// The sum of parts of a search of a scenario that was made ready, where so many bytes are the head of
-/// the first.
+/// Adds up the parts of a search of a prepared scenario. The first head takes `start` bytes.
 fn sum_on(
     alloc: Global,
     input: &[u8],
@@ -119,7 +120,8 @@ fn sum_on(
     told(alloc, prepared, &ends, form)
 }
 
-/// The ends of each part, by its number. An error is that a part is missing or comes twice, or out of memory.
+/// Returns the ends of each part, in the order of the parts' numbers. Fails if a part is missing or
+/// comes twice.
 fn lists_of(alloc: Global, parts: Vec<PartEnds>, of: u32) -> Result<Vec<Vec<Ending>>, PartFault>
     requires { AreWithin of parts.items }
     ensures ok { IfOk result (λ lists. AreAll parts.items of (lists_of lists.items)) }
@@ -131,7 +133,7 @@ fn lists_of(alloc: Global, parts: Vec<PartEnds>, of: u32) -> Result<Vec<Vec<Endi
     }
 }
 
-/// The fault of parts that are not all there once.
+/// Returns the fault of the sum if the parts are not all there once.
 fn fault_of_order(fault: OrderFault) -> PartFault
     ensures { result ≡ fault_of_order fault }
 {
@@ -142,7 +144,7 @@ fn fault_of_order(fault: OrderFault) -> PartFault
     }
 }
 
-/// The sum of the ends of all parts. An error is TooMany, or out of memory.
+/// Adds up the ends of all parts. Fails if there are too many interleavings.
 fn summed(alloc: Global, lists: &[Vec<Ending>]) -> Result<Vec<Ending>, PartFault>
     ensures ok { IfOk result (λ ends. IsSum (lists_of lists.now) ends.items) }
     ensures err { IfErr result (IsTooMany (lists_of lists.now)) }
@@ -154,7 +156,7 @@ fn summed(alloc: Global, lists: &[Vec<Ending>]) -> Result<Vec<Ending>, PartFault
     }
 }
 
-/// All ends in a form, whose schedules were played. An error is out of memory.
+/// Returns the text of all ends in a form. Their schedules have been played.
 fn told(
     alloc: Global,
     prepared: &Prepared,
@@ -165,7 +167,7 @@ fn told(
         (setting_of prepared.now) ends.now None (string_bytes f.text) f.is_found) }
     ensures err { IfErr result (λ fault. fault ≡ part.Lab OutOfMemory) }
 {
-    // The calls of each schedule were made as its line was taken, so that only memory can be lacking.
+    // The calls of each schedule were made when its line was taken, so only memory can run out.
     match prepared.ends_told(alloc, ends, None, form) {
         Ok(finding) => Ok(finding),
         Err(_) => Err(PartFault::Lab(LabFault::OutOfMemory)),

@@ -1,4 +1,4 @@
-//! The lines of parts, one after another.
+//! Takes the lines of parts, one after another.
 ghost use Rattle.std.specs.Prelude.{◌≡◌, ◌↔◌, ℕ, ◌^◌, ◌<◌, IfErr, IfOk, IsTrue, List, OnOk, length};
 ghost use Rattle.hp_schedules.specs.Schedules.{Setting};
 ghost use Rattle.hp_prepared.specs.Prepared.{names_of, setting_of};
@@ -23,7 +23,7 @@ use hp_schedules::{Ending, Outcome};
 use hp_units::Cpu;
 use std::alloc::{AllocError, Global};
 
-/// The parts whose text the input is, where so many bytes are the head of the first.
+/// Reads all parts of `input`. The first head takes `start` bytes.
 pub(crate) fn gather(
     alloc: Global,
     input: &[u8],
@@ -88,7 +88,7 @@ fn take_line(
     }
 }
 
-/// Takes the head of the part with a number, which names so many ends.
+/// Takes the head of part `number`, which names `ends` ends.
 fn take_head(
     alloc: Global,
     search: &Search<'_>,
@@ -120,7 +120,7 @@ fn take_head(
     Ok(())
 }
 
-/// Takes the end with a count and a first schedule.
+/// Takes the line of an end, with its count and its first schedule.
 fn take_end(
     alloc: Global,
     prepared: &Prepared,
@@ -151,8 +151,8 @@ fn take_end(
     }
 }
 
-/// How the schedule of a part ends; none where it is no complete schedule of the part. An error is
-/// that it is not played.
+/// Returns how a schedule of part `number` ends, or `None` if it is not a complete schedule of the
+/// part. Fails if it cannot be played.
 fn outcome_of(
     alloc: Global,
     prepared: &Prepared,
@@ -179,7 +179,7 @@ fn outcome_of(
     }
 }
 
-/// Adds an end to the part that is read, where the text is its line.
+/// Adds an end to the last part, if `text` is the line of that end.
 fn push_end(
     alloc: Global,
     prepared: &Prepared,
@@ -199,8 +199,7 @@ fn push_end(
     Ok(())
 }
 
-/// Whether a text is the line of the end with a number, whose schedule was played. An error is out of
-/// memory.
+/// Returns whether `text` is the line of end `number`, whose schedule has been played.
 fn is_end(
     alloc: Global,
     prepared: &Prepared,
@@ -212,7 +211,7 @@ fn is_end(
         ↔ (text.now ≡ end_line (names_of prepared.now) (setting_of prepared.now) number end.now)) }
 {
     let mut written = String::new(alloc);
-    // The calls of its schedule were made for its outcome, so that only memory can be lacking.
+    // The calls of its schedule were made for its outcome, so only memory can run out.
     match write_end(&mut written, alloc, prepared, number, end) {
         Ok(()) => Ok(text == written.as_bytes()),
         Err(_) => Err(AllocError),

@@ -13,8 +13,8 @@ use hp_prepared::Prepared;
 use hp_schedules::Ending;
 use std::alloc::{AllocError, Global};
 
-/// Writes the head and the ends of the part with a number, from 1 on. A fault is that of a call: the
-/// first schedule of each end is played once more.
+/// Writes the head and the ends of part `number`, counted from 1. Plays the first schedule of each
+/// end once more, and fails like its calls.
 pub(crate) fn write_part(
     out: &mut String,
     alloc: Global,
@@ -31,7 +31,7 @@ pub(crate) fn write_part(
     write_ends(out, alloc, prepared, ends)
 }
 
-/// Writes the head of a part and a newline. An error is out of memory.
+/// Writes the head of a part and a newline.
 fn write_head_line(
     out: &mut String,
     search: &Search<'_>,
@@ -45,7 +45,7 @@ fn write_head_line(
     out.push('\n')
 }
 
-/// Writes each end in a line.
+/// Writes one line per end.
 fn write_ends(
     out: &mut String,
     alloc: Global,
@@ -79,8 +79,7 @@ fn write_end_line(
     Ok(())
 }
 
-/// Writes the line of the end with a number. A fault is that of a call: the first schedule of the end
-/// is played once more.
+/// Writes the line of end `number`. Plays its first schedule once more, and fails like its calls.
 pub(crate) fn write_end(
     out: &mut String,
     alloc: Global,

@@ -1,13 +1,13 @@
--- The parts that a text has, as they are read.
+-- The parts of a text, while it is read.
 use Rattle.std.specs.Prelude.{ℕ, List}
 use Rattle.hp_schedules.specs.declared.tally.Ending.{Ending}
 
--- a part: its number, from 1 on, and the ends that its lines name
+-- a part: its number, from 1, and the ends that its lines name
 pub record PartEndsValue : Type 0 where
   pub number : ℕ
   pub ends : List Ending
 
--- parts, of which the last is not known to be over; its head names so many ends
+-- the parts that are complete, the last part, and how many ends the last part's head names
 pub record GatheringValue : Type 0 where
   pub done : List PartEndsValue
   pub last : PartEndsValue

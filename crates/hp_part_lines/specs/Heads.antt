@@ -1,5 +1,4 @@
--- The head of a part: how it is written, JSON (own rule), and how it is read, over the values that
--- serde_json reads.
+-- The head of a part: how it is written as JSON, and how it is read from serde_json's values.
 use Rattle.std.specs.Prelude.{◌≡◌, ℕ, ◌≤◌, List, ◌++◌, codes, Option, Some, None, nat_le, ◌&&◌, Bool, if◌then◌else◌, option_and_then}
 use Rattle.std.specs.Fmt.{decimal}
 use Rattle.serde_json.specs.Data.{Data}
@@ -11,19 +10,19 @@ use Rattle.hp_scenario.specs.Scenario.{json_of}
 use Rattle.hp_schedules.specs.PartNumbers.{part_by}
 use Rattle.hp_part_lines.specs.Reading.{narrow, text_at}
 
--- what the parts are parts of: how many there are, and by how many first calls they go; how many
--- lines of the scenario are its setup, and the scenario
+-- the search of a part: the number of parts, how many first calls decide a part, how many lines are
+-- the setup, and the scenario's text
 pub record SearchValue : Type 0 where
   pub of : ℕ
   pub calls : ℕ
   pub setup : ℕ
   pub scenario : List ℕ
 
--- there is such a part
+-- the search has a part with this number
 abbrev pub IsNumber : SearchValue → (number : ℕ) → Type 0
 IsNumber s number = (1 ≤ number) × (number ≤ s.of)
 
--- which part of the search it is
+-- the part with this number
 abbrev pub part_in : SearchValue → (number : ℕ) → PartValue
 part_in s number = part_by (record { number = number; of = s.of }) s.calls
 
@@ -50,20 +49,20 @@ head_ends ends = codes ", \"ends\": " ++ decimal ends
 abbrev pub head_counts : (setup ends : ℕ) → List ℕ
 head_counts setup ends = head_setup setup ++ head_ends ends ++ codes ", \"scenario\": \""
 
--- that of the part with a number, from 1 on, and with so many ends
+-- the head of part `number`, counted from 1, with `ends` ends
 abbrev pub head_line : SearchValue → (number ends : ℕ) → List ℕ
 head_line s number ends =
     head_numbers s number ++ head_counts s.setup ends ++ escaped_text Kept s.scenario ++ codes "\"}"
 
 -- ---- how it is read
 
--- what it says
+-- the contents of a head
 pub record HeadValue : Type 0 where
   pub number : ℕ
   pub ends : ℕ
   pub search : SearchValue
 
--- there is a part with the number
+-- there is a part `number`, of at most 1,000,000; the head with these numbers; the head in a value
 abbrev pub is_number : (number of : ℕ) → Bool
 is_number number of = nat_le 1 number && (nat_le number of && nat_le of 1000000)
 
@@ -88,7 +87,7 @@ head_from d = do
   scenario ← text_at (codes "scenario") d
   head_with number of calls setup ends scenario
 
--- that of a text; what is no JSON is none
+-- the text is a head: JSON that has one, and written byte for byte as the search writes it
 abbrev pub IsHead : (text : List ℕ) → HeadValue → Type 0
 IsHead text h =
     (option_and_then head_from (json_of text) ≡ Some h) × (text ≡ head_line h.search h.number h.ends)

@@ -1,4 +1,4 @@
--- All parts by their numbers, and why they are not all there once.
+-- The parts in the order of their numbers, and why they are not all there once.
 use Rattle.std.specs.Prelude.{◌≡◌, ℕ, ◌+◌, ◌-◌, ◌≤◌, ◌<◌, List, length, map, slice_index_or}
 use Rattle.std.specs.Global.{Vec}
 use Rattle.std.specs.List.{All}
@@ -8,24 +8,24 @@ use Rattle.hp_part_lines.specs.Gathering.{PartEndsValue}
 use Rattle.hp_part_lines.specs.declared.ordering.OrderFault.{OrderFault}
 use Rattle.hp_part_lines.specs.declared.ordering.OrderFault.TheVariants.{Missing, Twice, OutOfMemory}
 
--- the ends of lists
+-- the items of each list
 abbrev pub lists_of : List (Vec Ending) → List (List Ending)
 lists_of lists = map (λ l. l.items) lists
 
--- their numbers are from 1 to how many there are
+-- all numbers are between 1 and `of`
 abbrev pub AreWithin : (of : ℕ) → List PartEndsValue → Type 0
 AreWithin of parts = All (λ p. (1 ≤ p.number) × (p.number ≤ of)) parts
 
--- and rise
+-- the numbers do not decrease
 abbrev pub AreRising : List PartEndsValue → Type 0
 AreRising parts = IsNonDecreasingBy (λ p. p.number) parts
 
--- the first so many have the numbers of their places, from 1 on
+-- the first `below` parts have the numbers 1, 2 and so on
 abbrev pub ArePlacedBelow : (below : ℕ) → List PartEndsValue → Type 0
 ArePlacedBelow below parts =
     (k : ℕ) (d : PartEndsValue) → k < below → (slice_index_or parts k d).number ≡ k + 1
 
--- each part is there once: in another order they have the numbers from 1 to how many there are
+-- each part is there once: in some order they have the numbers 1 to `of`
 pub record AreInPlace (of : ℕ) (ordered : List PartEndsValue) : Type 0 where
   pub count : length ordered ≡ of
   pub numbers : ArePlacedBelow of ordered
@@ -38,7 +38,8 @@ pub record AreAll (parts : List PartEndsValue) (of : ℕ) (lists : List (List En
 
 -- ---- why they are not
 
--- the first number that is missing: each below it is there once, and all other parts have later ones
+-- the first number that is missing: each one below is there once, and the other parts have greater
+-- ones
 pub record IsMissing (parts : List PartEndsValue) (of number : ℕ) : Type 0 where
   pub some : 1 ≤ number
   pub within : number ≤ of
@@ -46,7 +47,8 @@ pub record IsMissing (parts : List PartEndsValue) (of number : ℕ) : Type 0 whe
   pub beyond : (k : ℕ) (d : PartEndsValue) → number ≤ k + 1 → k < length parts
       → number < (slice_index_or parts k d).number
 
--- the first number that comes twice: each below it is there once, and no other part has one of those
+-- the first number that comes twice: each one below is there once, and the other parts have no
+-- lower one
 pub record IsTwice (parts : List PartEndsValue) (number : ℕ) : Type 0 where
   pub some : 1 ≤ number
   pub before : ArePlacedBelow number parts
@@ -60,7 +62,7 @@ IsMisplaced parts of (Missing number) = IsMissing parts of number
 IsMisplaced parts of (Twice number) = IsTwice parts number
 IsMisplaced parts of OutOfMemory = ⊥
 
--- in another order
+-- the same for parts that are not sorted
 abbrev pub IsOrderFault : List PartEndsValue → (of : ℕ) → OrderFault → Type 0
 IsOrderFault parts of OutOfMemory = Unit {0}
 IsOrderFault parts of fault =

@@ -1,4 +1,4 @@
--- How the lines of parts are read, over the values that serde_json reads (own rule).
+-- How the lines of parts are read from serde_json's values.
 use Rattle.std.specs.Prelude.{◌≡◌, ◌⊎◌, ℕ, ◌^◌, List, codes, Option, Some, None, nat_lt, if◌then◌else◌, option_and_then}
 use Rattle.serde_json.specs.Data.{Data}
 use Rattle.serde_json.specs.Find.{get, as_number, as_u64, as_str, as_array}
@@ -11,7 +11,7 @@ use Rattle.hp_part_lines.specs.declared.reading.PartLine.TheVariants.{Head, End,
 unfoldable pub text_at : List ℕ → Data → Option (List ℕ)
 text_at key d = option_and_then as_str (get key d)
 
--- a number of 32 bits
+-- a number of 32 bits; the processor with the number that a value is
 abbrev pub narrow : ℕ → Option ℕ
 narrow n = if nat_lt n (2 ^ 32) then Some n else None
 
@@ -22,25 +22,25 @@ processor_of d = option_and_then narrow (option_and_then as_u64 (as_number d))
 unfoldable pub schedule_in : Data → Option (List ℕ)
 schedule_in d = option_and_then (each_in processor_of) (option_and_then as_array (get (codes "processors") d))
 
--- of what is no head and no end: that a part stopped at its limit, or nothing
+-- a line that is neither a head nor an end: the part stopped at its limit, or something else
 abbrev pub IsRest : Data → PartLine → Type 0
 IsRest d Stop = (n : ℕ) × (number_at (codes "first") d ≡ Some n)
 IsRest d Other = number_at (codes "first") d ≡ None
 IsRest d line = ⊥
 
--- it has the keys of no head and no end
+-- the value has the keys of neither a head nor an end
 abbrev pub IsNoEnd : Data → Type 0
 IsNoEnd d =
     (number_at (codes "part") d ≡ None)
     × ((number_at (codes "interleavings") d ≡ None) ⊎ (schedule_in d ≡ None))
 
--- it has the number of a part, and does not say how many ends that has
+-- the value has the number of a part, but not how many ends it has
 abbrev pub IsNoHead : Data → Type 0
 IsNoHead d =
     ((n : ℕ) × (number_at (codes "part") d ≡ Some n)) × (number_at (codes "ends") d ≡ None)
 
--- what a line is: a head with its number and how many ends it names, or an end with its count and its
--- schedule, or that a part stopped at its limit
+-- what a line is: a head with its number and how many ends it names; an end with its count and its
+-- schedule; or that the part stopped at its limit
 abbrev pub IsLineOf : Data → PartLine → Type 0
 IsLineOf d (Head number ends) =
     (number_at (codes "part") d ≡ Some number) × (number_at (codes "ends") d ≡ Some ends)
@@ -50,7 +50,7 @@ IsLineOf d (End count schedule) =
 IsLineOf d Stop = IsNoEnd d × IsRest d Stop
 IsLineOf d Other = IsNoHead d ⊎ (IsNoEnd d × IsRest d Other)
 
--- what the bytes of a line are; what is no JSON is nothing
+-- what the bytes of a line are; if they are not JSON, `Other`
 abbrev pub IsLineIn : Option Data → PartLine → Type 0
 IsLineIn None Other = Unit {0}
 IsLineIn None line = ⊥

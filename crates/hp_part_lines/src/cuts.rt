@@ -1,10 +1,10 @@
-//! The lines of a text.
+//! Cuts a text into lines.
 ghost use Rattle.std.specs.Prelude.{◌≡◌, ◌<◌, ◌≤◌, ◌+◌, IfNone, IfSome, length};
 ghost use Rattle.hp_part_lines.specs.Cuts.{HasNoNewline, IsLineAt, line_number};
 
 use memchr::memchr;
 
-/// The text from a place on up to the next newline; none where there is no newline.
+/// Returns the text from `place` up to the next newline, or `None` if there is no newline.
 pub fn line_at(input: &[u8], place: usize) -> Option<&[u8]>
     requires { place ≤ length input.now }
     ensures is { IfSome result (λ text. IsLineAt input.now place text.now) }
@@ -18,7 +18,8 @@ pub fn line_at(input: &[u8], place: usize) -> Option<&[u8]>
     }
 }
 
-/// The number of the line at a place, from 1 on.
+/// Returns the number, from 1, of the line at `place`. Counts all newlines before it: meant for
+/// messages.
 pub fn line_number(input: &[u8], place: usize) -> u64
     requires { place ≤ length input.now }
     ensures { result ≡ line_number input.now place }

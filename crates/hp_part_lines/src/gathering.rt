@@ -1,4 +1,4 @@
-//! The parts that are read.
+//! The parts read so far.
 ghost use Rattle.std.specs.Prelude.{◌≡◌, ◌++◌, ◌∷◌, ◌^◌, ◌<◌, ◌↔◌, [], IfOk, IsTrue, OnErr, OnOk, length};
 
 use hp_schedules::Ending;
@@ -6,7 +6,7 @@ use std::alloc::{AllocError, Global};
 use std::marker::Model;
 use std::mem::replace;
 
-/// A part: its number, from 1 on, and the ends that its lines name.
+/// A part: its number, from 1, and the ends that its lines name.
 #[derive(Drop)]
 pub struct PartEnds {
     number: u32,
@@ -22,14 +22,14 @@ impl Model for PartEnds {
 }
 
 impl PartEnds {
-    /// Its number, from 1 on.
+    /// Returns the part's number, from 1.
     pub fn number(&self) -> u32
         ensures { result ≡ self.now.number }
     {
         self.number
     }
 
-    /// Its ends, with no memory taken.
+    /// Returns the part's ends without copying them.
     pub fn into_ends(self) -> Vec<Ending>
         ensures { result.items ≡ self.ends }
     {
@@ -38,8 +38,8 @@ impl PartEnds {
     }
 }
 
-/// Parts that are read one after another; of the last, whose head names how many ends it has, lines may
-/// be still to come.
+/// The parts of a text while it is read line by line. The last part's head names how many ends it
+/// has; some of them may still be to come.
 #[derive(Drop)]
 pub struct Gathering {
     done: Vec<PartEnds>,
@@ -61,7 +61,7 @@ impl Model for Gathering {
 }
 
 impl Gathering {
-    /// The part with a number, whose head names so many ends, without any end so far.
+    /// Starts with part `number`, whose head names `named` ends; none has been read yet.
     pub fn new(alloc: Global, number: u32, named: u64) -> Gathering
         ensures { result ≡ record {
           done = [];
@@ -77,14 +77,14 @@ impl Gathering {
         }
     }
 
-    /// The number of the last part.
+    /// Returns the number of the last part.
     pub fn number(&self) -> u32
         ensures { result ≡ self.now.last.number }
     {
         self.number
     }
 
-    /// How many ends the last part has.
+    /// Returns how many ends of the last part have been read.
     pub fn count(&self) -> usize
         ensures is { result ≡ length self.now.last.ends }
         ensures few { result < 2 ^ 63 }
@@ -92,15 +92,14 @@ impl Gathering {
         self.ends.len()
     }
 
-    /// Whether the last part has as many ends as its head names.
+    /// Returns whether the last part has as many ends as its head names.
     pub fn is_whole(&self) -> bool
         ensures { IsTrue result ↔ (self.now.named ≡ length self.now.last.ends) }
     {
         self.named == self.ends.len() as u64
     }
 
-    /// Begins the part with a number, whose head names so many ends. An error is out of memory; then
-    /// nothing changes.
+    /// Begins part `number`, whose head names `named` ends. If this fails, nothing changes.
     pub fn begin(&mut self, alloc: Global, number: u32, named: u64) -> Result<(), AllocError>
         ensures ok { OnOk result (self.new ≡ record {
           done = self.old.done ++ self.old.last ∷ [];
@@ -117,7 +116,7 @@ impl Gathering {
         Ok(())
     }
 
-    /// Adds an end to the last part. An error is out of memory; then nothing changes.
+    /// Adds an end to the last part. If this fails, nothing changes.
     pub fn push(&mut self, end: Ending) -> Result<(), AllocError>
         ensures ok { OnOk result (self.new ≡ record {
           done = self.old.done;
@@ -131,7 +130,7 @@ impl Gathering {
         Ok(())
     }
 
-    /// All parts. An error is out of memory.
+    /// Returns all parts.
     pub fn into_parts(self) -> Result<Vec<PartEnds>, AllocError>
         ensures { IfOk result (λ parts. parts.items ≡ self.done ++ self.last ∷ []) }
     {

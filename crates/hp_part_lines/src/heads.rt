@@ -1,4 +1,4 @@
-//! The head of a part.
+//! The head of a part: the first line of its file.
 ghost use Rattle.std.specs.Prelude.{◌≡◌, ◌++◌, ◌↔◌, IfOk, IfSome, IsTrue, OnOk, option_map, string_bytes};
 ghost use Rattle.serde_json.specs.View.{view};
 ghost use Rattle.hp_part_lines.specs.Heads.{IsNumber, head_calls, head_counts, head_from as head, head_line, head_of, head_part, head_with as with_numbers, part_in};
@@ -10,12 +10,12 @@ use serde_json::Value;
 use std::alloc::{AllocError, Global};
 use std::marker::Model;
 
-/// What parts are parts of.
+/// The search that a part belongs to.
 #[derive(Drop)]
 pub struct Search<'a> {
     /// How many parts there are.
     pub of: u32,
-    /// By how many first calls they go.
+    /// How many first calls of a schedule decide its part.
     pub calls: u32,
     /// How many lines of the scenario are its setup.
     pub setup: u64,
@@ -32,7 +32,7 @@ impl<'a> Model for Search<'a> {
 }
 
 impl Search<'_> {
-    /// The part with a number, from 1 on.
+    /// Returns part `number`, counted from 1.
     pub fn part(&self, number: u32) -> Part
         requires { IsNumber self.now number }
         ensures { result ≡ part_in self.now number }
@@ -47,11 +47,11 @@ impl Search<'_> {
 /// The head of a part.
 #[derive(Drop)]
 pub struct Head<'a> {
-    /// The part's number, from 1 on.
+    /// The part's number, from 1.
     pub number: u32,
     /// How many ends the part has.
     pub ends: u64,
-    /// What it is a part of.
+    /// The search that the part belongs to.
     pub search: Search<'a>,
 }
 
@@ -63,8 +63,8 @@ impl<'a> Model for Head<'a> {
     ghost view = { λ h. record { number = h.number; ends = h.ends; search = h.search } };
 }
 
-/// The head that a value is; none where it is none, or where there is no part with its number. The
-/// scenario is a part of the value.
+/// Reads a head from a JSON value. Returns `None` if the value is not a head, or if there is no
+/// part with its number. The scenario's text is borrowed from the value.
 #[tactic(auto, unfolding(crate::specs::Heads::head_from))]
 pub fn head_from<'a>(value: &'a Value) -> Option<Head<'a>>
     ensures is { option_map (λ h. h) result ≡ head (view value.now) }
@@ -80,7 +80,7 @@ pub fn head_from<'a>(value: &'a Value) -> Option<Head<'a>>
     head_with(number, of, calls, setup, ends, scenario)
 }
 
-/// The head with these numbers and this scenario; none where there is no such part.
+/// Returns the head with these numbers and this scenario, or `None` if there is no such part.
 fn head_with<'a>(
     number: u64,
     of: u64,
@@ -105,8 +105,7 @@ fn head_with<'a>(
     })
 }
 
-/// Writes the head of the part with a number, from 1 on, and with so many ends. An error is out of
-/// memory.
+/// Writes the head of part `number`, counted from 1, with `ends` ends.
 pub fn write_head(
     out: &mut String,
     search: &Search<'_>,
@@ -123,8 +122,7 @@ pub fn write_head(
     Ok(())
 }
 
-/// Whether a text is the head of the part with a number and with so many ends. An error is out of
-/// memory.
+/// Returns whether `text` is, byte for byte, the head of part `number` with `ends` ends.
 pub fn is_head(
     alloc: Global,
     search: &Search<'_>,
@@ -139,7 +137,7 @@ pub fn is_head(
     Ok(text == written.as_bytes())
 }
 
-/// Writes which part it is of how many, and by how many first calls they go.
+/// Writes the part's number, how many parts there are, and how many first calls decide a part.
 fn write_numbers(out: &mut String, number: u32, of: u32, calls: u32) -> Result<(), AllocError>
     ensures { OnOk result (string_bytes out.new
         ≡ string_bytes out.old ++ (head_part number ++ head_of of ++ head_calls calls)) }
@@ -150,8 +148,7 @@ fn write_numbers(out: &mut String, number: u32, of: u32, calls: u32) -> Result<(
     )
 }
 
-/// Writes how many lines of the scenario are its setup, how many ends the part has, and the key of the
-/// scenario.
+/// Writes how many lines are the setup, how many ends the part has, and the key of the scenario.
 fn write_counts(out: &mut String, setup: u64, ends: u64) -> Result<(), AllocError>
     ensures { OnOk result (string_bytes out.new ≡ string_bytes out.old ++ head_counts setup ends) }
 {

@@ -1,10 +1,9 @@
-//! The lines of a part's file: JSON, an object a line. The first is the part's head, which says what
-//! search it is a part of; then each end that the part's interleavings lead to has a line.
+//! The lines of a part's file: JSON, one object per line. The first is the part's head, which names
+//! the search and the part; then each end of the part's interleavings has a line.
 //!
-//! The crate owns how a head is written, how a text is cut into lines and each is read, where parts
-//! are kept as their lines come, and whether each is there once. It writes no end and no fault, and
-//! plays no schedule, so that it is proved beside the machine and the search: hp_part_files does the
-//! rest.
+//! The crate writes heads, cuts a text into lines, reads each line, collects the parts, and checks
+//! that each is there once. It writes no end and no fault and plays no schedule, so it is proved
+//! beside the machine and the search: hp_part_files does the rest.
 //!
 //! Read specs/Heads first, then specs/Reading and specs/Ordering.
 #![tactic(auto)]

@@ -1,4 +1,4 @@
-//! All parts by their numbers.
+//! Sorts the parts, and checks that each is there once.
 ghost use Rattle.std.specs.Prelude.{◌≡◌, ◌<◌, ◌+◌, IfErr, IfOk, OnOk, length, map};
 ghost use Rattle.std.specs.List.Sorted.{IsPermutation};
 ghost use Rattle.hp_part_lines.specs.Ordering.{AreAll, AreInPlace, ArePlacedBelow, AreRising, AreWithin, IsMisplaced, IsOrderFault, lists_of};
@@ -7,7 +7,7 @@ use crate::gathering::PartEnds;
 use hp_schedules::Ending;
 use std::alloc::{AllocError, Global};
 
-/// Why parts are not all there once. They are counted from 1.
+/// Why the parts are not all there once. Parts are counted from 1.
 #[derive(Clone, Copy, Drop)]
 pub enum OrderFault {
     /// A part is missing.
@@ -29,10 +29,10 @@ impl From<AllocError> for OrderFault {
     }
 }
 
-/// The ends of each part, by its number, with none before the first; the numbers are 1 to `of`.
+/// Returns the ends of each part, in the order of the parts' numbers, which are between 1 and `of`.
 ///
-/// Errors: Missing or Twice with the first number that is so; OutOfMemory, which may come in place of
-/// any answer.
+/// Errors: `Missing` or `Twice` with the first number that is missing or comes twice;
+/// `OutOfMemory`, which may come in place of any other result.
 pub fn ends_by_number(
     alloc: Global,
     parts: Vec<PartEnds>,
@@ -48,7 +48,7 @@ pub fn ends_by_number(
     Ok(lists)
 }
 
-/// Parts by their numbers. An error is out of memory.
+/// Sorts parts by number.
 fn sorted(parts: Vec<PartEnds>) -> Result<Vec<PartEnds>, AllocError>
     ensures moved { IfOk result (λ ordered. IsPermutation parts.items ordered.items) }
     ensures rising { IfOk result (λ ordered. AreRising ordered.items) }
@@ -62,7 +62,7 @@ fn sorted(parts: Vec<PartEnds>) -> Result<Vec<PartEnds>, AllocError>
     Ok(ordered)
 }
 
-/// Looks whether the numbers of parts, which rise, are all there once.
+/// Checks that sorted parts have each number once.
 fn check_numbers(parts: &[PartEnds], of: u32) -> Result<(), OrderFault>
     requires within { AreWithin of parts.now }
     requires rising { AreRising parts.now }
@@ -79,7 +79,7 @@ fn check_numbers(parts: &[PartEnds], of: u32) -> Result<(), OrderFault>
     Ok(())
 }
 
-/// Looks whether the part at a place has the next number, where those before it have theirs.
+/// Checks that the part at `index` has the next number; those before it have theirs.
 fn check_number(parts: &[PartEnds], index: usize, of: u32) -> Result<(), OrderFault>
     requires index { index < length parts.now }
     requires within { AreWithin of parts.now }
@@ -99,7 +99,7 @@ fn check_number(parts: &[PartEnds], index: usize, of: u32) -> Result<(), OrderFa
     Ok(())
 }
 
-/// The ends of parts, with no memory taken for these. An error is out of memory.
+/// Returns the parts' ends without copying them.
 fn ends_of(alloc: Global, parts: Vec<PartEnds>) -> Result<Vec<Vec<Ending>>, AllocError>
     ensures { IfOk result (λ lists. lists_of lists.items ≡ map (λ p. p.ends) parts.items) }
 {

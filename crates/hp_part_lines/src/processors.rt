@@ -8,8 +8,8 @@ use hp_spelling::write_mark;
 use hp_units::Cpu;
 use std::alloc::AllocError;
 
-/// Writes the processors of a schedule, in the order of its calls, under their key, and the bracket at
-/// the object's end. An error is out of memory.
+/// Writes the key `processors` with the processors of a schedule, in the order of its calls, and
+/// closes the object.
 pub fn write_schedule(out: &mut String, schedule: &[Cpu]) -> Result<(), AllocError>
     ensures { OnOk result (string_bytes out.new ≡ string_bytes out.old ++ processor_list schedule.now) }
 {
@@ -18,7 +18,7 @@ pub fn write_schedule(out: &mut String, schedule: &[Cpu]) -> Result<(), AllocErr
     out.push_str("]}")
 }
 
-/// Writes processors.
+/// Writes processors, separated by commas.
 fn write_processors(out: &mut String, schedule: &[Cpu]) -> Result<(), AllocError>
     ensures { OnOk result (string_bytes out.new
         ≡ string_bytes out.old ++ separated (codes ", ") decimal true schedule.now) }

@@ -1,4 +1,4 @@
-//! How the lines of parts are read.
+//! Reads the lines of a part's file.
 ghost use Rattle.std.specs.Prelude.{◌≡◌, Some, codes, IfOk, option_map};
 ghost use Rattle.serde_json.specs.View.{items_view, view};
 ghost use Rattle.hp_scenario.specs.Scenario.{json_of};
@@ -9,20 +9,20 @@ use hp_units::Cpu;
 use serde_json::Value;
 use std::alloc::{AllocError, Global};
 
-/// What a line of a part is.
+/// A line of a part's file.
 #[derive(Drop)]
 pub enum PartLine {
     /// The head of the part with this number, and how many ends it names.
     Head { number: u64, ends: u64 },
     /// An end: how many interleavings lead to it, and the first of them.
     End { count: u64, schedule: Vec<Cpu> },
-    /// That the part stopped at its limit.
+    /// The part stopped at its limit.
     Stop,
     /// None of these.
     Other,
 }
 
-/// The JSON value that bytes are; none where they are no JSON. An error is out of memory.
+/// Parses bytes as JSON, or returns `None` if they are not JSON.
 #[tactic(auto, unfolding(hp_scenario::specs::Scenario::json_of))]
 pub fn json_in(alloc: Global, text: &[u8]) -> Result<Option<Value>, AllocError>
     ensures { IfOk result (λ value. option_map view value ≡ json_of text.now) }
@@ -39,8 +39,7 @@ pub fn json_in(alloc: Global, text: &[u8]) -> Result<Option<Value>, AllocError>
     }
 }
 
-/// What a line is, by the keys that it has; where it is no JSON, it is none of these. An error is out
-/// of memory.
+/// Reads a line, whose keys decide what it is. A line that is not JSON is `Other`.
 #[tactic(auto, using(crate::proofs::Values::in_none))]
 pub fn line_in(alloc: Global, text: &[u8]) -> Result<PartLine, AllocError>
     ensures { IfOk result (IsLine text.now) }
@@ -52,7 +51,7 @@ pub fn line_in(alloc: Global, text: &[u8]) -> Result<PartLine, AllocError>
     }
 }
 
-/// What the line is that a value is. An error is out of memory.
+/// Reads a line from its JSON value.
 fn line_of(alloc: Global, value: &Value) -> Result<PartLine, AllocError>
     ensures { IfOk result (IsLineOf (view value.now)) }
 {
@@ -69,7 +68,7 @@ fn line_of(alloc: Global, value: &Value) -> Result<PartLine, AllocError>
     }
 }
 
-/// What the line is of a value that has the number of a part.
+/// Reads a head from a value with a part's number.
 fn head_of(value: &Value, part: u64) -> PartLine
     requires { number (codes "part") (view value.now) ≡ Some part }
     ensures { IsLineOf (view value.now) result }
@@ -80,7 +79,7 @@ fn head_of(value: &Value, part: u64) -> PartLine
     }
 }
 
-/// What the line is of a value that is no head and no end.
+/// Reads a line that is neither a head nor an end.
 fn rest_of(value: &Value) -> PartLine
     ensures { IsRest (view value.now) result }
 {
@@ -91,7 +90,7 @@ fn rest_of(value: &Value) -> PartLine
     }
 }
 
-/// The number at a key.
+/// Returns the number at a key, if there is one.
 #[tactic(auto, unfolding(hp_scenario::specs::Form::number_at))]
 pub(crate) fn number_at(value: &Value, key: &str) -> Option<u64>
     ensures { result ≡ number key.now (view value.now) }
@@ -99,7 +98,7 @@ pub(crate) fn number_at(value: &Value, key: &str) -> Option<u64>
     value.get(key).and_then(Value::as_u64)
 }
 
-/// The text at a key.
+/// Returns the text at a key, if there is one.
 #[tactic(auto, unfolding(crate::specs::Reading::text_at))]
 pub(crate) fn text_at<'a>(value: &'a Value, key: &str) -> Option<&'a str>
     ensures { option_map (λ t. t.now) result ≡ text key.now (view value.now) }
@@ -107,7 +106,7 @@ pub(crate) fn text_at<'a>(value: &'a Value, key: &str) -> Option<&'a str>
     value.get(key).and_then(Value::as_str)
 }
 
-/// The processors of a schedule, under their key.
+/// Returns the processors of a schedule, from the key `processors`.
 #[tactic(auto, unfolding(crate::specs::Reading::schedule_in))]
 fn schedule_in(alloc: Global, value: &Value) -> Result<Option<Vec<Cpu>>, AllocError>
     ensures { IfOk result (λ s. option_map (λ v. v.items) s ≡ schedule (view value.now)) }
@@ -118,7 +117,7 @@ fn schedule_in(alloc: Global, value: &Value) -> Result<Option<Vec<Cpu>>, AllocEr
     }
 }
 
-/// The processors that all values are.
+/// Returns the processors that `values` name, or `None` if one of them names none.
 fn processors_of(alloc: Global, values: &Vec<Value>) -> Result<Option<Vec<Cpu>>, AllocError>
     ensures { IfOk result
         (λ s. option_map (λ v. v.items) s ≡ each_in processor (items_view values.now.items)) }
@@ -133,7 +132,7 @@ fn processors_of(alloc: Global, values: &Vec<Value>) -> Result<Option<Vec<Cpu>>,
     Ok(Some(processors))
 }
 
-/// The processor that a value is the number of.
+/// Returns the processor with the number that a value is.
 fn processor_of(value: &Value) -> Option<Cpu>
     ensures { result ≡ processor (view value.now) }
 {
@@ -142,7 +141,7 @@ fn processor_of(value: &Value) -> Option<Cpu>
     Some(Cpu(number))
 }
 
-/// A number of 32 bits.
+/// Returns the number if it fits into 32 bits.
 pub(crate) fn narrow(number: u64) -> Option<u32>
     ensures { result ≡ narrow number }
 {

@@ -6,12 +6,12 @@ use Rattle.std.specs.Ordering.{is_lt, nat_cmp}
 use Rattle.hp_schedules.specs.Notes.{HasNoEnd}
 use Rattle.hp_schedules.specs.declared.tally.Ending.{Ending}
 
--- the earlier of two schedules: the one with the lower processor at the first place where they differ
+-- the earlier of two schedules: the one with the lower processor at the first difference
 abbrev pub earlier : List ℕ → List ℕ → List ℕ
 earlier s t = if is_lt (slice_cmp nat_cmp s t) then s else t
 
--- an end's outcome is that of one of the ends, which counts its schedules too; its first is the
--- earlier of both
+-- one of the ends has the outcome, and counts its schedules too; its first
+-- schedule is the earlier of both
 pub record AddsMore (old : List Ending) (e : Ending) (new : List Ending) : Type 0 where
   pub at : ℕ
   pub entry : Ending
@@ -23,7 +23,7 @@ pub record AddsMore (old : List Ending) (e : Ending) (new : List Ending) : Type 
   pub first : more.first.items ≡ earlier e.first.items entry.first.items
   pub new_is : new ≡ slice_set old at more
 
--- its outcome is that of none of them, and it stands as it is after them
+-- none of the ends has the outcome, and the end is added after them
 pub record AddsOther (old : List Ending) (e : Ending) (new : List Ending) : Type 0 where
   pub entry : Ending
   pub none : HasNoEnd old e.outcome
@@ -36,25 +36,25 @@ pub record AddsOther (old : List Ending) (e : Ending) (new : List Ending) : Type
 abbrev pub AddsEnd : List Ending → Ending → List Ending → Type 0
 AddsEnd old e new = AddsMore old e new ⊎ AddsOther old e new
 
--- each of further ends is
+-- all these ends are added
 abbrev pub AddsEnds : List Ending → List Ending → List Ending → Type 0
 AddsEnds old [] new = new ≡ old
 AddsEnds old (e ∷ ends) new = (next : List Ending) × AddsEnd old e next × AddsEnds next ends new
 
--- and each of lists of ends
+-- all ends of these lists are added
 abbrev pub AddsLists : List Ending → List (List Ending) → List Ending → Type 0
 AddsLists old [] new = new ≡ old
 AddsLists old (ends ∷ lists) new = (next : List Ending) × AddsEnds old ends next × AddsLists next lists new
 
--- how many schedules lists of ends count
+-- how many schedules the lists of ends count
 abbrev pub counted_by : List (List Ending) → ℕ
 counted_by lists = sum_by (λ ends. sum_by (λ e. e.count) ends) lists
 
--- the same ends by their first schedules, the earlier before the later
+-- the same ends in the order of their first schedules
 pub record AreSorted (old new : List Ending) : Type 0 where
   pub moved : IsPermutation old new
   pub sorted : IsSortedBy (λ e f. is_lt (slice_cmp nat_cmp e.first.items f.first.items)) new
 
--- ends are those of lists, added up one after another and sorted
+-- the ends are those of the lists, added one after another and sorted
 abbrev pub AreAdded : List (List Ending) → List Ending → Type 0
 AreAdded lists ends = (added : List Ending) × AddsLists [] lists added × AreSorted added ends

@@ -6,11 +6,11 @@ use Rattle.hp_explore.specs.Faults.{FillsPart}
 use Rattle.hp_schedules.specs.Schedules.{Setting}
 use Rattle.hp_schedules.specs.declared.tally.Ending.{Ending}
 
--- the part with an index of so many, which go by so many first calls
+-- the part at `index` of `of`, told apart by the first `calls` calls
 abbrev pub part : (of calls index : ℕ) → PartValue
 part of calls index = record { index = index; of = of; calls = calls }
 
--- the lists have the ends of all parts that go by so many first calls, from the part with index 0 on
+-- the lists have the ends of all parts, from index 0 on
 abbrev pub AreParts : Setting → (calls : ℕ) → List (List Ending) → Type 0
 AreParts g calls lists =
     (k : ℕ) (ends : List Ending) → slice_get lists k ≡ Some ends

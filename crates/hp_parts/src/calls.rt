@@ -1,12 +1,14 @@
-//! By how many first calls parts go.
+//! How many first calls tell the parts of a search apart.
 ghost use Rattle.std.specs.Prelude.{◌≡◌, ℕ, ◌*◌, ◌^◌, ◌<◌, ◌≤◌};
 
-/// How many schedules of the first calls there are to be for each part (own rule).
+/// The least number of schedules of the first calls per part.
 const SCHEDULES_A_PART: u32 = 64;
 
-/// How many first calls so many parts go by, for so many processors, so that they come out about
-/// even (own rule): the fewest with at least 64 schedules for each part, where no script ends before
-/// them; 0 for fewer than two parts or processors.
+/// Returns how many first calls should tell the parts apart, so that
+/// the parts have about equal work.
+///
+/// This is the smallest number with at least 64 schedules of first calls per part, if no script
+/// ends before them. Returns 0 for fewer than two parts or processors.
 pub fn calls_for(processors: u32, parts: u32) -> u32
     ensures one { parts < 2 → result ≡ 0 }
     ensures alone { processors < 2 → result ≡ 0 }

@@ -1,4 +1,4 @@
-//! Which of two schedules is the earlier one.
+//! The order of schedules.
 ghost use Rattle.std.specs.Prelude.{◌≡◌, OnErr, OnOk};
 ghost use Rattle.std.specs.Cmp.Lexicographic.{slice_cmp};
 ghost use Rattle.std.specs.Ordering.{nat_cmp};
@@ -8,8 +8,8 @@ use hp_units::Cpu;
 use std::alloc::{AllocError, Global};
 use std::cmp::Ordering;
 
-/// The order of two schedules: by the processors at the first place where they differ; what goes on
-/// from another stands after it.
+/// Compares two schedules by the processors at their first difference. A schedule that continues
+/// another comes after it.
 pub(crate) fn order_of(schedule: &[Cpu], other: &[Cpu]) -> Ordering
     ensures { result ≡ slice_cmp nat_cmp schedule.now other.now }
 {
@@ -31,8 +31,8 @@ pub(crate) fn order_of(schedule: &[Cpu], other: &[Cpu]) -> Ordering
     }
 }
 
-/// Puts another schedule in the place of a kept one where it is earlier. An error is out of memory;
-/// then the kept one stays.
+/// Replaces `kept` by the other schedule if that one is earlier. If memory
+/// runs out, `kept` stays as it was.
 pub(crate) fn keep_earlier(
     alloc: Global,
     kept: &mut Vec<Cpu>,

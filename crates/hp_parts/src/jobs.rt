@@ -1,4 +1,4 @@
-//! A search of all schedules in threads.
+//! Exploration in several threads.
 ghost use Rattle.std.specs.Prelude.{◌≡◌, ◌^◌, ◌<◌, ◌≤◌, IfErr, IfOk, IfSome, Some, length, map, sum_by};
 ghost use Rattle.hp_schedules.specs.Ends.{AreCounted, AreEnds, AreInOrder};
 ghost use Rattle.hp_explore.specs.Faults.{FillsHistory, FillsPart, IsCause, IsCauseWithin};
@@ -19,15 +19,21 @@ use std::alloc::Global;
 use std::thread;
 use std::thread::Threads;
 
-/// How many threads a search has at most (own rule).
+/// The largest number of threads.
 const MOST_JOBS: u32 = 256;
 
-/// What `explore` answers, found in as many threads as there are jobs, at most 256 (own rule). Each
-/// searches a part, and the ends of the parts are added up; where these are not all, or more than the
-/// limit, one thread searches anew. Of the parts the watch is told once how many schedules are
-/// counted. Where much of the parts goes on alike each may take nearly as long as the whole.
+/// Explores all schedules like `explore`, in `jobs` threads, at most 256.
 ///
-/// An error is that of `explore`.
+/// Each thread searches a part, and the ends of all parts are merged. `watch` is then called once,
+/// with the total. If a part fails or stops at the limit, or the merged ends exceed the limit, one
+/// thread searches all schedules anew.
+///
+/// A part may take nearly as long as the whole search if many schedules of different parts continue
+/// alike, because each part explores them for itself.
+///
+/// # Errors
+///
+/// The same as `explore`.
 pub fn explore_with_jobs<R: Threads + Sync, W: Watch>(
     rt: &R,
     alloc: Global,
@@ -39,17 +45,17 @@ pub fn explore_with_jobs<R: Threads + Sync, W: Watch>(
 ) -> Result<Exploration, ExploreFault>
     requires { length scripts.now < 2 ^ 32 }
 
-    // Where all schedules were counted.
+    // If all schedules were counted:
     ensures ok { IfOk result (λ x. IfWhole x (AreEnds (setting machine.now scripts.now))) }
     ensures few { IfOk result
         (λ x. IfWhole x (λ _. HasMoreThan (IsComplete (setting machine.now scripts.now)) limit → ⊥)) }
     ensures room { IfOk result
         (λ x. IfWhole x (λ _. FillsHistory (setting machine.now scripts.now) → ⊥)) }
-    // Where the first ones were.
+    // If only the first ones were:
     ensures first { IfOk result (λ x. IfFirst x (AreFirst (setting machine.now scripts.now) limit)) }
     ensures many { IfOk result
         (λ x. IfFirst x (λ _. HasMoreThan (IsComplete (setting machine.now scripts.now)) limit)) }
-    // In both cases.
+    // In both cases:
     ensures within { IfOk result (λ x. sum_by (λ e. e.count) x.ends.items ≤ limit) }
     ensures ordered { IfOk result (λ x. AreInOrder x.ends.items) }
     ensures err { IfErr result (IsCause (setting machine.now scripts.now)) }
@@ -68,8 +74,8 @@ pub fn explore_with_jobs<R: Threads + Sync, W: Watch>(
     }
 }
 
-/// The ends of all schedules, from so many parts; none where they are more than the limit, or where
-/// one part or the sum failed.
+/// Returns the ends of all schedules, searched in `parts` parts. Returns `None` if they count more
+/// than the limit, or if a part or the merge failed.
 fn search_parts<R: Threads + Sync, W: Watch>(
     rt: &R,
     alloc: Global,
@@ -98,8 +104,7 @@ fn search_parts<R: Threads + Sync, W: Watch>(
     }
 }
 
-/// The ends of each of so many parts by so many first calls, each searched in a thread of its own;
-/// none where one part gave none.
+/// Returns the ends of each part, each searched in a thread of its own, or `None` if a part failed.
 fn ends_of_parts<R: Threads + Sync>(
     rt: &R,
     alloc: Global,
@@ -128,7 +133,7 @@ fn ends_of_parts<R: Threads + Sync>(
     }
 }
 
-/// The ends of the part with an index; none where they were not all counted.
+/// Returns the ends of the part at `index`, or `None` if they were not all counted.
 fn ends_of_part(
     alloc: Global,
     machine: &Machine,
@@ -158,7 +163,7 @@ fn ends_of_part(
     }
 }
 
-/// All of what was found; none where one gave none, or memory was refused.
+/// Returns all lists, or `None` if one is missing or memory runs out.
 fn all_of(alloc: Global, found: Vec<Option<Vec<Ending>>>) -> Option<Vec<Vec<Ending>>>
     ensures { IfSome result (λ lists. found.items ≡ map (λ ends. Some ends) lists.items) }
 {

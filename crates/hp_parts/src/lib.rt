@@ -1,8 +1,8 @@
-//! The sum of all parts of a search, and a search in threads.
+//! Merges the parts of a search, and searches in threads.
 //!
-//! hp_explore counts the schedules of one of so many parts. This crate says by how many first calls
-//! parts go, adds the ends of all parts up, and searches them in threads. It decides nothing about
-//! schedules: what it adds up is what `explore` counts.
+//! hp_explore counts the schedules of one part. This crate chooses how many first calls tell the
+//! parts apart, merges the ends of all parts, and searches the parts in threads. It decides nothing
+//! about schedules: what it merges is what `explore` counts.
 //!
 //! Read specs/Sums first, then `sum` in `summing` and `explore_with_jobs` in `jobs`.
 #![tactic(auto)]

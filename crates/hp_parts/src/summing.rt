@@ -1,4 +1,4 @@
-//! The sum of all parts of a search.
+//! Merges the ends of all parts of a search.
 ghost use Rattle.std.specs.Prelude.{◌≡◌, ◌↔◌, ℕ, ◌<◌, ◌≤◌, ◌^◌, Err, IfOk, length, map, sum_by};
 ghost use Rattle.hp_schedules.specs.Ends.{AreEnds, AreInOrder};
 ghost use Rattle.hp_schedules.specs.Schedules.{Setting};
@@ -12,13 +12,13 @@ use hp_schedules::Ending;
 use std::alloc::{AllocError, Global};
 use thiserror::Error;
 
-/// Why parts were not added up.
+/// Why parts could not be merged.
 #[derive(Error, Clone, Copy, Debug, PartialEq, Eq, Drop)]
 pub enum SumFault {
     /// They count 2^64 schedules or more.
     #[error("2^64 schedules or more")]
     TooMany,
-    /// Memory was refused.
+    /// Memory allocation failed.
     #[error("out of memory")]
     OutOfMemory,
 }
@@ -34,18 +34,22 @@ impl From<AllocError> for SumFault {
     }
 }
 
-/// The ends of all parts of a search as those of the whole (own rule): equal outcomes are one end,
-/// with the sum of the counts and the earliest of the first schedules, in the order of these. The
-/// parts are in order, the one with index 0 first.
+/// Merges the ends of all parts of a search into those of the whole. The parts
+/// must be in order, index 0 first.
 ///
-/// An error is `TooMany` where the counts add up to 2^64 or more, or `OutOfMemory`.
+/// Equal outcomes become one end, with the sum of their counts and the earliest of their first
+/// schedules. The result is in the order of these first schedules.
+///
+/// # Errors
+///
+/// `TooMany` if the counts add up to 2^64 or more, `OutOfMemory` if memory allocation fails.
 pub fn sum(alloc: Global, parts: &[Vec<Ending>]) -> Result<Vec<Ending>, SumFault>
-    // Where the lists are those of all parts of a search.
+    // If the lists are those of all parts of a search:
     ensures ends { IfOk result (λ ends. (g : Setting) (calls : ℕ) → 0 < length parts.now
         → AreParts g calls (map (λ part. part.items) parts.now) → AreEnds g ends.items) }
     ensures ordered { IfOk result (λ ends. (g : Setting) (calls : ℕ) → 0 < length parts.now
         → AreParts g calls (map (λ part. part.items) parts.now) → AreInOrder ends.items) }
-    // Whatever they are.
+    // For any lists:
     ensures adds { IfOk result (λ ends. AreAdded (map (λ part. part.items) parts.now) ends.items) }
     ensures total { IfOk result
         (λ ends. sum_by (λ e. e.count) ends.items ≡ counted_by (map (λ part. part.items) parts.now)) }

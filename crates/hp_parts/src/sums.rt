@@ -1,4 +1,4 @@
-//! Ends that are added up.
+//! Ends that are being merged.
 ghost use Rattle.std.specs.Prelude.{◌≡◌, ◌↔◌, ◌+◌, ◌<◌, ◌^◌, [], IfNone, IfOk, IfSome, IsTrue, OnErr, OnOk, map, sum_by};
 ghost use Rattle.std.specs.Cmp.Lexicographic.{slice_cmp};
 ghost use Rattle.std.specs.Ordering.{nat_cmp};
@@ -14,8 +14,10 @@ use std::alloc::{AllocError, Global};
 use std::cmp::Ordering;
 use std::marker::Model;
 
-/// Ends that are added up, no two of the same outcome, with how many schedules they count, and by a
-/// digest of an outcome the latest place of one that has it. A contract sees the ends.
+/// Merged ends, no two with the same outcome. A contract sees them as a list.
+///
+/// `total` is the number of schedules that they count. `latest` maps a hash to the index of the
+/// newest end that has it.
 pub(crate) struct Sums {
     total: u64,
     ends: Vec<Ending>,
@@ -35,7 +37,7 @@ impl Model for Sums {
         × AreKnown s.ends.items s.latest };
 }
 
-/// A function of its own, so that no proof of a caller takes the fields apart.
+/// Keeps callers from proving again how each field is dropped.
 impl Drop for Sums {
     fn drop(self) {
         let Sums {
@@ -47,7 +49,7 @@ impl Drop for Sums {
 }
 
 impl Sums {
-    /// No ends.
+    /// Creates an empty collection.
     pub(crate) fn new(alloc: Global) -> Sums
         ensures { result ≡ [] }
     {
@@ -58,7 +60,7 @@ impl Sums {
         }
     }
 
-    /// Adds each end of each list. An error is out of memory.
+    /// Adds all ends of all lists.
     pub(crate) fn add_lists(
         &mut self,
         alloc: Global,
@@ -73,7 +75,7 @@ impl Sums {
         Ok(())
     }
 
-    /// Adds each of these ends. An error is out of memory.
+    /// Adds all these ends.
     fn add_ends(&mut self, alloc: Global, ends: &[Ending]) -> Result<(), AllocError>
         requires { sum_by (λ e. e.count) self.old + sum_by (λ e. e.count) ends.now < 2 ^ 64 }
         ensures { OnOk result (AddsEnds self.old ends.now self.new) }
@@ -84,7 +86,7 @@ impl Sums {
         Ok(())
     }
 
-    /// Adds an end. An error is out of memory; then the ends are as they were.
+    /// Adds an end. If memory runs out, the ends stay as they were.
     fn add_end(&mut self, alloc: Global, end: &Ending) -> Result<(), AllocError>
         requires { sum_by (λ e. e.count) self.old + end.now.count < 2 ^ 64 }
         ensures ok { OnOk result (AddsEnd self.old end.now self.new) }
@@ -97,7 +99,7 @@ impl Sums {
         }
     }
 
-    /// Adds an end to the one at a place.
+    /// Adds the end's count to the end at index `place`, and keeps the earlier first schedule.
     fn add_at(&mut self, alloc: Global, place: usize, end: &Ending) -> Result<(), AllocError>
         requires at { HasEndAt self.old end.now.outcome place }
         requires room { sum_by (λ e. e.count) self.old + end.now.count < 2 ^ 64 }
@@ -111,7 +113,7 @@ impl Sums {
         Ok(())
     }
 
-    /// Adds an end whose outcome, of this digest, none of them has.
+    /// Appends an end whose outcome is new. `digest` is the hash of the outcome.
     fn push(&mut self, alloc: Global, digest: u64, end: &Ending) -> Result<(), AllocError>
         requires digest { digest ≡ digest_of end.now.outcome }
         requires none { HasNoEnd self.old end.now.outcome }
@@ -127,7 +129,7 @@ impl Sums {
         Ok(())
     }
 
-    /// The ends by their first schedules.
+    /// Returns the ends in the order of their first schedules.
     pub(crate) fn into_sorted(self) -> Vec<Ending>
         ensures { AreSorted self result.items }
     {
@@ -140,7 +142,7 @@ impl Sums {
     }
 }
 
-/// Ends by their first schedules.
+/// Sorts ends by their first schedules.
 fn sorted(ends: Vec<Ending>) -> Vec<Ending>
     ensures { AreSorted ends.items result.items }
 {
@@ -153,7 +155,7 @@ fn sorted(ends: Vec<Ending>) -> Vec<Ending>
     sorted
 }
 
-/// A copy of an end. An error is out of memory.
+/// Returns a copy of an end.
 fn copy_of(alloc: Global, end: &Ending) -> Result<Ending, AllocError>
     ensures outcome { IfOk result (λ copy. copy.outcome ≡ end.now.outcome) }
     ensures count { IfOk result (λ copy. copy.count ≡ end.now.count) }
@@ -168,8 +170,9 @@ fn copy_of(alloc: Global, end: &Ending) -> Result<Ending, AllocError>
     })
 }
 
-/// The place of the end that has an outcome. It is mostly the latest with its digest; where it is
-/// not, all ends are compared.
+/// Returns the index of the end that has this outcome.
+///
+/// It is nearly always the newest end with this hash. If not, all ends are compared.
 fn place_of(
     ends: &[Ending],
     latest: &IndexMap<u64, usize>,
@@ -190,7 +193,7 @@ fn place_of(
     first_place_of(ends, outcome)
 }
 
-/// Whether the end at a place has an outcome.
+/// Returns whether the end at index `place` has this outcome.
 fn is_end_at(ends: &[Ending], place: usize, outcome: &Outcome) -> bool
     ensures { IsTrue result → HasEndAt ends.now outcome.now place }
 {
@@ -200,7 +203,7 @@ fn is_end_at(ends: &[Ending], place: usize, outcome: &Outcome) -> bool
     }
 }
 
-/// The place of the first end that has an outcome.
+/// Returns the index of the first end that has this outcome.
 fn first_place_of(ends: &[Ending], outcome: &Outcome) -> Option<usize>
     ensures some { IfSome result (HasEndAt ends.now outcome.now) }
     ensures none { IfNone result (HasNoEnd ends.now outcome.now) }

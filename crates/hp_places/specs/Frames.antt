@@ -1,4 +1,4 @@
--- What is known of a place that a walk comes to, and what is kept of it when the walk leaves it.
+-- What a walk knows of a place, and what it keeps of it when it leaves.
 use Rattle.std.specs.Prelude.{◌≡◌, true, List, Option, None, Some, length, map, option_map, Box}
 use Rattle.std.specs.declared.alloc.Global.{Global}
 use Rattle.hp_units.specs.declared.replies.Record.{Record}
@@ -19,8 +19,7 @@ use Rattle.hp_schedules.specs.declared.cursors.Cursor.{Cursor}
 use Rattle.hp_schedules.specs.declared.rows.Share.{Share}
 use Rattle.hp_schedules.specs.declared.tally.Ending.{Ending}
 
--- what is kept of a place until all that go on from it are counted: how much each end counted when the
--- walk came there
+-- what a place keeps while it is walked: the count of each end when the walk reached it
 pub record IsPlaceKept (g : Setting) (part : PartValue) (news : List Record) (ends : List Ending)
     (kept : Kept) : Type 0 where
   pub old : List Ending
@@ -31,62 +30,60 @@ pub record IsPlaceKept (g : Setting) (part : PartValue) (news : List Record) (en
 abbrev pub kept_of : Frame → Option Kept
 kept_of frame = option_map (λ (boxed : Box Kept Global). boxed.value) frame.kept
 
--- a frame whose turns are all to come; what it keeps is how much each end counts
+-- a frame with all processors still to be tried; if it keeps counts, they are those of these ends
 abbrev pub IsFresh : List Ending → Frame → Type 0
 IsFresh ends frame =
     (frame.next ≡ 0) × (frame.is_over ≡ true)
     × ((k : Kept) → kept_of frame ≡ Some k → k.earlier.items ≡ map (λ e. e.count) ends)
 
--- the frame of a place that the search of a part has come to
+-- the frame of a place that the part's search has reached
 pub record IsFrame (g : Setting) (part : PartValue) (news : List Record) (ends : List Ending)
     (frame : Frame) : Type 0 where
   pub comes : ComesTo (length g.scripts) part (schedule_of news)
   pub kept : (k : Kept) → kept_of frame ≡ Some k → IsPlaceKept g part news ends k
 
--- all that goes on from a place belongs to a part and was walked, and this is kept of it
+-- all schedules from the place belong to a part and are walked, and this is kept of it
 pub record IsPlaceWalked (g : Setting) (news : List Record) (ends : List Ending) (kept : Kept) : Type 0 where
   pub part : PartValue
   pub all : AllOfPart (length g.scripts) part (schedule_of news)
   pub place : IsPlaceKept g part news ends kept
   pub through : IsPartWalkedThrough g part (schedule_of news) ends
 
--- its share more was counted under each end, or the place is to be walked since there is no room for
--- all of them
+-- each end's count grew by its share; or the place is to be walked, since there is no room for all
 abbrev pub IsAdded : (old : List Ending) → (shares : List Share) → (new : List Ending) → Entry → Type 0
 IsAdded old shares new Counted = AddsShares old shares new
 IsAdded old shares new (Open frame) =
     (new ≡ old) × (frame ≡ record { next = 0; is_over = true; kept = None })
 
--- what was done at a place for the search of a part: what goes on from there was counted, or it has a
--- frame with all to come
+-- what was done with a place in a part's search: its schedules are counted, or it has a fresh frame
 abbrev pub IsEntered : Setting → List Record → PartValue → (old new : List Ending) → Entry → Type 0
 IsEntered g news part old new Counted = IsPartWalkedThrough g part (schedule_of news) new × Grow old new
 IsEntered g news part old new (Open frame) =
     (new ≡ old) × (frame.next ≡ 0) × (frame.is_over ≡ true) × IsFrame g part news new frame
 
--- for each part to which all belong that go on from there, where all of it before the place was walked
+-- the same for each part that all schedules from there belong to and that is walked up to the place
 abbrev pub IsEnteredWithin : Setting → List Record → (old new : List Ending) → Entry → Type 0
 IsEnteredWithin g news old new entry =
     (part : PartValue) → AllOfPart (length g.scripts) part (schedule_of news)
     → IsPartWalkedBefore g part (schedule_of news) old → IsEntered g news part old new entry
 
--- ---- what is known where a walk comes to a place, and where it leaves it
+-- ---- what is known when a walk reaches a place, and when it leaves it
 
--- the places that are kept, and the numbers of where the walk stands, are right
+-- the kept places are right, and so are the numbers of the place where the walk is
 pub record IsStood (g : Setting) (news : List Record) (memory : MemoryValue) (cursors : List Cursor)
     (ends : List Ending) (memo : MemoValue) : Type 0 where
   pub place : IsPlace g news memory cursors
   pub memo_is : IsMemo g ends memo
   pub way : IsOnWay g news memo
 
--- the search of a part comes to a place
+-- the search of a part reaches a place
 pub record IsArrival (g : Setting) (part : PartValue) (news : List Record) (memory : MemoryValue)
     (cursors : List Cursor) (ends : List Ending) (memo : MemoValue) : Type 0 where
   pub stood : IsStood g news memory cursors ends memo
   pub walked : IsPartWalkedBefore g part (schedule_of news) ends
   pub on : IsOn (length g.scripts) part (schedule_of news)
 
--- the search of a part leaves a place, from which all was walked, and its frame
+-- the search of a part leaves a place, all of which is walked, and its frame
 pub record IsLeaving (g : Setting) (part : PartValue) (news : List Record) (cursors : List Cursor)
     (ends : List Ending) (memo : MemoValue) (frame : Frame) : Type 0 where
   pub played : plays g (schedule_of news) ≡ Some news

@@ -1,4 +1,4 @@
--- Lists of openings by their numbers, and what they mean where a walk stands.
+-- Interned lists of openings, and what their numbers mean at a place.
 use Rattle.std.specs.Prelude.{◌≡◌, ℕ, true, List, [], ◌∷◌, ◌++◌, Option, Some, None, slice_get}
 use Rattle.hp_codes.specs.Codes.{IsCoded}
 use Rattle.hp_units.specs.History.{effect_of, net_of, value_of}
@@ -24,11 +24,11 @@ entry_below e = e.below
 abbrev pub openings_of : List Entry → List (List NumberedOpening)
 openings_of entries = lists_from entry_below in_front entries
 
--- an entry made the list of a number
+-- the entry made the list with this number
 abbrev pub IsEntryOf : List (List NumberedOpening) → (number : ℕ) → Entry → Type 0
 IsEntryOf lists number entry = IsMadeOf entry_below in_front lists number entry
 
--- a number means an operation in front of the list of an earlier number
+-- the number means the operation in front of the list `below`
 abbrev pub IsInFront : (old new : List (List NumberedOpening)) → (op state below number : ℕ) → Type 0
 IsInFront old new op state below number =
     (os : List NumberedOpening) → slice_get old below ≡ Some os
@@ -40,7 +40,7 @@ IsBegun old new op from was None = Unit {0}
 IsBegun old new op from was (Some n) =
     (below : ℕ) × (state : ℕ) × (was ≡ Some below) × (from ≡ Some state) × IsInFront old new op state below n
 
--- a number means what is made of the list of another; where that is not known it is none
+-- the number means what `f` makes of the list `was`; it is None if that list is unknown
 abbrev pub IsMadeBy : (List NumberedOpening → List NumberedOpening) → List (List NumberedOpening)
     → (was number : Option ℕ) → Type 0
 IsMadeBy f lists None number = number ≡ None
@@ -58,12 +58,12 @@ AreNamed l codes (n ∷ ns) [] = ⊥
 AreNamed l codes (n ∷ ns) (o ∷ os) =
     (n.op ≡ o.op) × IsCoded l codes n.memory o.memory × AreNamed l codes ns os
 
--- a number that is known is that of the state after new records
+-- the number, if known, is that of the state after the new records
 abbrev pub IsStateAt : Setting → (codes : List (List ℕ)) → (news : List Record) → Option ℕ → Type 0
 IsStateAt g codes news None = Unit {0}
 IsStateAt g codes news (Some n) = IsCoded g.layout codes n (value_of g.layout g.base (g.start ++ news))
 
--- a number means what Cancels can take back after new records; where there is none nothing is known
+-- the number means what a Cancel can take back after the new records; None means that it is unknown
 abbrev pub IsNumbered : Setting → (codes : List (List ℕ)) → List (List NumberedOpening) → (news : List Record)
     → Option ℕ → Type 0
 IsNumbered g codes lists news None = Unit {0}
@@ -71,7 +71,7 @@ IsNumbered g codes lists news (Some n) =
     (ns : List NumberedOpening) × (os : List Opening) × (slice_get lists n ≡ Some ns)
     × AreNamed g.layout codes ns os × AreOpen g.layout g.base (net_of (g.start ++ news)) os
 
--- where a number means that, another does after one record more that leaves earlier steps
+-- if `was` means that, then `number` does after one more record that drops no earlier steps
 abbrev pub NumbersOn : (old new : List (List NumberedOpening)) → (from : Option ℕ) → (latest : Record)
     → (was number : Option ℕ) → Type 0
 NumbersOn old new from latest was number =

@@ -1,4 +1,4 @@
--- The places of a walk: where the schedules of scripts lead to.
+-- The places of a walk: where schedules lead.
 use Rattle.std.specs.Prelude.{◌≡◌, List, [], ◌++◌, Some}
 use Rattle.hp_units.specs.History.{value_of}
 use Rattle.hp_units.specs.declared.replies.Record.{Record}
@@ -8,7 +8,7 @@ use Rattle.hp_schedules.specs.Cursors.{AreCursors}
 use Rattle.hp_schedules.specs.Schedules.{Setting, plays, schedule_of}
 use Rattle.hp_schedules.specs.declared.cursors.Cursor.{Cursor}
 
--- the memory of the place after new records, and steps that stand there
+-- the memory at the place after the new records, and steps at it with no way back
 abbrev pub memory_at : Setting → List Record → MemoryValue
 memory_at g news =
     record { layout = g.layout; state = value_of g.layout g.base (g.start ++ news) }
@@ -21,7 +21,7 @@ standing g news = record {
   records = news;
 }
 
--- a schedule leads to the place after new records, where this is the memory, and the scripts are here
+-- a schedule leads to the place after the new records, with this memory and these positions
 pub record IsPlace (g : Setting) (news : List Record) (memory : MemoryValue) (cursors : List Cursor)
     : Type 0 where
   pub played : plays g (schedule_of news) ≡ Some news

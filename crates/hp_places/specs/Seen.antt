@@ -1,4 +1,4 @@
--- Places that were walked, and how many schedules go on from each.
+-- Walked places, and how many schedules continue from each.
 use Rattle.std.specs.Prelude.{◌≡◌, ℕ, ◌+◌, ◌*◌, ◌≤◌, Bool, true, List, [], ◌∷◌, ◌++◌, Some, length, slice_get, slice_index_or, slice_range}
 use Rattle.hp_units.specs.declared.replies.Record.{Record}
 use Rattle.hp_schedules.specs.Alike.{UndoNothing}
@@ -12,17 +12,17 @@ use Rattle.hp_schedules.specs.declared.rows.Share.{Share}
 use Rattle.hp_schedules.specs.declared.tally.Ending.{Ending}
 use Rattle.hp_schedules.specs.Shares.{AreAtEnds, AreSince, amount_of}
 
--- a place: the new records that lead there, and how many complete schedules go on from there to each
--- end, by the end's place; none where the list has no number
+-- a place: the new records that lead there, and how many complete schedules continue from it to
+-- each end, by the end's index; an index past the list means 0
 pub record SeenValue : Type 0 where
   pub news : List Record
   pub counts : List ℕ
 
--- a schedule goes on from a place, with this outcome
+-- the schedule continues from the place, with this outcome
 abbrev pub GoesOn : Setting → List ℕ → OutcomeValue → List ℕ → Type 0
 GoesOn g place x s = Extends s place × EndsWith g s x
 
--- what is kept of a place, where the ends are these
+-- what is kept of a place is right, if the ends are these
 pub record IsSeen (g : Setting) (ends : List Ending) (seen : SeenValue) : Type 0 where
   pub played : plays g (schedule_of seen.news) ≡ Some seen.news
   pub few : length seen.counts ≤ length ends
@@ -31,7 +31,7 @@ pub record IsSeen (g : Setting) (ends : List Ending) (seen : SeenValue) : Type 0
   pub every : (s : List ℕ) (x : OutcomeValue) → GoesOn g (schedule_of seen.news) x s
       → (k : ℕ) × (e : Ending) × (slice_get ends k ≡ Some e) × (e.outcome ≡ x)
 
--- ends stay where they are, and count no less; those that come have other outcomes
+-- ends stay at their index and count no less; new ones have other outcomes
 pub record Grow (old new : List Ending) : Type 0 where
   pub longer : length old ≤ length new
   pub kept : (k : ℕ) (e f : Ending) → slice_get old k ≡ Some e → slice_get new k ≡ Some f
@@ -40,8 +40,8 @@ pub record Grow (old new : List Ending) : Type 0 where
 
 -- ---- the places that are kept
 
--- whether places are kept, the keys of those that are, one after another, and their rows; the key that
--- was written last; and where the walk stands
+-- whether places are kept; their keys, one after another, and their rows; the key written last; and
+-- the numbers of the place where the walk is
 pub record MemoValue : Type 0 where
   pub is_on : Bool
   pub keys : List ℕ
@@ -49,16 +49,16 @@ pub record MemoValue : Type 0 where
   pub key : List ℕ
   pub standing : StandingValue
 
--- the key at a place, where keys of so many numbers stand one after another
+-- the key at this index, if each key has `width` numbers
 abbrev pub key_in : (keys : List ℕ) → (width place : ℕ) → List ℕ
 key_in keys width place = slice_range keys (place * width) (place * width + width)
 
--- so many numbers has a key
+-- how many numbers a key has
 abbrev pub width_of : Setting → ℕ
 width_of g = 2 * length g.scripts + 2
 
--- the key of a place and its shares, where the ends are these; and the history has room for what goes
--- on from there
+-- the key of a place, and its shares among these ends; the history has room
+-- for all that continues from it
 pub record IsRow (g : Setting) (ends : List Ending) (s : StandingValue) (key : List ℕ)
     (shares : List Share) : Type 0 where
   pub seen : SeenValue
@@ -74,8 +74,8 @@ abbrev pub IsRowAmong : (keys : List ℕ) → (rows : List (List Share)) → (ke
 IsRowAmong keys rows key shares =
     (i : ℕ) × (slice_get rows i ≡ Some shares) × (key_in keys (length key) i ≡ key)
 
--- the places that are kept, where the ends are these; and where any are to be kept no script undoes
--- steps by their serials
+-- the kept places are right for these ends; and if any are to be kept, no
+-- script undoes steps by their serials
 pub record IsMemo (g : Setting) (ends : List Ending) (memo : MemoValue) : Type 0 where
   pub all : (i : ℕ) (shares : List Share) → slice_get memo.rows i ≡ Some shares
       → IsRow g ends memo.standing (key_in memo.keys (width_of g) i) shares
@@ -86,12 +86,12 @@ pub record IsMemo (g : Setting) (ends : List Ending) (memo : MemoValue) : Type 0
 abbrev pub AreSamePlaces : MemoValue → MemoValue → Type 0
 AreSamePlaces old new = (new.is_on ≡ old.is_on) × (new.keys ≡ old.keys) × (new.rows ≡ old.rows)
 
--- one place more is kept, with the key that was written last and with what each end counts more than it did
+-- one more place is kept, under the key written last, with what each end counts more than before
 abbrev pub IsKeptMore : (earlier : List ℕ) → List Ending → (old new : MemoValue) → Type 0
 IsKeptMore earlier ends old new =
     (shares : List Share) × AreSince earlier ends shares
     × (new ≡ record old { keys = old.keys ++ old.key; rows = old.rows ++ shares ∷ [] })
 
--- where places are kept, the numbers are those of the place after new records
+-- if places are kept, the numbers are those of the place after the new records
 abbrev pub IsOnWay : Setting → List Record → MemoValue → Type 0
 IsOnWay g news memo = memo.is_on ≡ true → IsStanding g news memo.standing

@@ -1,4 +1,4 @@
--- Where a walk stands, in numbers.
+-- Where a walk is, in numbers.
 use Rattle.std.specs.Prelude.{◌≡◌, ℕ, ◌+◌, ◌*◌, ◌<◌, List, ◌∷◌, Some, length, reverse, slice_get, [], ◌++◌}
 use Rattle.hp_codes.specs.Codes.{KeepCodes}
 use Rattle.hp_units.specs.Receipts.{receipts_of}
@@ -11,8 +11,8 @@ use Rattle.hp_schedules.specs.Schedules.{Setting}
 use Rattle.hp_schedules.specs.Scripts.{own_operation}
 use Rattle.hp_places.specs.declared.standing.Stop.{Stop}
 
--- what each number of a state, of openings and of exchanges means; the number that each processor's
--- exchanges have; and the numbers of the place, and of those before it on the way
+-- the meaning of each number of a state, of openings and of exchanges; each processor's number; and
+-- the numbers of this place and of those before it on the way
 pub record StandingValue : Type 0 where
   pub codes : List (List ℕ)
   pub lists : List (List NumberedOpening)
@@ -28,18 +28,18 @@ AreStops g codes lists news (stop ∷ stops) =
     IsNumbered g codes lists news stop.openings × IsStateAt g codes news stop.state
     × ((before : List Record) (r : Record) → news ≡ before ++ r ∷ [] → AreStops g codes lists before stops)
 
--- the numbers are those of the place after new records
+-- the numbers are those of the place after the new records
 pub record IsStanding (g : Setting) (news : List Record) (s : StandingValue) : Type 0 where
   pub stops : AreStops g s.codes s.lists news (s.here ∷ reverse s.before)
   pub exchanged : AreExchanged g news s.exchanged
 
--- each number means what it meant
+-- each number keeps its meaning
 pub record KeepMeanings (old new : StandingValue) : Type 0 where
   pub codes : KeepCodes old.codes new.codes
   pub lists : KeepNumbers old.lists new.lists
   pub chains : KeepNumbers old.exchanged.chains new.exchanged.chains
 
--- the same where nothing but the place is another
+-- the same meanings; only the place differs
 abbrev pub AreSameNumbers : (old new : StandingValue) → Type 0
 AreSameNumbers old new =
     (new.codes ≡ old.codes) × (new.lists ≡ old.lists) × (new.exchanged.chains ≡ old.exchanged.chains)
@@ -51,7 +51,7 @@ pub record IsPart (s : StandingValue) (cpu : ℕ) (news : List Record) (key : Li
   pub exchanged : IsExchanged s.exchanged.chains cpu news number
   pub second : slice_get key (2 * cpu + 3) ≡ Some (own_operation (receipts_of cpu news))
 
--- a key that is begun: with the parts of the processors below a number
+-- a key with the parts of the processors below `cpus`
 pub record IsBegunKey (s : StandingValue) (news : List Record) (state openings cpus : ℕ)
     (key : List ℕ) : Type 0 where
   pub long : length key ≡ 2 * cpus + 2
@@ -59,13 +59,13 @@ pub record IsBegunKey (s : StandingValue) (news : List Record) (state openings c
   pub openings_next : slice_get key 1 ≡ Some openings
   pub parts : (cpu : ℕ) → cpu < cpus → IsPart s cpu news key
 
--- what comes after a key that is begun makes it one with the parts of so many processors
+-- what was appended completes a fresh key with the parts of the processors below `cpus`
 abbrev pub AddsParts : StandingValue → (news : List Record) → (cpus : ℕ) → (old new : List ℕ) → Type 0
 AddsParts s news cpus old new =
     (state openings : ℕ) → IsBegunKey s news state openings 0 old → IsBegunKey s news state openings cpus new
 
--- a key of the place after new records: the number of the state, that of what Cancels can take back,
--- and a part for each of the scripts' processors
+-- a key of the place after the new records: the number of the state, that of the cancellable
+-- operations, and a part for each processor that has a script
 pub record IsKey (g : Setting) (s : StandingValue) (news : List Record) (key : List ℕ) : Type 0 where
   pub state : ℕ
   pub openings : ℕ

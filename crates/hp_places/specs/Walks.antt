@@ -13,44 +13,45 @@ use Rattle.hp_schedules.specs.Parts.{ComesTo, EndsInPart, IsOfPart, PartValue}
 use Rattle.hp_schedules.specs.Schedules.{EndsWith, Setting, next_call, plays, schedule_of}
 use Rattle.hp_places.specs.Rooms.{HasNoRoom}
 
--- steps are where a schedule of the scripts leads to: their records are the new ones
+-- the steps are where a schedule of the scripts leads, and their records are the new ones
 pub record IsAt (g : Setting) (p : StepsValue) : Type 0 where
   pub layout : p.layout ≡ g.layout
   pub played : plays g (schedule_of p.records) ≡ Some p.records
   pub state : p.state ≡ value_of g.layout g.base (g.start ++ p.records)
 
--- the complete schedules that stand before a place of the walk, and those up to its last continuation
+-- the complete schedules before a place of the walk, and those up to
+-- the last that continues from it
 abbrev pub Before : Setting → List ℕ → List ℕ → OutcomeValue → Type 0
 Before g place s x = IsBefore s place × EndsWith g s x
 
 abbrev pub Through : Setting → List ℕ → List ℕ → OutcomeValue → Type 0
 Through g place s x = (IsBefore s place ⊎ Extends s place) × EndsWith g s x
 
--- the history has room for each call that stands before a place, and for each that is made there or later
+-- the history has room for each call before a place, and for each call at it or later
 abbrev pub HasRoomBefore : Setting → List ℕ → Type 0
 HasRoomBefore g place = (s : List ℕ) (h : HasNoRoom g s) → IsBefore (s ++ h.cpu ∷ []) place → ⊥
 
 abbrev pub HasRoomFrom : Setting → List ℕ → Type 0
 HasRoomFrom g place = (s : List ℕ) → HasNoRoom g s → Extends s place → ⊥
 
--- all before a place was walked: the schedules are counted, the ends in the order of their first
--- ones, and the history has room for each call
+-- all before a place is walked: the schedules are counted, the ends are in the order of their first
+-- schedules, and the history has room for each call
 pub record IsWalkedBefore (g : Setting) (place : List ℕ) (ends : List Ending) : Type 0 where
   pub counted : AreCounted (Before g place) ends
   pub ordered : AreInOrder ends
   pub room : HasRoomBefore g place
 
--- ---- of one part
+-- ---- for one part
 
--- its complete schedules that stand before a place of the walk, and those up to its last continuation
+-- the part's complete schedules before a place, and those up to the last that continues from it
 abbrev pub BeforeInPart : Setting → PartValue → List ℕ → List ℕ → OutcomeValue → Type 0
 BeforeInPart g part place s x = IsBefore s place × EndsInPart g part s x
 
 abbrev pub ThroughInPart : Setting → PartValue → List ℕ → List ℕ → OutcomeValue → Type 0
 ThroughInPart g part place s x = (IsBefore s place ⊎ Extends s place) × EndsInPart g part s x
 
--- the history has room for each call of its search that stands before a place, and for each that is
--- made there or later
+-- the history has room for each call of the part's search before a
+-- place, and for each at it or later
 abbrev pub HasPartRoomBefore : Setting → PartValue → List ℕ → Type 0
 HasPartRoomBefore g part place =
     (s : List ℕ) (h : HasNoRoom g s) → ComesTo (length g.scripts) part s
@@ -60,14 +61,14 @@ abbrev pub HasPartRoomFrom : Setting → PartValue → List ℕ → Type 0
 HasPartRoomFrom g part place =
     (s : List ℕ) → HasNoRoom g s → ComesTo (length g.scripts) part s → Extends s place → ⊥
 
--- all of it before a place was walked
+-- all of the part before a place is walked
 pub record IsPartWalkedBefore (g : Setting) (part : PartValue) (place : List ℕ)
     (ends : List Ending) : Type 0 where
   pub counted : AreCounted (BeforeInPart g part place) ends
   pub ordered : AreInOrder ends
   pub room : HasPartRoomBefore g part place
 
--- and all that goes on from there
+-- and all that continues from the place
 pub record IsPartWalkedThrough (g : Setting) (part : PartValue) (place : List ℕ)
     (ends : List Ending) : Type 0 where
   pub counted : AreCounted (ThroughInPart g part place) ends
@@ -75,24 +76,24 @@ pub record IsPartWalkedThrough (g : Setting) (part : PartValue) (place : List �
   pub room : HasPartRoomBefore g part place
   pub onward : HasPartRoomFrom g part place
 
--- the schedule that led to where the walk stands is noted, with the outcome there for so many processors
+-- the schedule that led here is noted, with its outcome for this many processors
 abbrev pub IsEndNoted : (processors : ℕ) → StepsValue → List Ending → List Ending → Type 0
 IsEndNoted processors p old new =
     IsNoted old (outcome processors p.records p.layout p.state) (schedule_of p.records) new
 
--- where it ends there; else the ends stay
+-- it is noted if it ends here; otherwise the ends stay
 abbrev pub IsNotedAtEnd : (is_end : Bool) → (processors : ℕ) → StepsValue → List Ending → List Ending → Type 0
 IsNotedAtEnd true processors p old new = IsEndNoted processors p old new
 IsNotedAtEnd false processors p old new = new ≡ old
 
--- whether the scripts of the processors so far ask for nothing after the new records, or one asks
--- for an event
+-- the processors below `below` have no call to make after the new
+-- records; or some processor has one
 abbrev pub IsOverBelow : Setting → List Record → (below : ℕ) → Bool → Type 0
 IsOverBelow g news below true = (cpu : ℕ) → cpu < below → next_call g cpu news ≡ None
 IsOverBelow g news below false = (cpu : ℕ) × (event : Event) × (next_call g cpu news ≡ Some event)
 
--- whether a schedule of a part ends after the new records; else a script asks for an event there, or
--- the schedule is another part's
+-- a schedule of the part ends after the new records; or a script has a call to make there; or the
+-- schedule belongs to another part
 abbrev pub IsEndHere : Setting → PartValue → List Record → (is_end : Bool) → Type 0
 IsEndHere g part news true =
     IsOverBelow g news (length g.scripts) true × IsOfPart (length g.scripts) part (schedule_of news)

@@ -1,4 +1,4 @@
-//! What a place is that a walk comes to, and what is kept of it when the walk leaves it.
+//! What a walk does when it reaches a place and when it leaves it.
 ghost use Rattle.std.specs.Prelude.{◌≡◌, ◌<◌, IfOk, List, OnOk, length, true};
 ghost use Rattle.hp_units.specs.declared.replies.Record.{Record as NewRecord};
 ghost use Rattle.hp_places.specs.Frames.{IsAdded, IsArrival, IsEntered, IsEnteredWithin, IsKeeping, IsLeaving, IsStood};
@@ -19,10 +19,12 @@ use hp_schedules::{Part, Positions, Share, Tally, fit_in};
 use hp_units::Record;
 use std::alloc::{AllocError, Global};
 
-/// What a place that the walk comes to is, for a part, by its records, its memory and the positions
-/// of so many processors: another part's is left at once. One with fewer calls than the parts go by
-/// is compared with no other, since schedules of other parts go on from there; its state gets a number
-/// all the same, since operations that begin there go back to it. An error is out of memory.
+/// Decides how to treat the place just reached: skip it if it belongs to another part, reuse the
+/// counts of a place that is alike, or walk it.
+///
+/// While too few calls are made to decide the part, a place is always walked, since schedules of
+/// other parts continue from it. Its state still gets a number, because operations that begin there
+/// can be cancelled back to it.
 pub fn arrive<W: Watch>(
     alloc: Global,
     records: &[Record],
@@ -55,8 +57,8 @@ pub fn arrive<W: Watch>(
     enter(alloc, memory, positions, processors, tally, memo, watch)
 }
 
-/// What a place is from which only schedules of one part go on: where all goes on as from a place that
-/// was walked before, what was counted there is counted once more.
+/// Decides the same for a place from which only schedules of one part continue: if a place that is
+/// alike has been walked, its counts are added.
 fn enter<W: Watch>(
     alloc: Global,
     memory: &Memory,
@@ -88,7 +90,7 @@ fn enter<W: Watch>(
     Ok(Entry::Open(frame))
 }
 
-/// Counts so many schedules more under each end that has a share; where there is no room for all of
+/// Adds the shares to the tally. If the tally has no room for all of
 /// them, the place is to be walked.
 fn add_shares<W: Watch>(tally: &mut Tally, shares: &[Share], watch: &mut W) -> Entry
     requires { AreAtEnds (length tally.old.ends) shares.now }
@@ -103,8 +105,8 @@ fn add_shares<W: Watch>(tally: &mut Tally, shares: &[Share], watch: &mut W) -> E
     Entry::Counted
 }
 
-/// Counts the schedule that led to a place where one of the part ends, by the place's records and its
-/// memory. An error is out of memory.
+/// Counts the schedule that led to this place, if `is_end` says that it
+/// ends here and belongs to the part.
 pub fn note<W: Watch>(
     alloc: Global,
     records: &[Record],
@@ -128,9 +130,8 @@ pub fn note<W: Watch>(
     noted
 }
 
-/// Keeps a place from which all is counted, by its records and the positions of so many processors
-/// there, where it is to be kept, and only schedules of the part go on from there. An error is out of
-/// memory.
+/// Keeps the counts of a place that has been walked, if its frame asks for that and only schedules
+/// of the part continue from it.
 pub fn leave(
     records: &[Record],
     positions: &Positions,
@@ -156,8 +157,7 @@ pub fn leave(
     }
 }
 
-/// Keeps a place from which all is counted, with what each end counts more since the walk came
-/// there. An error is out of memory.
+/// Stores the place's key, with what each end counts more since the walk reached it.
 fn keep(
     positions: &Positions,
     processors: u32,

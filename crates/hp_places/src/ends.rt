@@ -1,4 +1,4 @@
-//! How a schedule ends where steps stand.
+//! The outcome of a schedule at a place.
 ghost use Rattle.std.specs.Prelude.{◌≡◌, IfOk, None};
 ghost use Rattle.hp_schedules.specs.Outcomes.{ended_row, ended_rows_below, outcome};
 
@@ -8,7 +8,7 @@ use hp_steps::Steps;
 use hp_units::{Block, Claim, Row, State};
 use std::alloc::{AllocError, Global};
 
-/// A block's row with another claim in place of its own; that of an offline block where there is no row.
+/// Returns the row with another claim. A missing row becomes that of an offline block.
 fn claimed_row(row: Option<Row>, claim: Option<Claim>) -> Row
     ensures { claim ≡ None → result ≡ ended_row row }
 {
@@ -26,7 +26,7 @@ fn claimed_row(row: Option<Row>, claim: Option<Claim>) -> Row
     }
 }
 
-/// Each memory block's row, without the operation that may hold it. An error is out of memory.
+/// Returns each memory block's row without its claim.
 pub(crate) fn ended_rows(alloc: Global, memory: &Memory) -> Result<Vec<Row>, AllocError>
     ensures { IfOk result (λ rows. rows.items ≡ ended_rows_below memory.now.layout.blocks memory.now.state) }
 {
@@ -39,7 +39,7 @@ pub(crate) fn ended_rows(alloc: Global, memory: &Memory) -> Result<Vec<Row>, All
     Ok(rows)
 }
 
-/// How a schedule ends where steps stand, for so many processors. An error is out of memory.
+/// Returns the outcome of the schedule that led here, for `processors` processors.
 pub fn outcome_at(alloc: Global, processors: u32, here: &Steps) -> Result<Outcome, AllocError>
     ensures { IfOk result (λ x. x ≡ outcome processors here.now.records here.now.layout here.now.state) }
 {

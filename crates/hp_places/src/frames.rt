@@ -1,12 +1,11 @@
-//! What a walk knows of the places on its way.
+//! What a walk knows of each place on its way.
 ghost use Rattle.std.specs.Prelude.{◌≡◌, ◌+◌, ◌-◌, ◌^◌, ◌<◌, IfOk, true, false};
 ghost use Rattle.hp_places.specs.Frames.{IsFresh};
 
 use hp_schedules::Tally;
 use std::alloc::{AllocError, Global};
 
-/// What is kept of a place until all that go on from it are counted: how much each end counted when
-/// the walk came there.
+/// What a place keeps while it is being walked: the count of each end at the walk's arrival.
 #[derive(Drop)]
 pub struct Kept {
     pub earlier: Vec<u64>,
@@ -14,15 +13,15 @@ pub struct Kept {
 
 /// A place on the way.
 pub struct Frame {
-    /// The processor whose call comes next there.
+    /// The processor whose call is tried next.
     pub next: u32,
-    /// Whether no script of the processors before it asked for anything.
+    /// True while no processor before `next` had a call to make.
     pub is_over: bool,
-    /// What is kept of it, on the heap, since most places keep nothing.
+    /// The counts at arrival. Boxed, since most places keep none.
     pub kept: Option<Box<Kept>>,
 }
 
-/// A function of its own, so that no proof of a caller takes the fields apart.
+/// Keeps callers from proving again how each field is dropped.
 impl Drop for Frame {
     fn drop(self) {
         let Frame {
@@ -33,17 +32,17 @@ impl Drop for Frame {
     }
 }
 
-/// What was done at a place that the walk came to.
+/// What was done with the place just reached.
 #[derive(Drop)]
 pub enum Entry {
-    /// What goes on from there was counted as from a place that was walked before.
+    /// Its schedules are counted, or belong to another part.
     Counted,
     /// It is to be walked.
     Open(Frame),
 }
 
 impl Frame {
-    /// A place whose turns are all to come.
+    /// Creates a frame with all processors still to be tried.
     pub(crate) fn new(kept: Option<Box<Kept>>) -> Frame
         ensures { result ≡ record { next = 0; is_over = true; kept = kept } }
     {
@@ -54,8 +53,8 @@ impl Frame {
         }
     }
 
-    /// The same, which is kept as long as there are few ends, since what is kept holds a count for each
-    /// end. An error is out of memory.
+    /// Creates a frame that keeps the counts, unless there are too many
+    /// ends: it holds one count per end.
     pub(crate) fn keeping(alloc: Global, tally: &Tally) -> Result<Frame, AllocError>
         ensures { IfOk result (IsFresh tally.now.ends) }
     {
@@ -72,7 +71,7 @@ impl Frame {
         }
     }
 
-    /// What is kept of the place.
+    /// Returns the counts at arrival, if the place keeps them.
     pub(crate) fn into_kept(self) -> Option<Box<Kept>>
         ensures { result ≡ self.kept }
     {
@@ -84,7 +83,7 @@ impl Frame {
         kept
     }
 
-    /// The place after a processor that asked for nothing.
+    /// Moves on past a processor that had no call to make.
     pub fn passed(self) -> Frame
         requires { self.next < 2 ^ 32 - 1 }
         ensures { result ≡ record self { next = self.next + 1 } }
@@ -101,7 +100,7 @@ impl Frame {
         }
     }
 
-    /// The place after a processor's call.
+    /// Moves on past a processor that made a call.
     pub fn led_on(self) -> Frame
         requires { self.next < 2 ^ 32 - 1 }
         ensures { result ≡ record self { next = self.next + 1; is_over = false } }

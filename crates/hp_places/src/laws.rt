@@ -1,4 +1,4 @@
-//! The law of what is kept of walked places, the contract of a function with an empty body.
+//! The law of kept counts, as the contract of a function with an empty body.
 ghost use Rattle.std.specs.Prelude.{◌≡◌, true, ℕ, List, Some};
 ghost use Rattle.hp_units.specs.History.{net_of};
 ghost use Rattle.hp_units.specs.declared.replies.Record.{Record};
@@ -10,7 +10,7 @@ ghost use Rattle.hp_schedules.specs.declared.tally.Ending.{Ending};
 ghost use Rattle.hp_places.specs.Seen.{IsSeen, SeenValue};
 ghost use Rattle.hp_places.specs.Walks.{Before, Through};
 
-/// What is kept of a walked place counts the schedules that go on from a place that is alike (own rule).
+/// The counts kept for a walked place are right for any place that is alike.
 pub fn kept_counts_are_added()
     ensures closed { (h : List Record) → is_closed h ≡ true → IsClosed (net_of h) }
     ensures merged { (g : Setting) (q : List ℕ) (k : List Record) (seen : SeenValue) (old new : List Ending)

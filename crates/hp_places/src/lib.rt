@@ -1,10 +1,10 @@
-//! The places that a walk over schedules comes to: in numbers, and which of them go on alike.
+//! The places that a walk over schedules reaches, and which of them continue alike.
 //!
-//! A place is where a schedule of scripts leads to. This crate owns the numbers by which places are
-//! compared (`openings`, `standing`), the places that were walked, with how many schedules went on
-//! from each to each end (`memo`), and what a walk does where it comes to a place and where it
-//! leaves it (`arrivals`). It makes no call, and needs no machine: whoever walks shows it the
-//! records, the memory and the positions of a place. hp_explore makes the calls.
+//! A place is where a schedule of scripts leads. This crate owns the numbers by which places are
+//! compared (`openings`, `standing`), the walked places with how many schedules continue from each
+//! to each end (`memo`), and what a walk does when it reaches a place and when it leaves it
+//! (`arrivals`). It makes no calls and needs no machine: the walk passes the records, the memory
+//! and the positions of a place. hp_explore makes the calls.
 //!
 //! Read specs/Places and specs/Walks first, then specs/Standing, specs/Seen and specs/Frames.
 #![tactic(auto)]

@@ -1,4 +1,4 @@
-//! The places that were walked so far, and how many schedules went on from each to each end.
+//! The places walked so far, with the counts that are reused at places alike.
 ghost use Rattle.std.specs.Prelude.{◌≡◌, ◌++◌, ◌∷◌, [], IfOk, IfSome, IsTrue, List, None, OnOk, Some, cond, length, replicate, true};
 ghost use Rattle.hp_units.specs.History.{effect_of};
 ghost use Rattle.hp_units.specs.declared.replies.Record.{Record as NewRecord};
@@ -19,9 +19,10 @@ use indexmap::IndexMap;
 use std::alloc::{AllocError, Global};
 use std::marker::Model;
 
-/// The places that were walked: the key of each, one after another, and a row of how many schedules go
-/// on from there to each end that they lead to; by a digest of a key the latest place that has it; the
-/// key that was written last; and where the walk stands.
+/// The places walked so far: the key of each, and how many schedules continue from it to each end.
+///
+/// All keys have the same width and are stored one after another. `latest` maps a hash to the
+/// newest place that has it. `key` is the key written last, and `shares` a buffer that is reused.
 pub struct Memo {
     is_on: bool,
     keys: Vec<u32>,
@@ -46,7 +47,7 @@ impl Model for Memo {
     } };
 }
 
-/// A function of its own, so that no proof of a caller takes the fields apart.
+/// Keeps callers from proving again how each field is dropped.
 impl Drop for Memo {
     fn drop(self) {
         let Memo {
@@ -62,8 +63,10 @@ impl Drop for Memo {
 }
 
 impl Memo {
-    /// No place is kept yet, and the walk stands where the scripts of so many processors begin: whether
-    /// any is to be kept, and whether no Cancel can drop a step that led there. An error is out of memory.
+    /// Creates an empty memo for a walk at the beginning of the scripts. With
+    /// `is_on` false, no place is ever kept.
+    ///
+    /// `is_closed` states that no Cancel can drop a step that led there.
     pub fn start(
         alloc: Global,
         is_on: bool,
@@ -92,7 +95,7 @@ impl Memo {
         })
     }
 
-    /// Goes on by a call. An error is out of memory.
+    /// Follows a call.
     pub fn go_on(&mut self, alloc: Global, latest: &Record) -> Result<(), AllocError>
         requires { (g : Setting) × (news : List NewRecord) × IsOnWay g news self.old }
         ensures kept { KeepMeanings self.old.standing self.new.standing }
@@ -107,7 +110,7 @@ impl Memo {
         self.standing.go_on(alloc, latest)
     }
 
-    /// Goes back over a processor's latest call.
+    /// Takes back the latest call of processor `cpu`.
     pub fn go_back(&mut self, cpu: Cpu)
         ensures same { AreSamePlaces self.old self.new
             × AreSameNumbers self.old.standing self.new.standing }
@@ -119,9 +122,11 @@ impl Memo {
         }
     }
 
-    /// Comes to a place, by its memory and the positions of so many processors there, writes its key, and
-    /// says whether it has one: it has none where no places are kept, or it is not known what Cancels can
-    /// take back there. An error is out of memory.
+    /// Gives the state at the place a number, writes the place's key,
+    /// and returns whether it has one.
+    ///
+    /// It has none if places are not kept, or if it is unknown which
+    /// operations a Cancel can take back.
     pub(crate) fn come_to(
         &mut self,
         alloc: Global,
@@ -149,8 +154,8 @@ impl Memo {
         self.standing.key(positions, processors, &mut self.key)
     }
 
-    /// Writes the key of where the walk stands, once it has come there, with the positions of so many
-    /// processors there, and says whether it has one. An error is out of memory.
+    /// Writes the key of the place where the walk is, after `come_to`,
+    /// and returns whether it has one.
     pub(crate) fn write_key(
         &mut self,
         positions: &Positions,
@@ -170,7 +175,8 @@ impl Memo {
         self.standing.key(positions, processors, &mut self.key)
     }
 
-    /// The shares of a place with the key that was written last, where the latest place of its digest is one.
+    /// Returns the shares of a place with the key written last, if it is
+    /// the newest place with its hash.
     pub(crate) fn shares(&self) -> Option<&[Share]>
         ensures { IfSome result (λ shares. IsRowAmong self.now.keys self.now.rows self.now.key shares.now) }
     {
@@ -184,8 +190,7 @@ impl Memo {
         self.rows.row(*place)
     }
 
-    /// One place more, with the key that was written last: its shares are what each end counts more than
-    /// it did. An error is out of memory.
+    /// Stores a place under the key written last, with what each end counts more than in `earlier`.
     pub(crate) fn keep(&mut self, earlier: &[u64], tally: &Tally) -> Result<(), AllocError>
         requires { AreNoMore earlier.now tally.now.ends }
         ensures same { (self.new.is_on ≡ self.old.is_on) × (self.new.standing ≡ self.old.standing) }
@@ -200,7 +205,7 @@ impl Memo {
     }
 }
 
-/// Whether a key is the one at a place, where keys as long as it stand one after another.
+/// Returns whether the key at index `place` is this one. All keys are equally long.
 fn is_key_at(keys: &[u32], place: usize, key: &[u32]) -> bool
     ensures { IsTrue result → key_in keys.now (length key.now) place ≡ key.now }
 {
@@ -210,7 +215,7 @@ fn is_key_at(keys: &[u32], place: usize, key: &[u32]) -> bool
     }
 }
 
-/// The key at a place, where keys of so many numbers stand one after another.
+/// Returns the key at index `place`, if each key has `width` numbers.
 fn key_at(keys: &[u32], place: usize, width: usize) -> Option<&[u32]>
     ensures { IfSome result (λ key. key.now ≡ key_in keys.now width place) }
 {

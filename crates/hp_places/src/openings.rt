@@ -1,5 +1,5 @@
-//! The operations that Cancels can take back whole at a place, with the states that they lead back to.
-//! Equal lists of them have one number each, mostly, so that places are compared by numbers.
+//! The operations that a Cancel can take back whole at a place, with the states it leads back to.
+//! Equal lists share a number in nearly all cases, so that places are compared by numbers.
 ghost use Rattle.std.specs.Prelude.{◌≡◌, ◌∷◌, ◌<◌, ◌≤◌, [], IfNone, IfOk, IfSome, List, Some, length, slice_get};
 ghost use Rattle.hp_schedules.specs.Numbers.{KeepNumbers};
 ghost use Rattle.hp_places.specs.Numbered.{IsBegun, IsEntryOf, IsInFront, IsMadeBy, NumbersOn};
@@ -11,7 +11,8 @@ use indexmap::IndexMap;
 use std::alloc::{AllocError, Global};
 use std::marker::Model;
 
-/// An operation in front of an earlier list, with the number of the state from before its Begin.
+/// An operation in front of the list numbered `below`, with the number
+/// of the state before its Begin.
 #[derive(Clone, Copy, Drop)]
 pub(crate) struct Entry {
     op: Serial,
@@ -20,8 +21,9 @@ pub(crate) struct Entry {
     below: usize,
 }
 
-/// Lists of operations by their numbers: 0 is the empty one, and each entry makes one more; and by a
-/// digest the latest number that has it.
+/// Lists of operations by number: 0 is the empty list, and each entry makes one more.
+///
+/// `latest` maps a hash to the newest list that has it.
 pub(crate) struct Openings {
     entries: Vec<Entry>,
     latest: IndexMap<u64, usize>,
@@ -40,7 +42,7 @@ impl Model for Openings {
     ghost invariant = { λ o. StandOnEarlier entry_below o.entries.items };
 }
 
-/// A function of its own, so that no proof of a caller takes the fields apart.
+/// Keeps callers from proving again how each field is dropped.
 impl Drop for Openings {
     fn drop(self) {
         let Openings {
@@ -51,7 +53,7 @@ impl Drop for Openings {
 }
 
 impl Openings {
-    /// The empty list alone.
+    /// Creates a collection with only the empty list.
     pub(crate) fn new(alloc: Global) -> Openings
         ensures { result ≡ [] ∷ [] }
     {
@@ -61,8 +63,8 @@ impl Openings {
         }
     }
 
-    /// The number after one call more, where it was this one in a state of this number; none where it
-    /// is not known. An error is out of memory.
+    /// Returns the number of the list after one more call, if the list before was `was` and the
+    /// state `from`. Returns `None` if the list is unknown.
     pub(crate) fn after(
         &mut self,
         was: Option<usize>,
@@ -82,8 +84,8 @@ impl Openings {
         }
     }
 
-    /// The number of an operation that was begun in a state, in front of an earlier list. An error is
-    /// out of memory.
+    /// Returns the number of the list after a Begin in state `from`, or `None` if
+    /// the list or the state is unknown.
     fn after_begin(
         &mut self,
         was: Option<usize>,
@@ -104,8 +106,8 @@ impl Openings {
         Ok(Some(number))
     }
 
-    /// The number of the list of an operation in front of an earlier list: one that it has, or a new
-    /// one. An error is out of memory.
+    /// Returns the number of the list `below` with this operation in front, and
+    /// adds that list if it is not found.
     fn in_front(&mut self, op: Serial, state: usize, below: usize) -> Result<usize, AllocError>
         requires { below < length self.old }
         ensures kept { KeepNumbers self.old self.new }
@@ -122,7 +124,7 @@ impl Openings {
         Ok(number)
     }
 
-    /// The number of such a list, where the latest of its digest is one.
+    /// Returns the number of that list if it is the newest with its hash.
     fn found(&self, digest: u64, op: Serial, state: usize, below: usize) -> Option<usize>
         ensures { IfSome result (IsInFront self.now self.now op state below) }
     {
@@ -139,7 +141,8 @@ impl Openings {
         }
     }
 
-    /// The number after an operation's own work: the same where the operation is the first.
+    /// Returns the number after an operation's own work: the same list if the operation is first in
+    /// it, otherwise the empty list.
     fn after_work(&self, was: Option<usize>, worked: Serial) -> Option<usize>
         ensures { IsMadeBy (after_work worked) self.now was result }
     {
@@ -156,7 +159,8 @@ impl Openings {
         }
     }
 
-    /// The number after an operation's Cancel: that of the earlier list where the operation is the first.
+    /// Returns the number after a Cancel: the rest of the list if the operation is first in it,
+    /// otherwise the empty list.
     fn after_cancel(&self, was: Option<usize>, cancelled: Serial) -> Option<usize>
         ensures { IsMadeBy (after_cancel cancelled) self.now was result }
     {
@@ -173,7 +177,7 @@ impl Openings {
         }
     }
 
-    /// The number of the empty list.
+    /// Returns the number of the empty list.
     fn empty(&self) -> usize
         ensures { slice_get self.now result ≡ Some [] }
     {
@@ -181,7 +185,8 @@ impl Openings {
         0
     }
 
-    /// The entry that made the list of a number; none where the list is empty, or there is no such number.
+    /// Returns the entry that made a list, or `None` if the list is
+    /// empty or there is no such number.
     fn entry(&self, number: usize) -> Option<&Entry>
         ensures some { IfSome result (λ entry. IsEntryOf self.now number entry.now) }
         ensures none { IfNone result ((os : List NumberedOpening)
@@ -195,7 +200,7 @@ impl Openings {
     }
 }
 
-/// The entry at a place.
+/// Returns the entry at this index.
 fn entry_at(entries: &[Entry], place: usize) -> Option<&Entry>
     ensures some { IfSome result (λ entry. slice_get entries.now place ≡ Some entry.now) }
     ensures none { IfNone result (length entries.now ≤ place) }

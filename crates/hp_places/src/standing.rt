@@ -1,5 +1,5 @@
-//! Where a walk stands, in numbers: of its state, of what Cancels can take back there, and of what each
-//! processor asked for and was answered. Equal numbers mean the same.
+//! Where a walk is, in numbers: its state, the operations that a Cancel can take back, and each
+//! processor's transcript. Equal numbers mean equal things.
 ghost use Rattle.std.specs.Prelude.{◌≡◌, ◌++◌, ◌∷◌, [], IfOk, List, None, OnOk, Some, cond, length, replicate, true, unwrap_or};
 ghost use Rattle.hp_units.specs.History.{effect_of};
 ghost use Rattle.hp_units.specs.declared.replies.Record.{Record as NewRecord};
@@ -17,16 +17,15 @@ use hp_units::{Cpu, Record};
 use std::alloc::{AllocError, Global};
 use std::marker::Model;
 
-/// A place on the way: the numbers of what Cancels can take back there and of its state, where they
-/// are known.
+/// A place on the way: the numbers of its cancellable operations and of its state, as far as known.
 #[derive(Clone, Copy, Drop)]
 pub(crate) struct Stop {
     openings: Option<usize>,
     state: Option<usize>,
 }
 
-/// The numbers of where a walk stands, and of each place before it on its way, from where the scripts
-/// begin.
+/// The numbers of the place where a walk is, and of each place before it,
+/// from the beginning of the scripts.
 pub(crate) struct Standing {
     codes: Codes,
     openings: Openings,
@@ -49,7 +48,7 @@ impl Model for Standing {
     } };
 }
 
-/// A function of its own, so that no proof of a caller takes the fields apart.
+/// Keeps callers from proving again how each field is dropped.
 impl Drop for Standing {
     fn drop(self) {
         let Standing {
@@ -63,8 +62,8 @@ impl Drop for Standing {
 }
 
 impl Standing {
-    /// Where the scripts of so many processors begin: whether no Cancel can drop a step that led there.
-    /// An error is out of memory.
+    /// Creates the numbers of the place where the scripts begin. `is_closed` states that no Cancel
+    /// can drop a step that led there.
     pub(crate) fn start(
         alloc: Global,
         processors: usize,
@@ -91,7 +90,7 @@ impl Standing {
         })
     }
 
-    /// Goes on by a call. An error is out of memory.
+    /// Follows a call. The state of the new place has no number yet.
     pub(crate) fn go_on(&mut self, alloc: Global, latest: &Record) -> Result<(), AllocError>
         requires { (g : Setting) × (news : List NewRecord) × IsStanding g news self.old }
         ensures kept { KeepMeanings self.old self.new }
@@ -110,7 +109,7 @@ impl Standing {
         Ok(())
     }
 
-    /// Goes back over a processor's latest call.
+    /// Takes back the latest call of processor `cpu`.
     pub(crate) fn go_back(&mut self, cpu: Cpu)
         ensures same { AreSameNumbers self.old self.new }
         ensures back { (g : Setting) (news : List NewRecord) (r : NewRecord) → r.cpu ≡ cpu
@@ -121,8 +120,8 @@ impl Standing {
         self.exchanges.go_back(cpu);
     }
 
-    /// Gives the state of where the walk stands a number, by its memory, where it is known what Cancels
-    /// can take back there. An error is out of memory.
+    /// Gives the current state a number, unless it is unknown which
+    /// operations a Cancel can take back.
     pub(crate) fn number_state(&mut self, alloc: Global, memory: &Memory) -> Result<(), AllocError>
         ensures kept { KeepMeanings self.old self.new }
         ensures here { (g : Setting) (news : List NewRecord) → memory.now ≡ memory_at g news
@@ -136,10 +135,10 @@ impl Standing {
         Ok(())
     }
 
-    /// Writes the key of where the walk stands, with the positions of so many processors there, in place
-    /// of what was there, and says whether there is one: there is none where it is not known what
-    /// Cancels can take back there, the state has no number, or a number is too great. An error is out
-    /// of memory.
+    /// Writes the key of the current place into `key` and returns whether there is one.
+    ///
+    /// There is none if the cancellable operations are unknown, the state has no number, or a
+    /// number does not fit 32 bits.
     pub(crate) fn key(
         &self,
         positions: &Positions,
@@ -167,8 +166,8 @@ impl Standing {
         self.push_parts(positions, processors, key)
     }
 
-    /// The part of each of so many processors after a key that is begun, and whether they fit: else
-    /// it is not known what was written. An error is out of memory.
+    /// Appends each processor's part of a key and returns whether all of it fits. If
+    /// not, `key` holds a part of it.
     #[inline(always)]
     fn push_parts(
         &self,
@@ -196,15 +195,15 @@ impl Standing {
     }
 }
 
-/// The number of the openings where a way begins: that of the empty list where no Cancel can drop a
-/// step that led there.
+/// Returns the number of the list at the beginning: the empty list if the
+/// history is closed, otherwise unknown.
 fn first_number(is_closed: bool) -> Option<usize>
     ensures { result ≡ cond is_closed (Some 0) None }
 {
     if is_closed { Some(0) } else { None }
 }
 
-/// A place; where there is none, one of which nothing is known.
+/// Returns the place, or one of which nothing is known.
 fn known_of(stop: Option<Stop>) -> Stop
     ensures { result ≡ unwrap_or stop (record { openings = None; state = None }) }
 {
@@ -217,8 +216,7 @@ fn known_of(stop: Option<Stop>) -> Stop
     }
 }
 
-/// Two numbers more, and whether they fit: else it is not known what was written. An error is out of
-/// memory.
+/// Appends two numbers and returns whether they fit. If not, the contents are unspecified.
 fn push_two(numbers: &mut Vec<u32>, first: u64, second: u64) -> Result<bool, AllocError>
     ensures { IfOk result (λ fit. fit ≡ true
         → numbers.new.items ≡ numbers.old.items ++ first ∷ second ∷ []) }

@@ -1,12 +1,12 @@
-//! Who is told how far a search has come.
+//! The progress callback of a search.
 
-/// Is told while schedules are counted how many there are so far.
+/// Progress callback.
 pub trait Watch {
-    /// So many schedules are counted.
+    /// Called with the number of schedules counted so far.
     fn counted(&mut self, schedules: u64);
 }
 
-/// A watch that tells nobody.
+/// A callback that ignores the progress.
 #[derive(Clone, Copy, PartialEq, Eq, Drop)]
 pub struct Silent;
 

@@ -1,4 +1,4 @@
--- How ends are told in each form.
+-- The text of ends, in each form.
 use Rattle.std.specs.Prelude.{◌≡◌, ◌⊎◌, ℕ, ◌+◌, ◌-◌, ◌^◌, ◌<◌, Bool, true, false, List, length, Option, Some, None, slice_get}
 use Rattle.std.specs.Option.{is_none}
 use Rattle.hp_explore.specs.declared.exploring.Exploration.{Exploration}
@@ -13,7 +13,7 @@ use Rattle.hp_ends.specs.declared.forms.EndsForm.{EndsForm}
 use Rattle.hp_ends.specs.declared.forms.EndsForm.TheVariants.{Words, Objects, Scenario}
 use Rattle.hp_prepared.specs.Texts.{all_objects_text, exploration_text, replay_text}
 
--- an end has a number, and none has: ends are counted from 1
+-- the end with a number, counted from 1; no end has the number
 pub record IsNumbered (ends : List Ending) (number : ℕ) (e : Ending) : Type 0 where
   pub place : ℕ
   pub counted : number ≡ place + 1
@@ -22,13 +22,13 @@ pub record IsNumbered (ends : List Ending) (number : ℕ) (e : Ending) : Type 0 
 abbrev pub HasNoEnd : List Ending → (number : ℕ) → Type 0
 HasNoEnd ends number = (number ≡ 0) ⊎ (length ends < number)
 
--- what is known of how many schedules there are, where not all of them were counted; none where all were
+-- what is known of the number of interleavings; `None` if all were counted
 abbrev pub IsMore : List (List Step) → (is_whole : Bool) → Option HowMany → Type 0
 IsMore scripts is_whole None = is_whole ≡ true
 IsMore scripts is_whole (Some known) = (is_whole ≡ false) × IsKnown scripts (2 ^ 64 - 1) known
 
--- the text is the scenario of the first schedule of the end with a number, after lines that were run
--- first; or no end has it, and the text says how many there are
+-- the text is the scenario of end `number`, after the lines of the setup; or there is no such end,
+-- and the text reports how many there are
 abbrev pub IsEndTold : (names : List (List ℕ)) → (before : List Line) → Setting → List Ending
     → Option HowMany → (number : ℕ) → (text : List ℕ) → (found : Bool) → Type 0
 IsEndTold names before g ends more number text true =
@@ -36,8 +36,8 @@ IsEndTold names before g ends more number text true =
 IsEndTold names before g ends more number text false =
     HasNoEnd ends number × (text ≡ counts_text ends more)
 
--- the text is that of ends in a form; what was asked for is found where all schedules were counted,
--- or where the end is there that was asked for by its number
+-- the text of ends in a form; found if all interleavings were counted, or if there is the end whose
+-- number was asked for
 abbrev pub AreEndsTold : EndsForm → (names : List (List ℕ)) → (before : List Line) → Setting → List Ending
     → Option HowMany → (text : List ℕ) → (found : Bool) → Type 0
 AreEndsTold Words names before g ends more text found =
@@ -47,7 +47,7 @@ AreEndsTold Objects names before g ends more text found =
 AreEndsTold (Scenario number) names before g ends more text found =
     IsEndTold names before g ends more number text found
 
--- an exploration told in a form
+-- the text of an exploration in a form
 abbrev pub IsTold : EndsForm → (names : List (List ℕ)) → (before : List Line) → Setting → Exploration
     → (text : List ℕ) → (found : Bool) → Type 0
 IsTold form names before g x text found =

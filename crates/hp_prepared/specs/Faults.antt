@@ -1,4 +1,4 @@
--- When each fault comes, and how that of a call is told.
+-- When each fault comes, and what the fault of a call becomes.
 use Rattle.std.specs.Prelude.{◌≡◌, ℕ, List, Option, Some, Err, slice_get}
 use Rattle.hp_schedules.specs.Interleavings.{IsRoomNeeded}
 use Rattle.hp_schedules.specs.Schedules.{Setting}
@@ -21,12 +21,12 @@ abbrev pub FillsAlongSome : Setting → List Ending → Type 0
 FillsAlongSome g ends =
     (place : ℕ) × (e : Ending) × (slice_get ends place ≡ Some e) × FillsAlong g e.first.items
 
--- `C` says which causes the fault of a call has; a full history is told with how much room it
--- needs, where that is known
+-- `C` has this full history as a cause; `needed` is the room that it takes, if that is known
 abbrev pub IsFull : (C : Setting → ExploreFault → Type 0) → (needed : Option ℕ) → Setting → Type 0
 IsFull C needed g = C g explore.HistoryFull × IsRoomNeeded g needed
 
--- the fault of a call is told so: a full history with how much room it needs, unless memory is out
+-- the laboratory's fault for a fault of a call; a full history gets the room it needs, or memory
+-- runs out while that is computed
 abbrev pub IsFullTold : Setting → LabFault → Type 0
 IsFullTold g (HistoryFull needed) = IsRoomNeeded g needed
 IsFullTold g OutOfMemory = Unit {0}
@@ -36,7 +36,7 @@ abbrev pub IsToldAs : Setting → ExploreFault → LabFault → Type 0
 IsToldAs g explore.HistoryFull fault = IsFullTold g fault
 IsToldAs g explore.OutOfMemory fault = fault ≡ OutOfMemory
 
--- why a call is not made, as it is told; out of memory may come in place of any
+-- why a call failed, as the laboratory reports it; out of memory may come in place of any other
 abbrev pub IsUntold : (C : Setting → ExploreFault → Type 0) → Setting → LabFault → Type 0
 IsUntold C g (HistoryFull needed) = IsFull C needed g
 IsUntold C g OutOfMemory = Unit {0}
@@ -44,12 +44,12 @@ IsUntold C g fault = ⊥
 
 -- ---- in a scenario
 
--- the bytes are no scenario, and this is said of why
+-- the bytes are not a scenario, and this is the reason
 abbrev pub IsUnread : (input : List ℕ) → LabFault → Type 0
 IsUnread input fault = (why : ScenarioFault) × (scenario_in input ≡ Err why) × (fault ≡ fault_from why)
 
--- when each fault comes but PastLayout, which no exploration has, where `Many` says when there are too
--- many interleavings
+-- when each fault comes, given `Many`, when there are too many interleavings, and `C`, why a call
+-- fails; `PastLayout` comes only from a search for an end
 abbrev pub IsFaultWith : (Many : Setting → Type 0) → (C : Setting → ExploreFault → Type 0) → (input : List ℕ)
     → (setup limit : ℕ) → LabFault → Type 0
 IsFaultWith Many C input setup limit NotJson = IsUnread input NotJson
@@ -65,6 +65,6 @@ IsFaultWith Many C input setup limit (HistoryFull needed) =
     InScenario input (IsStoppedAfter (IsFull C needed) setup)
 IsFaultWith Many C input setup limit OutOfMemory = Unit {0}
 
--- of an exploration: its ends are told whatever the limit
+-- the faults of an exploration; it never has too many interleavings
 abbrev pub IsFaultOf : (input : List ℕ) → (setup limit : ℕ) → LabFault → Type 0
 IsFaultOf input setup limit fault = IsFaultWith (λ g. ⊥) IsCause input setup limit fault

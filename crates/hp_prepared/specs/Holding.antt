@@ -1,4 +1,4 @@
--- What holds of the scenario that bytes are, once it is made ready for a search.
+-- Conditions on a scenario's bytes, after its setup.
 use Rattle.std.specs.Prelude.{◌≡◌, ℕ, List, length, take, drop, Ok}
 use Rattle.hp_units.specs.LayoutParts.{LayoutParts}
 use Rattle.hp_machine.specs.Machine.{MachineValue}
@@ -10,16 +10,15 @@ use Rattle.hp_scenario.specs.Scenario.{ScenarioValue, scenario_in}
 use Rattle.hp_scripts.specs.Checks.{AreFit}
 use Rattle.hp_scripts.specs.Starts.{IsStart}
 
--- it holds on the machine after lines that were run in order from boot on, with the scripts of the
--- lines after them, where 0 stands for the operation that a processor began last
+-- `P` holds of the machine after `before`, run in order from boot, with the scripts of `after`
 pub record HoldsAfter (P : Setting → Type 0) (l : LayoutParts) (before after : List Line) : Type 0 where
   pub start : MachineValue
   pub scripts : List (List Step)
   pub begun : IsStart l before after start scripts
   pub holds : P (setting start scripts)
 
--- the bytes are a scenario; its lines after the first so many can all stand in scripts, and it
--- holds, with the scenario's names and those first lines, after them
+-- the bytes are a scenario, its lines after the first `setup` may be in scripts, and `P` holds
+-- after the setup, with the scenario's names and the setup's lines
 pub record HoldsIn (P : (names : List (List ℕ)) → (before : List Line) → Setting → Type 0) (input : List ℕ)
     (setup : ℕ) : Type 0 where
   pub scenario : ScenarioValue
@@ -28,11 +27,11 @@ pub record HoldsIn (P : (names : List (List ℕ)) → (before : List Line) → S
   pub after : HoldsAfter (P scenario.names (take setup scenario.lines)) scenario.layout
       (take setup scenario.lines) (drop setup scenario.lines)
 
--- the bytes are a scenario, of which this holds
+-- the bytes are a scenario, and `P` holds of it
 abbrev pub InScenario : (input : List ℕ) → (ScenarioValue → Type 0) → Type 0
 InScenario input P = (scenario : ScenarioValue) × (scenario_in input ≡ Ok scenario) × P scenario
 
--- the lines after the setup can all stand in scripts, and this holds after them
+-- the lines after the setup may be in scripts, and `P` holds after the setup
 abbrev pub IsStoppedAfter : (P : Setting → Type 0) → (setup : ℕ) → ScenarioValue → Type 0
 IsStoppedAfter P setup s =
     AreFit s.layout.cpus (drop setup s.lines) (length (drop setup s.lines))

@@ -1,4 +1,5 @@
--- A scenario made ready for a search: the machine after its setup, and the scripts of the lines after it.
+-- A scenario made ready for a search: the machine after its setup, and the scripts of its later
+-- lines.
 use Rattle.std.specs.Prelude.{◌≡◌, ◌≤◌, ℕ, List, length, take, drop, Option, Some, None, option_map, Ok}
 use Rattle.hp_units.specs.declared.replies.Record.{Record}
 use Rattle.hp_machine.specs.Machine.{MachineValue}
@@ -13,7 +14,7 @@ use Rattle.hp_scripts.specs.Starts.{IsStart}
 use Rattle.hp_lab_faults.specs.declared.fault.LabFault.{LabFault}
 use Rattle.hp_prepared.specs.declared.prepared.Prepared.{Prepared}
 
--- where its scripts begin, the names of its owners, and the lines of its setup
+-- the machine and scripts of a search, the names of the owners, and the lines of the setup
 abbrev pub setting_of : Prepared → Setting
 setting_of p = setting p.start.machine p.start.scripts.items
 
@@ -23,7 +24,7 @@ names_of p = p.scenario.names.keys
 abbrev pub before_of : Prepared → List Line
 before_of p = take p.setup p.scenario.lines
 
--- it is what the bytes of a scenario come to after so many lines of setup
+-- `p` is the scenario in the bytes, after `setup` lines of setup
 pub record IsPrepared (input : List ℕ) (setup : ℕ) (p : Prepared) : Type 0 where
   pub number : p.setup ≡ setup
   pub read : scenario_in input ≡ Ok (scenario_seen p.scenario)
@@ -32,13 +33,13 @@ pub record IsPrepared (input : List ℕ) (setup : ℕ) (p : Prepared) : Type 0 w
   pub begun : IsStart p.scenario.layout (take setup p.scenario.lines) (drop setup p.scenario.lines)
       p.start.machine p.start.scripts.items
 
--- why bytes are not made ready for any search: a fault of reading the scenario, or of a line after
--- the setup; or out of memory
+-- why bytes are not made ready: a fault of reading them, or of a line after the setup; or out of
+-- memory
 abbrev pub IsUnprepared : (input : List ℕ) → (setup : ℕ) → LabFault → Type 0
 IsUnprepared input setup fault = IsFaultWith (λ g. ⊥) (λ g f. ⊥) input setup 0 fault
 
--- the calls of a machine that a schedule led to, and that it has at least the records that were
--- there; no machine where the schedule cannot be played
+-- the calls after the setup of a machine that a schedule led to, and that it has at least the
+-- setup's records; `None` if the schedule cannot be played
 abbrev pub calls_in : Setting → Option MachineValue → Option (List Record)
 calls_in g played = option_map (λ m. drop (length g.start) m.history) played
 

@@ -1,4 +1,4 @@
--- How ends are written: as hp_ends writes each, with the calls that its first schedule makes.
+-- The text of ends: each as hp_ends writes it, with the calls of its first schedule.
 use Rattle.std.specs.Prelude.{ℕ, ◌+◌, List, [], ◌++◌, codes, Option, Some, None, length, slice_get, sum_by}
 use Rattle.hp_text.specs.State.{texts_below}
 use Rattle.hp_schedules.specs.declared.multinomials.HowMany.{HowMany}
@@ -11,30 +11,30 @@ use Rattle.hp_ends.specs.Words.{counts_text, end_text}
 
 -- ---- ends as words
 
--- an end with its number, and the calls of its first interleaving
+-- end `number`, with the calls of its first interleaving
 abbrev pub numbered_text : (names : List (List ℕ)) → Setting → (number : ℕ) → Option Ending → List ℕ
 numbered_text names g number None = []
 numbered_text names g number (Some e) = end_text names g.layout number e (plays g e.first.items)
 
--- the end at a place; ends are counted from 1
+-- the end at index `place`; ends are counted from 1
 abbrev pub end_at_text : (names : List (List ℕ)) → Setting → List Ending → (place : ℕ) → List ℕ
 end_at_text names g ends place = numbered_text names g (place + 1) (slice_get ends place)
 
--- the counts, and then the ends in order
+-- the counts, then the ends in order
 abbrev pub exploration_text : (names : List (List ℕ)) → Setting → List Ending → Option HowMany → List ℕ
 exploration_text names g ends more =
     counts_text ends more ++ texts_below (end_at_text names g ends) (length ends)
 
 -- ---- ends as objects
 
--- an end up to the bracket at its object's end, and with it
+-- an end without its object's closing bracket, and with it
 abbrev pub end_keys : (names : List (List ℕ)) → Setting → (number : ℕ) → Ending → List ℕ
 end_keys names g number e = keys_text names number e (plays g e.first.items)
 
 abbrev pub end_object : (names : List (List ℕ)) → Setting → (number : ℕ) → Ending → List ℕ
 end_object names g number e = end_keys names g number e ++ codes "}\n"
 
--- the end at a place; ends are counted from 1
+-- the end at index `place`, counted from 1; all ends in order
 abbrev pub numbered_object : (names : List (List ℕ)) → Setting → (number : ℕ) → Option Ending → List ℕ
 numbered_object names g number None = []
 numbered_object names g number (Some e) = end_object names g number e
@@ -45,14 +45,14 @@ object_at names g ends place = numbered_object names g (place + 1) (slice_get en
 abbrev pub objects_text : (names : List (List ℕ)) → Setting → List Ending → List ℕ
 objects_text names g ends = texts_below (object_at names g ends) (length ends)
 
--- and how many there are, where not all were counted
+-- all ends, and how many interleavings there are if not all were counted
 abbrev pub all_objects_text : (names : List (List ℕ)) → Setting → List Ending → Option HowMany → List ℕ
 all_objects_text names g ends more =
     objects_text names g ends ++ more_object (sum_by (λ e. e.count) ends) more
 
 -- ---- a schedule
 
--- as a scenario: the lines that were run first, and then its calls
+-- a schedule as a scenario: the lines of the setup, then its calls
 abbrev pub replay_text : (names : List (List ℕ)) → (before : List Line) → Setting → (schedule : List ℕ)
     → List ℕ
 replay_text names before g schedule = replayed_text names before g.layout (plays g schedule)

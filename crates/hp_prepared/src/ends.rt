@@ -1,4 +1,4 @@
-//! Ends of interleavings in each form.
+//! The text of ends, in each form.
 ghost use Rattle.std.specs.Prelude.{◌≡◌, ◌++◌, IfErr, IfNone, IfOk, IfSome, OnOk, string_bytes, Some};
 ghost use Rattle.hp_explore.specs.Faults.{FillsAlong, IsCause};
 ghost use Rattle.hp_explore.specs.declared.exploring.ExploreFault.TheVariants.{HistoryFull};
@@ -16,8 +16,8 @@ use hp_units::Cpu;
 use std::alloc::Global;
 
 impl Prepared {
-    /// An exploration of the scripts in a form, as hp_lab's `explore_text` tells it. An error is that
-    /// of `ends_told`.
+    /// Returns the text of an exploration of the scripts, as hp_lab's `explore_text` returns it.
+    /// Fails like `ends_told`.
     pub fn exploration_told(
         &self,
         alloc: Global,
@@ -35,10 +35,12 @@ impl Prepared {
         self.ends_told(alloc, &explored.ends, more, form)
     }
 
-    /// Ends of interleavings of the scripts in a form, as `explore_text` tells them; where they are
-    /// not those of all interleavings, with what is known of how many there are. The first
-    /// interleaving of an end is played once more. So an error is `HistoryFull` where the history has
-    /// no room for a call of such an interleaving, or `OutOfMemory`.
+    /// Returns the text of ends, as `explore_text` writes them. If they are not the ends of all
+    /// interleavings, `more` is what is known of the number of these.
+    ///
+    /// Plays the first interleaving of each end that it writes once more. So the error is
+    /// `HistoryFull` if the history has no room for a call of such an interleaving, or
+    /// `OutOfMemory`.
     pub fn ends_told(
         &self,
         alloc: Global,
@@ -75,7 +77,7 @@ impl Prepared {
         }
     }
 
-    /// Writes how many interleavings and ends there are, and then each end, as words.
+    /// Writes how many interleavings and ends there are, then each end, as words.
     fn write_words(
         &self,
         out: &mut String,
@@ -117,7 +119,7 @@ impl Prepared {
         Ok(())
     }
 
-    /// Writes an object for each end, in their order.
+    /// Writes one object per end, in order.
     fn write_objects(
         &self,
         out: &mut String,
@@ -137,9 +139,9 @@ impl Prepared {
         Ok(())
     }
 
-    /// Writes the object of an end up to the bracket at its end: its number, how many interleavings
-    /// lead to it, what the processors were answered, what became of the memory blocks, and the calls
-    /// of the first interleaving. This is played once more: an error is that of `played`.
+    /// Writes the object of an end without its closing bracket: its number, how many interleavings
+    /// lead to it, the processors' replies, the states of the memory blocks, and the calls of the
+    /// first interleaving. Plays that interleaving once more, and fails like `played`.
     pub fn write_end_keys(
         &self,
         out: &mut String,
@@ -159,7 +161,8 @@ impl Prepared {
         Ok(())
     }
 
-    /// A schedule of the scripts as a scenario. It is played once more: an error is that of `played`.
+    /// Returns a schedule of the scripts as a scenario. Plays it once more, and fails like
+    /// `played`.
     fn replay_told(&self, alloc: Global, schedule: &[Cpu]) -> Result<String, ExploreFault>
         ensures ok { IfOk result (λ text. string_bytes text
             ≡ replay_text (names_of self.now) (before_of self.now) (setting_of self.now) schedule.now) }
@@ -172,7 +175,7 @@ impl Prepared {
         Ok(text)
     }
 
-    /// The scenario of the end with a number; or how many ends there are, where none has it.
+    /// Returns the scenario of end `number`, or how many ends there are if there is no such end.
     fn end_told(
         &self,
         alloc: Global,
@@ -208,7 +211,7 @@ impl Prepared {
     }
 }
 
-/// The end with a number; ends are counted from 1.
+/// Returns end `number`; ends are counted from 1.
 #[tactic(auto, using(crate::proofs::Known::numbered_at))]
 fn numbered_end(ends: &[Ending], number: u64) -> Option<&Ending>
     ensures some { IfSome result (λ end. IsNumbered ends.now number end.now) }

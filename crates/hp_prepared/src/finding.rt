@@ -1,10 +1,10 @@
-//! What an exploration or a search comes to.
+//! The result of an exploration or a search.
 
-/// What an exploration or a search says, and whether it found what was asked for.
+/// The result of an exploration or a search: its text, and whether it found what was asked for.
 #[derive(Drop)]
 pub struct Finding {
-    /// The ends or the schedule, or that there is none.
+    /// The ends or the schedule, or a text that reports that there is none.
     pub text: String,
-    /// Whether there is what was asked for.
+    /// Whether it found what was asked for.
     pub is_found: bool,
 }

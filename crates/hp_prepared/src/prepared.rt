@@ -1,4 +1,5 @@
-//! A scenario made ready for a search: the machine after its setup, and the scripts of its later lines.
+//! A scenario made ready for a search: the machine after its setup, and the scripts of its later
+//! lines.
 ghost use Rattle.std.specs.Prelude.{◌≡◌, ◌^◌, ◌<◌, IfErr, IfOk, length, option_map, string_bytes};
 ghost use Rattle.hp_explore.specs.Faults.{FillsAlong, IsCause};
 ghost use Rattle.hp_explore.specs.declared.exploring.ExploreFault.TheVariants.{HistoryFull};
@@ -22,13 +23,13 @@ use std::alloc::{AllocError, Global};
 pub struct Prepared {
     /// The scenario.
     pub scenario: Scenario,
-    /// How many of its lines were run in order first.
+    /// How many of its first lines are the setup.
     pub setup: u64,
-    /// The machine after them, and the scripts of the later lines.
+    /// The machine after the setup, and the scripts of the later lines.
     pub start: Start,
 }
 
-/// A function of its own, so that no proof of a caller takes the fields apart.
+/// Keeps callers from proving again how each field is dropped.
 impl Drop for Prepared {
     fn drop(self) {
         let Prepared {
@@ -39,12 +40,12 @@ impl Drop for Prepared {
     }
 }
 
-/// The scenario that the bytes are, made ready for a search: its first `setup` lines are run in order
-/// on one machine, and each later line goes to the script of its processor, where 0 for the number of
-/// an operation stands for the one that this processor began last.
+/// Reads a scenario and makes it ready for a search: runs its first `setup` lines in order on one
+/// machine, and puts each later line into the script of its processor. In a script, operation 0 is
+/// the one that the processor began last.
 ///
-/// Errors: those of reading the scenario; NotForScript with the first line after the setup that
-/// cannot stand in a script; OutOfMemory, which may come in place of any answer.
+/// Errors: those of reading the scenario; `NotForScript` with the first line after the setup that
+/// may not be in a script; `OutOfMemory`, which may come in place of any other result.
 pub fn prepare(alloc: Global, input: &[u8], setup: u64) -> Result<Prepared, LabFault>
     ensures ok { IfOk result (IsPrepared input.now setup) }
     ensures few { IfOk result (λ p. length p.start.scripts.items < 2 ^ 32) }
@@ -60,15 +61,16 @@ pub fn prepare(alloc: Global, input: &[u8], setup: u64) -> Result<Prepared, LabF
 }
 
 impl Prepared {
-    /// The lines of the setup.
+    /// Returns the lines of the setup.
     pub fn before(&self) -> &[Line]
         ensures { result.now ≡ before_of self.now }
     {
         front_of(self.scenario.lines.as_slice(), self.setup)
     }
 
-    /// The machine that a schedule of the scripts leads to; none where it cannot be played. An error is
-    /// `HistoryFull` where the history has no room for a call of this schedule, or `OutOfMemory`.
+    /// Plays a schedule of the scripts and returns the machine that it leads to, or `None` if it
+    /// cannot be played. The error is `HistoryFull` if the history has no room for a call of the
+    /// schedule, or `OutOfMemory`.
     pub fn played(&self, alloc: Global, schedule: &[Cpu]) -> Result<Option<Machine>, ExploreFault>
         ensures calls { IfOk result
             (λ p. calls_in (setting_of self.now) p ≡ plays (setting_of self.now) schedule.now) }
@@ -80,7 +82,7 @@ impl Prepared {
         play(alloc, &self.start.machine, &self.start.scripts, schedule)
     }
 
-    /// The calls that a machine made since the search began.
+    /// Returns the calls that a machine made after the setup.
     pub fn calls_of<'a>(&self, played: &'a Option<Machine>) -> Option<&'a [Record]>
         requires { GoesOn (setting_of self.now) played.now }
         ensures { option_map (λ c. c.now) result ≡ calls_in (setting_of self.now) played.now }
@@ -92,8 +94,7 @@ impl Prepared {
         }
     }
 
-    /// What is known of how many interleavings the scripts have, where not all were counted; none where
-    /// all were. An error is out of memory.
+    /// Returns what is known of the number of interleavings, or `None` if all were counted.
     pub fn more_than(&self, alloc: Global, is_whole: bool) -> Result<Option<HowMany>, AllocError>
         ensures { IfOk result (IsMore self.now.start.scripts.items is_whole) }
     {
@@ -104,8 +105,7 @@ impl Prepared {
         Ok(Some(known))
     }
 
-    /// The scenario of calls of the scripts: the lines of the setup, and then the calls. An error is out of
-    /// memory.
+    /// Returns calls of the scripts as a scenario: the lines of the setup, then the calls.
     pub fn replay_of(&self, alloc: Global, calls: Option<&[Record]>) -> Result<String, AllocError>
         ensures { IfOk result (λ text. string_bytes text
             ≡ replayed_text (names_of self.now) (before_of self.now) (setting_of self.now).layout
@@ -120,7 +120,8 @@ impl Prepared {
         )
     }
 
-    /// The fault of a call of the scripts, with what is known of it.
+    /// Returns the laboratory's fault for a fault of the scripts. For a full history it computes
+    /// how many records are needed.
     pub fn told_fault(&self, alloc: Global, fault: ExploreFault) -> LabFault
         ensures { IsToldAs (setting_of self.now) fault result }
     {

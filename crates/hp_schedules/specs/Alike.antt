@@ -1,4 +1,4 @@
--- Schedules after which everything goes on alike.
+-- Schedules after which everything continues alike.
 use Rattle.std.specs.Prelude.{◌≡◌, ℕ, ◌+◌, ◌<◌, Bool, true, false, if◌then◌else◌, List, ◌++◌, length, map, fold, option_map}
 use Rattle.std.specs.List.{list_all}
 use Rattle.hp_units.specs.History.{Effect, Looks, Undoes, Cancels, Acts, effect_of, is_refused, net_of, run}
@@ -16,7 +16,7 @@ use Rattle.hp_schedules.specs.Scripts.{own_operation}
 use Rattle.hp_schedules.specs.declared.scripts.Line.{Line}
 use Rattle.hp_schedules.specs.declared.scripts.Line.TheVariants.{Ask, Own, Carry}
 
--- whether an event leaves earlier steps, but for a Cancel its own operation's
+-- an event drops no earlier steps, except that a Cancel drops its own operation's
 abbrev pub leaves_steps : Effect → Bool
 leaves_steps Looks = true
 leaves_steps (Undoes serial) = false
@@ -35,29 +35,30 @@ leaves_script lines = list_all leaves_lines lines
 abbrev pub UndoNothing : List (List Line) → Type 0
 UndoNothing scripts = list_all leaves_script scripts ≡ true
 
--- a receipt but for its number, and those of a processor among records
+-- a receipt without its serial, and the list of these for one processor
 abbrev pub unnumbered : Receipt → Receipt
 unnumbered r = record { serial = 0; event = r.event; reply = r.reply }
 
 abbrev pub exchanges : (cpu : ℕ) → List Record → List Receipt
 exchanges cpu news = map unnumbered (receipts_of cpu news)
 
--- no later Cancel can drop any of these steps: where one is sole, it is sole among the steps after them
+-- no later Cancel can drop any of these steps: whether an operation is
+-- sole depends on later steps only
 abbrev pub IsClosed : List Record → Type 0
 IsClosed steps =
     (op : ℕ) (tail : List Record)
     → sole_at op (map tag_of (steps ++ tail))
     ≡ option_map (λ place. length steps + place) (sole_at op (map tag_of tail))
 
--- two nets lead to the same state, and Cancels lead back from them to the same states
+-- two nets lead to the same state, and Cancels lead back from both to the same states
 pub record AreJoined (l : LayoutParts) (base : Memory) (first second : List Record) : Type 0 where
   pub openings : List Opening
   pub first_open : AreOpen l base first openings
   pub second_open : AreOpen l base second openings
   pub state : run l base first ≡ run l base second
 
--- after as many new records each of the scripts' processors had the same answers to the same
--- requests, and began its last operation with the same number; and the steps that count join
+-- equally many records; each processor made the same requests, got the same replies, and began its
+-- last operation with the same number; and the nets join
 pub record AreAlike (g : Setting) (h k : List Record) : Type 0 where
   pub calls : length h ≡ length k
   pub exchanged : (cpu : ℕ) → cpu < length g.scripts → exchanges cpu h ≡ exchanges cpu k
@@ -65,9 +66,8 @@ pub record AreAlike (g : Setting) (h k : List Record) : Type 0 where
       → own_operation (receipts_of cpu h) ≡ own_operation (receipts_of cpu k)
   pub nets : AreJoined g.layout g.base (net_of (g.start ++ h)) (net_of (g.start ++ k))
 
--- whether no Cancel can drop the steps so far: so it is after a step that neither begins an
--- operation nor is an operation's own work, and it stays so as long as no operation begins and none
--- is cancelled (own rule)
+-- no Cancel can drop the steps so far: true after a step that neither begins an operation nor is an
+-- operation's own work, until an operation begins or is cancelled, or steps are undone
 abbrev pub closed_by : (was : Bool) → Event → Bool
 closed_by was (Read owner page index) = was
 closed_by was (DrainFor op cpu) = was

@@ -1,4 +1,4 @@
--- Where each processor is in its script.
+-- Positions of processors in their scripts.
 use Rattle.std.specs.Prelude.{◌≡◌, ℕ, List, [], ◌∷◌, ◌++◌, Option, Some, None, length, drop, slice_get, option_and_then}
 use Rattle.hp_ops.specs.Stages.{IsAfter, event_in}
 use Rattle.hp_ops.specs.declared.stages.Driver.{Driver}
@@ -15,8 +15,7 @@ use Rattle.hp_schedules.specs.declared.cursors.Request.{Request}
 use Rattle.hp_schedules.specs.declared.scripts.Line.{Line}
 use Rattle.hp_schedules.specs.declared.scripts.Line.TheVariants.{Ask, Own, Carry}
 
--- the event that a line asks for at a cursor, and the one that the cursor's own line does; None
--- where that is over, or there is none
+-- the event that a line, and that the cursor's own line, calls next; None if it is finished
 abbrev pub asks : Cursor → Line → Option Event
 asks c (Ask event) = Some event
 asks c (Own work) = Some (work_of c.op work)
@@ -25,21 +24,21 @@ asks c (Carry plan turns) = event_in plan c.driver.stage
 abbrev pub asks_at : Cursor → List Line → Option Event
 asks_at c lines = option_and_then (asks c) (slice_get lines c.line)
 
--- a line has these receipts so far, and its plan this driver
+-- a line's receipts so far, and the driver of its plan after them
 abbrev pub IsIn : (cpus : ℕ) → Line → List Receipt → Driver → Type 0
 IsIn cpus (Ask event) own d = own ≡ []
 IsIn cpus (Own work) own d = own ≡ []
 IsIn cpus (Carry plan turns) own d = IsAfter cpus turns own d
 
--- the first of lines has these receipts so far, and was not over before the last of them
+-- the same of the first of several lines, which was not finished before the last of them
 abbrev pub IsInFirst : (cpus : ℕ) → List Line → List Receipt → Driver → Type 0
 IsInFirst cpus [] own d = Unit {0}
 IsInFirst cpus (line ∷ lines) own d =
     IsIn cpus line own d × ((op : ℕ) (later : List Receipt)
     → after_line cpus op line [] (own ++ later) ≡ after_line cpus op line own later)
 
--- a cursor is where a script is after its processor's receipts: what it asks for after these and
--- any later ones, the lines from there on ask for
+-- a cursor is where a script is after its processor's receipts: the lines from there on call what
+-- the script calls after these and any later receipts
 pub record IsCursor (cpus : ℕ) (lines : List Line) (receipts : List Receipt) (c : Cursor) : Type 0 where
   pub own : List Receipt
   pub begun : c.op ≡ own_operation receipts
@@ -47,7 +46,7 @@ pub record IsCursor (cpus : ℕ) (lines : List Line) (receipts : List Receipt) (
       → next_in cpus op lines (receipts ++ later) ≡ next_in cpus op (drop c.line lines) (own ++ later)
   pub here : IsInFirst cpus (drop c.line lines) own c.driver
 
--- the driver of a plan before its first call, that of a line where it begins, and a cursor there
+-- the driver of a plan before its first call, that of a line at its beginning, and a cursor there
 abbrev pub driver_before : (cpus turns : ℕ) → Driver
 driver_before cpus turns = record { cpus = cpus; left = turns; why = None; stage = Begins }
 
@@ -63,12 +62,12 @@ cursor_at cpus lines line op = record {
   driver = option_map_or (first_driver cpus) (slice_get lines line) (driver_before cpus 0);
 }
 
--- what a cursor's own line asks for, from there
+-- what the cursor's own line calls next
 abbrev pub IsAsked : Cursor → List Line → Option Request → Type 0
 IsAsked c lines None = asks_at c lines ≡ None
 IsAsked c lines (Some q) = (asks_at c lines ≡ Some q.event) × (q.from ≡ c)
 
--- what a script asks for after receipts, from where its line is
+-- what a script calls after its receipts, with the position of the line that calls it
 abbrev pub IsRequested : (cpus : ℕ) → List Line → List Receipt → Option Request → Type 0
 IsRequested cpus lines receipts None = next_of cpus lines receipts ≡ None
 IsRequested cpus lines receipts (Some q) =
@@ -77,14 +76,14 @@ IsRequested cpus lines receipts (Some q) =
 
 -- ---- all processors
 
--- each processor's cursor is where its script is after the new records
+-- each cursor is where its processor's script is after the new records
 pub record AreCursors (g : Setting) (news : List Record) (cursors : List Cursor) : Type 0 where
   pub many : length cursors ≡ length g.scripts
   pub each : (cpu : ℕ) (lines : List Line) (c : Cursor)
       → slice_get g.scripts cpu ≡ Some lines → slice_get cursors cpu ≡ Some c
       → IsCursor g.layout.cpus lines (receipts_of cpu news) c
 
--- what a processor's script asks for after the new records, from where its line is
+-- what a processor's script calls after the new records, with the position of the line
 abbrev pub IsCalledFor : Setting → (cpu : ℕ) → List Record → Option Request → Type 0
 IsCalledFor g cpu news None = next_call g cpu news ≡ None
 IsCalledFor g cpu news (Some q) =

@@ -1,4 +1,4 @@
--- Digests of how schedules end. The same ends have the same digest, and no more is wanted of them.
+-- Hashes of how schedules end. Equal ends hash alike; nothing more is needed.
 use Rattle.std.specs.Prelude.{ℕ, ◌+◌, ◌*◌, ◌%◌, ◌^◌, List, bit_xor, fold}
 use Rattle.std.specs.Int.{w64, rotate_left}
 use Rattle.hp_units.specs.declared.replies.Refusal.{Refusal}
@@ -9,11 +9,11 @@ use Rattle.hp_units.specs.declared.rows.Row.{Row}
 use Rattle.hp_units.specs.Rows.{state_number, zone_number}
 use Rattle.hp_schedules.specs.Outcomes.{OutcomeValue}
 
--- a digest with one number more (own rule)
+-- the hash after mixing in one number
 unfoldable pub mixed : (digest number : ℕ) → ℕ
 mixed digest number = rotate_left w64 (bit_xor digest number * 11400714819323198485 % 2 ^ 64) 29
 
--- a number for a refusal, one for a reply, and one for a block's row (own rule)
+-- hash inputs for a refusal, for a reply, and for a block's row
 abbrev pub refusal_number : Refusal → ℕ
 refusal_number NoOwner = 1
 refusal_number NoPage = 2
@@ -53,7 +53,7 @@ reply_number (Refused refusal) = mixed 9 (refusal_number refusal)
 abbrev pub row_number : Row → ℕ
 row_number row = 4 * zone_number row.zone + state_number row.state
 
--- a digest with one more reply, row, or processor's replies
+-- the hash after one more reply, one more row, or one more processor's replies
 abbrev pub mixed_reply : (digest : ℕ) → Reply → ℕ
 mixed_reply digest reply = mixed digest (reply_number reply)
 
@@ -63,7 +63,7 @@ mixed_row digest row = mixed digest (row_number row)
 abbrev pub mixed_replies : (digest : ℕ) → List Reply → ℕ
 mixed_replies digest replies = mixed digest (fold mixed_reply 0 replies)
 
--- a digest of the replies of processors, and of how a schedule ends
+-- the hash of all processors' replies, and of how a schedule ends
 abbrev pub replies_digest : List (List Reply) → ℕ
 replies_digest replies = fold mixed_replies 0 replies
 

@@ -1,13 +1,13 @@
--- What a list of ends says of the schedules of a kind.
+-- What a list of ends states about the schedules of a kind.
 use Rattle.std.specs.Prelude.{◌≡◌, ℕ, ◌<◌, List, Some, slice_get, sum_by}
 use Rattle.hp_schedules.specs.declared.tally.Ending.{Ending}
 use Rattle.hp_schedules.specs.Orders.{HasCount, IsBefore, IsFirst}
 use Rattle.hp_schedules.specs.Outcomes.{OutcomeValue}
 use Rattle.hp_schedules.specs.Schedules.{EndsWith, Setting}
 
--- the schedules s that have outcome x, as E s x says, are counted by the ends: an end's count is
--- the number of schedules that end so, and it names the first of them; each schedule's end is
--- there; no two ends are the same; and the counts add up to the number of all schedules
+-- the ends count the schedules s that have an outcome x, which is what E s x means. An end's count
+-- is the number of schedules that end so, and it names the first of them. Each schedule's end is
+-- listed; no two ends are equal; the counts add up to the number of all schedules
 pub record AreCounted (E : List ℕ → OutcomeValue → Type 0) (ends : List Ending) : Type 0 where
   pub counts : (k : ℕ) (e : Ending) → slice_get ends k ≡ Some e → HasCount (λ s. E s e.outcome) e.count
   pub firsts : (k : ℕ) (e : Ending) → slice_get ends k ≡ Some e → IsFirst (λ s. E s e.outcome) e.first.items
@@ -21,7 +21,7 @@ pub record AreCounted (E : List ℕ → OutcomeValue → Type 0) (ends : List En
 abbrev pub AreEnds : Setting → List Ending → Type 0
 AreEnds g ends = AreCounted (EndsWith g) ends
 
--- the ends stand in the order of their first schedules
+-- the ends are in the order of their first schedules
 abbrev pub AreInOrder : List Ending → Type 0
 AreInOrder ends =
     (i j : ℕ) (e f : Ending) → i < j → slice_get ends i ≡ Some e → slice_get ends j ≡ Some f

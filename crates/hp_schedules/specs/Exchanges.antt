@@ -1,4 +1,4 @@
--- The numbers of what processors asked for and were answered.
+-- Numbers for the transcripts of processors.
 use Rattle.std.specs.Prelude.{◌≡◌, ℕ, ◌<◌, List, [], ◌∷◌, ◌++◌, Some, length, slice_get}
 use Rattle.hp_units.specs.Receipts.{receipt_of}
 use Rattle.hp_units.specs.declared.replies.Receipt.{Receipt}
@@ -8,14 +8,14 @@ use Rattle.hp_schedules.specs.Numbers.{lists_from}
 use Rattle.hp_schedules.specs.Schedules.{Setting}
 use Rattle.hp_schedules.specs.declared.exchanges.Exchange.{Exchange}
 
--- the exchange of a record, and the one that an entry holds
+-- the exchange of a record, and that of an entry
 abbrev pub exchange_in : Record → Receipt
 exchange_in r = unnumbered (receipt_of r)
 
 abbrev pub exchange_of : Exchange → Receipt
 exchange_of e = record { serial = 0; event = e.event; reply = e.reply }
 
--- the chains that entries make, each with one exchange after those of an earlier number
+-- the chains that the entries make, each one exchange longer than an earlier chain
 abbrev pub exchange_below : Exchange → ℕ
 exchange_below e = e.below
 
@@ -25,31 +25,31 @@ at_end e xs = xs ++ exchange_of e ∷ []
 abbrev pub chains_of : List Exchange → List (List Receipt)
 chains_of entries = lists_from exchange_below at_end entries
 
--- a number means one exchange after those of an earlier number
+-- the number means the chain `below` with one more exchange
 abbrev pub IsChained : (old new : List (List Receipt)) → Receipt → (below number : ℕ) → Type 0
 IsChained old new x below number =
     (xs : List Receipt) → slice_get old below ≡ Some xs → slice_get new number ≡ Some (xs ++ x ∷ [])
 
--- a number means what another meant before its last exchange
+-- `before` means the chain of `number` without its last exchange
 abbrev pub IsBefore : (chains : List (List Receipt)) → (number before : ℕ) → Type 0
 IsBefore chains number before =
     (xs : List Receipt) (x : Receipt) → slice_get chains number ≡ Some (xs ++ x ∷ [])
     → slice_get chains before ≡ Some xs
 
--- the chains, and the number that each processor's exchanges have
+-- the chains, and the number of each processor's chain
 pub record ExchangesValue : Type 0 where
   pub chains : List (List Receipt)
   pub here : List ℕ
 
--- each of these numbers is one of a chain
+-- each of these numbers is that of a chain
 abbrev pub AreAmong : (chains : List (List Receipt)) → (numbers : List ℕ) → Type 0
 AreAmong chains numbers = (k n : ℕ) → slice_get numbers k ≡ Some n → n < length chains
 
--- a number means the exchanges that a processor had
+-- the number means the exchanges of this processor
 abbrev pub IsExchanged : (chains : List (List Receipt)) → (cpu : ℕ) → List Record → (number : ℕ) → Type 0
 IsExchanged chains cpu news number = slice_get chains number ≡ Some (exchanges cpu news)
 
--- so it is with each of the scripts' processors
+-- that holds for each processor that has a script
 abbrev pub AreExchanged : Setting → List Record → ExchangesValue → Type 0
 AreExchanged g news x =
     (cpu : ℕ) → cpu < length g.scripts

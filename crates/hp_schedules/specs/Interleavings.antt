@@ -9,54 +9,53 @@ use Rattle.hp_schedules.specs.declared.multinomials.HowMany.TheVariants.{Exactly
 use Rattle.hp_schedules.specs.declared.scripts.Line.{Line}
 use Rattle.hp_schedules.specs.declared.scripts.Line.TheVariants.{Ask, Own, Carry}
 
--- whether a line is one call
+-- the line is one call
 abbrev pub is_one_call : Line → Bool
 is_one_call (Ask event) = true
 is_one_call (Own work) = true
 is_one_call (Carry plan turns) = false
 
--- each line of each script is one call
+-- each line of a script, and of all scripts, is one call
 abbrev pub holds_no_plan : List Line → Bool
 holds_no_plan lines = list_all is_one_call lines
 
 abbrev pub AreOneCalls : List (List Line) → Type 0
 AreOneCalls scripts = list_all holds_no_plan scripts ≡ true
 
--- how many lines a processor's script has
+-- the number of lines of a processor's script
 abbrev pub script_length : List (List Line) → (cpu : ℕ) → ℕ
 script_length scripts cpu = option_map_or (λ lines. length lines) (slice_get scripts cpu) 0
 
 abbrev pub script_lengths : List (List Line) → List ℕ
 script_lengths scripts = map (λ lines. length lines) scripts
 
--- each processor stands in a schedule as often as its script has lines
+-- each processor occurs in the schedule as often as its script has lines
 abbrev pub IsInterleaving : List (List Line) → List ℕ → Type 0
 IsInterleaving scripts schedule = (cpu : ℕ) → turns_of cpu schedule ≡ script_length scripts cpu
 
--- a number of interleavings is the multinomial coefficient of the scripts' lengths
+-- the number is the multinomial coefficient of the scripts' lengths
 abbrev pub IsCountOfLengths : List (List Line) → ℕ → Type 0
 IsCountOfLengths scripts m = IsMultinomial (script_lengths scripts) m
 
--- each line is one call, and there are more interleavings than a limit
+-- each line is one call, and there are more interleavings than the limit
 abbrev pub AreTooMany : List (List Line) → (limit : ℕ) → Type 0
 AreTooMany scripts limit = AreOneCalls scripts × ((m : ℕ) → IsCountOfLengths scripts m → limit < m)
 
--- how many calls a complete schedule has, where each line is one; none where not, or where they are
--- 2^64 or more
+-- how many calls a complete schedule has, if each line is one call; None if not, or if 2^64 or more
 abbrev pub IsCallCount : List (List Line) → Option ℕ → Type 0
 IsCallCount scripts None = AreOneCalls scripts → 2 ^ 64 ≤ sum (script_lengths scripts)
 IsCallCount scripts (Some calls) = AreOneCalls scripts × (calls ≡ sum (script_lengths scripts))
 
--- how many records the history needs room for, so that it has room for each call: those that it has,
--- and one for each line, where each is one call; none where not, or where that is 2^64 or more
+-- how many records the history must have room for: those it has, and one per line if each line is
+-- one call; None if not, or if that is 2^64 or more
 abbrev pub IsRoomNeeded : Setting → Option ℕ → Type 0
 IsRoomNeeded g None =
     AreOneCalls g.scripts → 2 ^ 64 ≤ length g.start + sum (script_lengths g.scripts)
 IsRoomNeeded g (Some needed) =
     AreOneCalls g.scripts × (needed ≡ length g.start + sum (script_lengths g.scripts))
 
--- what is known before any call of how many there are: so many, which are no more than the limit; more
--- than the limit; or nothing, since a line may be several calls, or the scripts have 2^64 lines or more
+-- what is known before any call about how many there are: a number up to the limit; more than the
+-- limit; or nothing, if a line may be several calls or there are 2^64 lines or more
 abbrev pub IsKnown : List (List Line) → (limit : ℕ) → HowMany → Type 0
 IsKnown scripts limit (Exactly m) = AreOneCalls scripts × IsCountOfLengths scripts m × (m ≤ limit)
 IsKnown scripts limit MoreThanLimit = AreTooMany scripts limit

@@ -1,11 +1,11 @@
--- How many interleavings of sequences there are.
+-- The number of interleavings of sequences.
 use Rattle.std.specs.Prelude.{◌≡◌, ℕ, zero, suc, ◌*◌, ◌<◌, ◌==◌, List, [], ◌∷◌, ◌++◌, count_by, sum_by}
 
--- how often a processor stands in a schedule
+-- how often a processor occurs in a schedule
 abbrev pub turns_of : (cpu : ℕ) → List ℕ → ℕ
 turns_of cpu schedule = count_by (λ c. c == cpu) schedule
 
--- factorials, and the product of several
+-- a factorial, and the product of several
 abbrev pub factorial : ℕ → ℕ
 factorial zero = 1
 factorial (suc n) = suc n * factorial n
@@ -17,16 +17,17 @@ factorials (n ∷ ns) = factorial n * factorials ns
 abbrev pub sum : List ℕ → ℕ
 sum ns = sum_by (λ n. n) ns
 
--- a number is the multinomial coefficient of others (Knuth 1, 1.2.6)
+-- the number is the multinomial coefficient of the others (Knuth 1, 1.2.6)
 abbrev pub IsMultinomial : List ℕ → ℕ → Type 0
 IsMultinomial ns m = m * factorials ns ≡ factorial (sum ns)
 
--- a number is the multinomial coefficient of any numbers of this coefficient and this sum with one more
+-- the number is the coefficient after one more length, if that of the
+-- others and their sum are these
 abbrev pub IsMultinomialWith : (count total length m : ℕ) → Type 0
 IsMultinomialWith count total length m =
     (ns : List ℕ) → sum ns ≡ total → IsMultinomial ns count → IsMultinomial (ns ++ length ∷ []) m
 
--- that coefficient is above a limit
+-- that coefficient is above the limit
 abbrev pub ExceedsWith : (count total length limit : ℕ) → Type 0
 ExceedsWith count total length limit =
     (ns : List ℕ) (m : ℕ) → sum ns ≡ total → IsMultinomial ns count → IsMultinomial (ns ++ length ∷ []) m

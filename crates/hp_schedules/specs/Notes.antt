@@ -5,28 +5,28 @@ use Rattle.hp_schedules.specs.Digests.{digest_of}
 use Rattle.hp_schedules.specs.Outcomes.{OutcomeValue}
 use Rattle.hp_schedules.specs.declared.tally.Ending.{Ending}
 
--- the limit of how many schedules may be counted, and the ends so far
+-- the limit on the schedules counted, and the ends so far
 pub record TallyValue : Type 0 where
   pub limit : ℕ
   pub ends : List Ending
 
--- one more may be counted
+-- one more schedule may be counted
 abbrev pub HasRoom : TallyValue → Type 0
 HasRoom t = sum_by (λ e. e.count) t.ends < t.limit
 
--- the end at a place has the outcome, and no end has it
+-- the end at this index has the outcome; no end has it
 abbrev pub HasEndAt : List Ending → OutcomeValue → (place : ℕ) → Type 0
 HasEndAt ends x place = (e : Ending) × (slice_get ends place ≡ Some e) × (e.outcome ≡ x)
 
 abbrev pub HasNoEnd : List Ending → OutcomeValue → Type 0
 HasNoEnd ends x = (k : ℕ) (e : Ending) → slice_get ends k ≡ Some e → e.outcome ≡ x → ⊥
 
--- the digest of each end has a place
+-- the map has the hash of each end
 abbrev pub AreKnown : {S : Type 0} → List Ending → IndexMap ℕ ℕ S → Type 0
 AreKnown ends latest =
     (k : ℕ) (e : Ending) → slice_get ends k ≡ Some e → ContainsKey nat_eq latest (digest_of e.outcome)
 
--- the outcome is that of an end, whose count is one more
+-- an end has the outcome, and its count grows by one
 pub record AddsOne (old : List Ending) (x : OutcomeValue) (new : List Ending) : Type 0 where
   pub at : ℕ
   pub entry : Ending
@@ -38,7 +38,7 @@ pub record AddsOne (old : List Ending) (x : OutcomeValue) (new : List Ending) : 
   pub first : more.first.items ≡ entry.first.items
   pub new_is : new ≡ slice_set old at more
 
--- the outcome is that of no end, and an end of the one schedule is added
+-- no end has the outcome, and an end of this one schedule is added
 pub record AddsEnd (old : List Ending) (x : OutcomeValue) (schedule : List ℕ)
     (new : List Ending) : Type 0 where
   pub entry : Ending
@@ -48,6 +48,6 @@ pub record AddsEnd (old : List Ending) (x : OutcomeValue) (schedule : List ℕ)
   pub first : entry.first.items ≡ schedule
   pub new_is : new ≡ old ++ entry ∷ []
 
--- one more schedule is noted, with its outcome
+-- one more schedule is noted under its outcome
 abbrev pub IsNoted : List Ending → OutcomeValue → List ℕ → List Ending → Type 0
 IsNoted old x schedule new = AddsOne old x new ⊎ AddsEnd old x schedule new

@@ -1,7 +1,7 @@
--- Lists by their numbers, as entries make them.
+-- Interned lists, each made by an entry from an earlier list.
 use Rattle.std.specs.Prelude.{◌≡◌, ℕ, ◌≤◌, List, [], ◌∷◌, ◌++◌, Some, fold, slice_get, slice_index_or}
 
--- first the empty one, and of each entry one more: made by the entry from the list of an earlier number
+-- list 0 is empty; each entry adds one list, made from the list with the number `below`
 abbrev pub with_entry : {E X : Type 0} → (below : E → ℕ) → (put : E → List X → List X)
     → List (List X) → E → List (List X)
 with_entry below put lists e = lists ++ put e (slice_index_or lists (below e) []) ∷ []
@@ -10,15 +10,15 @@ abbrev pub lists_from : {E X : Type 0} → (below : E → ℕ) → (put : E → 
     → List (List X)
 lists_from below put entries = fold (with_entry below put) ([] ∷ []) entries
 
--- each entry stands on an earlier list
+-- each entry is made from an earlier list
 abbrev pub StandOnEarlier : {E : Type 0} → (below : E → ℕ) → List E → Type 0
 StandOnEarlier {E = E} below entries = (i : ℕ) (e : E) → slice_get entries i ≡ Some e → below e ≤ i
 
--- each number means the list that it meant
+-- each number keeps its list
 abbrev pub KeepNumbers : {X : Type 0} → (old new : List (List X)) → Type 0
 KeepNumbers {X = X} old new = (n : ℕ) (xs : List X) → slice_get old n ≡ Some xs → slice_get new n ≡ Some xs
 
--- an entry made the list of a number
+-- the entry made the list with this number
 abbrev pub IsMadeOf : {E X : Type 0} → (below : E → ℕ) → (put : E → List X → List X) → List (List X)
     → (number : ℕ) → E → Type 0
 IsMadeOf {X = X} below put lists number e =

@@ -1,4 +1,4 @@
--- The operations that Cancels can take back whole.
+-- The operations that a Cancel can take back whole.
 use Rattle.std.specs.Prelude.{◌≡◌, ℕ, ◌==◌, if◌then◌else◌, List, [], ◌∷◌, Some, None, map, take}
 use Rattle.hp_units.specs.History.{is_refused, run}
 use Rattle.hp_units.specs.LayoutParts.{LayoutParts}
@@ -10,7 +10,7 @@ use Rattle.hp_units.specs.declared.replies.Record.{Record}
 use Rattle.hp_schedules.specs.declared.changes.Change.{Change}
 use Rattle.hp_schedules.specs.declared.changes.Change.TheVariants.{Stays, Begins, Works, Cancels, Ends}
 
--- an operation, with what tells the state from before its Begin
+-- an operation, with what identifies the state before its Begin
 pub record OpeningWith (S : Type 0) : Type 0 where
   pub op : ℕ
   pub memory : S
@@ -22,8 +22,8 @@ Opening = OpeningWith Memory
 abbrev pub NumberedOpening : Type 0
 NumberedOpening = OpeningWith ℕ
 
--- the operations that Cancels can take back whole, latest first: the first is the only sole one; its
--- Cancel leads back to the state from before its Begin, where the others are so (own rule)
+-- the operations that a Cancel can take back whole, latest first. Only the first is sole; its
+-- Cancel leads back to the state before its Begin, in which the others are such a list
 abbrev pub AreOpen : LayoutParts → Memory → (net : List Record) → List Opening → Type 0
 AreOpen l base net [] = (op : ℕ) → sole_at op (map tag_of net) ≡ None
 AreOpen l base net (o ∷ os) =
@@ -31,7 +31,7 @@ AreOpen l base net (o ∷ os) =
     × ((op : ℕ) → sole_at op (map tag_of net) ≡ (if o.op == op then Some place else None))
     × (o.memory ≡ run l base (take place net)) × AreOpen l base (take place net) os
 
--- those that are left after an operation's own work, and after its Cancel: none where another is first
+-- those left after an operation's own work, and after its Cancel: none if another is first
 abbrev pub after_work : {S : Type 0} → (op : ℕ) → List (OpeningWith S) → List (OpeningWith S)
 after_work op [] = []
 after_work op (o ∷ os) = if o.op == op then o ∷ os else []
@@ -40,8 +40,8 @@ abbrev pub after_cancel : {S : Type 0} → (op : ℕ) → List (OpeningWith S) �
 after_cancel op [] = []
 after_cancel op (o ∷ os) = if o.op == op then os else []
 
--- what a record does to them: no refusal and no read does anything, and what is no work of an operation
--- ends all
+-- how a record changes them: a refusal or a read does nothing; a step that is no
+-- operation's work ends them all
 abbrev pub change_by : Event → Change
 change_by (Read owner page index) = Stays
 change_by (Begin plan) = Begins

@@ -1,12 +1,12 @@
--- The numbers of parts.
+-- The number that a user gives a part.
 use Rattle.std.specs.Prelude.{ℕ, ◌-◌}
 use Rattle.hp_schedules.specs.Parts.{PartValue}
 
--- the part with a number, from 1 on, of so many
+-- part `number` of `of`, counted from 1
 pub record NumberValue : Type 0 where
   pub number : ℕ
   pub of : ℕ
 
--- where the parts go by so many first calls
+-- the part itself, if the first `calls` calls decide
 abbrev pub part_by : NumberValue → (calls : ℕ) → PartValue
 part_by n calls = record { index = n.number - 1; of = n.of; calls = calls }

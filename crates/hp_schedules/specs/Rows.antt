@@ -1,7 +1,7 @@
--- Rows of shares, one after another in one list.
+-- Rows of shares in one list.
 use Rattle.std.specs.Prelude.{◌≡◌, ℕ, zero, suc, ◌≤◌, List, [], ◌∷◌, length, slice_index, slice_range}
 
--- the rows that end at these places, where the first begins at one
+-- the rows of the list, given where each ends, if the first begins at `start`
 abbrev pub rows_from : {X : Type 0} → (start : ℕ) → List X → (ends : List ℕ) → List (List X)
 rows_from start all [] = []
 rows_from start all (end ∷ ends) = slice_range all start end ∷ rows_from end all ends
@@ -11,7 +11,7 @@ abbrev pub FillUp : {X : Type 0} → (start : ℕ) → List X → (ends : List �
 FillUp start all [] = start ≡ length all
 FillUp start all (end ∷ ends) = (start ≤ end) × (end ≤ length all) × FillUp end all ends
 
--- where the row at a place begins
+-- where the row at this index begins
 abbrev pub start_in : (start : ℕ) → (ends : List ℕ) → (place : ℕ) → ℕ
 start_in start ends zero = start
 start_in start ends (suc place) = slice_index ends place

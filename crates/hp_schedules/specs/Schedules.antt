@@ -1,4 +1,4 @@
--- What a schedule of scripts does on a machine, and which schedules are complete.
+-- What a schedule does on a machine, and which schedules are complete.
 use Rattle.std.specs.Prelude.{◌≡◌, ℕ, ◌+◌, List, [], ◌∷◌, ◌++◌, Option, Some, None, length, map, fold, slice_get, option_map, option_and_then}
 use Rattle.hp_units.specs.LayoutParts.{LayoutParts}
 use Rattle.hp_units.specs.Memory.{Memory}
@@ -19,14 +19,12 @@ pub record Setting : Type 0 where
   pub start : List Record
   pub scripts : List (List Line)
 
--- the event that a processor's script asks for after the new records; none where it is at its end,
--- or has no script
+-- the next event of a processor's script after the new records; None at its end or without a script
 unfoldable pub next_call : Setting → (cpu : ℕ) → List Record → Option Event
 next_call g cpu news =
     option_and_then (λ lines. next_of g.layout.cpus lines (receipts_of cpu news)) (slice_get g.scripts cpu)
 
--- the record of a processor's event after the new records: its serial is the next, and its reply
--- that of the definitions
+-- the record of a processor's event after the new records: the next serial, and the defined reply
 unfoldable pub record_of_call : Setting → List Record → (cpu : ℕ) → Event → Record
 record_of_call g news cpu event = record {
   serial = g.before + length (g.start ++ news) + 1;
@@ -35,26 +33,26 @@ record_of_call g news cpu event = record {
   reply = reply_of g.layout g.base g.before (g.start ++ news) cpu event;
 }
 
--- a processor makes the next call of its script; None where it has none
+-- the processor makes its script's next call; None if it has none
 abbrev pub play_one : Setting → Option (List Record) → (cpu : ℕ) → Option (List Record)
 play_one g None cpu = None
 play_one g (Some news) cpu =
     option_map (λ event. news ++ record_of_call g news cpu event ∷ []) (next_call g cpu news)
 
--- the new records that a schedule leads to, each processor in turn making the next call of its script
+-- the new records that a schedule leads to: each processor in turn makes its script's next call
 unfoldable pub plays : Setting → List ℕ → Option (List Record)
 plays g schedule = fold (play_one g) (Some []) schedule
 
--- the schedule that new records came from
+-- the schedule of new records
 abbrev pub schedule_of : List Record → List ℕ
 schedule_of news = map (λ r. r.cpu) news
 
--- how it ends after the new records: what the scripts' processors were answered, and the blocks' rows then
+-- how it ends after the new records: the processors' replies, and the blocks' rows
 unfoldable pub outcome_after : Setting → List Record → OutcomeValue
 outcome_after g news = outcome (length g.scripts) news g.layout (value_of g.layout g.base (g.start ++ news))
 
--- the schedule is complete, with this outcome: each of its processors has a call to make in its
--- turn, and in the end all scripts are at their ends
+-- the schedule is complete, with this outcome: each processor has a call to make when it is its
+-- turn, and at the end all scripts are finished
 pub record EndsWith (g : Setting) (schedule : List ℕ) (x : OutcomeValue) : Type 0 where
   pub news : List Record
   pub played : plays g schedule ≡ Some news

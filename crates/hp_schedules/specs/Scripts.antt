@@ -1,4 +1,4 @@
--- What a processor's script asks for after the processor's own receipts.
+-- What a script calls after its processor's receipts.
 use Rattle.std.specs.Prelude.{ℕ, if◌then◌else◌, List, [], ◌∷◌, ◌++◌, Option, Some, None, fold}
 use Rattle.std.specs.Option.{option_map_or}
 use Rattle.hp_units.specs.Driver.{next_event}
@@ -11,8 +11,7 @@ use Rattle.hp_schedules.specs.declared.scripts.Line.TheVariants.{Ask, Own, Carry
 use Rattle.hp_schedules.specs.declared.scripts.Work.{Work}
 use Rattle.hp_schedules.specs.declared.scripts.Work.TheVariants.{DrainFor, Migrate, Commit, Cancel}
 
--- the operation that a processor began last: the serial of its last Begin, refused or not, and 0
--- where it made none
+-- the operation that a processor began last: the serial of its last Begin, refused or not; else 0
 abbrev pub later_operation : ℕ → Receipt → ℕ
 later_operation op r = if is_opening (mark_of r.event) then r.serial else op
 
@@ -26,33 +25,32 @@ work_of op Migrate = Migrates op
 work_of op Commit = Commits op
 work_of op Cancel = Cancels op
 
--- an event that is asked for once
+-- an event that is called once
 abbrev pub once : Event → List Receipt → Option Event
 once event [] = Some event
 once event (r ∷ rs) = None
 
--- the event that a line asks for after its own receipts; None where it is over. A plan's line is a
--- driver's run
+-- the next event of a line after its own receipts; None if it is finished.
+-- A plan's line is a driver's run
 abbrev pub line_next : (cpus op : ℕ) → Line → List Receipt → Option Event
 line_next cpus op (Ask event) receipts = once event receipts
 line_next cpus op (Own work) receipts = once (work_of op work) receipts
 line_next cpus op (Carry plan turns) receipts = next_event cpus turns plan receipts
 
--- the later receipts after a line's own, where it is over after the earlier ones and so many of the
--- later; None where it goes on after all of them
+-- the receipts that are left after a line is finished; None if it needs all of them and goes on
 abbrev pub after_line : (cpus op : ℕ) → Line → (earlier later : List Receipt) → Option (List Receipt)
 after_line cpus op line earlier [] = option_map_or (λ event. None) (line_next cpus op line earlier) (Some [])
 after_line cpus op line earlier (r ∷ rs) =
     option_map_or (λ event. after_line cpus op line (earlier ++ r ∷ []) rs) (line_next cpus op line earlier)
     (Some (r ∷ rs))
 
--- the event that lines ask for after the receipts since the first of them began
+-- the next event of the lines, after the receipts since the first of them began
 abbrev pub next_in : (cpus op : ℕ) → List Line → List Receipt → Option Event
 next_in cpus op [] receipts = None
 next_in cpus op (line ∷ lines) receipts =
     option_map_or (λ rest. next_in cpus op lines rest) (after_line cpus op line [] receipts)
     (line_next cpus op line receipts)
 
--- the event that a script asks for after its processor's receipts
+-- the next event of a script after its processor's receipts
 abbrev pub next_of : (cpus : ℕ) → List Line → List Receipt → Option Event
 next_of cpus lines receipts = next_in cpus (own_operation receipts) lines receipts

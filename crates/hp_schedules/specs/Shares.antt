@@ -1,36 +1,36 @@
--- Shares: how many schedules go on from a place, to those ends alone that it leads to.
+-- Shares: how many schedules continue from a place, for each end that it leads to.
 use Rattle.std.specs.Prelude.{◌≡◌, ℕ, ◌+◌, ◌<◌, ◌≤◌, List, Some, cond, length, nat_eq, slice_get, slice_index_or, slice_set, sum, sum_by}
 use Rattle.hp_schedules.specs.Notes.{TallyValue}
 use Rattle.hp_schedules.specs.declared.rows.Share.{Share}
 use Rattle.hp_schedules.specs.declared.tally.Ending.{Ending}
 
--- how many schedules of a share go to an end
+-- how many of one share's schedules go to this end
 abbrev pub count_for : (end : ℕ) → Share → ℕ
 count_for end s = cond (nat_eq s.end end) s.count 0
 
--- how many of all shares do
+-- how many of all shares' schedules do
 abbrev pub amount_of : List Share → (end : ℕ) → ℕ
 amount_of shares end = sum_by (count_for end) shares
 
--- each share is that of one of so many ends
+-- each share is that of one of the `many` ends
 abbrev pub AreAtEnds : (many : ℕ) → List Share → Type 0
 AreAtEnds many shares = (i : ℕ) (s : Share) → slice_get shares i ≡ Some s → s.end < many
 
--- each end counts its share more
+-- each end's count grows by its share
 pub record AddsShares (old : List Ending) (shares : List Share) (new : List Ending) : Type 0 where
   pub as_many : length new ≡ length old
   pub more : (k : ℕ) (e f : Ending) → slice_get old k ≡ Some e → slice_get new k ≡ Some f
       → (f.outcome ≡ e.outcome) × (f.first.items ≡ e.first.items)
       × (f.count ≡ e.count + amount_of shares k)
 
--- each end counts so many more
+-- each end's count grows by the number at its index
 pub record AddsCounts (old : List Ending) (counts : List ℕ) (new : List Ending) : Type 0 where
   pub as_many : length new ≡ length old
   pub more : (k : ℕ) (e f : Ending) → slice_get old k ≡ Some e → slice_get new k ≡ Some f
       → (f.outcome ≡ e.outcome) × (f.first.items ≡ e.first.items)
       × (f.count ≡ e.count + slice_index_or counts k 0)
 
--- ends count no less than they did, and more by so many
+-- no end counts less than before; and the shares are what each counts more
 abbrev pub AreNoMore : List ℕ → List Ending → Type 0
 AreNoMore earlier ends =
     (k : ℕ) (e : Ending) → slice_get ends k ≡ Some e → slice_index_or earlier k 0 ≤ e.count
@@ -40,7 +40,7 @@ pub record AreSince (earlier : List ℕ) (ends : List Ending) (shares : List Sha
   pub each : (k : ℕ) (e : Ending) → slice_get ends k ≡ Some e
       → slice_index_or earlier k 0 + amount_of shares k ≡ e.count
 
--- the end at a place counts so many more
+-- the count of the end at this index grows by `count`
 pub record AddsAt (old : List Ending) (at count : ℕ) (new : List Ending) : Type 0 where
   pub entry : Ending
   pub more : Ending
@@ -50,7 +50,7 @@ pub record AddsAt (old : List Ending) (at count : ℕ) (new : List Ending) : Typ
   pub first : more.first.items ≡ entry.first.items
   pub new_is : new ≡ slice_set old at more
 
--- so many schedules more may be counted
+-- this many more schedules may be counted
 abbrev pub HasRoomFor : TallyValue → List ℕ → Type 0
 HasRoomFor t counts = sum_by (λ e. e.count) t.ends + sum counts ≤ t.limit
 

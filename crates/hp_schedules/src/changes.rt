@@ -1,25 +1,25 @@
-//! What a call does to the operations that Cancels can take back whole.
+//! How a call changes the list of operations that a Cancel can take back whole.
 ghost use Rattle.std.specs.Prelude.{◌≡◌};
 ghost use Rattle.hp_schedules.specs.Openings.{change_of};
 
 use hp_units::{Event, Record, Reply, Serial};
 
-/// What a call does to the operations that Cancels can take back whole.
+/// How a call changes the list of operations that a Cancel can take back whole.
 #[derive(Clone, Copy, Drop)]
 pub enum Change {
-    /// Nothing: it was refused, or reads.
+    /// Leaves the list as it is: the call was refused, or only reads.
     Stays,
-    /// It begins an operation.
+    /// Begins an operation.
     Begins,
-    /// It is an operation's own work.
+    /// Is work of the operation `op` itself.
     Works { op: Serial },
-    /// It cancels an operation.
+    /// Cancels the operation `op`.
     Cancels { op: Serial },
-    /// It is another step, after which no Cancel takes an earlier one back.
+    /// Is any other step. After it, no Cancel takes an earlier step back.
     Ends,
 }
 
-/// What a call does, by its record.
+/// Returns how the call of this record changes the list.
 pub fn change_of(latest: &Record) -> Change
     ensures { result ≡ change_of latest.now }
 {

@@ -1,10 +1,12 @@
-//! Whether the steps of a history are closed: no later Cancel can drop one of them.
+//! A test for closed histories: those of which no later Cancel can drop a step.
 ghost use Rattle.std.specs.Prelude.{◌≡◌};
 ghost use Rattle.hp_schedules.specs.Alike.{closed_after, is_closed};
 
 use hp_units::{Event, Record, Reply};
 
-/// Whether no later Cancel can drop a step of a history, as far as its events and refusals tell.
+/// Returns whether no later Cancel can drop a step of the history.
+///
+/// Looks only at events and refusals, so it may return false for a history that is closed.
 pub fn is_closed(history: &[Record]) -> bool
     ensures { result ≡ is_closed history.now }
 {
@@ -15,7 +17,7 @@ pub fn is_closed(history: &[Record]) -> bool
     closed
 }
 
-/// Whether it is so after one record more.
+/// Returns whether the history is still closed after one more record.
 fn closed_after(was: bool, last: &Record) -> bool
     ensures { result ≡ closed_after was last.now }
 {

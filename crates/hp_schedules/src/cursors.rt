@@ -1,4 +1,4 @@
-//! Where a processor is in its script.
+//! A processor's position in its script.
 ghost use Rattle.std.specs.Prelude.{◌≡◌, ◌++◌, ◌∷◌, ℕ, [], IfOk, List, Some, slice_get};
 ghost use Rattle.std.specs.Option.{option_map_or};
 ghost use Rattle.hp_units.specs.Receipts.{receipt_of};
@@ -11,34 +11,36 @@ use hp_ops::Driver;
 use hp_units::{Event, Record, Serial};
 use std::alloc::{AllocError, Global};
 
-/// Where a processor is in its script: at a line, with the operation that it began last, and with
-/// the driver of the line's plan. A line without a plan makes no use of its driver.
+/// A processor's position in its script: its line, the operation that it began last, and
+/// the driver of the line's plan.
+///
+/// The driver is unused on a line without a plan.
 #[derive(Clone, Copy, Drop)]
 pub struct Cursor {
     line: usize,
-    /// The operation that the processor began last, and 0 where it began none.
+    /// The operation that the processor began last, or 0 if it began none.
     pub(crate) op: Serial,
     driver: Driver,
 }
 
-/// A call that a script asks for, and where it is then.
+/// The next call of a script.
 #[derive(Drop)]
 pub struct Request {
-    /// What is asked for.
+    /// The event to call.
     pub event: Event,
-    /// Where the script is, from where the call is its line's next.
+    /// The position of the script at the line that makes this call.
     pub from: Cursor,
 }
 
 impl Cursor {
-    /// Where a script begins.
+    /// Returns the position before the first line.
     pub(crate) fn start(cpus: u32, script: &Script) -> Cursor
         ensures { result ≡ cursor_at cpus script.now 0 0 }
     {
         Cursor::new(cpus, script.lines(), 0, Serial(0))
     }
 
-    /// Where a line begins.
+    /// Returns the position at the beginning of a line.
     fn new(cpus: u32, lines: &[Line], line: usize, op: Serial) -> Cursor
         ensures { result ≡ cursor_at cpus lines.now line op }
     {
@@ -49,7 +51,7 @@ impl Cursor {
         }
     }
 
-    /// The call that a script asks for next; none at its end. An error is out of memory.
+    /// Returns the next call of the script, or `None` at its end.
     pub(crate) fn request(
         &self,
         alloc: Global,
@@ -68,8 +70,8 @@ impl Cursor {
         Cursor::new(cpus, lines, self.line + 1, self.op).asked(alloc, lines)
     }
 
-    /// The call that the line here asks for; none where it is over, or there is none. An error is
-    /// out of memory.
+    /// Returns the next call of the current line, or `None` if the
+    /// line is finished or there is none.
     fn asked(&self, alloc: Global, lines: &[Line]) -> Result<Option<Request>, AllocError>
         ensures { IfOk result (IsAsked self.now lines.now) }
     {
@@ -82,7 +84,7 @@ impl Cursor {
         }
     }
 
-    /// The event that a line asks for here; none where it is over. An error is out of memory.
+    /// Returns the line's next event, or `None` if the line is finished.
     fn event(&self, alloc: Global, line: &Line) -> Result<Option<Event>, AllocError>
         ensures { IfOk result (λ next. next ≡ asks self.now line.now) }
     {
@@ -93,7 +95,7 @@ impl Cursor {
         }
     }
 
-    /// Where the script is after the call that the line here asked for.
+    /// Returns the position after the current line's call, given the record of that call.
     pub(crate) fn after(&self, cpus: u32, lines: &[Line], latest: &Record) -> Cursor
         ensures { (receipts : List Receipt) (event : AnyEvent) → IsCursor cpus lines.now receipts self.now
             → asks_at self.now lines.now ≡ Some event
@@ -116,7 +118,7 @@ impl Cursor {
     }
 }
 
-/// The driver of a line where it begins, and any where there is none.
+/// Returns the driver at the beginning of a line, or an unused one if there is no such line.
 fn first_driver(cpus: u32, lines: &[Line], line: usize) -> Driver
     ensures { result ≡ option_map_or (first_driver cpus) (slice_get lines.now line) (driver_before cpus 0) }
 {
@@ -126,7 +128,7 @@ fn first_driver(cpus: u32, lines: &[Line], line: usize) -> Driver
     }
 }
 
-/// The turns of a line's plan, and 0 where it has none.
+/// Returns the migration limit of a line's plan, or 0 if the line has no plan.
 fn turns_of(line: &Line) -> u32
     ensures { (cpus : ℕ) → driver_before cpus result ≡ first_driver cpus line.now }
 {

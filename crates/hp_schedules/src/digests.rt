@@ -1,5 +1,4 @@
-//! Digests by which places and ends are found. What is found is compared; of ends it is proved that
-//! the same have the same digest.
+//! Hashes that find places and ends. A hit is always compared; equal ends are proved to hash alike.
 ghost use Rattle.std.specs.Prelude.{◌≡◌, ℕ, OnOk, Some, fold, nat_eq};
 ghost use Rattle.indexmap.specs.IndexMap.{ContainsKey, Updates};
 ghost use Rattle.hp_schedules.specs.Digests.{digest_of, mixed, mixed_reply, refusal_number, replies_digest, reply_number, row_number};
@@ -10,7 +9,7 @@ use hp_units::{Cpu, Record, Refusal, Reply, Row};
 use indexmap::IndexMap;
 use std::alloc::AllocError;
 
-/// A digest of a place's key.
+/// Returns the hash of a place's key.
 pub fn key_digest(key: &[u32]) -> u64
     ensures { result ≡ fold mixed 0 key.now }
 {
@@ -21,8 +20,9 @@ pub fn key_digest(key: &[u32]) -> u64
     digest
 }
 
-/// Notes what has a digest, by its number. An error is out of memory; each digest that was known
-/// stays known.
+/// Stores the number under the hash, in place of an earlier one.
+///
+/// If memory runs out, all hashes stored before are still there.
 pub fn learn(
     latest: &mut IndexMap<u64, usize>,
     digest: u64,
@@ -38,8 +38,8 @@ pub fn learn(
     }
 }
 
-/// A digest of how a schedule ends: of the replies of so many processors among records, and of the
-/// blocks' rows.
+/// Returns the hash of how a schedule ends: of the replies to `processors`
+/// processors and of the blocks' rows.
 #[tactic(auto, unfolding(crate::specs::Digests::digest_of))]
 pub(crate) fn digest_of(processors: u32, records: &[Record], blocks: &[Row]) -> u64
     ensures { result ≡ digest_of (outcome_with processors records.now blocks.now) }
@@ -51,7 +51,7 @@ pub(crate) fn digest_of(processors: u32, records: &[Record], blocks: &[Row]) -> 
     digest
 }
 
-/// A digest of the replies of so many processors among records.
+/// Returns the hash of all processors' replies among the records.
 fn replies_digest(processors: u32, records: &[Record]) -> u64
     ensures { result ≡ replies_digest (replies_below processors records.now) }
 {
@@ -62,7 +62,7 @@ fn replies_digest(processors: u32, records: &[Record]) -> u64
     digest
 }
 
-/// A digest of the replies that a processor had among records.
+/// Returns the hash of one processor's replies among the records.
 fn processor_digest(cpu: Cpu, records: &[Record]) -> u64
     ensures { result ≡ fold mixed_reply 0 (replies_to cpu records.now) }
 {
@@ -75,7 +75,7 @@ fn processor_digest(cpu: Cpu, records: &[Record]) -> u64
     digest
 }
 
-/// A digest with one number more (own rule).
+/// Mixes one number into the hash.
 #[tactic(auto, unfolding(crate::specs::Digests::mixed))]
 pub fn mixed(digest: u64, number: u64) -> u64
     ensures { result ≡ mixed digest number }
@@ -85,7 +85,7 @@ pub fn mixed(digest: u64, number: u64) -> u64
         .rotate_left(29)
 }
 
-/// A number for a reply, not of it alone.
+/// A hash input for a reply; not injective.
 pub(crate) fn reply_number(reply: &Reply) -> u64
     ensures { result ≡ reply_number reply.now }
 {
@@ -102,7 +102,7 @@ pub(crate) fn reply_number(reply: &Reply) -> u64
     }
 }
 
-/// A number for a refusal, not of it alone.
+/// A hash input for a refusal; not injective.
 fn refusal_number(refusal: &Refusal) -> u64
     ensures { result ≡ refusal_number refusal.now }
 {
@@ -133,7 +133,7 @@ fn refusal_number(refusal: &Refusal) -> u64
     }
 }
 
-/// A number for a block's row, not of it alone.
+/// A hash input for a block's row; it leaves out the claim.
 pub(crate) fn row_number(row: &Row) -> u64
     ensures { result ≡ row_number row.now }
 {

@@ -1,5 +1,5 @@
-//! What each processor asked for and was answered, by number: equal exchanges have one number, mostly,
-//! so that places are compared by numbers.
+//! Each processor's requests and replies so far, as a number. Equal transcripts share a number in
+//! nearly all cases, so that places are compared by numbers.
 ghost use Rattle.std.specs.Prelude.{◌≡◌, ◌++◌, ◌∷◌, ◌<◌, ◌≤◌, [], IfNone, IfOk, IfSome, IsTrue, OnOk, List, Some, length, replicate, slice_get};
 ghost use Rattle.hp_units.specs.declared.replies.Receipt.{Receipt};
 ghost use Rattle.hp_units.specs.declared.replies.Record.{Record as NewRecord};
@@ -13,7 +13,7 @@ use indexmap::IndexMap;
 use std::alloc::{AllocError, Global};
 use std::marker::Model;
 
-/// A request with its answer, after those of an earlier number.
+/// A request and its reply, after the chain numbered `below`.
 #[derive(Drop)]
 pub(crate) struct Exchange {
     event: Event,
@@ -21,8 +21,9 @@ pub(crate) struct Exchange {
     below: usize,
 }
 
-/// Chains of exchanges by their numbers: 0 is the empty one, and each entry makes one more; and by a
-/// digest the latest number that has it.
+/// Chains of exchanges by number: 0 is the empty chain, and each entry makes one more.
+///
+/// `latest` maps a hash to the newest chain that has it.
 pub(crate) struct Chains {
     entries: Vec<Exchange>,
     latest: IndexMap<u64, usize>,
@@ -41,7 +42,7 @@ impl Model for Chains {
     ghost invariant = { λ c. StandOnEarlier exchange_below c.entries.items };
 }
 
-/// A function of its own, so that no proof of a caller takes the fields apart.
+/// Keeps callers from proving again how each field is dropped.
 impl Drop for Chains {
     fn drop(self) {
         let Chains {
@@ -51,7 +52,7 @@ impl Drop for Chains {
     }
 }
 
-/// The exchanges of the scripts' processors where a walk stands, by number.
+/// The number of each processor's chain at the place where a walk is.
 pub struct Exchanges {
     chains: Chains,
     here: Vec<usize>,
@@ -67,7 +68,7 @@ impl Model for Exchanges {
     ghost invariant = { λ x. AreAmong x.chains x.here.items };
 }
 
-/// A function of its own, so that no proof of a caller takes the fields apart.
+/// Keeps callers from proving again how each field is dropped.
 impl Drop for Exchanges {
     fn drop(self) {
         let Exchanges {
@@ -78,7 +79,7 @@ impl Drop for Exchanges {
 }
 
 impl Chains {
-    /// The empty chain alone.
+    /// Creates a collection with only the empty chain.
     fn new(alloc: Global) -> Chains
         ensures { result ≡ [] ∷ [] }
     {
@@ -88,8 +89,8 @@ impl Chains {
         }
     }
 
-    /// The number of the chain with a record's exchange after those of an earlier number: one that it
-    /// has, or a new one. An error is out of memory.
+    /// Returns the number of the chain `below` with the record's exchange at its end, and adds that
+    /// chain if it is not found.
     fn after(&mut self, alloc: Global, below: usize, latest: &Record) -> Result<usize, AllocError>
         requires { below < length self.old }
         ensures kept { KeepNumbers self.old self.new }
@@ -111,7 +112,7 @@ impl Chains {
         Ok(number)
     }
 
-    /// The number of such a chain, where the latest of its digest is one.
+    /// Returns the number of that chain if it is the newest with its hash.
     fn found(&self, digest: u64, below: usize, latest: &Record) -> Option<usize>
         ensures { IfSome result (IsChained self.now self.now (exchange_in latest.now) below) }
     {
@@ -128,7 +129,7 @@ impl Chains {
         }
     }
 
-    /// The number of the chain without its last exchange; 0 where it has none.
+    /// Returns the number of the chain without its last exchange, or 0 if it is empty.
     fn before(&self, number: usize) -> usize
         ensures before { IsBefore self.now number result }
         ensures within { result < length self.now }
@@ -140,7 +141,8 @@ impl Chains {
         }
     }
 
-    /// The entry that made the chain of a number; none where the chain is empty, or there is no such number.
+    /// Returns the entry that made a chain, or `None` if the chain is
+    /// empty or there is no such number.
     fn entry(&self, number: usize) -> Option<&Exchange>
         ensures some { IfSome result (λ entry. IsMadeOf exchange_below at_end self.now number entry.now) }
         ensures none { IfNone result ((xs : List Receipt) → slice_get self.now number ≡ Some xs → xs ≡ []) }
@@ -154,7 +156,7 @@ impl Chains {
 }
 
 impl Exchange {
-    /// Whether it is the exchange of a record.
+    /// Returns whether it is the exchange of this record.
     fn is_of(&self, latest: &Record) -> bool
         ensures { IsTrue result → exchange_of self.now ≡ exchange_in latest.now }
     {
@@ -163,7 +165,7 @@ impl Exchange {
 }
 
 impl Exchanges {
-    /// No processor had any yet. An error is out of memory.
+    /// Creates the chains of `processors` processors, all empty.
     pub fn start(alloc: Global, processors: usize) -> Result<Exchanges, AllocError>
         ensures { IfOk result (λ x. x ≡ record { chains = [] ∷ []; here = replicate processors 0 }) }
     {
@@ -174,14 +176,14 @@ impl Exchanges {
         })
     }
 
-    /// The number that each processor's exchanges have.
+    /// Returns the number of each processor's chain.
     pub fn numbers(&self) -> &[usize]
         ensures { result.now ≡ self.now.here }
     {
         self.here.as_slice()
     }
 
-    /// Goes on by a processor's call. An error is out of memory.
+    /// Adds a call of processor `cpu`.
     pub fn go_on(&mut self, alloc: Global, cpu: Cpu, latest: &Record) -> Result<(), AllocError>
         requires { latest.now.cpu ≡ cpu }
         ensures kept { KeepNumbers self.old.chains self.new.chains }
@@ -198,7 +200,7 @@ impl Exchanges {
         Ok(())
     }
 
-    /// Goes back over a processor's latest call.
+    /// Takes back the latest call of processor `cpu`.
     pub fn go_back(&mut self, cpu: Cpu)
         ensures same { self.new.chains ≡ self.old.chains }
         ensures back { (g : Setting) (news : List NewRecord) (r : NewRecord) → r.cpu ≡ cpu
@@ -214,7 +216,7 @@ impl Exchanges {
     }
 }
 
-/// The entry at a place.
+/// Returns the entry at this index.
 fn exchange_at(entries: &[Exchange], place: usize) -> Option<&Exchange>
     ensures some { IfSome result (λ entry. slice_get entries.now place ≡ Some entry.now) }
     ensures none { IfNone result (length entries.now ≤ place) }
@@ -222,8 +224,9 @@ fn exchange_at(entries: &[Exchange], place: usize) -> Option<&Exchange>
     entries.get(place)
 }
 
-/// A digest of an exchange after those of an earlier number. The processor and its earlier exchanges
-/// mostly say what it asked for.
+/// Returns a hash of an exchange at the end of the chain `below`.
+///
+/// The event is left out: the processor and its earlier exchanges nearly always determine it.
 fn exchange_digest(below: usize, latest: &Record) -> u64 {
     let asked = mixed(below as u64, u64::from(latest.cpu.0));
     mixed(asked, reply_number(&latest.reply))

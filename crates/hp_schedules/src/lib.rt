@@ -1,10 +1,10 @@
-//! Scripts, their schedules, and how these end: what is known without a machine.
+//! Scripts, schedules and their outcomes, without a machine.
 //!
-//! A script is what one processor asks for, line after line. A schedule says whose call comes next;
-//! it is complete when all scripts are over. The crate owns scripts and where processors are in
-//! them, the parts of all schedules, outcomes and the ends with their counts, how many
-//! interleavings there are, the numbers by which a walk tells what processors were answered, and
-//! which schedules go on alike. It makes no call: hp_explore walks the schedules.
+//! A script is what one processor calls, line after line. A schedule says whose call comes next; it
+//! is complete when all scripts are finished. The crate owns scripts and positions in them, the
+//! parts that a search is split into, outcomes and how many schedules lead to each, the number of
+//! interleavings, the numbers by which a walk compares transcripts, and which schedules continue
+//! alike. It makes no calls: hp_explore walks the schedules.
 //!
 //! Read specs/Scripts first, then specs/Schedules, specs/Outcomes and specs/Ends.
 #![tactic(auto)]

@@ -1,4 +1,4 @@
-//! Whether outcomes are the same, their digests, and copies of their replies.
+//! Comparison, hashes and copies of the processors' replies.
 ghost use Rattle.std.specs.Prelude.{◌≡◌, ◌↔◌, IfOk, IsTrue, fold};
 ghost use Rattle.hp_schedules.specs.Digests.{mixed_reply, replies_digest};
 
@@ -7,7 +7,7 @@ use crate::outcomes::Answers;
 use hp_units::Reply;
 use std::alloc::{AllocError, Global};
 
-/// Whether all processors have the same replies.
+/// Returns whether each processor has the same replies in both.
 pub(crate) fn same_answers(all: &[Answers], others: &[Answers]) -> bool
     ensures { IsTrue result ↔ (all.now ≡ others.now) }
 {
@@ -22,7 +22,7 @@ pub(crate) fn same_answers(all: &[Answers], others: &[Answers]) -> bool
     true
 }
 
-/// Whether the replies are the same.
+/// Returns whether both lists hold the same replies.
 fn same_replies(replies: &[Reply], others: &[Reply]) -> bool
     ensures { IsTrue result ↔ (replies.now ≡ others.now) }
 {
@@ -37,7 +37,7 @@ fn same_replies(replies: &[Reply], others: &[Reply]) -> bool
     true
 }
 
-/// Copies of each processor's replies. An error is out of memory.
+/// Returns copies of all processors' replies.
 pub(crate) fn copies_of(alloc: Global, all: &[Answers]) -> Result<Vec<Answers>, AllocError>
     ensures { IfOk result (λ copies. copies.items ≡ all.now) }
 {
@@ -50,7 +50,7 @@ pub(crate) fn copies_of(alloc: Global, all: &[Answers]) -> Result<Vec<Answers>, 
     Ok(copies)
 }
 
-/// A digest of the processors' replies.
+/// Returns the hash of all processors' replies.
 pub(crate) fn answers_digest(all: &[Answers]) -> u64
     ensures { result ≡ replies_digest all.now }
 {
@@ -61,7 +61,7 @@ pub(crate) fn answers_digest(all: &[Answers]) -> u64
     digest
 }
 
-/// A digest of a processor's replies.
+/// Returns the hash of one processor's replies.
 fn replies_digest(replies: &[Reply]) -> u64
     ensures { result ≡ fold mixed_reply 0 replies.now }
 {

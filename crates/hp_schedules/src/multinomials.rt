@@ -1,4 +1,4 @@
-//! How many interleavings of scripts there are, known before any call.
+//! The number of interleavings, known before any call.
 ghost use Rattle.std.specs.Prelude.{◌≡◌, ◌+◌, ◌^◌, ◌<◌, ◌≤◌, ℕ, IfNone, IfOk, IfSome};
 ghost use Rattle.std.specs.List.{list_all};
 ghost use Rattle.hp_schedules.specs.Interleavings.{IsCallCount, IsKnown, holds_no_plan, script_lengths};
@@ -7,20 +7,20 @@ ghost use Rattle.hp_schedules.specs.Multinomials.{ExceedsWith, IsMultinomial, Is
 use crate::scripts::Script;
 use std::alloc::{AllocError, Global};
 
-/// How many interleavings scripts have, as far as that is known before any call.
+/// The number of interleavings, as far as it is known before any call.
 #[derive(Clone, Copy, Drop)]
 pub enum HowMany {
-    /// So many, which are no more than the limit.
+    /// This many, at most the limit.
     Exactly(u64),
     /// More than the limit.
     MoreThanLimit,
-    /// A script holds a plan, whose calls only a search counts; or the scripts have 2^64 lines or
-    /// more.
+    /// Unknown: a script carries a plan, whose calls only a search can count, or the
+    /// scripts have 2^64 lines or more.
     Unknown,
 }
 
-/// How many interleavings scripts have: where each line is one call, the multinomial coefficient of
-/// their numbers of lines (Knuth 1, 1.2.6). An error is out of memory.
+/// Returns how many interleavings the scripts have: the multinomial coefficient of their lengths
+/// (Knuth 1, 1.2.6), if each line is one call.
 pub fn interleavings_of(
     alloc: Global,
     scripts: &[Script],
@@ -41,9 +41,10 @@ pub fn interleavings_of(
     }
 }
 
-/// How many calls a complete schedule has, which is one for each line of the scripts. None where a
-/// script holds a plan, whose calls only a search counts, or where the number is 2^64 or more. An
-/// error is out of memory.
+/// Returns how many calls a complete schedule has: one per line.
+///
+/// Returns `None` if a script carries a plan, whose calls only a search can count, or
+/// if the number is 2^64 or more.
 pub fn call_count(alloc: Global, scripts: &[Script]) -> Result<Option<u64>, AllocError>
     ensures { IfOk result (IsCallCount scripts.now) }
 {
@@ -54,7 +55,7 @@ pub fn call_count(alloc: Global, scripts: &[Script]) -> Result<Option<u64>, Allo
     Ok(total(lengths.as_slice()))
 }
 
-/// The number of lines of each script. An error is out of memory.
+/// Returns the number of lines of each script.
 fn lengths(alloc: Global, scripts: &[Script]) -> Result<Vec<u64>, AllocError>
     ensures { IfOk result (λ lengths. lengths.items ≡ script_lengths scripts.now) }
 {
@@ -65,7 +66,7 @@ fn lengths(alloc: Global, scripts: &[Script]) -> Result<Vec<u64>, AllocError>
     Ok(lengths)
 }
 
-/// Whether each line of the scripts is one call.
+/// Returns whether each line of each script is one call.
 fn hold_no_plan(scripts: &[Script]) -> bool
     ensures { result ≡ list_all holds_no_plan scripts.now }
 {
@@ -77,7 +78,7 @@ fn hold_no_plan(scripts: &[Script]) -> bool
     true
 }
 
-/// The sum of lengths; none where it is 2^64 or more.
+/// Returns the sum of the lengths, or `None` if it is 2^64 or more.
 fn total(lengths: &[u64]) -> Option<u64>
     ensures some { IfSome result (λ total. (total ≡ sum lengths.now) × (sum lengths.now < 2 ^ 64)) }
     ensures none { IfNone result (2 ^ 64 ≤ sum lengths.now) }
@@ -92,8 +93,8 @@ fn total(lengths: &[u64]) -> Option<u64>
     Some(total)
 }
 
-/// The multinomial coefficient of lengths, which is how many interleavings sequences of these
-/// lengths have (Knuth 1, 1.2.6); none where it is above the limit.
+/// Returns the multinomial coefficient of the lengths: the number of interleavings of sequences
+/// this long (Knuth 1, 1.2.6). Returns `None` if it is above the limit.
 fn coefficient(lengths: &[u64], limit: u64) -> Option<u64>
     requires { sum lengths.now < 2 ^ 64 }
     ensures some { IfSome result (λ count. IsMultinomial lengths.now count × (count ≤ limit)) }
@@ -114,8 +115,8 @@ fn coefficient(lengths: &[u64], limit: u64) -> Option<u64>
     Some(count)
 }
 
-/// The multinomial coefficient with one number more, where that of the numbers so far and their sum
-/// are known; none where it is above the limit.
+/// Returns the coefficient with one more length, given the coefficient and the sum of those so far.
+/// Returns `None` if it is above the limit.
 fn with_length(count: u64, total: u64, length: u64, limit: u64) -> Option<u64>
     requires { total + length < 2 ^ 64 }
     ensures some { IfSome result (IsMultinomialWith count total length) }

@@ -9,7 +9,7 @@ use hp_units::{Cpu, Record, Reply, Row, Serial};
 use std::alloc::{AllocError, Global};
 use std::marker::Model;
 
-/// The replies that a processor had, in its own order. A contract sees them as a list.
+/// One processor's replies, in the order of its calls. A contract sees them as a list.
 #[derive(Drop)]
 pub struct Answers {
     replies: Vec<Reply>,
@@ -24,7 +24,7 @@ impl Model for Answers {
     ghost view = { λ a. a.replies.items };
 }
 
-/// How a schedule ends: what each processor was answered, and what became of the memory blocks.
+/// How a schedule ends: the replies to each processor, and the final row of each memory block.
 #[derive(Drop)]
 pub struct Outcome {
     replies: Vec<Answers>,
@@ -40,7 +40,7 @@ impl Model for Outcome {
 }
 
 impl Answers {
-    /// The replies in order.
+    /// Returns the replies in order.
     pub fn as_slice(&self) -> &[Reply]
         ensures { result.now ≡ self.now }
     {
@@ -48,7 +48,7 @@ impl Answers {
         replies.as_slice()
     }
 
-    /// A copy. An error is out of memory.
+    /// Returns a copy.
     pub(crate) fn copy(&self, alloc: Global) -> Result<Answers, AllocError>
         ensures { IfOk result (λ copy. copy ≡ self.now) }
     {
@@ -59,15 +59,15 @@ impl Answers {
 }
 
 impl Outcome {
-    /// The outcome of these parts, with no memory taken.
+    /// Creates an outcome from its parts. Allocates nothing.
     pub fn new(replies: Vec<Answers>, blocks: Vec<Row>) -> Outcome
         ensures { result ≡ record { replies = replies.items; blocks = blocks.items } }
     {
         Outcome { replies, blocks }
     }
 
-    /// Each processor's replies, from processor 0 on; 0 stands for the number of an operation that
-    /// was opened.
+    /// Returns each processor's replies, from processor 0 on. The number of an
+    /// opened operation is always 0 there.
     pub fn replies(&self) -> &[Answers]
         ensures { result.now ≡ self.now.replies }
     {
@@ -75,7 +75,8 @@ impl Outcome {
         answers.as_slice()
     }
 
-    /// Each memory block's row, from block 0 on, without the operation that may hold it.
+    /// Returns each memory block's row, from block 0 on. A row never names the
+    /// operation that holds the block.
     pub fn blocks(&self) -> &[Row]
         ensures { result.now ≡ self.now.blocks }
     {
@@ -83,7 +84,7 @@ impl Outcome {
         rows.as_slice()
     }
 
-    /// Whether both are the same.
+    /// Returns whether both are equal.
     pub fn same(&self, other: &Outcome) -> bool
         ensures { IsTrue result ↔ (self.now ≡ other.now) }
     {
@@ -91,7 +92,7 @@ impl Outcome {
             && same_rows(self.blocks.as_slice(), other.blocks.as_slice())
     }
 
-    /// A digest: that of the same outcome is the same.
+    /// Returns a hash. Equal outcomes have equal hashes.
     #[tactic(auto, unfolding(crate::specs::Digests::digest_of))]
     pub fn digest(&self) -> u64
         ensures { result ≡ digest_of self.now }
@@ -103,7 +104,7 @@ impl Outcome {
         digest
     }
 
-    /// A copy. An error is out of memory.
+    /// Returns a copy.
     pub fn copy(&self, alloc: Global) -> Result<Outcome, AllocError>
         ensures { IfOk result (λ x. x ≡ self.now) }
     {
@@ -113,7 +114,7 @@ impl Outcome {
         Ok(Outcome { replies, blocks })
     }
 
-    /// Whether it is the outcome of records, for so many processors, with these rows.
+    /// Returns whether it is the outcome of these records and rows, for `processors` processors.
     pub(crate) fn is_of(&self, processors: u32, records: &[Record], blocks: &[Row]) -> bool
         ensures { IsTrue result ↔ (self.now ≡ outcome_with processors records.now blocks.now) }
     {
@@ -122,7 +123,7 @@ impl Outcome {
     }
 }
 
-/// The replies of each processor among records. An error is out of memory.
+/// Returns the replies to each of `processors` processors among the records.
 pub fn all_answers(
     alloc: Global,
     processors: u32,
@@ -139,7 +140,7 @@ pub fn all_answers(
     Ok(all)
 }
 
-/// The replies that a processor had among records. An error is out of memory.
+/// Returns the replies to one processor among the records.
 fn answers_to(alloc: Global, cpu: Cpu, records: &[Record]) -> Result<Answers, AllocError>
     ensures { IfOk result (λ answers. answers ≡ replies_to cpu records.now) }
 {
@@ -154,7 +155,9 @@ fn answers_to(alloc: Global, cpu: Cpu, records: &[Record]) -> Result<Answers, Al
     Ok(Answers { replies })
 }
 
-/// A reply but for the number of the operation that it opened.
+/// Returns the reply with 0 in place of the number of an opened operation.
+///
+/// That number only depends on how many calls came before, so it must not tell outcomes apart.
 pub(crate) fn told(reply: &Reply) -> Reply
     ensures { result ≡ told reply.now }
 {
@@ -164,7 +167,7 @@ pub(crate) fn told(reply: &Reply) -> Reply
     }
 }
 
-/// Whether lists of replies are those of so many processors.
+/// Returns whether `answers` are the replies to each of `processors` processors.
 fn are_answers_below(answers: &[Answers], processors: u32, records: &[Record]) -> bool
     ensures { IsTrue result ↔ (answers.now ≡ replies_below processors records.now) }
 {
@@ -179,7 +182,7 @@ fn are_answers_below(answers: &[Answers], processors: u32, records: &[Record]) -
     true
 }
 
-/// Whether replies are those that a processor had among records.
+/// Returns whether `replies` are the replies to this processor among the records.
 fn are_replies_to(replies: &[Reply], cpu: Cpu, records: &[Record]) -> bool
     ensures { IsTrue result ↔ (replies.now ≡ replies_to cpu records.now) }
 {
@@ -195,7 +198,7 @@ fn are_replies_to(replies: &[Reply], cpu: Cpu, records: &[Record]) -> bool
     compared == replies.len()
 }
 
-/// Whether a record tells the reply at a place.
+/// Returns whether the reply at index `place` is that of the record.
 fn is_told_at(replies: &[Reply], place: usize, latest: &Record) -> bool
     ensures { IsTrue result ↔ (slice_get replies.now place ≡ Some (told latest.now.reply)) }
 {
@@ -205,7 +208,7 @@ fn is_told_at(replies: &[Reply], place: usize, latest: &Record) -> bool
     }
 }
 
-/// Whether all blocks have the same rows.
+/// Returns whether both lists hold the same rows.
 fn same_rows(rows: &[Row], others: &[Row]) -> bool
     ensures { IsTrue result ↔ (rows.now ≡ others.now) }
 {
@@ -220,7 +223,7 @@ fn same_rows(rows: &[Row], others: &[Row]) -> bool
     true
 }
 
-/// Whether the rows are the same.
+/// Returns whether both rows are equal.
 fn same_row(row: &Row, other: &Row) -> bool
     ensures { IsTrue result ↔ (row.now ≡ other.now) }
 {

@@ -1,14 +1,14 @@
-//! The numbers of parts.
+//! The number that a user gives a part of a search.
 ghost use Rattle.std.specs.Prelude.{◌≡◌, ◌↔◌, ◌≤◌, IfSome, IsSome};
 ghost use Rattle.hp_schedules.specs.PartNumbers.{part_by};
 
 use crate::parts::Part;
 use std::marker::Model;
 
-/// The most parts of a search (own rule).
+/// The largest number of parts.
 const MOST: u64 = 1_000_000;
 
-/// One of so many parts of a search: its number, from 1 on, and how many there are, at most 1,000,000.
+/// One part of a search: its number, from 1 on, and the number of parts, at most 1,000,000.
 #[derive(Clone, Copy, Drop)]
 pub struct PartNumber {
     number: u32,
@@ -29,8 +29,8 @@ impl Model for PartNumber {
 }
 
 impl PartNumber {
-    /// The part with a number, from 1 on, of so many; None where there is no such part, and where
-    /// there are more than 1,000,000.
+    /// Returns part `number` of `of`, counted from 1. Returns `None` if there is no such part, or
+    /// if there are more than 1,000,000.
     pub fn new(number: u64, of: u64) -> Option<PartNumber>
         ensures some { IsSome result ↔ ((1 ≤ number) × (number ≤ of) × (of ≤ 1000000)) }
         ensures is { IfSome result (λ part. part ≡ record { number = number; of = of }) }
@@ -44,21 +44,21 @@ impl PartNumber {
         })
     }
 
-    /// How many parts there are.
+    /// Returns the number of parts.
     pub fn of(&self) -> u32
         ensures { result ≡ self.now.of }
     {
         self.of
     }
 
-    /// The number, from 1 on.
+    /// Returns the part's number, from 1 on.
     pub fn number(&self) -> u32
         ensures { result ≡ self.now.number }
     {
         self.number
     }
 
-    /// The part, where the parts go by so many first calls.
+    /// Returns the part itself, given how many first calls decide to which part a schedule belongs.
     pub fn part(&self, calls: u32) -> Part
         ensures { result ≡ part_by self.now calls }
     {

@@ -1,4 +1,5 @@
-//! The parts of all schedules of scripts, by their first calls: each can be searched on its own.
+//! Parts of a search: disjoint sets of schedules, told apart by their first calls.
+//! Each can be searched on its own.
 ghost use Rattle.std.specs.Prelude.{◌≡◌, ◌↔◌, ◌<◌, ◌≤◌, ◌+◌, ◌*◌, ◌%◌, IfSome, IsSome, IsTrue, false, length, take};
 ghost use Rattle.hp_schedules.specs.Parts.{IsOfPart, IsOn, part_number};
 ghost use Rattle.hp_schedules.specs.Schedules.{schedule_of};
@@ -6,9 +7,10 @@ ghost use Rattle.hp_schedules.specs.Schedules.{schedule_of};
 use hp_units::Record;
 use std::marker::Model;
 
-/// One of so many parts of all schedules of scripts (own rule). The processors of a schedule's first
-/// calls, as many as the parts go by, are the digits of a number, first the highest; what is left of
-/// it modulo the number of parts is the index of the schedule's part.
+/// One part of all schedules.
+///
+/// The processors of a schedule's first `calls` calls are the digits of a number, the highest
+/// first. That number modulo `of` is the index of the schedule's part.
 #[derive(Clone, Copy, Drop)]
 pub struct Part {
     index: u32,
@@ -30,7 +32,7 @@ impl Model for Part {
 }
 
 impl Part {
-    /// The only part of one: all schedules.
+    /// Returns the only part of one, which holds all schedules.
     pub fn whole() -> Part
         ensures { result ≡ record { index = 0; of = 1; calls = 0 } }
     {
@@ -41,8 +43,7 @@ impl Part {
         }
     }
 
-    /// One of so many parts, its index from 0 on, where the parts go by so many first calls; None where
-    /// there is no such part.
+    /// Returns the part at `index`, counted from 0, or `None` if there is no such part.
     pub fn new(index: u32, of: u32, calls: u32) -> Option<Part>
         ensures some { IsSome result ↔ (index < of) }
         ensures is { IfSome result (λ part. part ≡ record { index = index; of = of; calls = calls }) }
@@ -54,7 +55,7 @@ impl Part {
         }
     }
 
-    /// Its index, from 0 on.
+    /// Returns the part's index, from 0 on.
     pub fn index(&self) -> u32
         ensures is { result ≡ self.now.index }
         ensures below { result < self.now.of }
@@ -62,21 +63,22 @@ impl Part {
         self.index
     }
 
-    /// How many parts there are.
+    /// Returns the number of parts.
     pub fn of(&self) -> u32
         ensures { result ≡ self.now.of }
     {
         self.of
     }
 
-    /// How many first calls the parts go by.
+    /// Returns how many first calls decide to which part a schedule belongs.
     pub fn calls(&self) -> u32
         ensures { result ≡ self.now.calls }
     {
         self.calls
     }
 
-    /// Whether the schedule that records came from belongs to it, for so many processors.
+    /// Returns whether the schedule of these records belongs to the
+    /// part, for `processors` processors.
     pub fn is_of(&self, processors: u32, records: &[Record]) -> bool
         ensures { IsTrue result ↔ IsOfPart processors self.now (schedule_of records.now) }
     {
@@ -84,8 +86,11 @@ impl Part {
         number_of(first, processors, self.of) == u64::from(self.index)
     }
 
-    /// Whether a place that a walk has come to by a call is another part's, where it has no fewer calls
-    /// than the parts go by. One with more is not, since the walk goes on from none of another part.
+    /// Returns whether the place just reached by a call belongs to another part. The records must
+    /// be at least `calls` long.
+    ///
+    /// Places with more calls than that need no test, since the walk never
+    /// continues from another part's place.
     pub fn leaves_out(&self, processors: u32, records: &[Record]) -> bool
         requires long { self.now.calls ≤ length records.now }
         requires on { IsOn processors self.now (schedule_of records.now) }
@@ -99,15 +104,14 @@ impl Part {
     }
 }
 
-/// The first of records, at most so many.
+/// Returns the first `calls` records, or all if there are fewer.
 fn first_records(records: &[Record], calls: u32) -> &[Record]
     ensures { result.now ≡ take calls records.now }
 {
     &records[..records.len().min(calls as usize)]
 }
 
-/// The part of so many that the processors of first records belong to, where there are so many
-/// processors.
+/// Returns the index of the part that the first records belong to.
 fn number_of(first: &[Record], processors: u32, of: u32) -> u64
     requires { 0 < of }
     ensures { result ≡ part_number processors of (schedule_of first.now) }
@@ -119,7 +123,7 @@ fn number_of(first: &[Record], processors: u32, of: u32) -> u64
     number
 }
 
-/// A number with a digit more at its end, modulo the number of parts.
+/// Appends a digit to the number, modulo the number of parts.
 fn with_digit(number: u64, base: u32, digit: u32, of: u32) -> u64
     requires some { 0 < of }
     requires below { number < of }

@@ -1,4 +1,4 @@
-//! Where all processors are in their scripts.
+//! Positions of all processors in their scripts.
 ghost use Rattle.std.specs.Prelude.{◌≡◌, ◌<◌, ◌++◌, ◌∷◌, [], IfOk, List, Some, length, map, slice_set};
 ghost use Rattle.hp_units.specs.Receipts.{receipts_of};
 ghost use Rattle.hp_units.specs.declared.replies.Record.{Record as NewRecord};
@@ -11,14 +11,14 @@ use crate::scripts::Script;
 use hp_units::{Cpu, Record, Serial};
 use std::alloc::{AllocError, Global};
 
-/// Where each processor is in its script, from processor 0 on.
+/// Each processor's position in its script, from processor 0 on.
 #[derive(Drop)]
 pub struct Positions {
     cursors: Vec<Cursor>,
 }
 
 impl Positions {
-    /// Where the scripts begin. An error is out of memory.
+    /// Returns the positions before any call.
     pub fn start(alloc: Global, cpus: u32, scripts: &[Script]) -> Result<Positions, AllocError>
         ensures many { IfOk result (λ positions. length positions.cursors.items ≡ length scripts.now) }
         ensures begun { IfOk result (λ positions. (g : Setting) → g.scripts ≡ scripts.now
@@ -28,8 +28,7 @@ impl Positions {
         Ok(Positions { cursors })
     }
 
-    /// The call that a processor's script asks for next; none where it has no script, or at its end.
-    /// An error is out of memory.
+    /// Returns the processor's next call, or `None` if it has no script or its script is finished.
     pub fn request(
         &self,
         alloc: Global,
@@ -49,7 +48,7 @@ impl Positions {
         self.cursors[place].request(alloc, cpus, scripts[place].lines())
     }
 
-    /// The operation that a processor began last, and 0 where it began none.
+    /// Returns the operation that the processor began last, or 0 if it began none.
     pub fn operation(&self, cpu: u32) -> Serial
         requires { cpu < length self.now.cursors.items }
         ensures { (g : Setting) (news : List NewRecord) → AreCursors g news self.now.cursors.items
@@ -59,8 +58,7 @@ impl Positions {
         cursor.op
     }
 
-    /// Goes on by the call that a processor's script asked for, with its record, and answers where
-    /// the script was before.
+    /// Moves the processor past its call and returns its former position, for `go_back`.
     pub fn go_on(
         &mut self,
         cpus: u32,
@@ -85,7 +83,7 @@ impl Positions {
         former
     }
 
-    /// Goes back over a processor's latest call to where its script was before.
+    /// Puts the processor back to its position before its latest call.
     pub fn go_back(&mut self, cpu: Cpu, former: Cursor)
         requires { cpu < length self.old.cursors.items }
         ensures { self.new.cursors.items ≡ slice_set self.old.cursors.items cpu former }
@@ -94,7 +92,7 @@ impl Positions {
     }
 }
 
-/// A cursor for each script, where it begins. An error is out of memory.
+/// Returns a cursor at the beginning of each script.
 fn begun(alloc: Global, cpus: u32, scripts: &[Script]) -> Result<Vec<Cursor>, AllocError>
     ensures { IfOk result (λ cursors. cursors.items ≡ map (λ lines. cursor_at cpus lines 0 0) scripts.now) }
 {

@@ -1,20 +1,20 @@
-//! Rows of shares, kept one after another.
+//! Rows of shares in one buffer.
 ghost use Rattle.std.specs.Prelude.{◌≡◌, ◌<◌, ◌≤◌, ◌++◌, ◌∷◌, [], IfNone, IfSome, OnErr, OnOk, Some, length, slice_get};
 ghost use Rattle.hp_schedules.specs.Rows.{start_in};
 
 use std::alloc::{AllocError, Global};
 use std::marker::Model;
 
-/// How many schedules go on from a place to an end, by the end's place.
+/// How many schedules continue from a place to one end.
 #[derive(Clone, Copy, Drop)]
 pub struct Share {
-    /// The end's place among the ends, from 0 on.
+    /// The end's index in the list of ends.
     pub end: usize,
-    /// How many schedules go on to it.
+    /// The number of schedules that continue to it.
     pub count: u64,
 }
 
-/// Rows of shares by their places, from 0 on; the value is the rows.
+/// Rows of shares by index, from 0 on. A contract sees them as the list of rows.
 pub struct Rows {
     shares: Vec<Share>,
     ends: Vec<usize>,
@@ -32,7 +32,7 @@ impl Model for Rows {
     ghost invariant = { λ r. FillUp 0 r.shares.items r.ends.items };
 }
 
-/// A function of its own, so that no proof of a caller takes the fields apart.
+/// Keeps callers from proving again how each field is dropped.
 impl Drop for Rows {
     fn drop(self) {
         let Rows { shares: _, ends: _ } = self;
@@ -40,7 +40,7 @@ impl Drop for Rows {
 }
 
 impl Rows {
-    /// No row.
+    /// Creates an empty collection. Allocates nothing.
     pub fn new(alloc: Global) -> Rows
         ensures { result ≡ [] }
     {
@@ -50,14 +50,14 @@ impl Rows {
         }
     }
 
-    /// How many rows there are.
+    /// Returns the number of rows.
     pub fn len(&self) -> usize
         ensures { result ≡ length self.now }
     {
         self.ends.len()
     }
 
-    /// The row at a place; none where there is none.
+    /// Returns the row at index `place`, or `None` if there is none.
     pub fn row(&self, place: usize) -> Option<&[Share]>
         ensures some { IfSome result (λ row. slice_get self.now place ≡ Some row.now) }
         ensures none { IfNone result (length self.now ≤ place) }
@@ -71,7 +71,7 @@ impl Rows {
         shares.get(start..ends[place])
     }
 
-    /// One row more. An error is out of memory; then there is none more.
+    /// Appends a row. If memory runs out, the rows stay as they were.
     pub fn push(&mut self, row: &[Share]) -> Result<(), AllocError>
         ensures ok { OnOk result (self.new ≡ self.old ++ row.now ∷ []) }
         ensures err { OnErr result (self.new ≡ self.old) }
@@ -84,7 +84,7 @@ impl Rows {
     }
 }
 
-/// Where the row at a place begins, by where the rows end.
+/// Returns where a row starts in the buffer, given where each row ends.
 fn start_of(ends: &[usize], place: usize) -> usize
     requires { place < length ends.now }
     ensures { result ≡ start_in 0 ends.now place }

@@ -1,4 +1,4 @@
-//! Scripts: what each processor asks for, one line after another.
+//! Scripts: what each processor calls, one line after another.
 ghost use Rattle.std.specs.Prelude.{◌≡◌, cond};
 ghost use Rattle.std.specs.List.{list_all};
 ghost use Rattle.hp_units.specs.Marks.{is_opening, mark_of};
@@ -9,7 +9,7 @@ ghost use Rattle.hp_schedules.specs.Scripts.{work_of};
 use hp_units::{Cpu, Event, Plan, Serial, mark_of};
 use std::marker::Model;
 
-/// What is asked of the operation that the processor itself began last.
+/// Work on the operation that the processor itself began last.
 #[derive(Clone, Copy, Drop)]
 pub enum Work {
     /// Drains a processor's lists.
@@ -25,16 +25,16 @@ pub enum Work {
 /// One line of a script.
 #[derive(Drop)]
 pub enum Line {
-    /// The processor asks for an event.
+    /// Calls one event.
     Ask(Event),
-    /// It asks for work on the operation that it began last.
+    /// Works on the operation that the processor began last.
     Own(Work),
-    /// It lets the driver carry a plan out, with at most so many migrations; the driver's calls are
-    /// the processor's.
+    /// Lets the driver carry out a plan with at most `turns` migrations. The driver's
+    /// calls count as the processor's.
     Carry { plan: Plan, turns: u32 },
 }
 
-/// What a processor asks for, in this order. A contract sees it as the list of its lines.
+/// The calls of one processor, in order. A contract sees a script as the list of its lines.
 #[derive(Drop)]
 pub struct Script {
     lines: Vec<Line>,
@@ -50,7 +50,7 @@ impl Model for Script {
 }
 
 impl Work {
-    /// The event of the work on an operation.
+    /// Returns the event that does this work on operation `op`.
     pub(crate) fn event(self, op: Serial) -> Event
         ensures { result ≡ work_of op self }
     {
@@ -64,14 +64,14 @@ impl Work {
 }
 
 impl Line {
-    /// Whether the line is one call.
+    /// Returns whether the line is one call.
     pub(crate) fn is_one_call(&self) -> bool
         ensures { result ≡ is_one_call self.now }
     {
         !matches!(self, Line::Carry { .. })
     }
 
-    /// Whether the line undoes no steps by their serials.
+    /// Returns whether the line undoes no steps by their serials.
     fn leaves_steps(&self) -> bool
         ensures { result ≡ leaves_lines self.now }
     {
@@ -83,14 +83,14 @@ impl Line {
 }
 
 impl Script {
-    /// The script of these lines, with no memory taken.
+    /// Creates a script from its lines. Allocates nothing.
     pub fn new(lines: Vec<Line>) -> Self
         ensures { result ≡ lines.items }
     {
         Script { lines }
     }
 
-    /// The lines in order.
+    /// Returns the lines in order.
     pub(crate) fn lines(&self) -> &[Line]
         ensures { result.now ≡ self.now }
     {
@@ -98,7 +98,7 @@ impl Script {
         lines.as_slice()
     }
 
-    /// Whether each line is one call.
+    /// Returns whether each line is one call.
     pub(crate) fn holds_no_plan(&self) -> bool
         ensures { result ≡ holds_no_plan self.now }
     {
@@ -110,7 +110,7 @@ impl Script {
         true
     }
 
-    /// Whether no line undoes steps by their serials.
+    /// Returns whether no line undoes steps by their serials.
     fn leaves_steps(&self) -> bool
         ensures { result ≡ leaves_script self.now }
     {
@@ -123,7 +123,7 @@ impl Script {
     }
 }
 
-/// The operation that a processor began last, after a call with this serial more.
+/// Returns the operation that the processor began last, after one more call with this serial.
 pub(crate) fn later_operation(op: Serial, serial: Serial, event: &Event) -> Serial
     ensures { result ≡ cond (is_opening (mark_of event.now)) serial op }
 {
@@ -134,7 +134,7 @@ pub(crate) fn later_operation(op: Serial, serial: Serial, event: &Event) -> Seri
     }
 }
 
-/// Whether scripts undo no steps by their serials.
+/// Returns whether no script undoes steps by their serials.
 pub fn undo_nothing(scripts: &[Script]) -> bool
     ensures { result ≡ list_all leaves_script scripts.now }
 {

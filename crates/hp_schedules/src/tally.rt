@@ -1,4 +1,4 @@
-//! The ends so far, with their counts.
+//! The ends found so far, with their counts.
 ghost use Rattle.std.specs.Prelude.{◌≡◌, ◌↔◌, ◌<◌, ◌≤◌, ◌+◌, [], ◌∷◌, IfOk, IfSome, IfNone, IsTrue, OnErr, OnOk, length, map, slice_index_or, sum_by};
 ghost use Rattle.hp_schedules.specs.Digests.{digest_of};
 ghost use Rattle.hp_schedules.specs.Notes.{AddsEnd, HasEndAt, HasNoEnd, HasRoom, IsNoted};
@@ -14,18 +14,18 @@ use indexmap::IndexMap;
 use std::alloc::{AllocError, Global};
 use std::marker::Model;
 
-/// An end, and the schedules that lead to it.
+/// One end of schedules, with the number of schedules that lead to it.
 #[derive(Drop)]
 pub struct Ending {
     /// How they end.
     pub outcome: Outcome,
     /// How many schedules end so.
     pub count: u64,
-    /// The first of them: the processors in the order of their calls.
+    /// The first of these schedules: the processors in the order of their calls.
     pub first: Vec<Cpu>,
 }
 
-/// The sum of the counts of ends: how many schedules lead to any of them.
+/// Returns how many schedules lead to any of the ends.
 pub fn total_of(ends: &[Ending]) -> u128
     ensures { result ≡ sum_by (λ e. e.count) ends.now }
 {
@@ -36,7 +36,7 @@ pub fn total_of(ends: &[Ending]) -> u128
     total
 }
 
-/// The processors of records, in order. An error is out of memory.
+/// Returns the schedule of the records: their processors, in order.
 pub fn schedule_of(alloc: Global, records: &[Record]) -> Result<Vec<Cpu>, AllocError>
     ensures { IfOk result (λ schedule. schedule.items ≡ schedule_of records.now) }
 {
@@ -47,11 +47,12 @@ pub fn schedule_of(alloc: Global, records: &[Record]) -> Result<Vec<Cpu>, AllocE
     Ok(schedule)
 }
 
-/// How many ends there may be for a place's counts to be kept (own rule).
+/// Above this many ends, the counts of a place are no longer kept.
 const FEW: usize = 1024;
 
-/// The ends so far, by a digest of an end the latest place of one that has it, and the limit of how
-/// many schedules may be counted.
+/// The ends so far, and the limit on the schedules counted.
+///
+/// `latest` maps a hash to the index of the newest end that has it.
 #[derive(Drop)]
 pub struct Tally {
     limit: u64,
@@ -74,7 +75,7 @@ impl Model for Tally {
 }
 
 impl Tally {
-    /// No schedule is counted yet.
+    /// Creates a tally with no schedule counted.
     pub fn new(alloc: Global, limit: u64) -> Tally
         ensures { result ≡ record { limit = limit; ends = [] } }
     {
@@ -86,8 +87,10 @@ impl Tally {
         }
     }
 
-    /// Counts the schedule that records came from under its end: that of so many processors'
-    /// replies, with these rows. An error is out of memory; then nothing is counted.
+    /// Counts the schedule of these records under its end: the replies to `processors` processors
+    /// and the rows in `blocks`.
+    ///
+    /// If memory runs out, nothing is counted.
     pub fn note(
         &mut self,
         alloc: Global,
@@ -111,8 +114,9 @@ impl Tally {
         }
     }
 
-    /// The place of the end that is the outcome of records, for so many processors, with these
-    /// rows. It is mostly the latest with its digest; where it is not, all ends are compared.
+    /// Returns the index of the end that has this outcome.
+    ///
+    /// It is nearly always the newest end with this hash. If not, all ends are compared.
     fn place_of(
         &self,
         digest: u64,
@@ -136,8 +140,9 @@ impl Tally {
         first_place_of(ends, processors, records, blocks)
     }
 
-    /// Counts the schedule that records came from under an end of its own, which there is not yet.
-    /// An error is out of memory; then nothing is counted.
+    /// Adds an end for the schedule of these records, whose outcome no end has yet.
+    ///
+    /// If memory runs out, nothing is counted.
     fn add_end(
         &mut self,
         alloc: Global,
@@ -162,28 +167,28 @@ impl Tally {
         Ok(())
     }
 
-    /// How many schedules are counted.
+    /// Returns how many schedules are counted.
     pub fn total(&self) -> u64
         ensures { result ≡ sum_by (λ e. e.count) self.now.ends }
     {
         self.total
     }
 
-    /// How many more may be counted.
+    /// Returns how many more may be counted.
     pub fn room(&self) -> u64
         ensures { sum_by (λ e. e.count) self.now.ends + result ≡ self.now.limit }
     {
         self.limit - self.total
     }
 
-    /// Whether there are too many ends for a place's counts to be kept.
+    /// Returns whether there are too many ends to keep a place's counts.
     pub fn has_many_ends(&self) -> bool
         ensures { IsTrue result ↔ FEW < length self.now.ends }
     {
         self.ends.len() > FEW
     }
 
-    /// The count of each end, by its place. An error is out of memory.
+    /// Returns the count of each end.
     pub fn counts(&self, alloc: Global) -> Result<Vec<u64>, AllocError>
         ensures { IfOk result (λ counts. counts.items ≡ map (λ e. e.count) self.now.ends) }
     {
@@ -195,8 +200,8 @@ impl Tally {
         Ok(counts)
     }
 
-    /// Writes what each end counts more than it did, in place of what was there; an end that was not
-    /// there did not count. An error is out of memory.
+    /// Replaces `shares` by what each end counts more than in `earlier`. An end
+    /// that is new since then counted 0.
     pub fn since(&self, earlier: &[u64], shares: &mut Vec<Share>) -> Result<(), AllocError>
         requires { AreNoMore earlier.now self.now.ends }
         ensures { OnOk result (AreSince earlier.now self.now.ends shares.new.items) }
@@ -213,7 +218,7 @@ impl Tally {
         Ok(())
     }
 
-    /// Counts so many schedules more under each end that has a share.
+    /// Counts each share under its end.
     pub fn add(&mut self, shares: &[Share])
         requires ends { AreAtEnds (length self.old.ends) shares.now }
         requires room { HasRoomForShares self.old shares.now }
@@ -225,7 +230,7 @@ impl Tally {
         }
     }
 
-    /// Counts so many schedules more under the end at a place.
+    /// Counts `count` more schedules under the end at index `place`.
     fn add_at(&mut self, place: usize, count: u64)
         requires place { place < length self.old.ends }
         requires room { HasRoomFor self.old (count ∷ []) }
@@ -237,7 +242,7 @@ impl Tally {
         self.total += count;
     }
 
-    /// The ends with their counts.
+    /// Returns the ends with their counts.
     pub fn into_ends(self) -> Vec<Ending>
         ensures is { result.items ≡ self.ends }
         ensures within { sum_by (λ e. e.count) self.ends ≤ self.limit }
@@ -247,8 +252,7 @@ impl Tally {
     }
 }
 
-/// The end of the one schedule that records came from: that of so many processors' replies, with
-/// these rows. An error is out of memory.
+/// Creates an end with one schedule, that of these records.
 fn new_end(
     alloc: Global,
     processors: u32,
@@ -269,7 +273,7 @@ fn new_end(
     })
 }
 
-/// Whether the sum of shares is no more than what there is room for.
+/// Returns whether the shares add up to at most `room`.
 pub fn fit_in(shares: &[Share], room: u64) -> bool
     ensures { IsTrue result ↔ (sum_by (λ s. s.count) shares.now ≤ room) }
 {
@@ -283,14 +287,14 @@ pub fn fit_in(shares: &[Share], room: u64) -> bool
     true
 }
 
-/// The count at a place, and 0 where there is none.
+/// Returns the count at index `place`, or 0 if there is none.
 fn count_at(counts: &[u64], place: usize) -> u64
     ensures { result ≡ slice_index_or counts.now place 0 }
 {
     counts.get(place).copied().unwrap_or(0)
 }
 
-/// Whether the end at a place is this outcome.
+/// Returns whether the end at index `place` has this outcome.
 fn is_end_at(
     ends: &[Ending],
     place: usize,
@@ -306,7 +310,7 @@ fn is_end_at(
     }
 }
 
-/// The place of the first end that is this outcome.
+/// Returns the index of the first end that has this outcome.
 fn first_place_of(
     ends: &[Ending],
     processors: u32,

@@ -1,5 +1,5 @@
--- The operation that a processor began last before the scripts: what 0 stands for in its script until the
--- script itself begins one (own rule).
+-- The operation that a processor began last before the scripts. 0 names it in the processor's
+-- script, until the script itself begins one.
 use Rattle.std.specs.Prelude.{ℕ, ◌==◌, Bool, true, false, if◌then◌else◌, List, [], ◌∷◌, ◌&&◌, fold}
 use Rattle.std.specs.List.{flat_map}
 use Rattle.hp_units.specs.Marks.{is_opening, mark_of}
@@ -17,7 +17,7 @@ begin_of r = if is_opening (mark_of r.event) then record { cpu = r.cpu; serial =
 abbrev pub begins_in : List Record → List Begin
 begins_in records = flat_map begin_of records
 
--- the serial of a processor's last, and 0 where it made none
+-- the serial of a processor's last Begin, or 0 if it made none
 abbrev pub later_begun : (cpu : ℕ) → (op : ℕ) → Begin → ℕ
 later_begun cpu op b = if b.cpu == cpu then b.serial else op
 
@@ -26,7 +26,7 @@ last_begun cpu begins = fold (later_begun cpu) 0 begins
 
 -- ---- in lines
 
--- what a line asks for begins an operation
+-- a line's work begins an operation
 abbrev pub asked_begins : asks.Meaning → Bool
 asked_begins (asks.event e) = is_opening (mark_of e)
 asked_begins (asks.plan items turns) = true
@@ -34,6 +34,6 @@ asked_begins (asks.not_taken fault) = false
 asked_begins (asks.cat path) = false
 asked_begins asks.seal = false
 
--- a line is a processor's and begins an operation
+-- a line is the processor's and begins an operation
 abbrev pub line_begins : (cpu : ℕ) → Line → Bool
 line_begins cpu line = (line.cpu == cpu) && asked_begins (asks.asked_by line.work)

@@ -1,4 +1,4 @@
--- Which lines cannot stand in a script (own rule).
+-- Which lines may not be in a script.
 use Rattle.std.specs.Prelude.{◌≡◌, ℕ, ◌+◌, ◌<◌, List, Some, None, slice_get}
 use Rattle.hp_scenario.specs.Unfit.{unfit}
 use Rattle.hp_scenario.specs.declared.lines.Line.{Line}
@@ -6,17 +6,18 @@ use Rattle.hp_scenario.specs.declared.unfit.Unfit.{Unfit}
 use Rattle.hp_scripts.specs.declared.fault.StartFault.{StartFault}
 use Rattle.hp_scripts.specs.declared.fault.StartFault.TheVariants.{NotForScript, OutOfMemory}
 
--- the lines below a place can all stand in scripts
+-- every line before index `below` may be in a script
 abbrev pub AreFit : (cpus : ℕ) → List Line → (below : ℕ) → Type 0
 AreFit cpus lines below =
     (k : ℕ) (line : Line) → k < below → slice_get lines k ≡ Some line → unfit cpus line ≡ None
 
--- a line that is counted so cannot stand in a script, and the fault says why
+-- the line, which has the number `place`, may not be in a script, and the fault gives the reason
 abbrev pub IsLineFault : (cpus place : ℕ) → Line → StartFault → Type 0
 IsLineFault cpus place line (NotForScript at why) = (at ≡ place) × (unfit cpus line ≡ Some why)
 IsLineFault cpus place line OutOfMemory = ⊥
 
--- the first of the lines that cannot, with so many lines before them; lines are counted from 1
+-- the first line that may not be in a script; `before` lines come first, and lines are counted from
+-- 1
 pub record IsFirstUnfit (cpus before : ℕ) (lines : List Line) (place : ℕ) (why : Unfit) : Type 0 where
   pub at : ℕ
   pub line : Line

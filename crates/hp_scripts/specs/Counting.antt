@@ -1,4 +1,4 @@
--- What is known before any call of how many interleavings the scripts of a scenario have, and how it is told.
+-- The number of interleavings of a scenario's scripts, computed without a search, and its text.
 use Rattle.std.specs.Prelude.{◌≡◌, ℕ, List, [], ◌++◌, codes, drop, length, Option, Some, None}
 use Rattle.std.specs.Fmt.{decimal}
 use Rattle.hp_text.specs.State.{newline}
@@ -10,21 +10,21 @@ use Rattle.hp_scripts.specs.Checks.{AreFit}
 use Rattle.hp_scripts.specs.Scripts.{scripts_of}
 use Rattle.hp_scripts.specs.declared.begins.Begin.{Begin}
 
--- the lines after the first so many can all stand in scripts
+-- the lines after the first `setup` may all be in scripts
 abbrev pub AreScripts : (cpus setup : ℕ) → List Line → Type 0
 AreScripts cpus setup lines = AreFit cpus (drop setup lines) (length (drop setup lines))
 
--- it is known of the scripts of lines, whatever operations were begun before them
+-- the number of interleavings of these lines is `known`, whatever operations were begun before them
 abbrev pub AreKnownAs : (cpus : ℕ) → List Line → (limit : ℕ) → HowMany → Type 0
 AreKnownAs cpus lines limit known = (begins : List Begin) → IsKnown (scripts_of cpus begins lines) limit known
 
--- so it is of the lines after the first so many; or a line cannot stand in a script
+-- the same for the lines after the first `setup`; `None` if one of them may not be in a script
 abbrev pub IsKnownAfter : (cpus setup : ℕ) → List Line → (limit : ℕ) → Option HowMany → Type 0
 IsKnownAfter cpus setup lines limit None = AreScripts cpus setup lines → ⊥
 IsKnownAfter cpus setup lines limit (Some known) =
     AreScripts cpus setup lines × AreKnownAs cpus (drop setup lines) limit known
 
--- what is said of it
+-- the line that reports the number
 abbrev pub known_text : (limit : ℕ) → HowMany → List ℕ
 known_text limit (Exactly count) = codes "interleavings: " ++ decimal count ++ newline
 known_text limit MoreThanLimit =

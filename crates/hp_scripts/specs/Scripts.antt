@@ -1,4 +1,4 @@
--- The lines after the setup as scripts (own rule).
+-- The lines after the setup, as scripts.
 use Rattle.std.specs.Prelude.{ℕ, ◌==◌, ◌||◌, Bool, false, if◌then◌else◌, List, [], ◌∷◌, ◌++◌, Option, Some, None, map}
 use Rattle.std.specs.List.{range_with_len}
 use Rattle.std.specs.Option.{option_map_or}
@@ -14,7 +14,7 @@ use Rattle.hp_scenario.specs.declared.lines.Line.{Line}
 use Rattle.hp_scripts.specs.Begins.{last_begun, line_begins}
 use Rattle.hp_scripts.specs.declared.begins.Begin.{Begin}
 
--- work on an operation, where its number is 0
+-- an event's work on operation 0; `None` if it names another operation
 abbrev pub own_if_last : (op : ℕ) → own.Work → Option own.Work
 own_if_last op w = if op == 0 then Some w else None
 
@@ -25,7 +25,7 @@ own_work (event.Commit op) = own_if_last op Commit
 own_work (event.Cancel op) = own_if_last op Cancel
 own_work e = None
 
--- that stands for the operation which the processor began last: op, unless its script has begun one
+-- work on the operation that the processor began last: `op`, unless its script has begun one
 abbrev pub own_step : (op : ℕ) → (begun : Bool) → own.Work → step.Line
 own_step op begun w = if begun then Own w else Ask (work_of op w)
 
@@ -33,7 +33,7 @@ own_step op begun w = if begun then Own w else Ask (work_of op w)
 abbrev pub called : (op : ℕ) → (begun : Bool) → Event → step.Line
 called op begun e = option_map_or (own_step op begun) (own_work e) (Ask e)
 
--- what a line asks for as a step; reading a file, a seal, and a text that a file does not take make no call
+-- a line's work as a step; reading a file, a seal and a text that a file refuses make no call
 abbrev pub explored : (op : ℕ) → (begun : Bool) → asks.Meaning → Option step.Line
 explored op begun (asks.event e) = Some (called op begun e)
 explored op begun (asks.plan items turns) = Some (Carry items turns)
@@ -41,7 +41,7 @@ explored op begun (asks.not_taken fault) = None
 explored op begun (asks.cat path) = None
 explored op begun asks.seal = None
 
--- the step of a processor that a line is, if it is one
+-- the steps that a line adds to a processor's script: one or none
 abbrev pub steps_of : Option step.Line → List step.Line
 steps_of None = []
 steps_of (Some s) = s ∷ []
@@ -50,7 +50,7 @@ abbrev pub line_for : (cpu : ℕ) → (op : ℕ) → (begun : Bool) → Line →
 line_for cpu op begun line =
     if line.cpu == cpu then steps_of (explored op begun (asks.asked_by line.work)) else []
 
--- the steps of a processor that lines are
+-- the steps that lines add to a processor's script
 abbrev pub steps_in : (cpu : ℕ) → (op : ℕ) → (begun : Bool) → List Line → List step.Line
 steps_in cpu op begun [] = []
 steps_in cpu op begun (line ∷ lines) =
@@ -60,6 +60,6 @@ steps_in cpu op begun (line ∷ lines) =
 abbrev pub script_of : List Begin → List Line → (cpu : ℕ) → List step.Line
 script_of begins lines cpu = steps_in cpu (last_begun cpu begins) false lines
 
--- the script of each processor, from 0 on
+-- the script of each processor, from processor 0
 abbrev pub scripts_of : (cpus : ℕ) → List Begin → List Line → List (List step.Line)
 scripts_of cpus begins lines = map (script_of begins lines) (range_with_len 0 cpus)

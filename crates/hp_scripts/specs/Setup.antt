@@ -1,4 +1,4 @@
--- What lines that are run in order make of a machine.
+-- The machine after lines that are run in order.
 use Rattle.std.specs.Prelude.{◌≡◌, ◌⊎◌, ℕ, Bool, true, false, if◌then◌else◌, List, [], ◌∷◌, ◌++◌}
 use Rattle.hp_units.specs.declared.events.Event.{Event}
 use Rattle.hp_units.specs.declared.plans.Item.{Item}
@@ -15,12 +15,12 @@ use Rattle.hp_scenario.specs.declared.lines.Work.{Work}
 use Rattle.hp_scripts.specs.Begins.{begins_in}
 use Rattle.hp_scripts.specs.declared.begins.Begin.{Begin}
 
--- an event was called; where the history is full it leaves no record
+-- one call with an event; if the history is full, nothing changes
 abbrev pub RunsEvent : MachineValue → (cpu : ℕ) → Event → (new : MachineValue) → Type 0
 RunsEvent m cpu event new =
     ((is_full m ≡ true) × (new ≡ m)) ⊎ ((r : Receipt) × (is_full m ≡ false) × IsCalled m cpu event r new)
 
--- a driver's run was left because a call was out of memory
+-- a plan was left because memory ran out
 abbrev pub is_memory_fault : CallFault → Bool
 is_memory_fault OutOfMemory = true
 is_memory_fault fault = false
@@ -29,16 +29,16 @@ abbrev pub is_out_of_memory : OpEnd → Bool
 is_out_of_memory (Left op fault) = is_memory_fault fault
 is_out_of_memory end = false
 
--- a plan was carried out, and no call of it was out of memory
+-- a plan was carried out, and memory did not run out
 abbrev pub RunsPlan : MachineValue → (cpu turns : ℕ) → List Item → (new : MachineValue) → Type 0
 RunsPlan m cpu turns plan new =
     (end : OpEnd) × IsPlanRun m cpu turns plan end new × (is_out_of_memory end ≡ false)
 
--- the records were handed out
+-- the machine's records were handed out
 abbrev pub RunsSeal : MachineValue → (new : MachineValue) → Type 0
 RunsSeal m new = new ≡ sealed m
 
--- what a line asks for was done; a text that a control file does not take does nothing
+-- a line's work was done; a text that a control file does not take does nothing
 abbrev pub RunsAsked : MachineValue → (cpu : ℕ) → asks.Meaning → (new : MachineValue) → Type 0
 RunsAsked m cpu (asks.event e) new = RunsEvent m cpu e new
 RunsAsked m cpu (asks.plan items turns) new = RunsPlan m cpu turns items new
@@ -46,11 +46,11 @@ RunsAsked m cpu (asks.not_taken fault) new = new ≡ m
 RunsAsked m cpu (asks.cat path) new = new ≡ m
 RunsAsked m cpu asks.seal new = RunsSeal m new
 
--- the Begins that a line's work hands out
+-- the Begins that a line hands out: those of the history, if it is a seal
 abbrev pub begins_sealed : MachineValue → Work → List Begin
 begins_sealed m w = if asks.is_seal w then begins_in m.history else []
 
--- the lines were run one after another, after these Begins were sealed; and which were sealed in the end
+-- lines were run in order; `before` and `after` are the Begins sealed so far
 abbrev pub RunsLines : MachineValue → (before : List Begin) → List Line → (new : MachineValue)
     → (after : List Begin) → Type 0
 RunsLines m before [] new after = (new ≡ m) × (after ≡ before)

@@ -1,4 +1,4 @@
-//! Which operation each processor began last, before the scripts and in them.
+//! The operation that each processor began last, before the scripts and in them.
 ghost use Rattle.std.specs.Prelude.{◌≡◌, ◌++◌, OnOk};
 ghost use Rattle.hp_scenario.specs.Asked.{asked_by};
 ghost use Rattle.hp_scripts.specs.Begins.{asked_begins, begins_in, last_begun, line_begins};
@@ -14,7 +14,7 @@ pub(crate) struct Begin {
     pub serial: Serial,
 }
 
-/// Adds the Begins among records. An error is out of memory.
+/// Appends the Begins among `records`.
 pub(crate) fn note_begins(begins: &mut Vec<Begin>, records: &[Record]) -> Result<(), AllocError>
     ensures { OnOk result (begins.new.items ≡ begins.old.items ++ begins_in records.now) }
 {
@@ -29,7 +29,7 @@ pub(crate) fn note_begins(begins: &mut Vec<Begin>, records: &[Record]) -> Result
     Ok(())
 }
 
-/// The serial of a processor's last Begin, and 0 where there is none.
+/// Returns the serial of a processor's last Begin, or 0 if it made none.
 pub(crate) fn last_begun(cpu: Cpu, begins: &[Begin]) -> Serial
     ensures { result ≡ last_begun cpu begins.now }
 {
@@ -42,14 +42,14 @@ pub(crate) fn last_begun(cpu: Cpu, begins: &[Begin]) -> Serial
     op
 }
 
-/// Whether a line is a processor's and begins an operation.
+/// Returns whether a line is the processor's and begins an operation.
 pub(crate) fn line_begins(cpu: Cpu, line: &Line) -> bool
     ensures { result ≡ line_begins cpu line.now }
 {
     line.cpu == cpu && work_begins(&line.work)
 }
 
-/// Whether what a line asks for begins an operation.
+/// Returns whether a line's work begins an operation.
 fn work_begins(work: &Work) -> bool
     ensures { result ≡ asked_begins (asked_by work.now) }
 {

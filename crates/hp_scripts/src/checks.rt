@@ -1,4 +1,4 @@
-//! Which lines cannot stand in a script.
+//! Checks that every line may be in a script.
 ghost use Rattle.std.specs.Prelude.{◌≡◌, ◌+◌, ◌<◌, ◌^◌, None, IfErr, OnOk, length};
 ghost use Rattle.hp_scenario.specs.Unfit.{unfit};
 ghost use Rattle.hp_scripts.specs.Checks.{AreFit, IsLineFault, IsUnfit};
@@ -6,8 +6,8 @@ ghost use Rattle.hp_scripts.specs.Checks.{AreFit, IsLineFault, IsUnfit};
 use crate::fault::StartFault;
 use hp_scenario::Line;
 
-/// Looks whether all lines can stand in scripts. So many lines stand before them. An error is the
-/// first line that cannot.
+/// Checks that every line may be in a script; `before` lines come before these. The error names the
+/// first line that may not.
 pub(crate) fn check_lines(cpus: u32, before: u64, lines: &[Line]) -> Result<(), StartFault>
     requires { before + length lines.now < 2 ^ 64 }
     ensures ok { OnOk result (AreFit cpus lines.now (length lines.now)) }
@@ -19,7 +19,7 @@ pub(crate) fn check_lines(cpus: u32, before: u64, lines: &[Line]) -> Result<(), 
     Ok(())
 }
 
-/// Looks whether a line can stand in a script.
+/// Checks that a line may be in a script.
 fn check_line(cpus: u32, place: u64, line: &Line) -> Result<(), StartFault>
     ensures ok { OnOk result (unfit cpus line.now ≡ None) }
     ensures err { IfErr result (IsLineFault cpus place line.now) }

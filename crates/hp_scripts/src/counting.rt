@@ -1,4 +1,4 @@
-//! How many interleavings the scripts of a scenario have, known before any call.
+//! The number of interleavings of a scenario's scripts, computed without a search.
 ghost use Rattle.std.specs.Prelude.{◌≡◌, ◌++◌, IfOk, OnOk, string_bytes};
 ghost use Rattle.hp_scripts.specs.Counting.{AreKnownAs, IsCountTold, IsKnownAfter, known_text, told_text};
 
@@ -9,10 +9,11 @@ use hp_scenario::Line;
 use hp_schedules::{HowMany, interleavings_of};
 use std::alloc::{AllocError, Global};
 
-/// A line that says how many interleavings the scripts of the lines after the first `setup` have, at
-/// most `limit` of them; or that there are more, or that a search alone counts them, since a script
-/// holds a plan. Where a line after the setup cannot stand in a script, it says nothing (own rule).
-/// An error is out of memory.
+/// Returns a line that reports the number of interleavings of the lines after the first `setup`, or
+/// that there are more than `limit`.
+///
+/// If a script holds a plan, the line reports that the number is not known: only a search can count
+/// a plan's calls. The text is empty if a line after the setup may not be in a script.
 pub fn interleavings_line(
     alloc: Global,
     cpus: u32,
@@ -26,8 +27,8 @@ pub fn interleavings_line(
     told_line(alloc, known, limit)
 }
 
-/// How many interleavings the scripts of the lines after the first `setup` have; none where a line
-/// cannot stand in a script. An error is out of memory.
+/// Returns how many interleavings the lines after the first `setup` have, or `None` if one of them
+/// may not be in a script.
 fn known_after(
     alloc: Global,
     cpus: u32,
@@ -48,7 +49,7 @@ fn known_after(
     }
 }
 
-/// How many interleavings the scripts of lines have. An error is out of memory.
+/// Returns how many interleavings the scripts of `lines` have.
 fn known_of(alloc: Global, cpus: u32, lines: &[Line], limit: u64) -> Result<HowMany, AllocError>
     ensures { IfOk result (AreKnownAs cpus lines.now limit) }
 {
@@ -57,7 +58,7 @@ fn known_of(alloc: Global, cpus: u32, lines: &[Line], limit: u64) -> Result<HowM
     interleavings_of(alloc, &scripts, limit)
 }
 
-/// The line that says what is known, if anything is.
+/// Returns the line that reports `known`, or an empty text if there is none.
 fn told_line(alloc: Global, known: Option<HowMany>, limit: u64) -> Result<String, AllocError>
     ensures { IfOk result (λ text. string_bytes text ≡ told_text limit known) }
 {
@@ -66,7 +67,7 @@ fn told_line(alloc: Global, known: Option<HowMany>, limit: u64) -> Result<String
     Ok(text)
 }
 
-/// Writes what is known, if anything is.
+/// Writes the line that reports `known`, if there is one.
 fn write_told(out: &mut String, known: Option<HowMany>, limit: u64) -> Result<(), AllocError>
     ensures { OnOk result (string_bytes out.new ≡ string_bytes out.old ++ told_text limit known) }
 {
@@ -76,7 +77,7 @@ fn write_told(out: &mut String, known: Option<HowMany>, limit: u64) -> Result<()
     }
 }
 
-/// Writes the line that says what is known.
+/// Writes the line that reports `known`.
 fn write_known(out: &mut String, known: HowMany, limit: u64) -> Result<(), AllocError>
     ensures { OnOk result (string_bytes out.new ≡ string_bytes out.old ++ known_text limit known) }
 {

@@ -1,14 +1,14 @@
-//! Why no search of a scenario begins.
+//! Why a search of a scenario cannot start.
 ghost use Rattle.std.specs.Prelude.{◌≡◌};
 ghost use Rattle.hp_scripts.specs.declared.fault.StartFault.TheVariants.{OutOfMemory};
 
 use hp_scenario::Unfit;
 use std::alloc::AllocError;
 
-/// Why no search of a scenario begins. Out of memory may come in place of the other.
+/// Why a search of a scenario cannot start. `OutOfMemory` may come in place of the other.
 #[derive(Clone, Copy, Drop)]
 pub enum StartFault {
-    /// A line after the setup cannot stand in a script; lines are counted from 1.
+    /// A line after the setup may not be in a script; lines are counted from 1.
     NotForScript { line: u64, why: Unfit },
     /// Out of memory.
     OutOfMemory,

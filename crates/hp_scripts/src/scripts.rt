@@ -1,4 +1,4 @@
-//! The lines after the setup, as a script for each processor.
+//! The lines after the setup, as one script per processor.
 ghost use Rattle.std.specs.Prelude.{◌≡◌, ◌++◌, IfOk, OnOk};
 ghost use Rattle.hp_schedules.specs.Scripts.{work_of};
 ghost use Rattle.hp_scenario.specs.Asked.{asked_by};
@@ -10,8 +10,8 @@ use hp_schedules::{Line as Step, Script, Work as OwnWork};
 use hp_units::{Cpu, Event, Plan, Serial};
 use std::alloc::{AllocError, Global};
 
-/// The script of each processor, from 0 on, after these Begins. A line that cannot stand in a
-/// script is left out. An error is out of memory.
+/// Returns the script of each processor, from processor 0. `begins` are the Begins before the
+/// scripts. Lines that may not be in a script are left out.
 pub(crate) fn scripts_of(
     alloc: Global,
     cpus: u32,
@@ -29,7 +29,7 @@ pub(crate) fn scripts_of(
     Ok(scripts)
 }
 
-/// The script of a processor: its lines in order. An error is out of memory.
+/// Returns the script of a processor: its lines in order.
 fn script_of(
     alloc: Global,
     cpu: Cpu,
@@ -48,7 +48,7 @@ fn script_of(
     Ok(Script::new(steps))
 }
 
-/// Adds a line to the steps of a processor, if it is the processor's.
+/// Appends a line to a processor's steps, if it is the processor's line.
 fn push_line(
     steps: &mut Vec<Step>,
     alloc: Global,
@@ -68,7 +68,7 @@ fn push_line(
     Ok(())
 }
 
-/// What a line asks for as a step of a script, if it can stand in one. An error is out of memory.
+/// Returns a line's work as a step, or `None` if it may not be in a script.
 fn explored(
     alloc: Global,
     op: Serial,
@@ -86,8 +86,7 @@ fn explored(
     }
 }
 
-/// An event as a step. Where it works on operation 0, that is the one that the processor began
-/// last. An error is out of memory.
+/// Returns an event as a step. Operation 0 becomes the one that the processor began last.
 fn called(alloc: Global, op: Serial, has_begun: bool, event: &Event) -> Result<Step, AllocError>
     ensures { IfOk result (λ step. step ≡ called op has_begun event.now) }
 {
@@ -97,7 +96,8 @@ fn called(alloc: Global, op: Serial, has_begun: bool, event: &Event) -> Result<S
     }
 }
 
-/// Work on the operation that the processor began last: this one, unless its script has begun one.
+/// Returns work on the operation that the processor began last: `op`, unless its script has begun
+/// one since.
 fn own_step(op: Serial, has_begun: bool, work: OwnWork) -> Step
     ensures { result ≡ own_step op has_begun work }
 {
@@ -108,7 +108,7 @@ fn own_step(op: Serial, has_begun: bool, work: OwnWork) -> Step
     }
 }
 
-/// The event of work on an operation.
+/// Returns the event of work on operation `op`.
 fn work_on(op: Serial, work: OwnWork) -> Event
     ensures { result ≡ work_of op work }
 {
@@ -120,7 +120,7 @@ fn work_on(op: Serial, work: OwnWork) -> Event
     }
 }
 
-/// A plan as a step. An error is out of memory.
+/// Returns a plan as a step.
 fn carried(alloc: Global, plan: &Plan, turns: u32) -> Result<Step, AllocError>
     ensures { IfOk result (λ step. step ≡ Step.Carry plan.now turns) }
 {
@@ -128,7 +128,7 @@ fn carried(alloc: Global, plan: &Plan, turns: u32) -> Result<Step, AllocError>
     Ok(Step::Carry { plan, turns })
 }
 
-/// What an event asks of operation 0, if it works on that.
+/// Returns the work that an event asks for on operation 0, or `None` if it asks for none.
 pub(crate) fn own_work(event: &Event) -> Option<OwnWork>
     ensures { result ≡ own_work event.now }
 {
@@ -141,7 +141,7 @@ pub(crate) fn own_work(event: &Event) -> Option<OwnWork>
     }
 }
 
-/// The work, where the operation's number is 0.
+/// Returns the work if `op` is 0.
 fn own_if_last(op: Serial, work: OwnWork) -> Option<OwnWork>
     ensures { result ≡ own_if_last op work }
 {

@@ -9,7 +9,7 @@ use hp_scenario::{Asked, Line, Work};
 use hp_units::{CallFault, Cpu, Event, OpEnd, Plan};
 use std::alloc::{AllocError, Global};
 
-/// Runs lines one after another, and adds the Begins that seals hand out. An error is out of memory.
+/// Runs lines in order, and appends the Begins that their seals hand out.
 pub(crate) fn run_lines(
     alloc: Global,
     machine: &mut Machine,
@@ -26,7 +26,7 @@ pub(crate) fn run_lines(
     Ok(())
 }
 
-/// Adds the Begins that a line's work hands out.
+/// Appends the Begins that a seal is about to hand out; other work adds none.
 fn note_sealed(begins: &mut Vec<Begin>, machine: &Machine, work: &Work) -> Result<(), AllocError>
     ensures { OnOk result
         (begins.new.items ≡ begins.old.items ++ begins_sealed machine.now work.now) }
@@ -37,7 +37,8 @@ fn note_sealed(begins: &mut Vec<Begin>, machine: &Machine, work: &Work) -> Resul
     Ok(())
 }
 
-/// Does what a line asks for; a text that a control file does not take does nothing.
+/// Does a line's work. A text that a control file does not take does nothing, and neither does
+/// `cat`.
 fn run_work(alloc: Global, machine: &mut Machine, cpu: Cpu, work: &Work) -> Result<(), AllocError>
     ensures { OnOk result (RunsAsked machine.old cpu (asked_by work.now) machine.new) }
 {
@@ -50,7 +51,7 @@ fn run_work(alloc: Global, machine: &mut Machine, cpu: Cpu, work: &Work) -> Resu
     }
 }
 
-/// Calls the machine with an event, which leaves no record where the history is full.
+/// Calls the machine with an event. A full history is no error: the event leaves no record.
 fn run_event(
     alloc: Global,
     machine: &mut Machine,
@@ -84,7 +85,7 @@ fn carry_out(
     Ok(())
 }
 
-/// Whether a driver's run was left because it was out of memory.
+/// Returns whether a plan was left because memory ran out.
 fn is_out_of_memory(end: OpEnd) -> bool
     ensures { result ≡ is_out_of_memory end }
 {
@@ -100,7 +101,7 @@ fn is_out_of_memory(end: OpEnd) -> bool
     }
 }
 
-/// Hands the machine's records out and drops them.
+/// Seals the machine and drops the records that it hands out.
 fn seal(alloc: Global, machine: &mut Machine) -> Result<(), AllocError>
     ensures { OnOk result (RunsSeal machine.old machine.new) }
 {

@@ -1,4 +1,4 @@
-//! The machine after the setup of a scenario, and the scripts of its later lines.
+//! The start of a search: runs a scenario's setup and makes the scripts of its later lines.
 ghost use Rattle.std.specs.Prelude.{◌≡◌, ◌^◌, ◌<◌, IfErr, IfOk, drop, length, take};
 ghost use Rattle.hp_scenario.specs.Seen.{scenario_seen};
 ghost use Rattle.hp_scripts.specs.Starts.{HasNoStart, HasStart, IsStart};
@@ -14,15 +14,15 @@ use hp_schedules::Script;
 use hp_units::Layout;
 use std::alloc::{AllocError, Global};
 
-/// Where a search begins.
+/// The start of a search.
 pub struct Start {
     /// The machine after the setup.
     pub machine: Machine,
-    /// The script of each processor, from 0 on.
+    /// The script of each processor, from processor 0.
     pub scripts: Vec<Script>,
 }
 
-/// A function of its own, so that no proof of a caller takes the fields apart.
+/// Keeps callers from proving again how each field is dropped.
 impl Drop for Start {
     fn drop(self) {
         let Start {
@@ -32,12 +32,12 @@ impl Drop for Start {
     }
 }
 
-/// Where a search of a scenario begins: its first `setup` lines are run in order on one machine, and
-/// each later line goes to the script of its processor, where 0 for the number of an operation stands
-/// for the one that this processor began last (own rule).
+/// Returns the start of a search: runs the scenario's first `setup` lines in order on one machine,
+/// and puts each later line into the script of its processor. In a script, operation 0 is the one
+/// that the processor began last.
 ///
-/// Errors: NotForScript with the first line after the setup that cannot stand in a script; OutOfMemory,
-/// which may come in place of any answer.
+/// Errors: `NotForScript` with the first line after the setup that may not be in a script;
+/// `OutOfMemory`, which may come in place of any other result.
 pub fn start_of(alloc: Global, scenario: &Scenario, setup: u64) -> Result<Start, StartFault>
     ensures ok { IfOk result
         (λ start. HasStart (scenario_seen scenario.now) setup start.machine start.scripts.items) }
@@ -52,8 +52,7 @@ pub fn start_of(alloc: Global, scenario: &Scenario, setup: u64) -> Result<Start,
     Ok(start_after(alloc, &scenario.layout, before, after)?)
 }
 
-/// The machine after lines that are run first, and the scripts of the lines after them. An error is
-/// out of memory.
+/// Runs `before` on a machine just booted, and returns it with the scripts of `after`.
 fn start_after(
     alloc: Global,
     layout: &Layout,
@@ -72,7 +71,7 @@ fn start_after(
     Ok(Start { machine, scripts })
 }
 
-/// The first lines, as many as there are up to a number.
+/// Returns the first `count` lines, or all if there are fewer.
 pub fn front_of(lines: &[Line], count: u64) -> &[Line]
     ensures { result.now ≡ take count lines.now }
 {
@@ -83,7 +82,7 @@ pub fn front_of(lines: &[Line], count: u64) -> &[Line]
     }
 }
 
-/// The lines after the first so many.
+/// Returns the lines after the first `count`.
 pub(crate) fn rest_of(lines: &[Line], count: u64) -> &[Line]
     ensures { result.now ≡ drop count lines.now }
 {

@@ -1,4 +1,4 @@
-//! Scripts that work on operation 0 where their processor has begun none.
+//! Script lines that name operation 0 before their processor has begun an operation.
 ghost use Rattle.std.specs.Prelude.{◌≡◌, ◌++◌, IfOk, OnOk};
 ghost use Rattle.hp_scenario.specs.Asked.{asked_by};
 ghost use Rattle.hp_scripts.specs.Unbegun.{asked_names_last, line_names_last, unbegun_at, unbegun_lines, unbegun_of};
@@ -9,7 +9,7 @@ use hp_scenario::{Asked, Line, Work};
 use hp_units::Cpu;
 use std::alloc::{AllocError, Global};
 
-/// A line of a script that works on operation 0, where no line of its processor before it begins an
+/// A script line that names operation 0, with no line of its processor before it that begins an
 /// operation.
 #[derive(Clone, Copy, Drop)]
 pub struct Unbegun {
@@ -19,8 +19,10 @@ pub struct Unbegun {
     pub line: u64,
 }
 
-/// The first such line of each processor, by rising processors, where the first `setup` lines are the
-/// setup and the later ones stand in scripts (own rule). An error is out of memory.
+/// Returns the first such line of each processor, in the order of the processors. The first `setup`
+/// lines are the setup; the later ones are in scripts.
+///
+/// Meant for warnings: such a line works on no operation.
 pub fn unbegun_lines(
     alloc: Global,
     cpus: u32,
@@ -36,7 +38,7 @@ pub fn unbegun_lines(
     Ok(found)
 }
 
-/// Adds the first such line of a processor, if there is one.
+/// Appends the first such line of a processor, if there is one.
 fn push_unbegun(
     found: &mut Vec<Unbegun>,
     cpu: Cpu,
@@ -51,7 +53,7 @@ fn push_unbegun(
     Ok(())
 }
 
-/// The number of the first such line of a processor, if there is one.
+/// Returns the number of the first such line of a processor, if there is one.
 fn unbegun_line(cpu: Cpu, setup: u64, lines: &[Line]) -> Option<u64>
     ensures { result ≡ unbegun_at cpu setup 0 lines.now }
 {
@@ -67,14 +69,14 @@ fn unbegun_line(cpu: Cpu, setup: u64, lines: &[Line]) -> Option<u64>
     None
 }
 
-/// Whether a line is a processor's and works on operation 0.
+/// Returns whether a line is the processor's and works on operation 0.
 fn line_names_last(cpu: Cpu, line: &Line) -> bool
     ensures { result ≡ line_names_last cpu line.now }
 {
     line.cpu == cpu && work_names_last(&line.work)
 }
 
-/// Whether what a line asks for is work on operation 0.
+/// Returns whether a line's work is on operation 0.
 fn work_names_last(work: &Work) -> bool
     ensures { result ≡ asked_names_last (asked_by work.now) }
 {

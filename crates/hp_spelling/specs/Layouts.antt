@@ -1,4 +1,4 @@
--- A layout as a scenario has it (own rule).
+-- A layout as an object of a scenario.
 use Rattle.std.specs.Prelude.{ℕ, true, List, ◌++◌, codes}
 use Rattle.std.specs.Fmt.{decimal}
 use Rattle.hp_units.specs.LayoutParts.{LayoutParts}
@@ -6,7 +6,7 @@ use Rattle.hp_units.specs.declared.rows.Boot.{Boot}
 use Rattle.hp_units.specs.declared.rows.Boot.TheVariants.{Offline, Normal, Movable, Absent}
 use Rattle.hp_spelling.specs.Separated.{separated}
 
--- what a memory block is at boot
+-- the word for a memory block's state at boot
 abbrev pub boot_word : Boot → List ℕ
 boot_word Offline = codes "offline"
 boot_word Normal = codes "normal"
@@ -39,13 +39,13 @@ pages_text owners pages = codes ",\n\"owners\": " ++ decimal owners ++ codes ", 
 unfoldable pub rest_text : (words history : ℕ) → List ℕ
 rest_text words history = codes ", \"words\": " ++ decimal words ++ codes ", \"history\": " ++ decimal history
 
--- frames, processors and the marks of their lists; what there may be of the rest
+-- the sizes with the marks of the processors' lists; the limits
 unfoldable pub sizes_text : LayoutParts → List ℕ
 sizes_text l = frames_text l.order l.pageblocks ++ counts_text l.blocks l.cpus ++ marks_text l.batch l.high
 
 unfoldable pub limits_text : LayoutParts → List ℕ
 limits_text l = pages_text l.owners l.pages ++ rest_text l.words l.history
 
--- an object with these keys, and what the memory blocks are at boot
+-- the whole object: sizes, limits, and the blocks' states at boot
 unfoldable pub layout_text : LayoutParts → List ℕ
 layout_text l = sizes_text l ++ limits_text l ++ boot_list_text l.boot

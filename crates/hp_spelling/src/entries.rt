@@ -1,4 +1,4 @@
-//! Lines and calls as texts of a scenario's `calls`, one a line, with a comma between two.
+//! Lines and calls as the strings of a scenario's `calls`, one per line, separated by commas.
 ghost use Rattle.std.specs.Prelude.{◌≡◌, ◌++◌, OnOk, codes, string_bytes, true};
 ghost use Rattle.hp_spelling.specs.Entries.{call_entry, calls_text, entries_text, line_entry};
 ghost use Rattle.hp_spelling.specs.Separated.{separated};
@@ -11,11 +11,11 @@ use hp_units::{Record, Text};
 use indexmap::IndexSet;
 use std::alloc::AllocError;
 
-/// What stands between two texts of `calls`.
+/// The separator of two entries of `calls`.
 const BETWEEN: &str = ",\n";
 
-/// Writes calls as texts of a scenario's `calls`, with a text between two (own rule). Owners are
-/// written by their names. An error is out of memory.
+/// Writes `calls` as strings of a scenario's `calls`, separated by `between`. Owners are written by
+/// name.
 pub fn write_calls(
     out: &mut String,
     names: &IndexSet<Text>,
@@ -28,7 +28,7 @@ pub fn write_calls(
     write_calls_after(out, names, calls, between, true)
 }
 
-/// Writes lines, and then calls.
+/// Writes `lines`, then `calls`, as the entries of one list.
 pub(crate) fn write_entries(
     out: &mut String,
     names: &IndexSet<Text>,
@@ -42,7 +42,7 @@ pub(crate) fn write_entries(
     write_calls_after(out, names, calls, BETWEEN, lines.is_empty())
 }
 
-/// Writes lines.
+/// Writes lines as entries.
 fn write_lines(out: &mut String, names: &IndexSet<Text>, lines: &[Line]) -> Result<(), AllocError>
     ensures { OnOk result (string_bytes out.new
         ≡ string_bytes out.old ++ separated (codes ",\n") (line_entry names.now.keys) true lines.now) }
@@ -66,7 +66,7 @@ fn write_line_entry(out: &mut String, names: &IndexSet<Text>, line: &Line) -> Re
     out.push_str("\"")
 }
 
-/// Writes calls, of which the first may be the first entry of all.
+/// Writes calls as entries; no comma comes before the first if `is_first`.
 fn write_calls_after(
     out: &mut String,
     names: &IndexSet<Text>,

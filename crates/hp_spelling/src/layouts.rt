@@ -1,4 +1,4 @@
-//! A layout as a scenario has it.
+//! A layout as an object of a scenario.
 ghost use Rattle.std.specs.Prelude.{◌≡◌, ◌++◌, OnOk, string_bytes};
 ghost use Rattle.hp_spelling.specs.Layouts.{boot_entry, boot_list_text, boot_word, boots_text, counts_text, frames_text, layout_text, limits_text, marks_text, pages_text, rest_text, sizes_text};
 
@@ -16,7 +16,8 @@ pub(crate) fn write_layout(out: &mut String, layout: &Layout) -> Result<(), Allo
     write_boot_list(out, layout.boot())
 }
 
-/// Writes how many frames and processors there are, and the marks of the processors' lists.
+/// Writes the numbers of frames, blocks and processors, and `batch` and `high` of the processors'
+/// lists.
 #[tactic(auto, unfolding(crate::specs::Layouts::sizes_text))]
 fn write_sizes(out: &mut String, layout: &Layout) -> Result<(), AllocError>
     ensures { OnOk result (string_bytes out.new ≡ string_bytes out.old ++ sizes_text layout.now) }
@@ -48,7 +49,7 @@ fn write_marks(out: &mut String, batch: u32, high: u32) -> Result<(), AllocError
     write!(out, ", \"batch\": {batch}, \"high\": {high}")
 }
 
-/// Writes how many owners, pages, words and records there may be.
+/// Writes the limits: how many owners, pages, words and records there may be.
 #[tactic(auto, unfolding(crate::specs::Layouts::limits_text))]
 fn write_limits(out: &mut String, layout: &Layout) -> Result<(), AllocError>
     ensures { OnOk result (string_bytes out.new ≡ string_bytes out.old ++ limits_text layout.now) }
@@ -71,7 +72,7 @@ fn write_rest(out: &mut String, words: u32, history: u64) -> Result<(), AllocErr
     write!(out, ", \"words\": {words}, \"history\": {history}")
 }
 
-/// Writes what the memory blocks are at boot under their key, and the end of the object.
+/// Writes the key `boot` with the state of each memory block at boot, and closes the object.
 #[tactic(auto, unfolding(crate::specs::Layouts::boot_list_text))]
 fn write_boot_list(out: &mut String, boots: &[Boot]) -> Result<(), AllocError>
     ensures { OnOk result (string_bytes out.new ≡ string_bytes out.old ++ boot_list_text boots.now) }
@@ -82,7 +83,7 @@ fn write_boot_list(out: &mut String, boots: &[Boot]) -> Result<(), AllocError>
     Ok(())
 }
 
-/// Writes what memory blocks are at boot, with a comma between two.
+/// Writes states at boot, separated by commas.
 #[tactic(auto, unfolding(crate::specs::Layouts::boots_text))]
 fn write_boots(out: &mut String, boots: &[Boot]) -> Result<(), AllocError>
     ensures { OnOk result (string_bytes out.new ≡ string_bytes out.old ++ boots_text boots.now) }
@@ -96,7 +97,7 @@ fn write_boots(out: &mut String, boots: &[Boot]) -> Result<(), AllocError>
     Ok(())
 }
 
-/// Writes what a memory block is at boot between quotation marks.
+/// Writes a memory block's state at boot between quotation marks.
 fn write_boot(out: &mut String, boot: Boot) -> Result<(), AllocError>
     ensures { OnOk result (string_bytes out.new ≡ string_bytes out.old ++ boot_entry boot) }
 {
@@ -104,7 +105,7 @@ fn write_boot(out: &mut String, boot: Boot) -> Result<(), AllocError>
     write!(out, "\"{word}\"")
 }
 
-/// The word for what a memory block is at boot.
+/// Returns the word for a memory block's state at boot.
 fn boot_word(boot: Boot) -> &'static str
     ensures { result.now ≡ boot_word boot }
 {

@@ -1,7 +1,6 @@
-//! Scenarios as text: a layout, lines and calls as the JSON that hp_scenario reads.
+//! Scenarios as text: writes layouts, lines and calls as the JSON that hp_scenario reads.
 //!
-//! The crate owns how they are spelled alone: it reads nothing, and runs nothing. Read
-//! specs/Scenarios first.
+//! The crate owns the spelling only: it reads nothing and runs nothing. Read specs/Scenarios first.
 #![tactic(auto)]
 
 mod entries;

@@ -1,4 +1,4 @@
-//! Lines as a scenario has them.
+//! Lines of a scenario's `calls`.
 ghost use Rattle.std.specs.Prelude.{◌≡◌, ◌++◌, OnOk, string_bytes};
 ghost use Rattle.hp_spelling.specs.Lines.{line_text, shown_line, shown_work};
 
@@ -9,17 +9,16 @@ use hp_units::Text;
 use indexmap::IndexSet;
 use std::alloc::AllocError;
 
-/// Writes a line as a text of a scenario's `calls`, without the quotation marks: its processor, and
-/// what it asks for (own rule). Owners are written by their names; texts of its own stand as JSON
-/// has them, with each character escaped that a terminal may obey. An error is out of memory.
+/// Writes a line as a string of a scenario's `calls`, without the quotation marks: the processor,
+/// then its work. Owners are written by name. The line's own texts are written as JSON, with each
+/// character escaped that a terminal might obey.
 pub fn write_line(out: &mut String, names: &IndexSet<Text>, line: &Line) -> Result<(), AllocError>
     ensures { OnOk result (string_bytes out.new ≡ string_bytes out.old ++ line_text names.now.keys line.now) }
 {
     write_shown_line(out, names, line, Brackets::Kept)
 }
 
-/// Writes a line in the same way, with the brackets of its own texts as they are or escaped. An error
-/// is out of memory.
+/// Writes a line like `write_line`, and keeps or escapes the brackets in the line's own texts.
 pub fn write_shown_line(
     out: &mut String,
     names: &IndexSet<Text>,
@@ -34,7 +33,7 @@ pub fn write_shown_line(
     write_work(out, names, &line.work, brackets)
 }
 
-/// Writes what a line asks for.
+/// Writes the work of a line.
 fn write_work(
     out: &mut String,
     names: &IndexSet<Text>,

@@ -1,4 +1,4 @@
-//! A scenario as the text that reads it.
+//! A whole scenario as JSON.
 ghost use Rattle.std.specs.Prelude.{◌≡◌, ◌++◌, OnOk, string_bytes};
 ghost use Rattle.hp_spelling.specs.Scenarios.{head_text, scenario_text};
 
@@ -9,9 +9,8 @@ use hp_units::{Layout, Record, Text};
 use indexmap::IndexSet;
 use std::alloc::AllocError;
 
-/// Writes the scenario of a layout whose lines are these lines, and then one for each of these
-/// calls, as JSON that `hotplug serial` reads (own rule). Owners are written by their names. An
-/// error is out of memory.
+/// Writes the scenario of `layout` with `lines`, then one line per call, as JSON that `hotplug
+/// serial` reads. Owners are written by name.
 pub fn write_scenario(
     out: &mut String,
     layout: &Layout,
@@ -27,7 +26,7 @@ pub fn write_scenario(
     out.push_str("\n]}\n")
 }
 
-/// Writes what stands before the lines.
+/// Writes what comes before the lines.
 #[tactic(auto, unfolding(crate::specs::Scenarios::head_text))]
 fn write_head(out: &mut String, layout: &Layout) -> Result<(), AllocError>
     ensures { OnOk result (string_bytes out.new ≡ string_bytes out.old ++ head_text layout.now) }

@@ -1,11 +1,10 @@
-//! Texts one after another, with a mark between two.
+//! Separators between the texts of a list.
 ghost use Rattle.std.specs.Prelude.{◌≡◌, ◌++◌, OnOk, string_bytes};
 ghost use Rattle.hp_spelling.specs.Separated.{mark_before};
 
 use std::alloc::AllocError;
 
-/// Writes the mark that stands between two texts before a text, unless it is the first (own rule). An
-/// error is out of memory.
+/// Writes the separator before a text, unless the text is the first of its list.
 pub fn write_mark(out: &mut String, mark: &str, is_first: bool) -> Result<(), AllocError>
     ensures { OnOk result (string_bytes out.new ≡ string_bytes out.old ++ mark_before mark.now is_first) }
 {

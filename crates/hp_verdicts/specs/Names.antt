@@ -1,4 +1,4 @@
--- The types and variants of the judge, passed on from one place. Declares nothing.
+-- The types and variants of the judge, exported again from one place. Declares nothing.
 pub use Rattle.hp_judge.specs.declared.events.LogEvent.{LogEvent}
 pub use Rattle.hp_judge.specs.declared.events.MachineSize.{MachineSize}
 pub use Rattle.hp_judge.specs.declared.faults.Law.{Law}

@@ -1,4 +1,4 @@
--- What a report says of a log.
+-- The report on a log.
 use Rattle.std.specs.Prelude.{◌≡◌, ℕ, ◌+◌, Bool, true, false, not, List, length, take}
 use Rattle.std.specs.List.{filter}
 use Rattle.hp_verdicts.specs.Names.{LogEvent, Law, Once, InUse, Present, Empty, Movable, GoingOnline, GoingOffline, Online, Offline, Fault, Malformed, Unlawful, NumberedFault}
@@ -46,7 +46,7 @@ pub record Report : Type 0 where
   pub count : ℕ
   pub allowed_count : ℕ
 
--- the report counts all faults, and keeps the first that are not allowed
+-- the report counts all faults, and keeps the first `most` that are not allowed
 pub record IsReportOf (all : List NumberedFault) (r : Report) : Type 0 where
   pub kept_are : r.kept ≡ take r.most (filter (is_reported r.allowed) all)
   pub count_is : r.count ≡ length (filter (is_reported r.allowed) all)
@@ -56,7 +56,7 @@ pub record Judged : Type 0 where
   pub tables : Tables
   pub report : Report
 
--- the report is of all faults of the log
+-- the report has all faults of the log
 pub record IsVerdictOn (log : List LogEvent) (v : Judged) : Type 0 where
   pub follows : Follows log v.tables
   pub all : List NumberedFault

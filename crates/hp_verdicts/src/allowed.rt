@@ -1,4 +1,4 @@
-//! The kinds of faults that a log is known to have.
+//! The kinds of faults that a log may have and still be lawful.
 ghost use Rattle.std.specs.Prelude.{◌≡◌};
 ghost use Rattle.hp_verdicts.specs.Reports.{allowed_none, allows, allows_law};
 
@@ -6,8 +6,8 @@ use hp_judge::{Fault, Law};
 
 /// The kinds of faults that do not make a log unlawful.
 ///
-/// A log may lack events of a known kind. Linux 6.1 hands out some pages without an event, so that
-/// its logs have frees of frames that are not in use.
+/// A log may lack events of a known kind: Linux 6.1 hands out some pages without an event, so its
+/// logs have frees of frames that are not in use.
 #[derive(Clone, Copy, Drop)]
 pub struct AllowedKinds {
     pub malformed: bool,
@@ -68,7 +68,7 @@ impl AllowedKinds {
         }
     }
 
-    /// Adds the kind with a name, and returns whether there is one.
+    /// Adds the kind with this name, as `--allow` takes it. Returns false if there is no such kind.
     pub fn add(&mut self, name: &str) -> bool {
         match name {
             "malformed" => self.malformed = true,

@@ -1,4 +1,4 @@
-//! What is counted of a log, beside its faults.
+//! Counts of a log besides its faults.
 ghost use Rattle.std.specs.Prelude.{◌<◌};
 
 use hp_judge::{LogEvent, MachineSize};
@@ -89,7 +89,7 @@ impl BlockCounts {
         }
     }
 
-    /// Notes that an event left `after` frames of a piece in use, which had `before`.
+    /// Notes an event on a piece that had `before` frames in use, and now has `after`.
     fn use_frames(&mut self, before: u32, after: u32) {
         self.is_named = true;
         let rest = self.in_use.saturating_sub(before);
@@ -134,14 +134,14 @@ pub struct BlockTallies {
 }
 
 impl BlockTallies {
-    /// Makes a table of no blocks.
+    /// Makes an empty table.
     pub fn new(alloc: Global) -> BlockTallies {
         BlockTallies {
             rows: Vec::new(alloc),
         }
     }
 
-    /// Returns the counts of each block, from block 0 on.
+    /// Returns the counts of each block, from block 0.
     pub fn rows(&self) -> &[BlockCounts] {
         self.rows.as_slice()
     }
@@ -155,8 +155,7 @@ impl BlockTallies {
         self.rows.resize(blocks, BlockCounts::none())
     }
 
-    /// Counts an event. `is_late` says that its frames are handed out while their block is going
-    /// offline.
+    /// Counts an event. `is_late` if its frames are handed out while their block is going offline.
     pub fn note(
         &mut self,
         size: &MachineSize,
@@ -201,7 +200,7 @@ impl BlockTallies {
         self.use_frames(to, before.second, after.second);
     }
 
-    /// Notes that an event left `after` frames of a piece of the block in use, which had `before`.
+    /// Notes an event on a piece of the block that had `before` frames in use, and now has `after`.
     fn use_frames(&mut self, block: u32, before: u32, after: u32) {
         if let Some(row) = self.rows.get_mut(block as usize) {
             row.use_frames(before, after);

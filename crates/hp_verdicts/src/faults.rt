@@ -1,4 +1,4 @@
-//! The faults of a log, as far as they are reported.
+//! The report of a log's faults.
 ghost use Rattle.std.specs.Prelude.{◌≡◌, ◌+◌, ◌<◌, ◌≤◌, ◌-◌, ◌^◌, List, OnOk, [], ◌∷◌, ◌++◌};
 ghost use Rattle.hp_judge.specs.declared.faults.NumberedFault.{NumberedFault as AnyFault};
 ghost use Rattle.hp_verdicts.specs.Reports.{IsReportOf};
@@ -33,7 +33,7 @@ impl Model for FaultReport {
 }
 
 impl FaultReport {
-    /// Makes a report of no faults, which will keep at most `most`.
+    /// Makes an empty report, which keeps at most `most` faults.
     pub fn new(alloc: Global, allowed: AllowedKinds, most: u64) -> FaultReport
         ensures { result ≡ record {
           allowed = allowed;
@@ -73,7 +73,7 @@ impl FaultReport {
         self.allowed_count
     }
 
-    /// Adds a fault.
+    /// Adds a fault. Keeps it if its kind is not allowed and there is room.
     pub fn add(&mut self, fault: NumberedFault) -> Result<(), AllocError>
         requires { self.old.count + self.old.allowed_count < 2 ^ 64 - 1 }
         ensures allowed { self.new.allowed ≡ self.old.allowed }

@@ -1,4 +1,4 @@
-//! A log as it is read.
+//! A log, judged and counted event by event.
 ghost use Rattle.std.specs.Prelude.{◌≡◌, ◌<◌, ◌≤◌, ◌↔◌, ◌^◌, IsTrue};
 ghost use Rattle.hp_judge.specs.Events.{frame_count};
 
@@ -10,7 +10,7 @@ use hp_judge::{LogEvent, MachineSize, Phase};
 use hp_numbers::Block;
 use std::alloc::{AllocError, Global};
 
-/// The verdict on a log, and what is counted of it.
+/// The verdict on a log, with its counts.
 #[derive(Drop)]
 pub struct JudgedLog {
     size: MachineSize,
@@ -87,7 +87,7 @@ impl JudgedLog {
 }
 
 impl JudgedLog {
-    /// Returns what an event is for the blocks that are judged.
+    /// Returns the event as the judged blocks see it.
     fn part_of(&self, event: &LogEvent) -> LogEvent {
         match self.range {
             Some(range) => range.part_of(&self.size, event),

@@ -1,8 +1,8 @@
 //! Judges whole logs, and reports what it found.
 //!
-//! `Verdict` counts the faults of a log, and keeps the first ones: what it says of a log is proved.
+//! `Verdict` counts the faults of a log and keeps the first ones: its results are proved.
 //! `JudgedLog` also counts events, and what happened to each memory block. `LogReading` reads a log
-//! from a stream. `judge_log` reads all of one and writes a report, as a text or as JSON.
+//! from a stream. `judge_log` reads a whole log and writes a report, as text or as JSON.
 //!
 //! The crate owns the words of a report. hp_judge has the laws, hp_logs the forms of a log. Read
 //! specs/Reports first, then `verdict`.

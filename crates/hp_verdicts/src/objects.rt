@@ -1,4 +1,4 @@
-//! A judged log as objects of JSON, one a line.
+//! The report on a log as JSON, one object per line.
 ghost use Rattle.std.specs.Prelude.{◌<◌};
 
 use crate::counts::BlockCounts;
@@ -9,7 +9,7 @@ use hp_judge::{Fault, MachineSize, NumberedFault, Violation};
 use hp_numbers::Frame;
 use std::alloc::{AllocError, Global};
 
-/// Writes what was found in a log. `first` is the line of its first fault.
+/// Returns the report on a log. `first` is the log's line with the first fault.
 pub(crate) fn report_objects(
     alloc: Global,
     log: &JudgedLog,
@@ -77,7 +77,7 @@ fn write_faults(out: &mut String, log: &JudgedLog, first: &str) -> Result<(), Al
     Ok(())
 }
 
-/// Writes a fault, but for the end of its object.
+/// Writes a fault without its object's closing bracket.
 fn write_fault(
     out: &mut String,
     size: &MachineSize,
@@ -121,7 +121,7 @@ fn write_violation(
     )
 }
 
-/// Writes the line of a fault.
+/// Writes the log's line that has the fault.
 fn write_line(out: &mut String, line: &str) -> Result<(), AllocError> {
     out.push_str(",\"text\":\"")?;
     write_escaped(out, line, Brackets::Kept)?;

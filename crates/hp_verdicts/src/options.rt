@@ -1,4 +1,4 @@
-//! What is asked of a judgement.
+//! The options of a judgement.
 ghost use Rattle.std.specs.Prelude.{◌≡◌, ◌<◌, ◌≤◌, ◌^◌, IfOk, IfSome};
 ghost use Rattle.hp_judge.specs.Events.{frame_count};
 
@@ -7,11 +7,11 @@ use crate::selection::BlockRange;
 use hp_judge::{MachineSize, piece_size};
 use hp_numbers::Order;
 
-/// A machine has at most 2^26 frames unless blocks beyond them are asked for: 256 GiB of 4 KiB each,
-/// for which a judge takes 1 GiB.
+/// A machine has at most 2^26 frames, unless blocks past them are asked for: 256 GiB of 4 KiB
+/// frames, for which a judge takes 1 GiB.
 const MOST_FRAMES_ORDER: u32 = 26;
 
-/// What is asked of the judge of a log.
+/// The options of a judgement.
 #[derive(Clone, Copy, Drop)]
 pub struct JudgeOptions {
     block_frames: Option<u64>,
@@ -20,22 +20,24 @@ pub struct JudgeOptions {
     most: u64,
 }
 
-/// Why a machine has no size.
+/// Why the size of a machine is not known, or is wrong.
 #[derive(Clone, Copy, Debug, PartialEq, Eq, Drop)]
 pub enum SizeFault {
-    /// Neither the options nor the log say how many frames a memory block has.
+    /// Neither the options nor the log have the number of frames per memory block.
     Missing,
-    /// The log says another number than the options.
+    /// The log has another number than the options.
     Different,
-    /// The log's number is no power of two up to 2^26, or the blocks of the range have frames beyond
-    /// the numbers of 32 bits then.
+    /// The number in the log is not a power of two up to 2^26, or it gives the blocks of the range
+    /// frame numbers past 32 bits.
     Wrong,
 }
 
 impl JudgeOptions {
-    /// Asks for a log of memory blocks of `block_frames` frames each; if there is none, the log has
-    /// to say how many. Returns None unless that is a power of two up to 2^26, and the blocks of the
-    /// range have numbers of frames in 32 bits.
+    /// Returns options for a log of memory blocks of `block_frames` frames each; if that is `None`,
+    /// the log must have the number.
+    ///
+    /// Returns `None` unless the number is a power of two up to 2^26, and the frames of the range's
+    /// blocks have numbers of 32 bits.
     pub fn new(
         block_frames: Option<u64>,
         range: Option<BlockRange>,
@@ -53,8 +55,8 @@ impl JudgeOptions {
         })
     }
 
-    /// Returns the size of the machine. `told` is how many frames a memory block has if the log says
-    /// so.
+    /// Returns the size of the machine. `told` is the number of frames per memory block in the log,
+    /// if it has one.
     pub fn machine_size(&self, told: Option<u32>) -> Result<MachineSize, SizeFault>
         ensures order { IfOk result (λ size. size.block_order < 32) }
         ensures small { IfOk result (λ size. frame_count size < 2 ^ 32) }
@@ -75,7 +77,7 @@ impl JudgeOptions {
         }
     }
 
-    /// Returns the memory blocks that are judged; all if there is none.
+    /// Returns the memory blocks that are judged; `None` for all.
     pub fn range(&self) -> Option<BlockRange> {
         self.range
     }
@@ -91,7 +93,7 @@ impl JudgeOptions {
     }
 }
 
-/// Returns the size of a machine that has 2^26 frames, or all blocks of the range.
+/// Returns the size of a machine with 2^26 frames, or with all blocks of the range if that is more.
 fn machine_size(block_frames: u64, range: Option<BlockRange>) -> Option<MachineSize>
     ensures order { IfSome result (λ size. size.block_order < 32) }
     ensures small { IfSome result (λ size. frame_count size < 2 ^ 32) }
@@ -107,7 +109,7 @@ fn machine_size(block_frames: u64, range: Option<BlockRange>) -> Option<MachineS
     }
 }
 
-/// Returns the order of a power of two.
+/// Returns the order of a power of two up to 2^26.
 fn order_of(count: u64) -> Option<u32>
     ensures { IfSome result (λ order. order ≤ 26) }
 {
@@ -119,7 +121,8 @@ fn order_of(count: u64) -> Option<u32>
     None
 }
 
-/// Returns how many memory blocks 2^26 frames are, or how many lie before the range's end.
+/// Returns the number of memory blocks in 2^26 frames, or of those before the range's end if that
+/// is more.
 fn most_blocks(order: u32, range: Option<BlockRange>) -> u32
     requires { order ≤ 26 }
 {

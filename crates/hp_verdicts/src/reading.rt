@@ -1,4 +1,4 @@
-//! A log that is judged while it is read.
+//! Reads a log from a stream and judges it.
 ghost use Rattle.std.specs.Prelude.{◌≡◌, ◌<◌, ◌-◌, ◌^◌, OnOk};
 ghost use Rattle.hp_verdicts.specs.declared.reading.JudgeFault.TheVariants.{Log, OutOfMemory, Size};
 
@@ -12,9 +12,10 @@ use std::alloc::{AllocError, Global};
 /// Why a log was not judged.
 #[derive(Clone, Copy, Debug, PartialEq, Eq, Drop)]
 pub enum JudgeFault {
-    /// The log cannot be read on.
+    /// The rest of the log cannot be read.
     Log(LogFault),
-    /// The machine has no size; if the log says one, the fault is of its first line.
+    /// The machine's size is not known or is wrong; if the log gives it, the fault is in its first
+    /// line.
     Size(SizeFault),
     /// The log has more than 2^63 lines.
     TooManyLines,
@@ -58,7 +59,7 @@ pub struct LogReading {
 }
 
 impl LogReading {
-    /// Begins to read a log: its first line may say how many frames a memory block has.
+    /// Starts to read a log. Its first line may have the number of frames per memory block.
     pub fn begin<R: Source>(
         alloc: Global,
         form: LogForm,
@@ -78,7 +79,7 @@ impl LogReading {
         })
     }
 
-    /// Reads the next event, and returns it if there is one.
+    /// Reads and judges the next event, and returns it; `None` at the end of the log.
     pub fn next<R: Source>(&mut self, source: &mut R) -> Result<Option<LogEvent>, JudgeFault>
         requires { R.failures source.old < 2 ^ 64 - 1 }
         ensures { OnOk result (R.failures source.new ≡ R.failures source.old) }
@@ -97,18 +98,18 @@ impl LogReading {
         Ok(Some(event))
     }
 
-    /// Returns the log as far as it was read.
+    /// Returns the log as read so far.
     pub fn log(&self) -> &JudgedLog {
         &self.log
     }
 
-    /// Returns the line of the first fault that is not allowed; empty if there is none.
+    /// Returns the log's line with the first fault that is not allowed; empty if there is none.
     pub fn first_fault(&self) -> &str {
         self.first.as_str()
     }
 }
 
-/// Adds a line to a text, if it is UTF-8.
+/// Appends a line to a text, or a note if it is not UTF-8.
 fn push_line(text: &mut String, line: &[u8]) -> Result<(), AllocError> {
     match str::from_utf8(line) {
         Ok(line) => text.push_str(line),

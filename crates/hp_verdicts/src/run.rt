@@ -1,4 +1,4 @@
-//! Judges the log that a stream has.
+//! Judges a whole log from a stream.
 ghost use Rattle.std.specs.Prelude.{◌≡◌, ◌<◌, ◌-◌, ◌^◌, OnOk};
 
 use crate::objects::report_objects;
@@ -12,16 +12,16 @@ use std::alloc::{AllocError, Global};
 /// The form of a report.
 #[derive(Clone, Copy, Drop)]
 pub enum ReportForm {
-    /// A text.
+    /// Plain text.
     Text,
-    /// An object of JSON a line.
+    /// JSON, one object per line.
     Objects,
 }
 
-/// Judges the log that `source` has, and writes the report. Returns whether the log is lawful, but
-/// for allowed faults.
+/// Judges the log in `source`, and writes the report to `sink`. Returns whether the log is lawful,
+/// apart from allowed faults.
 ///
-/// The log is read as it comes, so that it can be of any length. The report is written at its end.
+/// Keeps no events, so the log can be of any length. Writes the report at the log's end.
 pub fn judge_log<R: Source, W: Sink>(
     alloc: Global,
     form: LogForm,
@@ -41,7 +41,7 @@ pub fn judge_log<R: Source, W: Sink>(
     }
 }
 
-/// Writes a report.
+/// Returns a report.
 fn report_of(alloc: Global, log: &LogReading, form: ReportForm) -> Result<String, AllocError> {
     match form {
         ReportForm::Text => report_text(alloc, log.log(), log.first_fault()),

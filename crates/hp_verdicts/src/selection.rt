@@ -4,7 +4,7 @@ ghost use Rattle.std.specs.Prelude.{◌<◌};
 use hp_judge::{LogEvent, MachineSize};
 use hp_numbers::{Frame, Order};
 
-/// The memory blocks from `first` on, and before `end`.
+/// The memory blocks from `first` up to `end`, which is not in the range.
 #[derive(Clone, Copy, Drop)]
 pub struct BlockRange {
     pub first: u32,
@@ -12,15 +12,15 @@ pub struct BlockRange {
 }
 
 impl BlockRange {
-    /// Returns whether the range has a memory block.
+    /// Returns whether a memory block is in the range.
     pub fn contains(&self, block: u32) -> bool {
         self.first <= block && block < self.end
     }
 
-    /// Returns what an event is for the blocks of the range alone.
+    /// Returns the event as the blocks of the range see it.
     ///
-    /// An event of other blocks is `LogEvent::Other`, so that events keep their numbers. A move that
-    /// leaves the range is a free, and one into it an alloc of a movable page.
+    /// An event of other blocks becomes `LogEvent::Other`, so that events keep their numbers. A
+    /// move out of the range is a free, and one into it an alloc of a movable page.
     pub fn part_of(&self, size: &MachineSize, event: &LogEvent) -> LogEvent
         requires { size.now.block_order < 32 }
     {
@@ -37,7 +37,7 @@ impl BlockRange {
         if is_inside { *event } else { LogEvent::Other }
     }
 
-    /// Returns what a move is for the blocks of the range.
+    /// Returns a move as the blocks of the range see it.
     fn part_of_move(&self, size: &MachineSize, from: Frame, to: Frame) -> LogEvent
         requires { size.now.block_order < 32 }
     {

@@ -1,4 +1,4 @@
-//! A judged log as a text.
+//! The report on a log as text.
 ghost use Rattle.std.specs.Prelude.{◌<◌};
 
 use crate::counts::BlockCounts;
@@ -9,10 +9,10 @@ use hp_judge::{Fault, MachineSize, NumberedFault, Violation};
 use hp_numbers::Frame;
 use std::alloc::{AllocError, Global};
 
-/// The most characters of a line of the log that are shown.
+/// At most this many characters of a log's line are shown.
 const SHOWN: usize = 200;
 
-/// Writes what was found in a log. `first` is the line of its first fault.
+/// Returns the report on a log. `first` is the log's line with the first fault.
 pub(crate) fn report_text(
     alloc: Global,
     log: &JudgedLog,
@@ -89,7 +89,7 @@ fn write_rest(out: &mut String, log: &JudgedLog) -> Result<(), AllocError> {
     writeln!(out, "and {rest} more")
 }
 
-/// Writes a fault: where it is, its kind, and what it is.
+/// Writes a fault: its place, its kind, and what it is.
 fn write_fault(
     out: &mut String,
     size: &MachineSize,
@@ -128,7 +128,7 @@ fn write_violation(
     )
 }
 
-/// Writes the line of a fault between quotation marks.
+/// Writes the log's line that has the fault, between quotation marks.
 fn write_line(out: &mut String, line: &str) -> Result<(), AllocError> {
     out.push_str("    \"")?;
     write_start(out, line, Brackets::Kept, SHOWN)?;

@@ -13,7 +13,7 @@ use hp_numbers::{Block, Frame};
 use std::alloc::{AllocError, Global};
 use std::marker::Model;
 
-/// Reads a log event by event, and knows after each whether the log is lawful so far.
+/// Judges a log event by event, and reports after each whether the log is lawful so far.
 #[derive(Drop)]
 pub struct Verdict {
     judge: Judge,
@@ -34,7 +34,7 @@ impl Model for Verdict {
 }
 
 impl Verdict {
-    /// Makes a verdict on a log of no events. It will keep at most `most` faults.
+    /// Makes a verdict on an empty log. It keeps at most `most` faults.
     pub fn new(alloc: Global, size: MachineSize, allowed: AllowedKinds, most: u64) -> Verdict
         requires order { size.block_order < 32 }
         requires small { frame_count size < 2 ^ 32 }
@@ -50,14 +50,14 @@ impl Verdict {
         }
     }
 
-    /// Returns whether no other event can be read.
+    /// Returns whether the log has as many events as can be read, 2^63.
     pub fn is_full(&self) -> bool
         ensures { IsTrue result ↔ 2 ^ 63 ≤ self.now.tables.count }
     {
         self.judge.is_full()
     }
 
-    /// Reads the next event. If memory is out, the verdict is on no log from then on.
+    /// Reads the next event. After an error, the verdict is on no log.
     pub fn read(&mut self, event: &LogEvent) -> Result<(), AllocError>
         requires { self.old.tables.count < 2 ^ 63 }
         ensures size { self.new.tables.size ≡ self.old.tables.size }
@@ -76,7 +76,7 @@ impl Verdict {
         }
     }
 
-    /// Returns whether the log has no fault but allowed ones.
+    /// Returns whether the log has no faults but allowed ones.
     ///
     /// If no kind is allowed, this is whether a lawful machine can have written the log.
     pub fn is_lawful(&self) -> bool
@@ -108,7 +108,7 @@ impl Verdict {
         self.judge.phase(block)
     }
 
-    /// Returns how many of `count` frames from `start` on are in use, as far as the log says.
+    /// Returns how many of the `count` frames from `start` are in use, as far as the log shows.
     pub fn count_in_use(&self, start: Frame, count: u32) -> u32
         ensures { result ≡ count_in_use self.now.tables.frames start count }
     {

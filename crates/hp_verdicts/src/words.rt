@@ -1,4 +1,4 @@
-//! The names of faults, and what they mean.
+//! The names and texts of faults.
 
 use hp_judge::{Fault, Law};
 
@@ -25,7 +25,7 @@ fn law_name(law: Law) -> &'static str {
     }
 }
 
-/// Returns whether a law is about a frame, and not about a memory block.
+/// Returns whether a law is about a frame, rather than a memory block.
 pub(crate) fn is_of_frame(law: Law) -> bool {
     match law {
         Law::Once | Law::InUse | Law::Present | Law::Empty | Law::Movable => true,
@@ -33,7 +33,7 @@ pub(crate) fn is_of_frame(law: Law) -> bool {
     }
 }
 
-/// Returns what an event does that breaks a law, between the place and the earlier event.
+/// Returns the text of a broken law, which comes between the place and the earlier event.
 pub(crate) fn broken(law: Law) -> &'static str {
     match law {
         Law::Once => "is handed out, and has been in use since",
@@ -48,6 +48,6 @@ pub(crate) fn broken(law: Law) -> &'static str {
     }
 }
 
-/// What is wrong with a malformed event.
+/// The text of a malformed event.
 pub(crate) const MALFORMED: &str =
     "no aligned piece of one memory block, no block of the machine, or a move to the same frame";

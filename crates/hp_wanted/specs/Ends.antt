@@ -4,12 +4,12 @@ use Rattle.hp_schedules.specs.declared.tally.Ending.{Ending}
 use Rattle.hp_wanted.specs.Wanted.{Meets}
 use Rattle.hp_wanted.specs.declared.wanted.Wanted.{Wanted}
 
--- none of the ends before a place has them
+-- no end before this index has them
 abbrev pub HasNoneBefore : List Ending → List Wanted → (place : ℕ) → Type 0
 HasNoneBefore ends wanted place =
     (k : ℕ) (e : Ending) → k < place → slice_get ends k ≡ Some e → Meets wanted e.outcome → ⊥
 
--- an end is the first that has, and none of the ends has
+-- the end is the first that has them; and no end has them
 abbrev pub IsFirstSuchEnd : List Ending → List Wanted → Ending → Type 0
 IsFirstSuchEnd ends wanted e =
     (k : ℕ) × (slice_get ends k ≡ Some e) × Meets wanted e.outcome × HasNoneBefore ends wanted k

@@ -1,4 +1,4 @@
--- Which lines name what is past a layout.
+-- Wanted lines that name something outside the layout.
 use Rattle.std.specs.Prelude.{ℕ, ◌≡◌, ◌+◌, ◌<◌, ◌≤◌, ◌⊎◌, List, Some, None, slice_get}
 use Rattle.hp_units.specs.Arithmetic.{frame_count}
 use Rattle.hp_units.specs.LayoutParts.{LayoutParts}
@@ -11,7 +11,7 @@ use Rattle.hp_wanted.specs.declared.wanted.Pattern.TheVariants.{Exactly, AnyOf}
 use Rattle.hp_wanted.specs.declared.wanted.Wanted.{Wanted}
 use Rattle.hp_wanted.specs.declared.wanted.Wanted.TheVariants.{Answer, Block}
 
--- a refusal, or a reply, names a frame or a memory block past the layout's last
+-- the refusal, or the reply, names a frame or a memory block outside the layout
 abbrev pub IsRefusalPast : LayoutParts → Refusal → Type 0
 IsRefusalPast l (Twice block) = l.blocks ≤ block
 IsRefusalPast l (Busy block) = l.blocks ≤ block
@@ -28,12 +28,12 @@ IsReplyPast l (Moved from to) = (frame_count l ≤ from) ⊎ (frame_count l ≤ 
 IsReplyPast l (Refused refusal) = IsRefusalPast l refusal
 IsReplyPast l reply = ⊥
 
--- what a reply is to be does; a kind of refusals names nothing
+-- the pattern does; a kind of refusals names nothing
 abbrev pub IsPatternPast : LayoutParts → Pattern → Type 0
 IsPatternPast l (Exactly reply) = IsReplyPast l reply
 IsPatternPast l (AnyOf refusal) = ⊥
 
--- a line does, or names a processor or a memory block past the last
+-- the line does, or names a processor or a memory block outside the layout
 abbrev pub IsPast : LayoutParts → Wanted → Type 0
 IsPast l (Answer None reply) = IsPatternPast l reply
 IsPast l (Answer (Some cpu) reply) = (l.cpus ≤ cpu) ⊎ IsPatternPast l reply
@@ -43,7 +43,7 @@ IsPast l (Block block row) = l.blocks ≤ block
 abbrev pub AreWithin : LayoutParts → List Wanted → Type 0
 AreWithin l wanted = (k : ℕ) (line : Wanted) → slice_get wanted k ≡ Some line → IsPast l line → ⊥
 
--- the line with a number, counted from 1, is the first that does
+-- the line with this number, counted from 1, is the first that does
 pub record IsFirstPast (l : LayoutParts) (wanted : List Wanted) (number : ℕ) : Type 0 where
   pub place : ℕ
   pub line : Wanted

@@ -1,4 +1,4 @@
--- What is wanted of the end of a schedule, line by line.
+-- Wanted lines, and which ends have them.
 use Rattle.std.specs.Prelude.{◌≡◌, ℕ, List, Option, Some, None, slice_get}
 use Rattle.hp_units.specs.declared.replies.Refusal.{Refusal}
 use Rattle.hp_units.specs.declared.replies.Refusal.TheVariants.{Twice, Busy, NotOnline, NotOffline, Unmovable, NotFree, NotAbsent}
@@ -10,7 +10,7 @@ use Rattle.hp_wanted.specs.declared.wanted.Pattern.TheVariants.{Exactly, AnyOf}
 use Rattle.hp_wanted.specs.declared.wanted.Wanted.{Wanted}
 use Rattle.hp_wanted.specs.declared.wanted.Wanted.TheVariants.{Answer, Block}
 
--- a refusal but for the frame or block that it names: 0 stands in its place
+-- a refusal with 0 in place of the frame or block that it names
 abbrev pub kind_of : Refusal → Refusal
 kind_of (Twice block) = Twice 0
 kind_of (Busy block) = Busy 0
@@ -21,33 +21,33 @@ kind_of (NotFree frame) = NotFree 0
 kind_of (NotAbsent block) = NotAbsent 0
 kind_of refusal = refusal
 
--- a reply is a refusal of the kind of another
+-- the reply is a refusal for the same reason
 abbrev pub IsKindOf : Refusal → Reply → Type 0
 IsKindOf wanted (Refused refusal) = kind_of refusal ≡ kind_of wanted
 IsKindOf wanted reply = ⊥
 
--- a reply is as wanted
+-- the reply matches
 abbrev pub IsAsWanted : Pattern → Reply → Type 0
 IsAsWanted (Exactly wanted) reply = reply ≡ wanted
 IsAsWanted (AnyOf wanted) reply = IsKindOf wanted reply
 
--- a processor had such a reply
+-- one of a processor's replies matches
 abbrev pub HasReply : Pattern → List Reply → Type 0
 HasReply wanted replies =
     (at : ℕ) × (reply : Reply) × (slice_get replies at ≡ Some reply) × IsAsWanted wanted reply
 
--- the processor with this number had; any, where none is named
+-- one of this processor's replies matches, or one of any processor's if none is named
 abbrev pub HasAnswer : Pattern → List (List Reply) → (cpu : Option ℕ) → Type 0
 HasAnswer wanted all None =
     (cpu : ℕ) × (replies : List Reply) × (slice_get all cpu ≡ Some replies) × HasReply wanted replies
 HasAnswer wanted all (Some cpu) =
     (replies : List Reply) × (slice_get all cpu ≡ Some replies) × HasReply wanted replies
 
--- an outcome has a wanted line
+-- the outcome has the line
 abbrev pub HasLine : OutcomeValue → Wanted → Type 0
 HasLine x (Answer cpu reply) = HasAnswer reply x.replies cpu
 HasLine x (Block block row) = slice_get x.blocks block ≡ Some row
 
--- an outcome has each of the wanted lines
+-- the outcome has all wanted lines
 abbrev pub Meets : List Wanted → OutcomeValue → Type 0
 Meets wanted x = (k : ℕ) (line : Wanted) → slice_get wanted k ≡ Some line → HasLine x line

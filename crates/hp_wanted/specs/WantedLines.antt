@@ -1,4 +1,4 @@
--- A text as a line that an end is to have (own rule).
+-- The text of a wanted line.
 use Rattle.std.specs.Prelude.{ℕ, ◌==◌, List, [], ◌∷◌, codes, Option, Some, None, if◌then◌else◌, option_map}
 use Rattle.std.specs.List.{slice_split}
 use Rattle.std.specs.Str.{bytes_eq}
@@ -24,7 +24,7 @@ parts_of text = slice_split (λ b. b == 58) text
 
 -- ---- refusals
 
--- the refusal with a name, for the frame or block of a number
+-- the refusal with this name, for the frame or block with this number
 unfoldable pub numbered_refusal : (name : List ℕ) → (number : ℕ) → Option Refusal
 numbered_refusal name number =
     if bytes_eq name (codes "Twice") then Some (Twice number)
@@ -36,7 +36,7 @@ numbered_refusal name number =
     else (if bytes_eq name (codes "NotAbsent") then Some (NotAbsent number)
     else None))))))
 
--- that with a name of any kind; 0 stands for the frame or block
+-- the refusal with this name, with 0 for its frame or block
 unfoldable pub named_refusal : (name : List ℕ) → Option Refusal
 named_refusal name =
     if bytes_eq name (codes "NoOwner") then Some NoOwner
@@ -57,7 +57,7 @@ named_refusal name =
     else (if bytes_eq name (codes "BadAddress") then Some BadAddress
     else numbered_refusal name 0)))))))))))))))
 
--- a name alone stands for each refusal of its kind
+-- a name alone matches every refusal of its kind
 unfoldable pub refusal_of : List (List ℕ) → Option Pattern
 refusal_of (name ∷ []) = option_map (λ r. AnyOf r) (named_refusal name)
 refusal_of (name ∷ number ∷ []) = do
@@ -68,7 +68,7 @@ refusal_of _ = None
 
 -- ---- replies
 
--- a reply with no number
+-- a reply without arguments
 unfoldable pub bare_reply : Reply → List (List ℕ) → Option Pattern
 bare_reply reply [] = Some (Exactly reply)
 bare_reply reply _ = None
@@ -80,13 +80,13 @@ moved_reply (from ∷ to ∷ []) = do
   Some (Exactly (Moved f t))
 moved_reply _ = None
 
--- an end tells no number of an operation that was opened: 0 stands in its place
+-- the argument of `opened` must be 0: an end does not show the operation's number
 unfoldable pub opened_reply : List (List ℕ) → Option Pattern
 opened_reply args = do
   op ← only_number 64 args
   if op == 0 then Some (Exactly (Opened 0)) else None
 
--- a reply by its first word and the words after it
+-- a reply from its first word and the other words
 unfoldable pub reply_of : List ℕ → List (List ℕ) → Option Pattern
 reply_of word args =
     if bytes_eq word (codes "done") then bare_reply Done args
@@ -102,16 +102,16 @@ reply_of word args =
 
 -- ---- memory blocks
 
--- a block's row, without the operation that may hold it
+-- a block's row, without a claim
 abbrev pub row_with : State → Option Zone → Row
 row_with state zone = record { state = state; zone = zone; claim = None }
 
--- of a block that is offline or absent
+-- the row of a block that is offline or absent
 unfoldable pub bare_row : State → List (List ℕ) → Option Row
 bare_row state [] = Some (row_with state None)
 bare_row state _ = None
 
--- of one that is online or going, in a zone
+-- the row of a block that is online or going, in a zone
 unfoldable pub zone_row : State → List (List ℕ) → Option Row
 zone_row state (word ∷ []) = option_map (λ z. row_with state (Some z)) (zone_of word)
 zone_row state _ = None
@@ -133,11 +133,11 @@ block_of _ = None
 
 -- ---- lines
 
--- a reply of any processor
+-- a reply to any processor
 unfoldable pub any_of : List ℕ → List (List ℕ) → Option Wanted
 any_of word args = option_map (λ reply. Answer None reply) (reply_of word args)
 
--- that, or a memory block
+-- a reply to any processor, or a memory block
 unfoldable pub line_by : List ℕ → List (List ℕ) → Option Wanted
 line_by word args = if bytes_eq word (codes "block") then block_of args else any_of word args
 
@@ -145,12 +145,12 @@ unfoldable pub line_of : List (List ℕ) → Option Wanted
 line_of [] = None
 line_of (word ∷ args) = line_by word args
 
--- a reply of a processor, after the space that comes after the colon
+-- a reply to one processor, after the space that follows the colon
 unfoldable pub answer_of : (cpu : ℕ) → List (List ℕ) → Option Wanted
 answer_of cpu ([] ∷ word ∷ args) = option_map (λ reply. Answer (Some cpu) reply) (reply_of word args)
 answer_of cpu _ = None
 
--- by the parts between colons
+-- a line from the parts between its colons
 unfoldable pub line_in : List (List ℕ) → Option Wanted
 line_in (line ∷ []) = line_of (words_of line)
 line_in (cpu ∷ line ∷ []) = do

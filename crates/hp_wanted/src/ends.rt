@@ -1,11 +1,11 @@
-//! Which of an exploration's ends are as wanted.
+//! Search among an exploration's ends.
 ghost use Rattle.std.specs.Prelude.{IfNone, IfSome};
 ghost use Rattle.hp_wanted.specs.Ends.{HasNoSuchEnd, IsFirstSuchEnd};
 
 use crate::wanted::{Wanted, are_met};
 use hp_schedules::Ending;
 
-/// The first end that has each of the lines.
+/// Returns the first end that has all wanted lines.
 pub fn end_with<'a>(ends: &'a [Ending], wanted: &[Wanted]) -> Option<&'a Ending>
     ensures some { IfSome result (λ end. IsFirstSuchEnd ends.now wanted.now end.now) }
     ensures none { IfNone result (HasNoSuchEnd ends.now wanted.now) }

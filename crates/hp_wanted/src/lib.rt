@@ -1,11 +1,10 @@
-//! Lines of an end as they are asked for: what each is, which ends have them, which name what is past
-//! a layout, and a text read as one.
+//! The lines that a user wants an end to have: parsing them, matching them, and
+//! checking them against a layout.
 //!
-//! A line is a reply that a processor had, or what became of a memory block. A search of hp_find looks
-//! for an end with such lines. The crate owns what an end has to have, and how a text is read as a line,
-//! in the words in which an end is written; it searches nothing, and writes nothing. It knows no machine,
-//! and so is proved beside hp_explore. Read specs/Wanted first, then specs/Ends, specs/Limits and
-//! specs/WantedLines.
+//! A line is a reply to a processor, or what became of a memory block, in the words in which an end
+//! is printed. hp_find searches for an end with such lines. This crate searches nothing, prints
+//! nothing and knows no machine, so it is proved beside hp_explore. Read specs/Wanted first, then
+//! specs/Ends, specs/Limits and specs/WantedLines.
 #![tactic(auto)]
 
 mod ends;

@@ -1,12 +1,12 @@
-//! Lines that name what is past a layout.
+//! Wanted lines that name something outside the layout.
 ghost use Rattle.std.specs.Prelude.{◌↔◌, IfNone, IfSome, IsTrue};
 ghost use Rattle.hp_wanted.specs.Limits.{AreWithin, IsFirstPast, IsPast, IsPatternPast, IsRefusalPast, IsReplyPast};
 
 use crate::wanted::{Pattern, Wanted};
 use hp_units::{Layout, Refusal, Reply};
 
-/// The number, from 1, of the first line that names a processor, a memory block or a frame past the
-/// layout's last: an end cannot have it (own rule). None where no line does.
+/// Returns the number, from 1, of the first line that names a processor, a memory block or a frame
+/// outside the layout. No end can have such a line.
 pub fn first_past(wanted: &[Wanted], layout: &Layout) -> Option<u64>
     ensures some { IfSome result (IsFirstPast layout.now wanted.now) }
     ensures none { IfNone result (AreWithin layout.now wanted.now) }
@@ -20,7 +20,7 @@ pub fn first_past(wanted: &[Wanted], layout: &Layout) -> Option<u64>
 }
 
 impl Wanted {
-    /// Whether it names what is past the layout.
+    /// Returns whether it names something outside the layout.
     fn is_past(&self, layout: &Layout) -> bool
         ensures { IsTrue result ↔ IsPast layout.now self.now }
     {
@@ -36,7 +36,7 @@ impl Wanted {
 }
 
 impl Pattern {
-    /// Whether it names what is past the layout.
+    /// Returns whether it names something outside the layout.
     fn is_past(&self, layout: &Layout) -> bool
         ensures { IsTrue result ↔ IsPatternPast layout.now self.now }
     {
@@ -47,7 +47,7 @@ impl Pattern {
     }
 }
 
-/// Whether a reply names a frame or a memory block past the layout.
+/// Returns whether the reply names a frame or a memory block outside the layout.
 fn is_reply_past(reply: &Reply, layout: &Layout) -> bool
     ensures { IsTrue result ↔ IsReplyPast layout.now reply.now }
 {
@@ -59,7 +59,7 @@ fn is_reply_past(reply: &Reply, layout: &Layout) -> bool
     }
 }
 
-/// Whether a refusal names a frame or a memory block past the layout.
+/// Returns whether the refusal names a frame or a memory block outside the layout.
 fn is_refusal_past(refusal: Refusal, layout: &Layout) -> bool
     ensures { IsTrue result ↔ IsRefusalPast layout.now refusal }
 {

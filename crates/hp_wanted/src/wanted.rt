@@ -1,30 +1,30 @@
-//! What is wanted of the end of a schedule, line by line.
+//! Wanted lines, and which ends have them.
 ghost use Rattle.std.specs.Prelude.{◌≡◌, ◌↔◌, IsTrue, None, Some, slice_get};
 ghost use Rattle.hp_wanted.specs.Wanted.{HasAnswer, HasLine, HasReply, IsAsWanted, IsKindOf, Meets, kind_of};
 
 use hp_schedules::{Answers, Outcome};
 use hp_units::{Block, Cpu, Frame, Refusal, Reply, Row};
 
-/// What a reply is to be.
+/// A pattern for a reply.
 #[derive(Clone, Copy, PartialEq, Eq, Drop)]
 pub enum Pattern {
-    /// This very reply.
+    /// Exactly this reply.
     Exactly(Reply),
-    /// A refusal for the same reason, whatever frame or block it names.
+    /// Any refusal for this reason, whatever frame or block it names.
     AnyOf(Refusal),
 }
 
-/// A line that an end is to have.
+/// A line that an end must have.
 #[derive(Clone, Copy, PartialEq, Eq, Drop)]
 pub enum Wanted {
-    /// A processor was answered so at some time; any processor, where none is named.
+    /// This processor got such a reply at some time; any processor did, if `cpu` is `None`.
     Answer { cpu: Option<Cpu>, reply: Pattern },
-    /// A memory block has this row in the end, where no operation's hold counts.
+    /// The memory block has this row at the end. Rows never name an operation here.
     Block { block: Block, row: Row },
 }
 
 impl Pattern {
-    /// Whether a reply is as wanted.
+    /// Returns whether the reply matches.
     fn is_met_by(&self, reply: &Reply) -> bool
         ensures { IsTrue result ↔ IsAsWanted self.now reply.now }
     {
@@ -34,7 +34,7 @@ impl Pattern {
         }
     }
 
-    /// Whether one of the replies is as wanted.
+    /// Returns whether one of the replies matches.
     fn is_among(&self, replies: &[Reply]) -> bool
         ensures { IsTrue result ↔ HasReply self.now replies.now }
     {
@@ -46,7 +46,7 @@ impl Pattern {
         false
     }
 
-    /// Whether one of the replies of any processor is as wanted.
+    /// Returns whether one of any processor's replies matches.
     fn is_among_all(&self, all: &[Answers]) -> bool
         ensures { IsTrue result ↔ HasAnswer self.now all.now None }
     {
@@ -58,7 +58,8 @@ impl Pattern {
         false
     }
 
-    /// Whether one of a processor's replies is as wanted; of any processor's, where none is named.
+    /// Returns whether one of this processor's replies matches, or one of any
+    /// processor's if `cpu` is `None`.
     fn is_answered(&self, all: &[Answers], cpu: Option<Cpu>) -> bool
         ensures { IsTrue result ↔ HasAnswer self.now all.now cpu }
     {
@@ -73,7 +74,7 @@ impl Pattern {
 }
 
 impl Wanted {
-    /// Whether an end has the line.
+    /// Returns whether the end has the line.
     fn is_in(&self, outcome: &Outcome) -> bool
         ensures { IsTrue result ↔ HasLine outcome.now self.now }
     {
@@ -84,7 +85,7 @@ impl Wanted {
     }
 }
 
-/// Whether an end has each of the lines.
+/// Returns whether the end has all wanted lines.
 pub fn are_met(wanted: &[Wanted], outcome: &Outcome) -> bool
     ensures { IsTrue result ↔ Meets wanted.now outcome.now }
 {
@@ -96,7 +97,7 @@ pub fn are_met(wanted: &[Wanted], outcome: &Outcome) -> bool
     true
 }
 
-/// Whether a memory block has a row among the rows of all.
+/// Returns whether this is the memory block's row.
 fn has_row(rows: &[Row], block: Block, row: &Row) -> bool
     ensures { IsTrue result ↔ (slice_get rows.now block ≡ Some row.now) }
 {
@@ -106,14 +107,14 @@ fn has_row(rows: &[Row], block: Block, row: &Row) -> bool
     }
 }
 
-/// Whether the rows are the same.
+/// Returns whether both rows are equal.
 fn same_row(row: &Row, other: &Row) -> bool
     ensures { IsTrue result ↔ (row.now ≡ other.now) }
 {
     *row == *other
 }
 
-/// Whether a reply is a refusal for the reason of another.
+/// Returns whether the reply is a refusal for the same reason.
 fn is_of_kind(wanted: Refusal, reply: &Reply) -> bool
     ensures { IsTrue result ↔ IsKindOf wanted reply.now }
 {
@@ -123,7 +124,7 @@ fn is_of_kind(wanted: Refusal, reply: &Reply) -> bool
     }
 }
 
-/// A refusal but for the frame or block that it names: 0 stands in its place.
+/// Returns the refusal with 0 in place of the frame or block that it names.
 fn kind_of(refusal: Refusal) -> Refusal
     ensures { result ≡ kind_of refusal }
 {

@@ -1,4 +1,4 @@
-//! A text as a line that an end is to have.
+//! Parses a wanted line.
 ghost use Rattle.std.specs.Prelude.{◌≡◌, IfOk, OnOk, Some, map, option_map};
 ghost use Rattle.hp_wanted.specs.declared.wanted.Wanted.TheVariants.{Answer};
 ghost use Rattle.hp_scenario.specs.Words.{words_of};
@@ -9,10 +9,11 @@ use hp_scenario::{only32, only64, zone_from};
 use hp_units::{Block, Claim, Cpu, Frame, Refusal, Reply, Row, Serial, State, Zone, number32};
 use std::alloc::{AllocError, Global};
 
-/// The line of an end that a text is, as `explore` writes it (own rule): a reply, as `refused
-/// NotFree 3`, of any processor, or of one, as `0: done`; or a memory block, as `block 1 offline`. A
-/// refusal without its frame or block, as `refused NotFree`, stands for each of its kind. None for a
-/// text that no end has as a line. An error is out of memory.
+/// Parses a line as `explore` prints it, or returns `None` if no end can have the text as a line.
+///
+/// A line is a reply to any processor, as `refused NotFree 3`; a reply to one processor, as
+/// `0: done`; or a memory block, as `block 1 offline`. A refusal without its frame or block, as
+/// `refused NotFree`, matches every refusal of its kind.
 #[tactic(auto, unfolding(crate::specs::WantedLines::wanted_line))]
 pub fn wanted_line(alloc: Global, text: &str) -> Result<Option<Wanted>, AllocError>
     ensures { IfOk result (λ line. line ≡ says.wanted_line text.now) }
@@ -22,7 +23,7 @@ pub fn wanted_line(alloc: Global, text: &str) -> Result<Option<Wanted>, AllocErr
     line_in(alloc, parts.as_slice())
 }
 
-/// Makes `parts` the parts between colons.
+/// Splits the text at its colons into `parts`.
 fn split_parts<'a>(parts: &mut Vec<&'a str>, text: &'a str) -> Result<(), AllocError>
     ensures { OnOk result (map (λ w. w.now) parts.new.items ≡ says.parts_of text.now) }
 {
@@ -30,7 +31,7 @@ fn split_parts<'a>(parts: &mut Vec<&'a str>, text: &'a str) -> Result<(), AllocE
     parts.extend(text.split(':'))
 }
 
-/// Makes `words` the words between single spaces.
+/// Splits the text at its spaces into `words`.
 fn split_words<'a>(words: &mut Vec<&'a str>, text: &'a str) -> Result<(), AllocError>
     ensures { OnOk result (map (λ w. w.now) words.new.items ≡ words_of text.now) }
 {
@@ -38,7 +39,7 @@ fn split_words<'a>(words: &mut Vec<&'a str>, text: &'a str) -> Result<(), AllocE
     words.extend(text.split(' '))
 }
 
-/// The line that parts between colons are.
+/// Parses a line that is split at its colons.
 #[tactic(auto, unfolding(crate::specs::WantedLines::line_in))]
 fn line_in(alloc: Global, parts: &[&str]) -> Result<Option<Wanted>, AllocError>
     ensures { IfOk result (λ line. line ≡ says.line_in (map (λ w. w.now) parts.now)) }
@@ -53,7 +54,7 @@ fn line_in(alloc: Global, parts: &[&str]) -> Result<Option<Wanted>, AllocError>
     }
 }
 
-/// The line that a text with no colon is.
+/// Parses a line without a colon.
 fn lone_line(alloc: Global, text: &str) -> Result<Option<Wanted>, AllocError>
     ensures { IfOk result (λ line. line ≡ says.line_of (words_of text.now)) }
 {
@@ -62,7 +63,7 @@ fn lone_line(alloc: Global, text: &str) -> Result<Option<Wanted>, AllocError>
     Ok(line_from(words.as_slice()))
 }
 
-/// The line of a processor that a text after the processor's colon is.
+/// Parses what follows `CPU:`.
 fn line_of_cpu(alloc: Global, cpu: Cpu, text: &str) -> Result<Option<Wanted>, AllocError>
     ensures { IfOk result (λ line. line ≡ says.answer_of cpu (words_of text.now)) }
 {
@@ -71,7 +72,7 @@ fn line_of_cpu(alloc: Global, cpu: Cpu, text: &str) -> Result<Option<Wanted>, Al
     Ok(answer_from(cpu, words.as_slice()))
 }
 
-/// A reply of any processor, or a memory block.
+/// Parses a reply to any processor, or a memory block.
 #[tactic(auto, unfolding(crate::specs::WantedLines::line_of))]
 fn line_from(words: &[&str]) -> Option<Wanted>
     ensures { result ≡ says.line_of (map (λ w. w.now) words.now) }
@@ -82,7 +83,7 @@ fn line_from(words: &[&str]) -> Option<Wanted>
     line_by(word, args)
 }
 
-/// The same by the first word and the words after it.
+/// Parses the same from its first word and the other words.
 #[tactic(auto, unfolding(crate::specs::WantedLines::line_by))]
 fn line_by(word: &str, args: &[&str]) -> Option<Wanted>
     ensures { result ≡ says.line_by word.now (map (λ w. w.now) args.now) }
@@ -93,7 +94,7 @@ fn line_by(word: &str, args: &[&str]) -> Option<Wanted>
     }
 }
 
-/// A reply of any processor.
+/// Parses a reply to any processor.
 #[tactic(auto, unfolding(crate::specs::WantedLines::any_of))]
 fn any_answer(word: &str, args: &[&str]) -> Option<Wanted>
     ensures { result ≡ says.any_of word.now (map (λ w. w.now) args.now) }
@@ -102,7 +103,7 @@ fn any_answer(word: &str, args: &[&str]) -> Option<Wanted>
     Some(Wanted::Answer { cpu: None, reply })
 }
 
-/// A reply of a processor, after the space that comes after the colon.
+/// Parses a reply to this processor. The first word is empty, since a space follows the colon.
 #[tactic(auto, unfolding(crate::specs::WantedLines::answer_of))]
 fn answer_from(cpu: Cpu, words: &[&str]) -> Option<Wanted>
     ensures { result ≡ says.answer_of cpu (map (λ w. w.now) words.now) }
@@ -119,7 +120,7 @@ fn answer_from(cpu: Cpu, words: &[&str]) -> Option<Wanted>
     }
 }
 
-/// A reply of a processor by its first word and the words after it.
+/// Parses a reply to this processor from its first word and the other words.
 fn cpu_answer(cpu: Cpu, word: &str, args: &[&str]) -> Option<Wanted>
     ensures { result ≡ option_map (λ reply. Answer (Some cpu) reply)
         (says.reply_of word.now (map (λ w. w.now) args.now)) }
@@ -131,7 +132,7 @@ fn cpu_answer(cpu: Cpu, word: &str, args: &[&str]) -> Option<Wanted>
     })
 }
 
-/// A reply by its first word and the words after it.
+/// Parses a reply from its first word and the other words.
 #[tactic(auto, unfolding(crate::specs::WantedLines::reply_of))]
 fn reply_from(word: &str, args: &[&str]) -> Option<Pattern>
     ensures { result ≡ says.reply_of word.now (map (λ w. w.now) args.now) }
@@ -152,7 +153,7 @@ fn reply_from(word: &str, args: &[&str]) -> Option<Pattern>
     }
 }
 
-/// A reply with no number.
+/// Returns a pattern for a reply without arguments.
 #[tactic(auto, unfolding(crate::specs::WantedLines::bare_reply))]
 fn bare_reply(reply: Reply, args: &[&str]) -> Option<Pattern>
     ensures { result ≡ says.bare_reply reply (map (λ w. w.now) args.now) }
@@ -173,7 +174,7 @@ fn moved(args: &[&str]) -> Option<Pattern>
     Some(Pattern::Exactly(Reply::Moved { from, to }))
 }
 
-/// An end tells no number of an operation that was opened: 0 stands in its place.
+/// Parses the argument of `opened`, which must be 0: an end does not show the operation's number.
 #[tactic(auto, unfolding(crate::specs::WantedLines::opened_reply))]
 fn opened(args: &[&str]) -> Option<Pattern>
     ensures { result ≡ says.opened_reply (map (λ w. w.now) args.now) }
@@ -186,7 +187,7 @@ fn opened(args: &[&str]) -> Option<Pattern>
     }
 }
 
-/// A name alone stands for each refusal of its kind.
+/// Parses a refusal. A name alone matches every refusal of its kind.
 #[tactic(auto, unfolding(crate::specs::WantedLines::refusal_of))]
 fn refused(args: &[&str]) -> Option<Pattern>
     ensures { result ≡ says.refusal_of (map (λ w. w.now) args.now) }
@@ -202,7 +203,7 @@ fn refused(args: &[&str]) -> Option<Pattern>
     }
 }
 
-/// The refusal with a name; 0 stands for its frame or block.
+/// Returns the refusal with this name, with 0 for its frame or block.
 #[tactic(auto, unfolding(crate::specs::WantedLines::named_refusal))]
 fn named_refusal(name: &str) -> Option<Refusal>
     ensures { result ≡ says.named_refusal name.now }
@@ -228,7 +229,7 @@ fn named_refusal(name: &str) -> Option<Refusal>
     }
 }
 
-/// The refusal with a name, for the frame or block of a number.
+/// Returns the refusal with this name, for the frame or block with this number.
 #[tactic(auto, unfolding(crate::specs::WantedLines::numbered_refusal))]
 fn numbered_refusal(name: &str, number: u32) -> Option<Refusal>
     ensures { result ≡ says.numbered_refusal name.now number }
@@ -247,7 +248,7 @@ fn numbered_refusal(name: &str, number: u32) -> Option<Refusal>
     }
 }
 
-/// A memory block by its number, and what became of it.
+/// Parses a memory block: its number, and what became of it.
 #[tactic(auto, unfolding(crate::specs::WantedLines::block_of))]
 fn block_from(args: &[&str]) -> Option<Wanted>
     ensures { result ≡ says.block_of (map (λ w. w.now) args.now) }
@@ -260,7 +261,7 @@ fn block_from(args: &[&str]) -> Option<Wanted>
     Some(Wanted::Block { block, row })
 }
 
-/// A memory block's row by its state, and the words after it.
+/// Parses a memory block's row from its state and the other words.
 #[tactic(auto, unfolding(crate::specs::WantedLines::row_of))]
 fn row_from(word: &str, args: &[&str]) -> Option<Row>
     ensures { result ≡ says.row_of word.now (map (λ w. w.now) args.now) }
@@ -274,7 +275,7 @@ fn row_from(word: &str, args: &[&str]) -> Option<Row>
     }
 }
 
-/// The row of a memory block that is offline or absent.
+/// Returns the row of a block that is offline or absent.
 #[tactic(auto, unfolding(crate::specs::WantedLines::bare_row))]
 fn bare_row(state: State, args: &[&str]) -> Option<Row>
     ensures { result ≡ says.bare_row state (map (λ w. w.now) args.now) }
@@ -287,7 +288,7 @@ fn bare_row(state: State, args: &[&str]) -> Option<Row>
     }
 }
 
-/// The row of a memory block that is online or going.
+/// Parses the row of a block that is online or going, which has a zone.
 #[tactic(auto, unfolding(crate::specs::WantedLines::zone_row))]
 fn zone_row(state: State, args: &[&str]) -> Option<Row>
     ensures { result ≡ says.zone_row state (map (λ w. w.now) args.now) }

@@ -1,6 +1,6 @@
-//! Tests of logs: that JSON and the text of ftrace are read as the events that they mean (readers),
-//! that the line of each event is read back as the event (lines), what the judge says of lawful and
-//! unlawful ones (verdicts), and pictures (pictures).
+//! Tests of logs: JSON and ftrace text are read as the events that they mean (readers); the line of
+//! each event is read back as that event (lines); verdicts on lawful and unlawful logs (verdicts);
+//! pictures (pictures).
 //!
 //! `rt test` in this folder proves and runs them. docs/check_judge.py tries the built program on
 //! more logs.

@@ -1,4 +1,4 @@
-//! Events as lines of JSON, written and read back.
+//! Events written as lines of JSON and read back.
 
 use hp_judge::LogEvent;
 use hp_logs::json_event;
@@ -9,7 +9,7 @@ use json::Scratch;
 use std::alloc::{AllocError, Global};
 use std::test::Fail;
 
-/// Whether an event has this line, and the line is read back as an event with the same line.
+/// Returns whether `line` is the event's line, and is read back as an event with the same line.
 fn has_line(alloc: Global, event: &LogEvent, line: &str) -> Result<bool, AllocError> {
     let mut text = String::new(alloc);
     write_event(&mut text, event)?;
@@ -17,7 +17,7 @@ fn has_line(alloc: Global, event: &LogEvent, line: &str) -> Result<bool, AllocEr
     Ok(text.as_str().strip_suffix("\n") == Some(line) && again == text)
 }
 
-/// The line of the event that a line is read as; nothing where it is read as none.
+/// Reads a line and returns the line of its event; empty if the line is no event.
 fn line_of_read(alloc: Global, line: &str) -> Result<String, AllocError> {
     let mut scratch = Scratch::new(alloc);
     let mut out = String::new(alloc);
@@ -27,7 +27,7 @@ fn line_of_read(alloc: Global, line: &str) -> Result<String, AllocError> {
     Ok(out)
 }
 
-/// Whether the events of frames have their lines.
+/// Returns whether the events of frames have their lines.
 fn frames_have_lines(alloc: Global) -> Result<bool, AllocError> {
     let (frame, order) = (Frame(512), Order(3));
     let alloced = LogEvent::Alloc {
@@ -50,7 +50,7 @@ fn frames_have_lines(alloc: Global) -> Result<bool, AllocError> {
     )
 }
 
-/// Whether the begins of memory blocks have their lines.
+/// Returns whether the starts of onlines and offlines have their lines.
 fn begins_have_lines(alloc: Global) -> Result<bool, AllocError> {
     let block = Block(2);
     let normal = LogEvent::OnlineBegins {
@@ -69,7 +69,7 @@ fn begins_have_lines(alloc: Global) -> Result<bool, AllocError> {
     )
 }
 
-/// Whether the ends of memory blocks have their lines.
+/// Returns whether the ends of onlines and offlines have their lines.
 fn ends_have_lines(alloc: Global) -> Result<bool, AllocError> {
     let block = Block(0);
     let online = LogEvent::OnlineEnds { block, ok: true };
@@ -81,7 +81,7 @@ fn ends_have_lines(alloc: Global) -> Result<bool, AllocError> {
     )
 }
 
-/// Whether the size of memory blocks has its line.
+/// Returns whether the size of memory blocks has its line.
 fn size_has_line(alloc: Global) -> Result<bool, AllocError> {
     let mut text = String::new(alloc);
     write_size(&mut text, 1024)?;

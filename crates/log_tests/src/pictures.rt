@@ -9,7 +9,7 @@ use hp_verdicts::{AllowedKinds, JudgeFault, JudgeOptions, SizeFault};
 use std::alloc::{AllocError, Global};
 use std::test::Fail;
 
-/// Draws a log of JSON, of memory blocks of eight frames.
+/// Draws a log of JSON, of memory blocks of eight frames each.
 fn drawn(alloc: Global, log: &str, report: &mut Report) -> Result<bool, JudgeFault>
     requires { report.old.failures ≡ 0 }
 {
@@ -31,7 +31,7 @@ fn a_picture_has_a_band_for_each_block_and_its_ends(rt: HostRuntime) {
     assert!(rt; picture.has(">block 3<"));
     assert!(rt; !picture.has(">block 0<"));
     assert!(rt; picture.has("6 events, lawful: 0 faults, 0 allowed"));
-    // Block 1 is going online from event 0 on, and offline from event 4 on, of six.
+    // Of the six events, block 1 is going online from event 0, and offline from event 4.
     assert!(rt; picture.has("<rect x='80' y='92' width='170' height='20' fill='#7dd3fc'/>"));
     assert!(rt; picture.has("<rect x='762' y='92' width='171' height='20' fill='#fdba74'/>"));
     assert!(rt; picture.has("<path d='M250 93l4 8h-8z' fill='#16a34a'"));
@@ -50,7 +50,8 @@ fn an_unlawful_log_is_drawn_too(rt: HostRuntime) {
     assert!(rt; picture.has("2 events, unlawful: 1 faults, 0 allowed"));
 }
 
-/// The columns of 3,000 events. Number 1,999 left seven frames in use, and the next one none.
+/// Returns the columns of 3,000 events. Event 1,999 left seven frames in use, and the next one
+/// none.
 fn long_columns(alloc: Global) -> Result<Columns, AllocError> {
     let mut columns = Columns::new(alloc);
     columns.read(1999, 7, Marks::none(), Marks::of_online(false))?;
@@ -60,7 +61,7 @@ fn long_columns(alloc: Global) -> Result<Columns, AllocError> {
     Ok(columns)
 }
 
-/// Whether an online failed in a column.
+/// Returns whether an online failed in a column.
 fn has_failed(columns: &Columns, place: usize) -> bool {
     match columns.marks().get(place) {
         Some(marks) => marks.online_failed,

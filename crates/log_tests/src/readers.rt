@@ -1,4 +1,4 @@
-//! Lines and the events that they mean.
+//! Lines of logs, and the events that they mean.
 
 use hp_judge::LogEvent;
 use hp_logs::{LineFault, ftrace_event, json_block_frames, json_event};
@@ -6,7 +6,7 @@ use hp_units::Zone;
 use json::Scratch;
 use std::alloc::Global;
 
-/// An event as numbers: its kind, and what it names.
+/// Returns an event as numbers: its kind, then its fields.
 fn numbers_of(event: &LogEvent) -> [u32; 4] {
     match event {
         LogEvent::Alloc {
@@ -31,14 +31,14 @@ fn zone_number(zone: Zone) -> u32 {
     }
 }
 
-/// The event of a first line of JSON as numbers.
+/// Returns the event of a log's first line of JSON as numbers.
 fn json_numbers(alloc: Global, line: &str) -> Result<[u32; 4], LineFault> {
     let mut scratch = Scratch::new(alloc);
     let event = json_event(line.as_bytes(), true, &mut scratch)?;
     Ok(numbers_of(&event))
 }
 
-/// Whether each line of JSON says what stands beside it.
+/// Returns whether each line of JSON is read as the event beside it.
 fn json_says(alloc: Global, rows: &[(&str, [u32; 4])]) -> bool {
     for (line, wanted) in rows {
         let Ok(numbers) = json_numbers(alloc, line) else {
@@ -51,7 +51,7 @@ fn json_says(alloc: Global, rows: &[(&str, [u32; 4])]) -> bool {
     true
 }
 
-/// Whether each line of JSON has the fault that stands beside it.
+/// Returns whether each line of JSON has the fault beside it.
 fn json_fails(alloc: Global, rows: &[(&str, LineFault)]) -> bool {
     for (line, wanted) in rows {
         let Err(fault) = json_numbers(alloc, line) else {
@@ -64,7 +64,7 @@ fn json_fails(alloc: Global, rows: &[(&str, LineFault)]) -> bool {
     true
 }
 
-/// Whether each line of ftrace is the event that stands beside it.
+/// Returns whether each line of ftrace is read as the event beside it.
 fn ftrace_says(rows: &[(&str, [u32; 4])]) -> bool {
     for (line, wanted) in rows {
         let Ok(event) = ftrace_event(line.as_bytes()) else {
@@ -77,7 +77,7 @@ fn ftrace_says(rows: &[(&str, [u32; 4])]) -> bool {
     true
 }
 
-/// Whether a line of ftrace says that events are missing.
+/// Returns whether a line of ftrace reports that events are missing.
 fn is_lost(line: &str) -> bool {
     match ftrace_event(line.as_bytes()) {
         Ok(_) => false,
@@ -85,7 +85,7 @@ fn is_lost(line: &str) -> bool {
     }
 }
 
-/// The lines of a log of all kinds.
+/// Lines of a log of JSON, of every kind.
 const JSON_LINES: &[(&str, [u32; 4])] = &[
     ("{\"block_frames\": 8}", [8, 0, 0, 0]),
     (
@@ -194,7 +194,7 @@ fn the_first_line_alone_says_how_many_frames_a_block_has(rt: HostRuntime) {
     assert!(rt; !is_late(rt.alloc(), b"{}"));
 }
 
-/// Whether a line is none but the first.
+/// Returns whether a line is refused because only a log's first line may be like it.
 fn is_late(alloc: Global, line: &[u8]) -> bool {
     let mut scratch = Scratch::new(alloc);
     match json_event(line, false, &mut scratch) {

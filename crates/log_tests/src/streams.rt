@@ -5,7 +5,7 @@ use hp_streams::{Failed, Sink, Source};
 use hp_verdicts::JudgeFault;
 use std::alloc::Global;
 
-/// Gives the bytes of a log in pieces of seven, so that lines lie in several.
+/// Gives the bytes of a log in pieces of seven, so that lines are cut.
 #[derive(Drop)]
 pub struct LogBytes<'a> {
     bytes: &'a [u8],
@@ -72,7 +72,7 @@ impl Report {
     }
 }
 
-/// Returns what a judgement found, if there was no fault.
+/// Returns the verdict of a judgement, if there was no fault.
 pub fn answer_of(judged: Result<bool, JudgeFault>) -> Option<bool> {
     match judged {
         Ok(is_lawful) => Some(is_lawful),

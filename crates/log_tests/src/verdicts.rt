@@ -1,4 +1,4 @@
-//! Verdicts on small logs, of memory blocks of eight frames.
+//! Verdicts on small logs, of memory blocks of eight frames each.
 
 ghost use Rattle.std.specs.Prelude.{◌≡◌};
 
@@ -14,11 +14,11 @@ const LAWFUL: &str = "{\"block_frames\": 8}\n{\"online\": 1}\n{\"free\": 8, \"or
      {\"online\": 1, \"end\": \"ok\"}\n{\"alloc\": 9}\n{\"free\": 9}\n{\"offline\": 1}\n\
      {\"offline\": 1, \"end\": \"ok\"}\n";
 
-/// Frame 1 is handed out twice, frame 9 comes back twice, frame 1 once more.
+/// Frame 1 is handed out twice, frame 9 comes back twice, and frame 1 is handed out once more.
 const UNLAWFUL: &str = "{\"alloc\": 1}\n{\"alloc\": 1}\n{\"free\": 9}\n{\"free\": 9}\n\
      {\"alloc\": 1}\n";
 
-/// What is asked of a judgement in a test.
+/// The options of a judgement in a test.
 #[derive(Clone, Copy, Drop)]
 struct Case {
     block_frames: Option<u64>,
@@ -27,7 +27,7 @@ struct Case {
     most: u64,
 }
 
-/// Blocks of eight frames, nothing allowed, ten faults.
+/// Returns blocks of eight frames, nothing allowed, at most ten faults.
 fn plain() -> Case {
     Case {
         block_frames: Some(8),
@@ -57,14 +57,14 @@ fn judged(alloc: Global, case: Case, log: &str, report: &mut Report) -> Result<b
     )
 }
 
-/// Whether a log is judged so, and its report ends so.
+/// Returns whether a log gets this verdict, and its report ends with this text.
 fn ends_with(alloc: Global, case: Case, log: &str, is_lawful: bool, end: &str) -> bool {
     let mut report = Report::new(alloc);
     let answer = answer_of(judged(alloc, case, log, &mut report));
     answer == Some(is_lawful) && report.ends_with(end)
 }
 
-/// Whether a log is not judged for a reason of its size.
+/// Returns whether a log is not judged, for this fault of its size.
 fn fails_for_size(alloc: Global, case: Case, log: &str, wanted: SizeFault) -> bool {
     let mut report = Report::new(alloc);
     match judged(alloc, case, log, &mut report) {

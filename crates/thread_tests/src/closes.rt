@@ -1,4 +1,4 @@
-//! A shared machine that is closed too early: all comes back, and it is closed after that.
+//! A shared machine that is closed too early: everything comes back, and it can be closed then.
 ghost use Rattle.std.specs.Prelude.{◌≡◌};
 ghost use Rattle.hp_shared.specs.Shared.{IsFresh};
 
@@ -13,7 +13,7 @@ use std::sync::Wait;
 use std::sync::ledger::Blank;
 use std::test::Fail;
 
-/// What a close lacks at first.
+/// What the first close lacks.
 #[derive(Clone, Copy, PartialEq, Eq, Drop)]
 enum Lack {
     /// The second seat.
@@ -22,7 +22,7 @@ enum Lack {
     Volume,
 }
 
-/// Returns whether a seat maps its owner's first page, and keeps the one receipt of that.
+/// Maps a seat's owner's first page. Returns whether the reply was `Done`, with one receipt.
 fn maps<L: Job, R: Wait>(rt: &R, alloc: Global, shared: &Shared<L>, seat: &mut Seat<L>) -> bool {
     let event = Event::Map {
         owner: Owner(seat.cpu().0),
@@ -34,7 +34,7 @@ fn maps<L: Job, R: Wait>(rt: &R, alloc: Global, shared: &Shared<L>, seat: &mut S
     }
 }
 
-/// Returns what the first seat seals after it mapped a page, and before the second one maps its own.
+/// Lets the first seat map a page, then seal, then the second one map its own. Returns the volume.
 fn sealed<L: Job, R: Wait>(
     rt: &R,
     alloc: Global,
@@ -52,7 +52,8 @@ fn sealed<L: Job, R: Wait>(
     None
 }
 
-/// How many records a close finds with the second seat, and what came back without it.
+/// Closes with the second seat, which was missing. Returns why the first close was refused, if all
+/// else came back from it, and how many records the second one finds.
 fn closed_with_seat<L: Job>(
     alloc: Global,
     refused: CloseRefused<L>,
@@ -74,7 +75,8 @@ fn closed_with_seat<L: Job>(
     }
 }
 
-/// How many records a close finds with the volume, and what came back without it.
+/// Closes with the volume, which was missing. Returns why the first close was refused, if all else
+/// came back from it, and how many records the second one finds.
 fn closed_with_volume<L: Job>(
     alloc: Global,
     refused: CloseRefused<L>,
@@ -96,7 +98,7 @@ fn closed_with_volume<L: Job>(
     }
 }
 
-/// Closes with the first seat alone, and then with both.
+/// Closes with only the first seat, then with both.
 fn closed_without_seat<L: Job>(
     alloc: Global,
     shared: Shared<L>,
@@ -112,7 +114,7 @@ fn closed_without_seat<L: Job>(
     }
 }
 
-/// Closes without the volume, and then with it.
+/// Closes without the volume, then with it.
 fn closed_without_volume<L: Job>(
     alloc: Global,
     shared: Shared<L>,
@@ -127,7 +129,7 @@ fn closed_without_volume<L: Job>(
     }
 }
 
-/// Why a close that lacks something is refused, and how many records one finds that has all.
+/// Returns why a close that lacks something is refused, and how many records a complete one finds.
 fn closed_at_last<L: Job, R: Wait>(
     rt: &R,
     alloc: Global,
@@ -144,7 +146,7 @@ fn closed_at_last<L: Job, R: Wait>(
     }
 }
 
-/// What that is on a machine.
+/// Plays this on a machine.
 fn plays_on<L: Job, R: Wait>(
     rt: &R,
     alloc: Global,
@@ -165,7 +167,7 @@ fn plays_on<L: Job, R: Wait>(
     closed_at_last(rt, alloc, shared, seats, lack)
 }
 
-/// What that is on a machine at its start.
+/// Plays this on a machine at its start.
 fn plays<R: Wait>(rt: &R, alloc: Global, lack: Lack) -> Result<Option<(CloseFault, u64)>, Fail> {
     let layout = layout(alloc)?;
     let machine = Machine::boot(alloc, &layout)?;

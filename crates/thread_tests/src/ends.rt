@@ -1,16 +1,16 @@
-//! What the program says at its end.
+//! The exit status and the message at the program's end.
 use hp_commands::{Outcome, ProgramFault};
 use hp_units::{Cpu, LayoutFault, Serial};
 use std::alloc::{AllocError, Global};
 use std::test::Fail;
 
-/// Whether an end has this status and this text.
+/// Returns whether an outcome has this status and this text.
 fn is_said(alloc: Global, outcome: Outcome, status: u8, text: &str) -> Result<bool, AllocError> {
     let line = format!(in alloc; "{outcome}")?;
     Ok(outcome.status() == status && line.as_str() == text)
 }
 
-/// Whether the end of a command that failed has status 1 and the text beside it, in each row.
+/// Returns whether each fault in the table has status 1 and the text beside it.
 fn are_said(alloc: Global, table: &[(ProgramFault, &str)]) -> Result<bool, AllocError> {
     for (fault, text) in table {
         if !is_said(alloc, Outcome::Failed(*fault), 1, text)? {

@@ -1,5 +1,5 @@
-//! Searches on a small machine, in one thread, in several, and in parts. What an exploration finds
-//! is compared with every order of random scripts by docs/check_find.py.
+//! Searches on a small machine, in one thread, in several, and in parts. docs/check_find.py
+//! compares explorations with every order of random scripts.
 ghost use Rattle.std.specs.Prelude.{◌≡◌, IfOk, length};
 
 use hp_explore::{ExploreFault, Silent, explore, explore_part, kept_counts_are_added, play};
@@ -14,7 +14,8 @@ use std::alloc::{AllocError, Global};
 use std::test::Fail;
 use std::thread::Threads;
 
-/// A machine of three blocks of four frames, of which the last two are movable, and two processors.
+/// Returns a machine of three blocks of four frames, of which the last two are movable, and two
+/// processors.
 fn booted(alloc: Global) -> Result<Machine, Fail> {
     let parts = Parts {
         order: 2,
@@ -34,7 +35,7 @@ fn booted(alloc: Global) -> Result<Machine, Fail> {
     Ok(machine)
 }
 
-/// A script of so many calls that ask for memory of an order.
+/// Returns a script of `count` calls that ask for kernel memory of an order.
 fn asks(alloc: Global, order: u32, count: u32) -> Result<Script, AllocError> {
     let mut lines = Vec::new(alloc);
     for _line in 0..count {
@@ -45,7 +46,7 @@ fn asks(alloc: Global, order: u32, count: u32) -> Result<Script, AllocError> {
     Ok(Script::new(lines))
 }
 
-/// Two scripts of so many calls, of which the second asks for all memory that the kernel can have.
+/// Returns two scripts of `count` calls; the second asks for all memory that the kernel can have.
 fn scripts(alloc: Global, order: u32, count: u32) -> Result<Vec<Script>, AllocError>
     ensures { IfOk result (λ scripts. length scripts.items ≡ 2) }
 {
@@ -55,7 +56,7 @@ fn scripts(alloc: Global, order: u32, count: u32) -> Result<Vec<Script>, AllocEr
     Ok(scripts)
 }
 
-/// Whether a processor had one reply, this one.
+/// Returns whether a processor had this reply, and no other.
 fn is_sole(answers: &Answers, reply: &Reply) -> bool {
     match answers.as_slice() {
         [sole] => sole.same(reply),
@@ -63,7 +64,8 @@ fn is_sole(answers: &Answers, reply: &Reply) -> bool {
     }
 }
 
-/// Whether one schedule ends so: the processors were answered one reply each, and in this order.
+/// Returns whether one schedule, which processor `first` starts, leads to an end, with one reply
+/// per processor, and these.
 fn is_sole_end(end: &Ending, replies: (&Reply, &Reply), first: u32) -> bool {
     let answered = match end.outcome.replies() {
         [zero, one] => is_sole(zero, replies.0) && is_sole(one, replies.1),
@@ -76,7 +78,8 @@ fn is_sole_end(end: &Ending, replies: (&Reply, &Reply), first: u32) -> bool {
     answered && started && end.count == 1
 }
 
-/// Whether an end's schedule can be played, in two calls, and the end has the rows of three blocks.
+/// Returns whether an end's schedule can be played, in two calls, and the end has the rows of three
+/// blocks.
 fn is_played(alloc: Global, machine: &Machine, scripts: &[Script], end: &Ending) -> bool {
     match play(alloc, machine, scripts, end.first.as_slice()) {
         Ok(Some(played)) => played.history().len() == 2 && end.outcome.blocks().len() == 3,
@@ -84,7 +87,7 @@ fn is_played(alloc: Global, machine: &Machine, scripts: &[Script], end: &Ending)
     }
 }
 
-/// Whether the ends are two, in each of which the processor that came first got the block.
+/// Returns whether there are two ends, and in each the processor that came first got the block.
 fn serve_the_first(alloc: Global, machine: &Machine, scripts: &[Script], ends: &[Ending]) -> bool {
     let got = Reply::Frame(Frame(0));
     let refused = Reply::Refused(Refusal::NoFrame);
@@ -98,7 +101,7 @@ fn serve_the_first(alloc: Global, machine: &Machine, scripts: &[Script], ends: &
     }
 }
 
-/// Whether of two processors that ask for the only block the one gets it that comes first.
+/// Returns whether, of two processors that ask for the only block, the first to ask gets it.
 fn goes_to_the_first(alloc: Global, machine: &Machine) -> Result<bool, AllocError> {
     let scripts = scripts(alloc, 2, 1)?;
     Ok(
@@ -123,19 +126,19 @@ fn a_block_goes_to_the_first(rt: HostRuntime) -> Result<(), Fail> {
     Ok(())
 }
 
-/// Whether two schedules are the same.
+/// Returns whether two schedules are the same.
 fn same_schedules(first: &[Cpu], other: &[Cpu]) -> bool {
     first == other
 }
 
-/// Whether two ends are the same.
+/// Returns whether two ends are the same.
 fn same_end(end: &Ending, other: &Ending) -> bool {
     end.outcome.same(&other.outcome)
         && end.count == other.count
         && same_schedules(end.first.as_slice(), other.first.as_slice())
 }
 
-/// Whether the same ends stand at the same places, of the 20 orders of three calls and three.
+/// Returns whether two lists have the same ends, of the 20 orders of three calls and three.
 fn same_ends(ends: &[Ending], others: &[Ending]) -> bool {
     total_of(ends) == 20
         && ends.len() == others.len()
@@ -145,7 +148,7 @@ fn same_ends(ends: &[Ending], others: &[Ending]) -> bool {
             .all(|(end, other)| same_end(end, other))
 }
 
-/// The ends of each of three parts.
+/// Returns the ends of each of three parts.
 fn three_parts(
     alloc: Global,
     machine: &Machine,
@@ -164,7 +167,7 @@ fn three_parts(
     Ok(lists)
 }
 
-/// Whether three jobs find the ends that the sum of three parts has.
+/// Returns whether a search in three threads finds the ends that the sum of three parts has.
 fn jobs_and_parts_find_the_same<R: Threads + Sync>(
     rt: &R,
     alloc: Global,
@@ -181,7 +184,7 @@ fn jobs_and_parts_find_the_same<R: Threads + Sync>(
     }
 }
 
-/// Whether that is so of two scripts of three calls.
+/// Returns whether that holds of two scripts of three calls.
 fn all_find_the_same<R: Threads + Sync>(
     rt: &R,
     alloc: Global,
@@ -201,7 +204,7 @@ fn a_search_in_threads_finds_the_same(rt: HostRuntime) -> Result<(), Fail> {
     Ok(())
 }
 
-/// Whether a part shows these numbers.
+/// Returns whether a part has these numbers.
 fn shows(part: &Part, index: u32, of: u32, calls: u32) -> bool {
     part.index() == index && part.of() == of && part.calls() == calls
 }

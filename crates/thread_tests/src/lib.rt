@@ -1,14 +1,13 @@
-//! Tests of what runs in threads: a machine that they share, its seats and its close, and workers;
-//! searches, in one thread and in several; and the commands, with streams that give and take pieces
-//! or fail.
+//! Tests of what runs in threads: a shared machine with its seats and its close, and workers; of
+//! searches, in one or several threads; and of the commands, on streams that move pieces or fail.
 //!
-//! Each module tests a crate or two through what they make public: `seats`, `closes` and `locks` test
-//! hp_shared, `workers` hp_workers, with a gate of its own, `explorations` hp_schedules, hp_explore and
-//! hp_parts; `runs`, `pieces` and `ends` test hp_commands, on the streams of `streams`. What these
-//! commands write for many scenarios is compared by runs/check_runs.py.
+//! Each module tests a crate or two from outside: `seats`, `closes` and `locks` hp_shared;
+//! `workers` hp_workers, with a gate of its own; `explorations` hp_schedules, hp_explore and
+//! hp_parts; `runs`, `pieces` and `ends` hp_commands, on the streams of `streams`.
+//! runs/check_runs.py compares what the commands write for many scenarios.
 //!
-//! The crate has nothing but tests: run them by `rt test` in this folder. It is one crate since a
-//! crate of tests is linked with all below it, which costs as much as some thirty functions.
+//! Run them by `rt test` in this folder. They are one crate: linking a crate of tests with all
+//! crates below it costs as much as some thirty functions.
 #![tactic(auto)]
 
 #[cfg(test)]

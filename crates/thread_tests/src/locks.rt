@@ -12,8 +12,8 @@ use std::sync::Wait;
 use std::sync::ledger::Blank;
 use std::test::Fail;
 
-/// Takes a machine from its lock, tries to close it with its first seat alone, and then closes it
-/// with both. Returns why it was not closed at first, and how many records there were then and at
+/// Takes a machine from its lock, tries to close it with only its first seat, and then closes it
+/// with both. Returns why the first close was refused, and how many records there were then and at
 /// the end.
 fn closed_at_last<L: Job>(
     alloc: Global,
@@ -27,7 +27,7 @@ fn closed_at_last<L: Job>(
     }
 }
 
-/// Closes a machine that came back, with one seat more.
+/// Closes a machine that came back, with one more seat.
 fn closed_with<L: Job>(
     alloc: Global,
     refused: NotClosed<L>,
@@ -39,7 +39,8 @@ fn closed_with<L: Job>(
     Some((fault, before, closed.records))
 }
 
-/// Puts a machine that came back under a lock, takes it from there, and closes it with one seat more.
+/// Puts a machine that came back under a lock, takes it from there, and closes it with one more
+/// seat.
 fn closed_again<L: Job>(alloc: Global, refused: NotClosed<L>, seat: Seat<L>) -> Option<Closed> {
     let mut back = refused.share();
     back.seats.push(seat).ok()?;
@@ -47,7 +48,7 @@ fn closed_again<L: Job>(alloc: Global, refused: NotClosed<L>, seat: Seat<L>) -> 
     locked.close(alloc, back.seats, back.volumes).ok()
 }
 
-/// Maps a page by the first of two seats, and closes.
+/// Maps a page through the first of two seats, and closes.
 fn mapped_and_closed<L: Job, R: Wait>(
     rt: &R,
     alloc: Global,
@@ -64,7 +65,7 @@ fn mapped_and_closed<L: Job, R: Wait>(
     closed_at_last(alloc, shared, seats, second)
 }
 
-/// What that is on a machine.
+/// Plays this on a machine.
 fn closes_on<L: Job, R: Wait>(
     rt: &R,
     alloc: Global,
@@ -84,7 +85,7 @@ fn closes_on<L: Job, R: Wait>(
     mapped_and_closed(rt, alloc, shared, seats)
 }
 
-/// What that is on a machine at its start.
+/// Plays this on a machine at its start.
 fn closes<R: Wait>(rt: &R, alloc: Global) -> Result<Option<(CloseFault, u64, u64)>, Fail> {
     let layout = layout(alloc)?;
     let machine = Machine::boot(alloc, &layout)?;

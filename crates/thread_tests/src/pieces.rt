@@ -1,4 +1,4 @@
-//! Streams that give and take pieces, and streams that fail.
+//! Streams that move pieces, and streams that fail.
 use super::streams::{Collected, SCENARIO, Scripted};
 use hp_commands::{ProgramFault, serve_serial};
 use hp_streams::{Counted, read_all, write_all};
@@ -7,7 +7,7 @@ use std::alloc::Global;
 const WRITTEN: &[u8] =
     b"1: frame 0\n2: done\n3: undone 2\nstate\nblock 0 online normal\nblock 1 offline\nNM 2: 0\n";
 
-/// Whether `serial` writes its text where its streams move so many bytes a call.
+/// Returns whether `serial` writes its text through streams that move this many bytes per call.
 fn is_joined(alloc: Global, read: usize, written: usize) -> bool {
     let mut reader = Scripted::new(SCENARIO, read, 0);
     let mut writer = Collected::new(alloc, written, 0);
@@ -22,7 +22,8 @@ fn pieces_are_joined(rt: HostRuntime) {
     assert!(rt; is_joined(rt.alloc(), 4096, 1));
 }
 
-/// Whether a counted reader of the standard library gives these bytes, and a counted writer takes them.
+/// Returns whether a counted reader of the standard library gives these bytes, and a counted writer
+/// takes them.
 fn is_copied(alloc: Global, bytes: &[u8]) -> bool {
     let mut reader = Counted::new(bytes);
     let Ok(read) = read_all(alloc, &mut reader) else {
@@ -39,7 +40,7 @@ fn readers_and_writers_are_streams(rt: HostRuntime) {
     assert!(rt; is_copied(rt.alloc(), WRITTEN));
 }
 
-/// Whether nothing is written where a call of the reader fails.
+/// Returns whether nothing is written if this call of the reader fails.
 fn writes_nothing(alloc: Global, fails_at: u64) -> bool {
     let mut reader = Scripted::new(SCENARIO, 100, fails_at);
     let mut writer = Collected::new(alloc, 4096, 0);
@@ -54,7 +55,7 @@ fn failed_reads_write_nothing(rt: HostRuntime) {
     assert!(rt; writes_nothing(rt.alloc(), 3));
 }
 
-/// Whether a call of the writer that fails is named.
+/// Returns whether `serial` reports that this call of the writer failed.
 fn is_named(alloc: Global, fails_at: u64) -> bool {
     let mut reader = Scripted::new(SCENARIO, 4096, 0);
     let mut writer = Collected::new(alloc, 30, fails_at);

@@ -1,12 +1,12 @@
-//! Each command once, on streams that take all and on streams that fail.
+//! Each command once, on streams that work and on streams that fail.
 use super::streams::{Collected, SCENARIO, Scripted};
 use hp_commands::{Command, ProgramFault, serve};
 use std::alloc::Global;
 use std::sync::Wait;
 use std::thread::Threads;
 
-/// What a command answers to the scenario, and what it writes, where its streams fail at one of
-/// their calls, counted from 1, or at none where that is 0.
+/// Runs a command on the scenario, and returns its result and what it wrote. The streams fail at
+/// these calls, counted from 1; 0 is never.
 fn served<R: Threads + Wait + Sync>(
     rt: &R,
     command: Command,
@@ -20,7 +20,7 @@ fn served<R: Threads + Wait + Sync>(
     (result, writer.bytes)
 }
 
-/// Whether a command writes this text.
+/// Returns whether a command writes this text.
 fn is_written<R: Threads + Wait + Sync>(
     rt: &R,
     alloc: Global,
@@ -43,7 +43,7 @@ fn each_command_writes_its_text(rt: HostRuntime) {
     assert!(rt; is_written(&rt, rt.alloc(), Command::Audit, "3 records\naudit ok\n"));
 }
 
-/// Whether a read that fails and a write that fails are named, the one with nothing written.
+/// Returns whether a command reports a failed read, with nothing written, and a failed write.
 fn are_named<R: Threads + Wait + Sync>(rt: &R, alloc: Global, command: Command) -> bool {
     let (read, bytes) = served(rt, command, alloc, 2, 0);
     let (written, _) = served(rt, command, alloc, 0, 2);

@@ -1,4 +1,4 @@
-//! Two threads that share a machine, and a plan through a seat after that.
+//! Two threads that share a machine, then a plan through a seat.
 ghost use Rattle.std.specs.Prelude.{◌≡◌};
 ghost use Rattle.hp_shared.specs.Shared.{IsFresh};
 
@@ -14,7 +14,7 @@ use std::test::Fail;
 use std::thread;
 use std::thread::Threads;
 
-/// A layout of four memory blocks and two processors.
+/// Returns a layout of four memory blocks and two processors.
 pub fn layout(alloc: Global) -> Result<Layout, Fail> {
     let parts = Parts {
         order: 2,
@@ -33,7 +33,7 @@ pub fn layout(alloc: Global) -> Result<Layout, Fail> {
     Ok(layout)
 }
 
-/// A seat that mapped an owner's first page.
+/// Maps an owner's first page through a seat, and returns the seat.
 fn mapped<L: Job, R: Wait>(
     rt: &R,
     alloc: Global,
@@ -51,7 +51,7 @@ fn mapped<L: Job, R: Wait>(
     seat
 }
 
-/// Two seats, each of which mapped an owner's first page in a thread of its own.
+/// Maps a page through each of two seats, each in a thread of its own, and returns the seats.
 fn both_mapped<L: Job + Send + Sync, R: Threads + Wait + Sync>(
     rt: &R,
     alloc: Global,
@@ -69,7 +69,7 @@ fn both_mapped<L: Job + Send + Sync, R: Threads + Wait + Sync>(
     })
 }
 
-/// Two threads map a page each, each by a seat of its own: the seats after that, in another order.
+/// Maps a page through each of two seats in two threads, and returns the seats in the other order.
 fn mapped_by_two<L: Job + Send + Sync, R: Threads + Wait + Sync>(
     rt: &R,
     alloc: Global,
@@ -82,7 +82,7 @@ fn mapped_by_two<L: Job + Send + Sync, R: Threads + Wait + Sync>(
     vec![in alloc; second, first].ok()
 }
 
-/// How many records a close finds.
+/// Closes, and returns how many records there are.
 fn closed_records<L: Job>(alloc: Global, shared: Shared<L>, seats: Vec<Seat<L>>) -> Option<u64> {
     match close(alloc, shared, seats, Vec::new(alloc)) {
         Ok(closed) => Some(closed.records),
@@ -90,7 +90,7 @@ fn closed_records<L: Job>(alloc: Global, shared: Shared<L>, seats: Vec<Seat<L>>)
     }
 }
 
-/// A plan that takes the third memory block offline.
+/// Returns a plan that takes the third memory block offline.
 fn offline(alloc: Global) -> Result<Plan, AllocError> {
     let item = Item {
         block: Block(2),
@@ -99,7 +99,7 @@ fn offline(alloc: Global) -> Result<Plan, AllocError> {
     Plan::new(alloc, vec![in alloc; item]?)
 }
 
-/// The end of a plan that a seat carries out.
+/// Carries out a plan through a seat, and returns its end.
 fn planned<L: Job, R: Wait>(
     rt: &R,
     alloc: Global,
@@ -111,8 +111,8 @@ fn planned<L: Job, R: Wait>(
     Some(run_plan(alloc, &mut port, plan, 1024))
 }
 
-/// Two threads map a page each, and then a seat takes the pages' block offline: the plan's end, and
-/// how many records a close finds.
+/// Maps a page in each of two threads, then takes the pages' block offline through a seat. Returns
+/// the plan's end, and how many records a close finds.
 fn mapped_and_moved<L: Job + Send + Sync, R: Threads + Wait + Sync>(
     rt: &R,
     alloc: Global,
@@ -125,7 +125,7 @@ fn mapped_and_moved<L: Job + Send + Sync, R: Threads + Wait + Sync>(
     Some((end, records))
 }
 
-/// What that is on a machine.
+/// Plays this on a machine.
 fn plays_on<L: Job + Send + Sync, R: Threads + Wait + Sync>(
     rt: &R,
     alloc: Global,
@@ -145,7 +145,7 @@ fn plays_on<L: Job + Send + Sync, R: Threads + Wait + Sync>(
     mapped_and_moved(rt, alloc, shared, seats)
 }
 
-/// What that is on a machine at its start.
+/// Plays this on a machine at its start.
 fn plays<R: Threads + Wait + Sync>(rt: &R, alloc: Global) -> Result<Option<(OpEnd, u64)>, Fail> {
     let layout = layout(alloc)?;
     let machine = Machine::boot(alloc, &layout)?;

@@ -1,10 +1,10 @@
-//! Streams that fail where they are told to, and a scenario to serve.
+//! Streams that fail at a given call, and a scenario to serve.
 ghost use Rattle.std.specs.Prelude.{◌≡◌, Some};
 
 use hp_streams::{Failed, Sink, Source};
 use std::alloc::Global;
 
-/// Gives bytes in pieces, and fails at one of its calls, counted from 1; at none where that is 0.
+/// Gives bytes in pieces, and fails at call `fails_at`, counted from 1; 0 is never.
 #[derive(Drop)]
 pub struct Scripted<'a> {
     bytes: &'a [u8],
@@ -47,8 +47,7 @@ impl Source for Scripted<'_> {
     }
 }
 
-/// Keeps the bytes that it takes in pieces, and fails at one of its calls, counted from 1; at none
-/// where that is 0.
+/// Takes bytes in pieces and keeps them, and fails at call `fails_at`, counted from 1; 0 is never.
 #[derive(Drop)]
 pub struct Collected {
     pub bytes: Vec<u8>,
@@ -88,6 +87,6 @@ impl Sink for Collected {
     }
 }
 
-/// A kernel block that is taken, given back and undone, on two memory blocks and two processors.
+/// A kernel block is taken, given back and undone, on two memory blocks and two processors.
 pub const SCENARIO: &[u8] =
     br#"{"layout":{"order":2,"pageblocks":1,"blocks":2,"cpus":2,"batch":2,"high":2,"owners":2,"pages":8,"words":2,"history":9,"boot":["normal","offline"]},"calls":["0 kalloc 1","0 kfree 0","0 undo 0"]}"#;

@@ -1,4 +1,4 @@
-//! Workers that meet, and calls between those of a plan, one that ends its operation among them.
+//! Workers that meet, and calls between those of a plan, one of which ends the plan's operation.
 ghost use Rattle.std.specs.Prelude.{◌≡◌};
 ghost use Rattle.hp_scenario.specs.Scripts.{AreForRun};
 ghost use Rattle.hp_shared.specs.Shared.{IsFresh};
@@ -30,14 +30,14 @@ const LAYOUT: &str = concat!(
 /// The end of a line that was done.
 const DONE: LineEnd = LineEnd::Reply(Reply::Done);
 
-/// How the lines of two processors ended, and how many records and which state that left.
+/// The ends of two processors' lines, how many records there are, and the state.
 struct Outcome {
     ends: Vec<Ends>,
     records: u64,
     state: Image,
 }
 
-/// A function of its own, so that no proof of a test takes the fields apart.
+/// Keeps tests from proving again how each field is dropped.
 impl Drop for Outcome {
     fn drop(self) {
         let Outcome {
@@ -49,7 +49,7 @@ impl Drop for Outcome {
 }
 
 impl Outcome {
-    /// Whether the lines of both processors ended so, with so many records.
+    /// Returns whether the lines of both processors have these ends, with this many records.
     fn is(&self, first: &[LineEnd], second: &[LineEnd], records: u64) -> bool {
         let [left, right] = self.ends.as_slice() else {
             return false;
@@ -82,7 +82,7 @@ fn close_after<L: Job>(alloc: Global, shared: Shared<L>, end: RunEnd<L>) -> Opti
     })
 }
 
-/// Runs a script for each processor of a machine, and closes.
+/// Runs one script per processor of a machine, and closes it.
 fn run_scripts<L: Job + Send + Sync, G: Gate + Sync, R: Threads + Wait + Sync>(
     rt: &R,
     alloc: Global,
@@ -112,13 +112,13 @@ fn run_scripts<L: Job + Send + Sync, G: Gate + Sync, R: Threads + Wait + Sync>(
     close_after(alloc, shared, end)
 }
 
-/// The scenario of lines.
+/// Returns the scenario with these lines.
 fn scenario_of(alloc: Global, calls: &str) -> Result<Scenario, Fail> {
     let text = format!(in alloc; "{{\"layout\":{LAYOUT},\"calls\":[{calls}]}}")?;
     Ok(Scenario::read(alloc, text.as_bytes())?)
 }
 
-/// Runs lines on two processors, with a gate round their calls.
+/// Runs lines on two processors, with a gate around their calls.
 fn run_lines<G: Gate + Sync, R: Threads + Wait + Sync>(
     rt: &R,
     alloc: Global,
@@ -140,7 +140,7 @@ fn run_lines<G: Gate + Sync, R: Threads + Wait + Sync>(
 
 #[test]
 fn two_workers_meet(rt: HostRuntime) -> Result<(), Fail> {
-    // None goes on after its first call before the other's first call was answered.
+    // Neither goes on after its first call before the other has its first reply.
     let points = [Point::After(0, 1), Point::After(1, 1), Point::After(0, 1)];
     let gate = InOrder::new(points.as_slice());
     let outcome = run_lines(&rt, rt.alloc(), r#""0 map db 0","1 map web 0""#, &gate)?;
@@ -191,11 +191,11 @@ fn a_page_is_written_between_the_calls_of_a_plan(rt: HostRuntime) -> Result<(), 
     Ok(())
 }
 
-/// For each call of a plan before which its steps are undone: how many steps that takes back, and
-/// how many records there are in the end.
+/// For each call of a plan, when its steps are undone before that call: how many steps that takes
+/// back, and how many records there are in the end.
 const UNDONE: &[(u64, u64)] = &[(0, 8), (1, 4), (2, 5), (3, 6), (4, 7), (4, 8)];
 
-/// Runs a page's map, and a plan whose steps are undone by the other processor before its nth call.
+/// Maps a page, then runs a plan whose steps the other processor undoes before its nth call.
 fn undone_before<R: Threads + Wait + Sync>(
     rt: &R,
     alloc: Global,
@@ -216,7 +216,7 @@ fn undone_before<R: Threads + Wait + Sync>(
     Err(Fail::from("the gate was not met"))
 }
 
-/// The plan that takes block 2 offline.
+/// Returns the plan that takes block 2 offline.
 fn offline(alloc: Global) -> Result<Plan, AllocError> {
     let item = Item {
         block: Block(2),
@@ -225,7 +225,7 @@ fn offline(alloc: Global) -> Result<Plan, AllocError> {
     Plan::new(alloc, vec![in alloc; item]?)
 }
 
-/// Returns the state after the page's map, on one thread, and after the plan if it is carried out.
+/// Returns the state after the page is mapped, on one thread, and after the plan if `is_planned`.
 fn state_of(alloc: Global, is_planned: bool) -> Result<Image, Fail> {
     let scenario = scenario_of(alloc, r#""0 map db 0""#)?;
     let mut machine = Machine::boot(alloc, &scenario.layout)?;
@@ -241,7 +241,7 @@ fn state_of(alloc: Global, is_planned: bool) -> Result<Image, Fail> {
     Err(Fail::from("no state on one thread"))
 }
 
-/// Returns whether a state has a page in block 2, with the frame after it on a processor's list.
+/// Returns whether the page is in block 2, with the frame after it on a processor's list.
 fn is_mapped(state: &Image) -> bool {
     stands_at(state, Frame(8))
         && state.list(Class::Mm, Order(1)) == [Frame(10)].as_slice()
@@ -249,7 +249,7 @@ fn is_mapped(state: &Image) -> bool {
         && state.row(Block(2)) != Some(Row::bare(State::Offline))
 }
 
-/// Returns whether a state has the page in block 0, and block 2 is offline.
+/// Returns whether the page is in block 0, and block 2 is offline.
 fn is_moved(state: &Image) -> bool {
     stands_at(state, Frame(0))
         && state.list(Class::Nm, Order(0)) == [Frame(1)].as_slice()
@@ -257,8 +257,8 @@ fn is_moved(state: &Image) -> bool {
         && state.row(Block(2)) == Some(Row::bare(State::Offline))
 }
 
-/// Returns whether a plan whose steps are undone before its nth call ends so, and leaves the state
-/// of the map alone; undone before its first call, it is carried out.
+/// Returns whether a plan that is undone before its nth call ends as undone, and leaves the state
+/// after the map. If it is undone before its first call, it is carried out.
 fn ends_as_undone<R: Threads + Wait + Sync>(
     rt: &R,
     alloc: Global,
@@ -284,7 +284,7 @@ fn ends_as_undone<R: Threads + Wait + Sync>(
     Ok(ended && is_known && outcome.state.same(&wanted))
 }
 
-/// Returns whether a plan ends as it should before whichever of its calls it is undone.
+/// Returns whether a plan ends as it should, whichever of its calls it is undone before.
 fn each_ends_as_undone<R: Threads + Wait + Sync>(rt: &R, alloc: Global) -> Result<bool, Fail> {
     let mut nth: u64 = 0;
     for (steps, records) in UNDONE {

@@ -1,18 +1,18 @@
-//! A gate that lets workers pass points in one order. It waits for a limit of turns at most, and
-//! then notes that it did.
+//! A gate that lets workers pass points in one order. A wait ends after a limit of turns at the
+//! latest, and the gate then notes that it did.
 use hp_units::Cpu;
 use hp_workers::Gate;
 use std::sync::atomic::{AtomicBool, AtomicU64, Ordering};
 use std::thread;
 
-/// What a worker passes before or after one of its calls, which are counted from 1.
+/// A point that a worker passes before or after one of its calls, which are counted from 1.
 #[derive(Clone, Copy, PartialEq, Eq, Drop)]
 pub enum Point {
     Before(u32, u64),
     After(u32, u64),
 }
 
-/// Holds a worker at each of these points until all points in front of it were passed.
+/// Holds a worker at each of these points until all points before it were passed.
 #[derive(Drop)]
 pub struct InOrder<'a> {
     points: &'a [Point],
@@ -29,7 +29,7 @@ impl<'a> InOrder<'a> {
         }
     }
 
-    /// Waits until so many points were passed.
+    /// Waits until `passed` points were passed.
     fn wait_for(&self, passed: u64) {
         for turn in 0..100_000_000u32 {
             if self.passed.load(Ordering::SeqCst) >= passed {
@@ -42,7 +42,7 @@ impl<'a> InOrder<'a> {
         self.missed.store(true, Ordering::SeqCst);
     }
 
-    /// Passes a point each time that it stands in the order.
+    /// Passes a point, as often as it is in the order.
     fn pass(&self, here: Point) {
         for (place, point) in self.points.iter().enumerate() {
             if *point == here {
@@ -52,7 +52,7 @@ impl<'a> InOrder<'a> {
         }
     }
 
-    /// Whether all points were passed, and each wait ended before its limit.
+    /// Returns whether all points were passed, and no wait reached its limit.
     pub fn was_met(&self) -> bool {
         let passed = self.passed.load(Ordering::SeqCst);
         passed == self.points.len() as u64 && !self.missed.load(Ordering::SeqCst)
