@@ -29,6 +29,7 @@ pub use fault::ScenarioFault;
 pub use form::{boot_at, boots_at, parts_with};
 pub use laws::lines_are_spelled;
 pub use lines::{Line, Lines, Work};
+pub use names::read_line;
 pub use requests::is_line;
 pub use scenario::Scenario;
 pub use scripts::Script;

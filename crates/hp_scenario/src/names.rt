@@ -1,5 +1,5 @@
 //! Numbers names in the order in which they first occur.
-ghost use Rattle.std.specs.Prelude.{◌≡◌, IfOk, IfSome, Some, option_map};
+ghost use Rattle.std.specs.Prelude.{◌≡◌, ◌^◌, ◌<◌, IfNone, IfOk, IfSome, OnErr, Some, option_map};
 ghost use Rattle.std.specs.List.{position};
 ghost use Rattle.std.specs.Str.{bytes_eq};
 ghost use Rattle.indexmap.specs.IndexSet.{insert_key};
@@ -12,8 +12,27 @@ use hp_units::{Event, Owner, Text};
 use indexmap::IndexSet;
 use std::alloc::{AllocError, Global};
 
-/// Reads a line from a text. A new name becomes the last one. `words` is scratch space, used again
-/// for each line.
+/// Reads a line, given the owners' names of the lines before it. A name that is new becomes the
+/// last.
+///
+/// Returns `None` if the text is no line. Then the names are as before, and so they are after an
+/// error.
+pub fn read_line(
+    alloc: Global,
+    names: &mut IndexSet<Text>,
+    text: &str,
+) -> Result<Option<Line>, AllocError>
+    ensures is { IfOk result
+        (λ line. option_map (λ line. record { names = names.new.keys; line = line }) line
+        ≡ line_in names.old.keys text.now) }
+    ensures none { IfOk result (λ line. IfNone line (names.new.keys ≡ names.old.keys)) }
+    ensures err { OnErr result (names.new.keys ≡ names.old.keys) }
+{
+    let mut words = Vec::new(alloc);
+    line_from(alloc, names, &mut words, text)
+}
+
+/// Reads a line as [`read_line`] does. `words` is scratch space, used again for each line.
 #[inline(always)]
 #[tactic(auto, unfolding(crate::specs::Names::line_in))]
 pub(crate) fn line_from<'a>(
@@ -22,8 +41,11 @@ pub(crate) fn line_from<'a>(
     words: &mut Vec<&'a str>,
     text: &'a str,
 ) -> Result<Option<Line>, AllocError>
-    ensures { IfOk result (λ line. option_map (λ line. record { names = names.new.keys; line = line }) line
+    ensures is { IfOk result
+        (λ line. option_map (λ line. record { names = names.new.keys; line = line }) line
         ≡ line_in names.old.keys text.now) }
+    ensures none { IfOk result (λ line. IfNone line (names.new.keys ≡ names.old.keys)) }
+    ensures err { OnErr result (names.new.keys ≡ names.old.keys) }
 {
     let Some(said) = line_says(alloc, words, text)? else {
         return Ok(None);
@@ -40,8 +62,9 @@ fn numbered_work(
     names: &mut IndexSet<Text>,
     request: Request<'_>,
 ) -> Result<Work, AllocError>
-    ensures { IfOk result (λ work. (names.new.keys ≡ names_with names.old.keys (request_seen request.entry))
+    ensures ok { IfOk result (λ work. (names.new.keys ≡ names_with names.old.keys (request_seen request.entry))
         × (work ≡ work_of names.old.keys (request_seen request.entry))) }
+    ensures err { OnErr result (names.new.keys ≡ names.old.keys) }
 {
     match request {
         Request::Plain(work) => Ok(work),
@@ -54,25 +77,28 @@ fn numbered_work(
 
 /// Returns the number of a name. A new name becomes the last one.
 fn owner_of(alloc: Global, names: &mut IndexSet<Text>, name: &str) -> Result<Owner, AllocError>
-    ensures { IfOk result (λ owner. (names.new.keys ≡ insert_key bytes_eq names.old.keys name.now)
+    ensures ok { IfOk result (λ owner. (names.new.keys ≡ insert_key bytes_eq names.old.keys name.now)
         × (owner ≡ owner_of names.old.keys name.now)) }
+    ensures err { OnErr result (names.new.keys ≡ names.old.keys) }
 {
     let index = index_of(alloc, names, name)?;
-    let Ok(index) = u32::try_from(index) else {
-        return Err(AllocError);
-    };
-    Ok(Owner(index))
+    Ok(Owner(index as u32))
 }
 
 /// Returns the place of a name. A new name becomes the last one. Allocates only for a name that is
 /// new, or one of many.
 #[tactic(auto, using(crate::proofs::KnownNames::known_place, crate::proofs::KnownNames::known_stays))]
 fn index_of(alloc: Global, names: &mut IndexSet<Text>, name: &str) -> Result<usize, AllocError>
-    ensures { IfOk result (λ index. (names.new.keys ≡ insert_key bytes_eq names.old.keys name.now)
+    ensures ok { IfOk result (λ index. (names.new.keys ≡ insert_key bytes_eq names.old.keys name.now)
         × (index ≡ owner_of names.old.keys name.now)) }
+    ensures low { IfOk result (λ index. index < 2 ^ 32) }
+    ensures err { OnErr result (names.new.keys ≡ names.old.keys) }
 {
     if let Some(index) = known_index(names, name) {
         return Ok(index);
+    }
+    if names.len() >= u32::MAX as usize {
+        return Err(AllocError);
     }
     let name = Text::new(String::from_str(alloc, name)?);
     let (index, _) = names.insert_full(name)?;
@@ -82,7 +108,8 @@ fn index_of(alloc: Global, names: &mut IndexSet<Text>, name: &str) -> Result<usi
 /// Returns the place of a name among a few, no more than a layout has owners; `None` if it is not
 /// there, or if there are more.
 fn known_index(names: &IndexSet<Text>, name: &str) -> Option<usize>
-    ensures { IfSome result (λ index. position (bytes_eq name.now) names.now.keys ≡ Some index) }
+    ensures is { IfSome result (λ index. position (bytes_eq name.now) names.now.keys ≡ Some index) }
+    ensures low { IfSome result (λ index. index < 2 ^ 32) }
 {
     let known = names.as_slice();
     if known.len() > 64 {

@@ -4,8 +4,8 @@ use Rattle.std.specs.Str.{bytes_eq}
 use Rattle.hp_scenario.proofs.KnownNames.{stands_first}
 use Rattle.hp_scenario.proofs.names.known_index.Goals as goal
 
-pub returns-then-eq : goal.returns-then-eq
-returns-then-eq c =
+pub returns-then-eq-clause-is : goal.returns-then-eq-clause-is
+returns-then-eq-clause-is c =
     let name = c.args.name.now in
     let equal : bytes_eq name c.index-known-index.result ≡ true = cc in
     ap (λ (names : List (List ℕ)). position (bytes_eq name) names) (sym c.as_slice-known.ensures.keys)
