@@ -8,7 +8,7 @@
 
 mod words;
 
-use hp_commands::{Command, Outcome, ProgramFault, serve};
+use hp_commands::{Command, ProgramEnd, ProgramFault, serve};
 use hp_streams::Counted;
 use std::alloc::{AllocError, Global};
 use std::io::{Read, Write};
@@ -37,17 +37,17 @@ fn run<T: Threads + Wait + Sync, R: Read + Drop, W: Write + Drop>(
     alloc: Global,
     input: R,
     output: W,
-) -> Outcome {
+) -> ProgramEnd {
     let mut reader = Counted::new(input);
     let mut writer = Counted::new(output);
     match serve(rt, command, alloc, &mut reader, &mut writer) {
-        Ok(()) => Outcome::Done,
-        Err(fault) => Outcome::Failed(fault),
+        Ok(()) => ProgramEnd::Done,
+        Err(fault) => ProgramEnd::Failed(fault),
     }
 }
 
 /// Runs a command on standard input and output.
-fn run_here(rt: &HostRuntime, command: Command) -> Outcome {
+fn run_here(rt: &HostRuntime, command: Command) -> ProgramEnd {
     run(rt, command, rt.alloc(), rt.stdin(), rt.stdout())
 }
 
@@ -56,7 +56,7 @@ fn run_here(rt: &HostRuntime, command: Command) -> Outcome {
 /// The kernel grows the main thread's stack as it is used, and ends the process if the address
 /// space is full by then, as it may be once there are many threads. If no thread can be made, the
 /// command runs on this one.
-fn run_beside(rt: &HostRuntime, command: Command) -> Outcome {
+fn run_beside(rt: &HostRuntime, command: Command) -> ProgramEnd {
     let (outcome, ()) = thread::join(rt, || run_here(rt, command), || ());
     outcome
 }
@@ -65,10 +65,10 @@ fn main(rt: HostRuntime) -> ExitCode {
     let outcome = match command(&rt) {
         Ok(Some(Command::Serial)) => run_here(&rt, Command::Serial),
         Ok(Some(command)) => run_beside(&rt, command),
-        Ok(None) => Outcome::NoCommand,
-        Err(AllocError) => Outcome::Failed(ProgramFault::OutOfMemory),
+        Ok(None) => ProgramEnd::NoCommand,
+        Err(AllocError) => ProgramEnd::Failed(ProgramFault::OutOfMemory),
     };
-    if outcome != Outcome::Done {
+    if outcome != ProgramEnd::Done {
         let _ = eprintln!(rt; "{outcome}");
     }
     ExitCode::from(outcome.status())

@@ -10,8 +10,8 @@ use hp_lab_faults::ProgramFault;
 use hp_lab_shell::{Answer, Exploration, Word, checked, drawn, logged, traced};
 use hp_part_files::{part_text, sum_text};
 use hp_states::Watch;
-use hp_search::Finding;
-use hp_schedules::PartNumber;
+use hp_search::SearchText;
+use hp_schedules::ShardId;
 use hp_wanted::Wanted;
 use std::alloc::Global;
 use std::thread::Threads;
@@ -76,7 +76,7 @@ fn partial<W: Watch>(
     alloc: Global,
     input: &[u8],
     asked: Exploration,
-    part: &PartNumber,
+    part: &ShardId,
     watch: &mut W,
 ) -> Result<Answer, ProgramFault>
     ensures ok { IfOk result
@@ -133,7 +133,7 @@ fn never<W: Watch>(
 }
 
 /// Returns a search's text, with the status `found` if it found something, and `absent` if not.
-fn answer_with(finding: Finding, found: u8, absent: u8) -> Answer
+fn answer_with(finding: SearchText, found: u8, absent: u8) -> Answer
     ensures text { string_bytes result.text ≡ string_bytes finding.text }
     ensures status { result.status ≡ (if finding.is_found then found else absent) }
 {

@@ -22,5 +22,5 @@ mod serving;
 
 pub use commands::Command;
 pub use fault::ProgramFault;
-pub use outcome::Outcome;
+pub use outcome::ProgramEnd;
 pub use serving::{serve, serve_serial};

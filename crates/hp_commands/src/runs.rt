@@ -25,7 +25,7 @@ use std::thread::Threads;
 
 /// What workers leave: the closed machine, and how each processor's lines ended.
 #[derive(Drop)]
-pub struct Worked {
+pub struct RunResult {
     /// The machine, its sealed records, and how many records it made.
     pub closed: Closed,
     /// How the lines ended, by processor from 0.
@@ -50,7 +50,7 @@ pub fn run<R: Threads + Wait + Sync>(
 }
 
 /// Returns the text of what workers left.
-fn worked_text(alloc: Global, worked: &Worked) -> Result<String, AllocError>
+fn worked_text(alloc: Global, worked: &RunResult) -> Result<String, AllocError>
     ensures { IfOk result (λ out. string_bytes out
         ≡ processors_text worked.now.ends.items ++ records_line worked.now.closed.records) }
 {
@@ -65,7 +65,7 @@ pub fn work_off<R: Threads + Wait + Sync>(
     rt: &R,
     alloc: Global,
     input: &[u8],
-) -> Result<Worked, ProgramFault>
+) -> Result<RunResult, ProgramFault>
     ensures ok { IfOk result (λ worked. IsRunOf input.now worked.ends.items worked.closed.volumes.items
         worked.closed.machine worked.closed.records) }
     ensures err { IfErr result (IsFaultOf Run (Some input.now) ⊥ ⊥) }
@@ -105,7 +105,7 @@ fn run_scripts<L: Job + Send + Sync, R: Threads + Wait + Sync>(
     fulls: Blank,
     machine: Machine,
     scripts: Vec<Script>,
-) -> Result<Worked, ProgramFault>
+) -> Result<RunResult, ProgramFault>
     requires machine { IsFresh L.layout machine }
     requires name { records.name ≡ L.name }
     requires parts { records.parts ≡ L.parts }
@@ -130,7 +130,7 @@ fn close_after<L: Job>(
     alloc: Global,
     shared: Shared<L>,
     end: RunEnd<L>,
-) -> Result<Worked, ProgramFault>
+) -> Result<RunResult, ProgramFault>
     ensures ok { IfOk result (λ worked. (scripts : List (List Line)) → IsRunEnd L.layout
         (first_seats L.layout.cpus) scripts end.seats.items end.volumes.items end.ends.items end.fault
         → IsWorkedOff L.layout scripts worked.ends.items worked.closed.volumes.items worked.closed.machine
@@ -151,7 +151,7 @@ fn close_after<L: Job>(
     match close(alloc, shared, seats, volumes) {
         Ok(closed) => {
             closed.machine.begins_at_boot();
-            Ok(Worked { closed, ends })
+            Ok(RunResult { closed, ends })
         }
         Err(refused) => Err(ProgramFault::from(refused.fault)),
     }

@@ -11,7 +11,7 @@ use Rattle.hp_explore.specs.Paths.{IsBack, PathValue}
 use Rattle.hp_schedules.specs.Schedules.{Setting, next_call, plays, record_of_call, schedule_of}
 use Rattle.hp_states.specs.Seen.{Grow}
 use Rattle.hp_states.specs.Walks.{IsOverBelow, IsPartWalkedBefore, IsPartWalkedThrough}
-use Rattle.hp_states.specs.declared.frames.Frame.{Frame}
+use Rattle.hp_states.specs.declared.frames.Level.{Level}
 use Rattle.hp_schedules.specs.declared.tally.Ending.{Ending}
 use Rattle.hp_states.proofs.OfPart.{comes_on}
 use Rattle.hp_states.proofs.Entered.{frame_grows}
@@ -22,7 +22,7 @@ use Rattle.hp_explore.proofs.Paths.{path_of}
 -- ---- as the ends grow
 
 pub below_grows : (g : Setting) (part : PartValue) (old new : List Ending) (news : List Record)
-    (frames : List Frame)
+    (frames : List Level)
     → Grow old new → AreBelow g part old news frames → AreBelow g part new news frames
 below_grows g part old new news [] grow b = b
 below_grows g part old new news (frame ∷ frames) grow b = (
@@ -48,8 +48,8 @@ pub longer_schedule : (news : List Record) (r : Record)
 longer_schedule news r = map-append (λ (q : Record). q.cpu) news (r ∷ [])
 
 -- a processor asks for nothing
-pub walk_passes : (g : Setting) (part : PartValue) (ends : List Ending) (news : List Record) (frame : Frame)
-    (frames : List Frame)
+pub walk_passes : (g : Setting) (part : PartValue) (ends : List Ending) (news : List Record) (frame : Level)
+    (frames : List Level)
     → plays g (schedule_of news) ≡ Some news → next_call g frame.next news ≡ None
     → frame.next < length g.scripts → AreWalked g part ends news (frame ∷ frames)
     → AreWalked g part ends news (record frame { next = frame.next + 1 } ∷ frames)
@@ -65,7 +65,7 @@ walk_passes g part ends news frame frames played none less w = (
 
 -- a processor makes its call, and leads on to a place
 pub walk_leads : (g : Setting) (part : PartValue) (ends : List Ending) (news later : List Record)
-    (frame : Frame) (frames : List Frame) (event : Event)
+    (frame : Level) (frames : List Level) (event : Event)
     → plays g (schedule_of news) ≡ Some news → next_call g frame.next news ≡ Some event
     → is_full_after g news ≡ false → frame.next < length g.scripts
     → later ≡ news ++ record_of_call g news frame.next event ∷ []
@@ -97,8 +97,8 @@ walk_leads g part ends news later frame frames event played asked room less is w
     there = ap schedule_of is ∙ longer_schedule news (record_of_call g news frame.next event)
 
 -- a place gets its frame
-pub walk_opens : (g : Setting) (part : PartValue) (ends : List Ending) (news : List Record) (frame : Frame)
-    (frames : List Frame)
+pub walk_opens : (g : Setting) (part : PartValue) (ends : List Ending) (news : List Record) (frame : Level)
+    (frames : List Level)
     → frame.next ≡ 0 → frame.is_over ≡ true → IsFrame g part news ends frame
     → IsPartWalkedBefore g part (schedule_of news) ends → AreBelow g part ends news frames
     → AreWalked g part ends news (frame ∷ frames)
@@ -118,23 +118,23 @@ walk_opens g part ends news frame frames zero over is walked below = (
 
 -- ---- the stack
 
-pub frames_pushed : (old reserved new : List Frame) (frame : Frame) → reserved ≡ old
+pub frames_pushed : (old reserved new : List Level) (frame : Level) → reserved ≡ old
     → new ≡ reserved ++ frame ∷ [] → reverse new ≡ frame ∷ reverse old
 frames_pushed old reserved new frame same is =
-    ap reverse (is ∙ ap (λ (fs : List Frame). fs ++ frame ∷ []) same) ∙ reverse-append old (frame ∷ [])
+    ap reverse (is ∙ ap (λ (fs : List Level). fs ++ frame ∷ []) same) ∙ reverse-append old (frame ∷ [])
 
-pub frames_popped : (old new : List Frame) (popped : Option Frame) (frame : Frame)
+pub frames_popped : (old new : List Level) (popped : Option Level) (frame : Level)
     → old ≡ new ++ option_to_list popped → popped ≡ Some frame → reverse old ≡ frame ∷ reverse new
 frames_popped old new popped frame is some =
-    ap reverse (is ∙ ap (λ (o : Option Frame). new ++ option_to_list o) some)
+    ap reverse (is ∙ ap (λ (o : Option Level). new ++ option_to_list o) some)
     ∙ reverse-append new (frame ∷ [])
 
-pub no_frames : (old new : List Frame) (popped : Option Frame) → old ≡ new ++ option_to_list popped
+pub no_frames : (old new : List Level) (popped : Option Level) → old ≡ new ++ option_to_list popped
     → popped ≡ None → reverse old ≡ reverse new
 no_frames old new popped is none =
-    ap reverse (is ∙ (ap (λ (o : Option Frame). new ++ option_to_list o) none ∙ append-nil new))
+    ap reverse (is ∙ (ap (λ (o : Option Level). new ++ option_to_list o) none ∙ append-nil new))
 
-pub none_left : (frames : List Frame) → length frames ≡ 0 → reverse frames ≡ []
+pub none_left : (frames : List Level) → length frames ≡ 0 → reverse frames ≡ []
 none_left [] none = refl
 none_left (frame ∷ frames) none = absurd (omega arith)
 
@@ -191,7 +191,7 @@ back_shorter g news (Some cpu) p q is back =
     )
 
 pub walk_back : (g : Setting) (part : PartValue) (old ends : List Ending) (news : List Record)
-    (frames : List Frame) (cpu : Option ℕ) (p q : PathValue)
+    (frames : List Level) (cpu : Option ℕ) (p q : PathValue)
     → Grow old ends → AreBelow g part old news frames → IsPartWalkedThrough g part (schedule_of news) ends
     → p ≡ path_of g news → IsBack p cpu q → AreWalked g part ends q.news frames
 walk_back g part old ends news [] cpu p q grow b walked is back =
@@ -215,7 +215,7 @@ walk_back g part old ends news (frame ∷ frames) cpu p q grow b walked is back 
 
 -- as many places as records
 pub below_many : (g : Setting) (part : PartValue) (ends : List Ending) (news : List Record)
-    (frames : List Frame)
+    (frames : List Level)
     → AreBelow g part ends news frames → length frames ≡ length news
 below_many g part ends news [] b = sym (ap length b)
 below_many g part ends news (frame ∷ frames) b =

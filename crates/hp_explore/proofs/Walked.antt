@@ -18,27 +18,27 @@ use Rattle.hp_explore.specs.Paths.{IsBack, IsForth, PathValue}
 use Rattle.hp_schedules.specs.Schedules.{Setting, plays, record_of_call, schedule_of}
 use Rattle.hp_states.specs.Seen.{Grow, IsMemo, IsOnWay, MemoValue}
 use Rattle.hp_states.specs.Walks.{IsPartWalkedBefore, IsPartWalkedThrough}
-use Rattle.hp_states.specs.declared.frames.Frame.{Frame}
+use Rattle.hp_states.specs.declared.frames.Level.{Level}
 use Rattle.hp_schedules.proofs.Alike.{call_leaves, event_kept}
 use Rattle.hp_schedules.specs.declared.tally.Ending.{Ending}
 use Rattle.hp_explore.proofs.Framing.{back_setting, back_shorter, walk_back, walk_leads, walk_passes}
 use Rattle.hp_explore.proofs.Paths.{path_of}
 
 -- a processor asked for nothing
-pub passed_on : (p q : PathValue) (part : PartValue) (ends : List Ending) (frame later : Frame)
-    (frames all : List Frame)
+pub passed_on : (p q : PathValue) (part : PartValue) (ends : List Ending) (frame later : Level)
+    (frames all : List Level)
     → plays p.setting (schedule_of p.news) ≡ Some p.news → IsForth p frame.next false q
     → frame.next < length p.setting.scripts → later ≡ record frame { next = frame.next + 1 }
     → all ≡ later ∷ frames → AreWalked p.setting part ends p.news (frame ∷ frames)
     → AreWalked q.setting part ends q.news all
 passed_on p q part ends frame later frames all played forth less is all_is w =
     subst (λ (x : PathValue). AreWalked x.setting part ends x.news all) (sym forth.1)
-    (subst (AreWalked p.setting part ends p.news) (sym (all_is ∙ ap (λ (f : Frame). f ∷ frames) is))
+    (subst (AreWalked p.setting part ends p.news) (sym (all_is ∙ ap (λ (f : Level). f ∷ frames) is))
     (walk_passes p.setting part ends p.news frame frames played forth.0 less w))
 
 -- a processor made its call
-pub led_on : (p q : PathValue) (part : PartValue) (ends : List Ending) (frame later : Frame)
-    (frames all : List Frame)
+pub led_on : (p q : PathValue) (part : PartValue) (ends : List Ending) (frame later : Level)
+    (frames all : List Level)
     → plays p.setting (schedule_of p.news) ≡ Some p.news → IsForth p frame.next true q
     → frame.next < length p.setting.scripts
     → later ≡ record frame { next = frame.next + 1; is_over = false }
@@ -49,9 +49,9 @@ led_on p q part ends frame later frames all played forth less is all_is w =
     subst (λ (x : PathValue). IsPartWalkedBefore x.setting part (schedule_of x.news) ends
     × IsOn (length x.setting.scripts) part (schedule_of x.news) × AreBelow x.setting part ends x.news all)
     (sym forth.3)
-    (subst (λ (fs : List Frame). IsPartWalkedBefore p.setting part (schedule_of longer) ends
+    (subst (λ (fs : List Level). IsPartWalkedBefore p.setting part (schedule_of longer) ends
     × IsOn (length p.setting.scripts) part (schedule_of longer) × AreBelow p.setting part ends longer fs)
-    (sym (all_is ∙ ap (λ (f : Frame). f ∷ frames) is))
+    (sym (all_is ∙ ap (λ (f : Level). f ∷ frames) is))
     (walk_leads p.setting part ends p.news longer frame frames forth.0 played forth.1 forth.2 less refl w))
   where
     longer : List Record
@@ -126,7 +126,7 @@ forth_setting p q cpu false forth = ap (λ (x : PathValue). x.setting) forth.1
 
 -- a place is left
 pub gone_back : (g : Setting) (part : PartValue) (old ends : List Ending) (news : List Record)
-    (frames all : List Frame) (cpu : Option ℕ) (q : PathValue) (memo : MemoValue) (n : ℕ)
+    (frames all : List Level) (cpu : Option ℕ) (q : PathValue) (memo : MemoValue) (n : ℕ)
     → all ≡ frames → Grow old ends → AreBelow g part old news frames
     → IsPartWalkedThrough g part (schedule_of news) ends
     → IsBack (path_of g news) cpu q → IsMemo g ends memo → n ≡ length g.scripts
@@ -168,7 +168,7 @@ arrival p part records memory cursors ends memo is memory_is at played walked on
     })
 
 pub leaving : (p : PathValue) (part : PartValue) (records : List Record) (cursors : List Cursor)
-    (ends : List Ending) (memo : MemoValue) (frame : Frame)
+    (ends : List Ending) (memo : MemoValue) (frame : Level)
     → records ≡ p.news → AreCursors p.setting p.news cursors
     → plays p.setting (schedule_of p.news) ≡ Some p.news → IsFrame p.setting part p.news ends frame
     → IsPartWalkedThrough p.setting part (schedule_of p.news) ends → IsMemo p.setting ends memo

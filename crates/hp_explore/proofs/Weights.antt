@@ -3,7 +3,7 @@ use Rattle.std.proofs.Common.{◌≡◌, ℕ, suc, ◌+◌, ◌-◌, ◌*◌, �
 use Rattle.std.proofs.Math.Nat.{mul-lt-mul_of_pos_right, one-le-pow, pow-suc}
 use Rattle.hp_explore.specs.Frames.{digits, left_of}
 use Rattle.hp_schedules.specs.Schedules.{Setting}
-use Rattle.hp_states.specs.declared.frames.Frame.{Frame}
+use Rattle.hp_states.specs.declared.frames.Level.{Level}
 
 scaled : (a b e : ℕ) → a < b → 0 < e → a * e < b * e
 scaled a b e less some = mul-lt-mul_of_pos_right {m = a} {n = b} {k = e} less some
@@ -32,7 +32,7 @@ back_plain d n e p x t some power is digit =
     omega (arith, h, ap (λ (q : ℕ). d * q) power, ap (λ (y : ℕ). y * e) is)
 
 -- a processor asks for nothing
-pub left_passed : (n most : ℕ) (frames : List Frame) (frame later : Frame) → frame.next < n
+pub left_passed : (n most : ℕ) (frames : List Level) (frame later : Level) → frame.next < n
     → later.next ≡ frame.next + 1 → left_of n most (later ∷ frames) < left_of n most (frame ∷ frames)
 left_passed n most frames frame later less is =
     scaled (digits n (later ∷ frames)) (digits n (frame ∷ frames))
@@ -40,7 +40,7 @@ left_passed n most frames frame later less is =
     (omega (arith, is, less)) (some_power n (most + 1 - suc (length frames)))
 
 -- a processor leads on: so much is left with its place still to come
-pub led_left : (n most : ℕ) (frames : List Frame) (frame later : Frame) → frame.next < n
+pub led_left : (n most : ℕ) (frames : List Level) (frame later : Level) → frame.next < n
     → later.next ≡ frame.next + 1
     → (digits n (later ∷ frames) + 1) * (n + 2) ^ (most + 1 - length (later ∷ frames))
     ≡ left_of n most (frame ∷ frames)
@@ -49,19 +49,19 @@ led_left n most frames frame later less is =
     ap (λ (d : ℕ). d * (n + 2) ^ (most + 1 - suc (length frames))) digit
 
 -- and less once its place was come to
-pub left_led : (n : ℕ) (g h : Setting) (frames all : List Frame) (frame later : Frame) (after : ℕ)
+pub left_led : (n : ℕ) (g h : Setting) (frames all : List Level) (frame later : Level) (after : ℕ)
     → h ≡ g → all ≡ later ∷ frames → frame.next < n → later.next ≡ frame.next + 1
     → after < (digits n all + 1) * (n + 2) ^ (h.layout.history + 1 - length all)
     → after < left_of n g.layout.history (frame ∷ frames)
 left_led n g h frames all frame later after same pushed less is so_far =
     subst (λ (k : ℕ). after < k)
     (ap (λ (x : Setting). (digits n all + 1) * (n + 2) ^ (x.layout.history + 1 - length all)) same
-    ∙ (ap (λ (fs : List Frame). (digits n fs + 1) * (n + 2) ^ (g.layout.history + 1 - length fs)) pushed
+    ∙ (ap (λ (fs : List Level). (digits n fs + 1) * (n + 2) ^ (g.layout.history + 1 - length fs)) pushed
     ∙ led_left n g.layout.history frames frame later less is))
     so_far
 
 -- the place gets its frame
-pub left_opened : (n most : ℕ) (frames : List Frame) (frame : Frame) → frame.next ≡ 0
+pub left_opened : (n most : ℕ) (frames : List Level) (frame : Level) → frame.next ≡ 0
     → length frames ≤ most
     → left_of n most (frame ∷ frames) < (digits n frames + 1) * (n + 2) ^ (most + 1 - length frames)
 left_opened n most frames frame zero le =
@@ -71,14 +71,14 @@ left_opened n most frames frame zero le =
     (omega (arith, zero))
 
 -- or is left at once
-pub left_counted : (n most : ℕ) (frames : List Frame)
+pub left_counted : (n most : ℕ) (frames : List Level)
     → left_of n most frames < (digits n frames + 1) * (n + 2) ^ (most + 1 - length frames)
 left_counted n most frames =
     scaled (digits n frames) (digits n frames + 1) ((n + 2) ^ (most + 1 - length frames)) (omega arith)
     (some_power n (most + 1 - length frames))
 
 -- a place is left
-pub left_back : (n most : ℕ) (frames : List Frame) (frame : Frame) → frame.next ≤ n → length frames ≤ most
+pub left_back : (n most : ℕ) (frames : List Level) (frame : Level) → frame.next ≤ n → length frames ≤ most
     → left_of n most frames < left_of n most (frame ∷ frames)
 left_back n most frames frame within le =
     back_plain (digits n frames) n ((n + 2) ^ (most + 1 - suc (length frames)))

@@ -10,7 +10,7 @@ use Rattle.hp_schedules.specs.Schedules.{Setting, next_call, plays, schedule_of}
 use Rattle.hp_explore.specs.Fronts.{AreFirstInPart}
 use Rattle.hp_states.specs.Seen.{IsMemo, IsOnWay}
 use Rattle.hp_states.specs.Walks.{IsOverBelow, IsPartWalkedBefore, IsPartWalkedThrough}
-use Rattle.hp_states.specs.declared.frames.Frame.{Frame}
+use Rattle.hp_states.specs.declared.frames.Level.{Level}
 use Rattle.hp_schedules.specs.declared.tally.Ending.{Ending}
 use Rattle.hp_explore.specs.declared.walk.Turned.{Turned}
 use Rattle.hp_explore.specs.declared.walk.Turned.TheVariants.{On, Over, Full}
@@ -19,14 +19,14 @@ use Rattle.hp_explore.specs.declared.walk.Walk.{Walk}
 -- all before the frame's next processor is walked, and it is known whether a
 -- processor so far had a call
 pub record AreTurns (g : Setting) (part : PartValue) (news : List Record) (ends : List Ending)
-    (frame : Frame) : Type 0 where
+    (frame : Level) : Type 0 where
   pub walked : IsPartWalkedBefore g part (schedule_of news ++ frame.next ∷ []) ends
   pub over : IsOverBelow g news frame.next frame.is_over
   pub within : frame.next ≤ length g.scripts
 
 -- the places below one, latest first: each led on by a call of the processor before its next, and
 -- the history had room for that call
-abbrev pub AreBelow : Setting → PartValue → List Ending → List Record → List Frame → Type 0
+abbrev pub AreBelow : Setting → PartValue → List Ending → List Record → List Level → Type 0
 AreBelow g part ends news [] = news ≡ []
 AreBelow g part ends news (frame ∷ frames) =
     (before : List Record) × (r : Record) × (event : Event) × (news ≡ before ++ r ∷ [])
@@ -36,7 +36,7 @@ AreBelow g part ends news (frame ∷ frames) =
     × AreBelow g part ends before frames
 
 -- the places of a walk, latest first; with none left, everything is walked
-abbrev pub AreWalked : Setting → PartValue → List Ending → List Record → List Frame → Type 0
+abbrev pub AreWalked : Setting → PartValue → List Ending → List Record → List Level → Type 0
 AreWalked g part ends news [] = IsPartWalkedThrough g part [] ends
 AreWalked g part ends news (frame ∷ frames) =
     AreTurns g part news ends frame × IsFrame g part news ends frame × AreBelow g part ends news frames
@@ -44,7 +44,7 @@ AreWalked g part ends news (frame ∷ frames) =
 -- ---- the walk
 
 -- what holds of a walk whose frames, latest first, are these
-pub record IsWalking (w : Walk) (frames : List Frame) : Type 0 where
+pub record IsWalking (w : Walk) (frames : List Level) : Type 0 where
   pub walked : AreWalked w.path.setting w.part w.tally.ends w.path.news frames
   pub memo : IsMemo w.path.setting w.tally.ends w.memo
   pub way : IsOnWay w.path.setting w.path.news w.memo
@@ -52,22 +52,22 @@ pub record IsWalking (w : Walk) (frames : List Frame) : Type 0 where
   pub few : w.processors < 2 ^ 32
   pub short : length w.path.news ≤ w.path.setting.layout.history
 
-abbrev pub frames_of : Walk → List Frame
+abbrev pub frames_of : Walk → List Level
 frames_of w = reverse w.frames.items
 
 -- how much of a walk is left: a number with one digit per place, in which a later place counts less
-abbrev pub digits : (processors : ℕ) → List Frame → ℕ
+abbrev pub digits : (processors : ℕ) → List Level → ℕ
 digits n [] = 0
 digits n (frame ∷ frames) = digits n frames * (n + 2) + (n + 1 - frame.next)
 
-abbrev pub left_of : (processors most : ℕ) → List Frame → ℕ
+abbrev pub left_of : (processors most : ℕ) → List Level → ℕ
 left_of n most frames = digits n frames * (n + 2) ^ (most + 1 - length frames)
 
-abbrev pub left : Walk → List Frame → ℕ
+abbrev pub left : Walk → List Level → ℕ
 left w frames = left_of w.processors w.path.setting.layout.history frames
 
 -- how much is left before a turn, if this is left after the turn and its place
-abbrev pub left_before : Walk → List Frame → ℕ
+abbrev pub left_before : Walk → List Level → ℕ
 left_before w frames =
     (digits w.processors frames + 1)
     * (w.processors + 2) ^ (w.path.setting.layout.history + 1 - length frames)
@@ -79,7 +79,7 @@ IsSameWalk old new =
 
 -- the walk has just reached a place by a call, or begins: all before it is walked, and the frames,
 -- latest first, are those of the places below
-pub record IsComing (w : Walk) (frames : List Frame) : Type 0 where
+pub record IsComing (w : Walk) (frames : List Level) : Type 0 where
   pub walked : IsPartWalkedBefore w.path.setting w.part (schedule_of w.path.news) w.tally.ends
   pub on : IsOn (length w.path.setting.scripts) w.part (schedule_of w.path.news)
   pub below : AreBelow w.path.setting w.part w.tally.ends w.path.news frames

@@ -11,7 +11,7 @@ ghost use Rattle.hp_explore.specs.Settings.{setting};
 
 use crate::walk::Walk;
 use hp_machine::Machine;
-use hp_schedules::{Ending, Part, Script, call_count};
+use hp_schedules::{Ending, Shard, Script, call_count};
 use hp_states::Watch;
 use hp_units::CallFault;
 use std::alloc::{AllocError, Global};
@@ -101,7 +101,7 @@ pub fn explore<W: Watch>(
     ensures err { IfErr result (IsCause (setting machine.now scripts.now)) }
     ensures full { IfErr result (IsCauseWithin (setting machine.now scripts.now) limit) }
 {
-    explore_part(alloc, machine, scripts, Part::whole(), limit, watch)
+    explore_part(alloc, machine, scripts, Shard::whole(), limit, watch)
 }
 
 /// Explores one part of the complete schedules, like `explore`. The parts can be searched side by
@@ -119,7 +119,7 @@ pub fn explore_part<W: Watch>(
     alloc: Global,
     machine: &Machine,
     scripts: &[Script],
-    part: Part,
+    part: Shard,
     limit: u64,
     watch: &mut W,
 ) -> Result<Exploration, ExploreFault>

@@ -14,7 +14,7 @@ use crate::rooms::left_after;
 use crate::summing::sum;
 use crate::{Exploration, ExploreFault, Silent, Watch, explore, explore_part};
 use hp_machine::Machine;
-use hp_schedules::{Ending, Part, Script};
+use hp_schedules::{Ending, Shard, Script};
 use std::alloc::Global;
 use std::thread;
 use std::thread::Threads;
@@ -150,7 +150,7 @@ fn ends_of_part(
         (λ _. FillsPart (setting machine.now scripts.now) (part parts calls index) → ⊥) }
 {
     let index = u32::try_from(index).ok()?;
-    let part = Part::new(index, parts, calls)?;
+    let part = Shard::new(index, parts, calls)?;
     match explore_part(alloc, machine, scripts, part, limit, &mut Silent) {
         Ok(explored) => {
             if explored.is_whole {

@@ -17,8 +17,8 @@ use crate::exploring::ExploreFault;
 use crate::path::Path;
 use crate::turns::latest;
 use hp_machine::Machine;
-use hp_schedules::{Ending, Part, Script, Tally, is_closed, undo_nothing};
-use hp_states::{Entry, Frame, Memo, Watch, arrive, leave, note};
+use hp_schedules::{Ending, Shard, Script, Tally, is_closed, undo_nothing};
+use hp_states::{Entry, Level, Memo, Watch, arrive, leave, note};
 use std::alloc::{AllocError, Global};
 
 /// The result of one turn of a walk.
@@ -36,10 +36,10 @@ pub(crate) enum Turned {
 pub(crate) struct Walk<'a> {
     path: Path<'a>,
     processors: u32,
-    part: Part,
+    part: Shard,
     tally: Tally,
     memo: Memo,
-    frames: Vec<Frame>,
+    frames: Vec<Level>,
 }
 
 /// Keeps callers from proving again how each field is dropped.
@@ -62,7 +62,7 @@ impl<'a> Walk<'a> {
         alloc: Global,
         machine: &'a Machine,
         scripts: &'a [Script],
-        part: Part,
+        part: Shard,
         limit: u64,
     ) -> Result<Walk<'a>, AllocError>
         requires { length scripts.now < 2 ^ 32 }
@@ -131,7 +131,7 @@ impl<'a> Walk<'a> {
     }
 
     /// Returns whether a schedule of the part ends here, once all processors have been tried.
-    fn is_end(&self, frame: &Frame) -> bool
+    fn is_end(&self, frame: &Level) -> bool
         requires kept { IsWalking self.now (frame.now ∷ frames_of self.now) }
         requires all { self.now.processors ≤ frame.now.next }
         ensures { IsEndHere self.now.path.setting self.now.part self.now.path.news result }
@@ -163,7 +163,7 @@ impl<'a> Walk<'a> {
     fn go_on<W: Watch>(
         &mut self,
         alloc: Global,
-        frame: Frame,
+        frame: Level,
         watch: &mut W,
     ) -> Result<(), ExploreFault>
         requires kept { IsWalking self.old (frame ∷ frames_of self.old) }
@@ -225,7 +225,7 @@ impl<'a> Walk<'a> {
     fn go_back<W: Watch>(
         &mut self,
         alloc: Global,
-        frame: Frame,
+        frame: Level,
         is_end: bool,
         watch: &mut W,
     ) -> Result<(), AllocError>

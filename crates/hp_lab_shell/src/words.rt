@@ -5,7 +5,7 @@ use clap::ArgMatches;
 use hp_search::{EndsForm, ScheduleForm};
 use hp_lab_command::{FILE, FIND, JOBS, JSON, LOG, NEVER, PART, PROGRESS, SCENARIO};
 use hp_numbers::number64;
-use hp_schedules::PartNumber;
+use hp_schedules::ShardId;
 use hp_trace::View;
 use hp_wanted::Wanted;
 
@@ -56,7 +56,7 @@ pub enum Word<'a> {
     /// One part of these.
     Part {
         asked: Exploration,
-        part: &'a PartNumber,
+        part: &'a ShardId,
     },
     /// All of these, in a form, where the text is no scenario, but those of all parts.
     Sum(EndsForm),
@@ -109,13 +109,13 @@ pub(crate) fn is_past_the_found(matches: &ArgMatches<'_>) -> bool {
 const NO_PART: &str = "--part may be I/N, with I from 1 to N, and N at most 1000000";
 
 /// The part that a text asks for as `I/N`.
-fn part_named(text: &str) -> Option<PartNumber> {
+fn part_named(text: &str) -> Option<ShardId> {
     let (number, of) = text.split_once('/')?;
-    PartNumber::new(number64(number)?, number64(of)?)
+    ShardId::new(number64(number)?, number64(of)?)
 }
 
 /// The part that parsed words ask for; none where they name none, or one that there is not.
-pub(crate) fn part_from(matches: &ArgMatches<'_>) -> Option<PartNumber> {
+pub(crate) fn part_from(matches: &ArgMatches<'_>) -> Option<ShardId> {
     let (_name, words) = matches.subcommand()?;
     part_named(words.get_str(PART)?)
 }
@@ -133,7 +133,7 @@ fn files_of<'m, 'a>(names: Option<&'m [&'a str]>) -> &'m [&'a str] {
 pub(crate) fn request_from<'m, 'a, 'w>(
     matches: &'m ArgMatches<'a>,
     wanted: &'w [Wanted],
-    part: Option<&'w PartNumber>,
+    part: Option<&'w ShardId>,
 ) -> Result<Request<'m, 'a, 'w>, &'static str> {
     match matches.subcommand() {
         Some((name, words)) => Ok(Request {
@@ -150,7 +150,7 @@ fn word_from<'a>(
     name: &str,
     words: &ArgMatches<'_>,
     wanted: &'a [Wanted],
-    part: Option<&'a PartNumber>,
+    part: Option<&'a ShardId>,
 ) -> Result<Word<'a>, &'static str> {
     match name {
         "check" => Ok(Word::Check(words.get_one::<u64>("setup").unwrap_or(ALL))),
@@ -165,7 +165,7 @@ fn word_from<'a>(
 fn exploring_word<'a>(
     words: &ArgMatches<'_>,
     wanted: &'a [Wanted],
-    part: Option<&'a PartNumber>,
+    part: Option<&'a ShardId>,
 ) -> Result<Word<'a>, &'static str> {
     let asked = exploration_from(words);
     let form = schedule_form_from(words);

@@ -2,7 +2,7 @@
 ghost use Rattle.std.specs.Prelude.{◌<◌};
 
 use crate::columns::Columns;
-use crate::marks::Marks;
+use crate::marks::BlockSigns;
 use hp_judge::LogEvent;
 use hp_numbers::Block;
 use hp_verdicts::JudgedLog;
@@ -48,7 +48,7 @@ impl LogBands {
     /// Adds the event that `log` has read last.
     pub fn read(&mut self, log: &JudgedLog, event: &LogEvent) -> Result<(), AllocError> {
         let size = log.size();
-        let none = Marks::none();
+        let none = BlockSigns::none();
         match event {
             LogEvent::Alloc { frame, .. } => self.add(log, size.block_of(*frame), none),
             LogEvent::Free { frame, .. } => self.add(log, size.block_of(*frame), none),
@@ -58,8 +58,8 @@ impl LogBands {
             }
             LogEvent::OnlineBegins { block, .. } => self.add(log, block.0, none),
             LogEvent::OfflineBegins { block } => self.add(log, block.0, none),
-            LogEvent::OnlineEnds { block, ok } => self.add(log, block.0, Marks::of_online(*ok)),
-            LogEvent::OfflineEnds { block, ok } => self.add(log, block.0, Marks::of_offline(*ok)),
+            LogEvent::OnlineEnds { block, ok } => self.add(log, block.0, BlockSigns::of_online(*ok)),
+            LogEvent::OfflineEnds { block, ok } => self.add(log, block.0, BlockSigns::of_offline(*ok)),
             LogEvent::Other => Ok(()),
         }
     }
@@ -76,11 +76,11 @@ impl LogBands {
 
 impl LogBands {
     /// Adds the last event to a memory block's band, if the log names the block.
-    fn add(&mut self, log: &JudgedLog, block: u32, ends: Marks) -> Result<(), AllocError> {
+    fn add(&mut self, log: &JudgedLog, block: u32, ends: BlockSigns) -> Result<(), AllocError> {
         let Some(count) = count_in_use(log, block) else {
             return Ok(());
         };
-        let state = Marks::of_phase(&log.verdict().phase(Block(block)));
+        let state = BlockSigns::of_phase(&log.verdict().phase(Block(block)));
         let event = log.verdict().event_count().saturating_sub(1);
         self.make_band(block)?;
         let Some(place) = self.place(block) else {
@@ -127,8 +127,8 @@ fn read_event(
     columns: &mut Columns,
     event: u64,
     count: u32,
-    state: Marks,
-    ends: Marks,
+    state: BlockSigns,
+    ends: BlockSigns,
 ) -> Result<(), AllocError> {
     if columns.event_count() > event || event >= EVENT_LIMIT {
         return Ok(());

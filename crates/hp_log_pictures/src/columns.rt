@@ -2,7 +2,7 @@
 ghost use Rattle.std.specs.Prelude.{◌≡◌, ℕ, ◌+◌, ◌/◌, ◌<◌, ◌≤◌, ◌^◌, [], OnOk, IfOk, length, slice_index};
 ghost use Rattle.hp_log_pictures.specs.Columns.{events_below, peak_at};
 
-use crate::marks::Marks;
+use crate::marks::BlockSigns;
 use std::alloc::{AllocError, Global};
 use std::marker::Model;
 
@@ -23,9 +23,9 @@ pub struct Columns {
     room: u64,
     /// The count that the last event left.
     count: u32,
-    state: Marks,
+    state: BlockSigns,
     peaks: Vec<u32>,
-    marks: Vec<Marks>,
+    marks: Vec<BlockSigns>,
 }
 
 impl Model for Columns {
@@ -57,7 +57,7 @@ impl Columns {
             events: 0,
             room: 0,
             count: 0,
-            state: Marks::none(),
+            state: BlockSigns::none(),
             peaks: Vec::new(alloc),
             marks: Vec::new(alloc),
         }
@@ -88,7 +88,7 @@ impl Columns {
     }
 
     /// Returns the marks of each column.
-    pub fn marks(&self) -> &[Marks] {
+    pub fn marks(&self) -> &[BlockSigns] {
         self.marks.as_slice()
     }
 
@@ -98,8 +98,8 @@ impl Columns {
         &mut self,
         event: u64,
         count: u32,
-        state: Marks,
-        ends: Marks,
+        state: BlockSigns,
+        ends: BlockSigns,
     ) -> Result<(), AllocError>
         requires next { self.old.events ≤ event }
         requires small { event < 2 ^ 63 }
@@ -131,7 +131,7 @@ impl Columns {
     {
         'behind: while self.event_count() < events {
             let rest = events - self.event_count();
-            self.add_some(rest, Marks::none())?;
+            self.add_some(rest, BlockSigns::none())?;
         }
         Ok(())
     }
@@ -139,7 +139,7 @@ impl Columns {
 
 impl Columns {
     /// Sets the count and the marks that events leave from now on.
-    fn set(&mut self, count: u32, state: Marks)
+    fn set(&mut self, count: u32, state: BlockSigns)
         ensures { self.new ≡ record self.old { count = count } }
     {
         self.count = count;
@@ -154,12 +154,12 @@ impl Columns {
     }
 
     /// Returns the marks of an event with these ends.
-    fn marks_with(&self, ends: Marks) -> Marks {
+    fn marks_with(&self, ends: BlockSigns) -> BlockSigns {
         self.state.with(ends)
     }
 
     /// Adds at least one event and at most `most`, all to one column, that left the count as it is.
-    fn add_some(&mut self, most: u64, ends: Marks) -> Result<(), AllocError>
+    fn add_some(&mut self, most: u64, ends: BlockSigns) -> Result<(), AllocError>
         requires some { 0 < most }
         requires small { self.old.events + most ≤ 2 ^ 63 }
         ensures count { self.new.count ≡ self.old.count }
@@ -207,7 +207,7 @@ impl Columns {
     }
 
     /// Adds events to the last column.
-    fn raise_last(&mut self, most: u64, marks: Marks)
+    fn raise_last(&mut self, most: u64, marks: BlockSigns)
         requires some { 0 < most }
         requires room { 0 < self.old.room }
         requires small { self.old.events + most ≤ 2 ^ 63 }
@@ -228,7 +228,7 @@ impl Columns {
     }
 
     /// Adds a column with its first events, after one that is full.
-    fn push_column(&mut self, most: u64, marks: Marks) -> Result<(), AllocError>
+    fn push_column(&mut self, most: u64, marks: BlockSigns) -> Result<(), AllocError>
         requires some { 0 < most }
         requires full { self.old.room ≡ 0 }
         requires few { length self.old.peaks < 1024 }
@@ -271,7 +271,7 @@ impl Columns {
 }
 
 /// Adds marks to those of the last column.
-fn mark_last(columns: &mut Vec<Marks>, marks: Marks) {
+fn mark_last(columns: &mut Vec<BlockSigns>, marks: BlockSigns) {
     if let Some(last) = columns.last_mut() {
         *last = last.with(marks);
     }
@@ -292,7 +292,7 @@ fn joined_peaks(alloc: Global, peaks: &[u32]) -> Result<Vec<u32>, AllocError>
 }
 
 /// Returns the marks of each two neighbours.
-fn joined_marks(alloc: Global, marks: &[Marks]) -> Result<Vec<Marks>, AllocError> {
+fn joined_marks(alloc: Global, marks: &[BlockSigns]) -> Result<Vec<BlockSigns>, AllocError> {
     let mut out = Vec::new(alloc);
     for pair in marks.chunks(2) {
         out.push(all_of(pair))?;
@@ -301,8 +301,8 @@ fn joined_marks(alloc: Global, marks: &[Marks]) -> Result<Vec<Marks>, AllocError
 }
 
 /// Returns the marks of all these columns.
-fn all_of(columns: &[Marks]) -> Marks {
-    let mut all = Marks::none();
+fn all_of(columns: &[BlockSigns]) -> BlockSigns {
+    let mut all = BlockSigns::none();
     for marks in columns {
         all = all.with(*marks);
     }

@@ -17,4 +17,4 @@ mod runs;
 pub use bands::LogBands;
 pub use columns::{Columns, MOST_COLUMNS};
 pub use drawing::draw_log;
-pub use marks::Marks;
+pub use marks::BlockSigns;

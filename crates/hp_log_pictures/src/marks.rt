@@ -4,7 +4,7 @@ use hp_judge::Phase;
 
 /// What happened to a memory block in a column's events.
 #[derive(Clone, Copy, Drop)]
-pub struct Marks {
+pub struct BlockSigns {
     /// Whether an event left the block going online, going offline, or offline.
     pub going_online: bool,
     pub going_offline: bool,
@@ -16,10 +16,10 @@ pub struct Marks {
     pub offline_failed: bool,
 }
 
-impl Marks {
+impl BlockSigns {
     /// Returns no marks.
-    pub fn none() -> Marks {
-        Marks {
+    pub fn none() -> BlockSigns {
+        BlockSigns {
             going_online: false,
             going_offline: false,
             offline: false,
@@ -31,8 +31,8 @@ impl Marks {
     }
 
     /// Returns the mark of a phase.
-    pub fn of_phase(phase: &Phase) -> Marks {
-        let mut marks = Marks::none();
+    pub fn of_phase(phase: &Phase) -> BlockSigns {
+        let mut marks = BlockSigns::none();
         match phase {
             Phase::GoingOnline { .. } => marks.going_online = true,
             Phase::GoingOffline { .. } => marks.going_offline = true,
@@ -43,24 +43,24 @@ impl Marks {
     }
 
     /// Returns the mark of an online that ended.
-    pub fn of_online(ok: bool) -> Marks {
-        let mut marks = Marks::none();
+    pub fn of_online(ok: bool) -> BlockSigns {
+        let mut marks = BlockSigns::none();
         marks.online_ok = ok;
         marks.online_failed = !ok;
         marks
     }
 
     /// Returns the mark of an offline that ended.
-    pub fn of_offline(ok: bool) -> Marks {
-        let mut marks = Marks::none();
+    pub fn of_offline(ok: bool) -> BlockSigns {
+        let mut marks = BlockSigns::none();
         marks.offline_ok = ok;
         marks.offline_failed = !ok;
         marks
     }
 
     /// Returns the marks of both.
-    pub fn with(self, other: Marks) -> Marks {
-        Marks {
+    pub fn with(self, other: BlockSigns) -> BlockSigns {
+        BlockSigns {
             going_online: self.going_online || other.going_online,
             going_offline: self.going_offline || other.going_offline,
             offline: self.offline || other.offline,

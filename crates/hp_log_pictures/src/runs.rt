@@ -3,7 +3,7 @@ ghost use Rattle.std.specs.Prelude.{◌≤◌};
 
 use crate::columns::Columns;
 use crate::elements::{End, IN_USE, write_box, write_end};
-use crate::marks::Marks;
+use crate::marks::BlockSigns;
 use std::alloc::AllocError;
 
 /// The x coordinate of the first event, and the width of all events.
@@ -52,7 +52,7 @@ pub(crate) enum Shade {
 
 impl Shade {
     /// Returns whether a column has the shade.
-    fn is_in(self, marks: &Marks) -> bool {
+    fn is_in(self, marks: &BlockSigns) -> bool {
         match self {
             Shade::GoingOnline => marks.going_online,
             Shade::GoingOffline => marks.going_offline,
@@ -163,7 +163,7 @@ fn write_ends(
 }
 
 /// Writes the signs of a column.
-fn write_ends_at(out: &mut String, x: u64, top: u64, marks: &Marks) -> Result<(), AllocError> {
+fn write_ends_at(out: &mut String, x: u64, top: u64, marks: &BlockSigns) -> Result<(), AllocError> {
     let (above, below) = (top.saturating_add(1), top.saturating_add(11));
     write_end_if(out, marks.online_ok, x, above, End::OnlineOk)?;
     write_end_if(out, marks.offline_ok, x, above, End::OfflineOk)?;

@@ -14,6 +14,6 @@ mod seals;
 mod unrecorded;
 
 pub use machine::Machine;
-pub use machine_port::{Answers, MachinePort};
+pub use machine_port::{CallMachine, MachinePort};
 pub use seals::machines_go_on_from_their_volumes;
 pub use unrecorded::UnrecordedMachine;

@@ -14,7 +14,7 @@ ghost use Rattle.hp_machine.specs.MachinePorts.{IsPlanRun};
 ghost use Rattle.hp_machine.specs.Operations.{KeepsOperations};
 ghost use Rattle.hp_machine.specs.Volumes.{KeepsOperationsAcrossSeals};
 
-use crate::machine_port::{Answers, carry_out};
+use crate::machine_port::{CallMachine, carry_out};
 use hp_blocks::Blocks;
 use hp_buddy::Buddy;
 use hp_cpus::Cpus;
@@ -358,7 +358,7 @@ impl Machine {
     }
 }
 
-impl Answers for Machine {
+impl CallMachine for Machine {
     ghost machine = { λ m. m };
 
     fn cpus(&self) -> u32 {

@@ -9,7 +9,7 @@ use hp_units::{CallFault, Cpu, Event, OpEnd, Plan, Reply, Serial};
 use std::alloc::Global;
 
 /// A machine that replies to calls, whether or not it keeps their records.
-pub trait Answers {
+pub trait CallMachine {
     /// The machine's value.
     ghost machine: { Self → MachineValue };
 
@@ -35,7 +35,7 @@ pub trait Answers {
 /// A processor of a machine. It shows the processor's records of the machine as its receipts; if
 /// the machine keeps none, only in proofs.
 #[derive(Drop)]
-pub struct MachinePort<'a, M: Answers> {
+pub struct MachinePort<'a, M: CallMachine> {
     /// The machine.
     pub machine: &'a mut M,
     /// The processor that calls.
@@ -44,7 +44,7 @@ pub struct MachinePort<'a, M: Answers> {
     pub fault: Option<CallFault>,
 }
 
-impl<'a, M: Answers> MachinePort<'a, M> {
+impl<'a, M: CallMachine> MachinePort<'a, M> {
     /// Returns a processor's port, before its first call.
     pub fn new(machine: &'a mut M, cpu: Cpu) -> MachinePort<'a, M>
         ensures same_reference { result.machine.ghost_name ≡ machine.entry.ghost_name }
@@ -60,7 +60,7 @@ impl<'a, M: Answers> MachinePort<'a, M> {
     }
 }
 
-impl<'a, M: Answers> Port for MachinePort<'a, M> {
+impl<'a, M: CallMachine> Port for MachinePort<'a, M> {
     ghost use Rattle.std.specs.Prelude.{◌≡◌, Some, refl};
     ghost use Rattle.std.proofs.Common.{◌∙◌};
     ghost use Rattle.hp_machine.specs.MachinePorts.{AreCalls, HasCause, makes_joined, port_value};
@@ -104,7 +104,7 @@ impl<'a, M: Answers> Port for MachinePort<'a, M> {
 
 /// Carries out a plan as a processor of a machine: `run_plan` of hp_ops through the processor's
 /// port.
-pub(crate) fn carry_out<M: Answers>(
+pub(crate) fn carry_out<M: CallMachine>(
     alloc: Global,
     machine: &mut M,
     cpu: Cpu,

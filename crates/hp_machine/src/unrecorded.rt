@@ -4,7 +4,7 @@ ghost use Rattle.hp_history.specs.Course.{NeedsNoMemory, receipt_for};
 ghost use Rattle.hp_machine.specs.Machine.{IsCalled, IsSound, booted, is_full, sealed};
 ghost use Rattle.hp_machine.specs.MachinePorts.{IsPlanRun};
 
-use crate::machine_port::{Answers, carry_out};
+use crate::machine_port::{CallMachine, carry_out};
 use hp_history::Journal;
 use hp_memory::Memory;
 use hp_plain::Image;
@@ -131,7 +131,7 @@ impl UnrecordedMachine {
     }
 }
 
-impl Answers for UnrecordedMachine {
+impl CallMachine for UnrecordedMachine {
     ghost machine = { λ m. m };
 
     fn cpus(&self) -> u32 {

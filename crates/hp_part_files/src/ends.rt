@@ -8,7 +8,7 @@ ghost use Rattle.hp_part_files.specs.Ends.{IsEndOf, IsFollowed};
 
 use hp_explore::{ExploreFault, Path, is_over};
 use hp_machine::Machine;
-use hp_schedules::{Outcome, Part, Script};
+use hp_schedules::{Outcome, Shard, Script};
 use hp_units::Cpu;
 use std::alloc::{AllocError, Global};
 
@@ -21,7 +21,7 @@ pub(crate) fn end_of(
     alloc: Global,
     machine: &Machine,
     scripts: &[Script],
-    part: Part,
+    part: Shard,
     schedule: &[Cpu],
 ) -> Result<Option<Outcome>, ExploreFault>
     requires { length scripts.now < 2 ^ 32 }
@@ -62,7 +62,7 @@ fn end_at(
     alloc: Global,
     path: &Path<'_>,
     processors: u32,
-    part: Part,
+    part: Shard,
 ) -> Result<Option<Outcome>, AllocError>
     requires { processors ≡ length path.now.setting.scripts }
     ensures { IfOk result (IsEndOf path.now.setting part (schedule_of path.now.news)) }

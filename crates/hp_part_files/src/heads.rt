@@ -5,7 +5,7 @@ ghost use Rattle.hp_part_files.specs.Heads.{IsNumber, head_calls, head_counts, h
 
 use crate::reading::{narrow, number_at, text_at};
 use hp_escapes::{Brackets, write_escaped};
-use hp_schedules::{Part, PartNumber};
+use hp_schedules::{Shard, ShardId};
 use serde_json::Value;
 use std::alloc::{AllocError, Global};
 use std::marker::Model;
@@ -33,11 +33,11 @@ impl<'a> Model for Search<'a> {
 
 impl Search<'_> {
     /// Returns part `number`, counted from 1.
-    pub fn part(&self, number: u32) -> Part
+    pub fn part(&self, number: u32) -> Shard
         requires { IsNumber self.now number }
         ensures { result ≡ part_in self.now number }
     {
-        match Part::new(number - 1, self.of, self.calls) {
+        match Shard::new(number - 1, self.of, self.calls) {
             Some(part) => part,
             None => unreachable!(),
         }
@@ -92,7 +92,7 @@ fn head_with<'a>(
     ensures is { option_map (λ h. h) result ≡ with_numbers number of calls setup ends scenario.now }
     ensures number { IfSome result (λ h. IsNumber h.search h.number) }
 {
-    let number = PartNumber::new(number, of)?;
+    let number = ShardId::new(number, of)?;
     Some(Head {
         number: number.number(),
         ends,

@@ -9,8 +9,8 @@ use crate::Search;
 use crate::writing::write_part;
 use hp_explore::{Exploration, ExploreFault, Watch, calls_for, explore_part};
 use hp_lab_faults::LabFault;
-use hp_schedules::{PartNumber, total_of};
-use hp_search::{Finding, Prepared, prepare, write_more};
+use hp_schedules::{ShardId, total_of};
+use hp_search::{SearchText, Prepared, prepare, write_more};
 use simdutf8::basic::from_utf8;
 use std::alloc::Global;
 
@@ -32,9 +32,9 @@ pub fn part_text<W: Watch>(
     input: &[u8],
     setup: u64,
     limit: u64,
-    number: PartNumber,
+    number: ShardId,
     watch: &mut W,
-) -> Result<Finding, LabFault>
+) -> Result<SearchText, LabFault>
     ensures ok { IfOk result
         (λ f. IsPartOf number input.now setup limit (string_bytes f.text) f.is_found) }
     ensures err { IfErr result (IsFaultOf input.now setup limit) }
@@ -55,10 +55,10 @@ fn part_on<W: Watch>(
     alloc: Global,
     prepared: &Prepared,
     scenario: &str,
-    number: PartNumber,
+    number: ShardId,
     limit: u64,
     watch: &mut W,
-) -> Result<Finding, ExploreFault>
+) -> Result<SearchText, ExploreFault>
     requires { length prepared.now.start.scripts.items < 2 ^ 32 }
     ensures ok { IfOk result (λ f. IsPartOn number prepared.now.setup scenario.now limit
         (string_bytes f.text) f.is_found (names_of prepared.now) (setting_of prepared.now)) }
@@ -88,7 +88,7 @@ fn told(
     search: &Search<'_>,
     number: u32,
     explored: &Exploration,
-) -> Result<Finding, ExploreFault>
+) -> Result<SearchText, ExploreFault>
     ensures ok { IfOk result (λ f. IsToldPart (names_of prepared.now) (setting_of prepared.now) search.now
         number explored.now (string_bytes f.text) f.is_found) }
     ensures err { IfErr result (IsCause (setting_of prepared.now)) }
@@ -97,7 +97,7 @@ fn told(
     let mut text = String::new(alloc);
     write_part(&mut text, alloc, prepared, search, number, &explored.ends)?;
     write_more(&mut text, total_of(&explored.ends), more)?;
-    Ok(Finding {
+    Ok(SearchText {
         text,
         is_found: more.is_none(),
     })

@@ -19,7 +19,7 @@ use crate::{Head, OrderFault, PartEnds, ends_by_number, head_from, is_head, json
 use hp_explore::{SumFault, sum};
 use hp_lab_faults::{LabFault, PartFault};
 use hp_schedules::Ending;
-use hp_search::{EndsForm, Finding, Prepared, prepare};
+use hp_search::{EndsForm, SearchText, Prepared, prepare};
 use serde_json::Value;
 use std::alloc::Global;
 
@@ -39,7 +39,7 @@ use std::alloc::Global;
 /// if the history has no room for a call of the schedule in the first line at fault; those of
 /// reading the scenario, and `NotForScript`, as for `explore_text`; `OutOfMemory`, which may come
 /// in place of any other result.
-pub fn sum_text(alloc: Global, input: &[u8], form: EndsForm) -> Result<Finding, PartFault>
+pub fn sum_text(alloc: Global, input: &[u8], form: EndsForm) -> Result<SearchText, PartFault>
     ensures ok { IfOk result (λ f. IsSumOf form input.now (string_bytes f.text) f.is_found) }
     ensures err { IfErr result (IsSumFault input.now) }
 {
@@ -59,7 +59,7 @@ fn sum_of(
     text: &[u8],
     value: &Value,
     form: EndsForm,
-) -> Result<Finding, PartFault>
+) -> Result<SearchText, PartFault>
     requires line { IsLineAt input.now 0 text.now }
     requires value { Some (view value.now) ≡ json_of text.now }
     ensures ok { IfOk result (λ f. IsSumOf form input.now (string_bytes f.text) f.is_found) }
@@ -81,7 +81,7 @@ fn sum_after(
     head: &Head<'_>,
     start: usize,
     form: EndsForm,
-) -> Result<Finding, PartFault>
+) -> Result<SearchText, PartFault>
     requires line { IsLineAt input.now 0 (head_line head.now.search head.now.number head.now.ends) }
     requires start { start ≡ length (head_line head.now.search head.now.number head.now.ends) + 1 }
     requires number { IsNumber head.now.search head.now.number }
@@ -102,7 +102,7 @@ fn sum_on(
     head: &Head<'_>,
     start: usize,
     form: EndsForm,
-) -> Result<Finding, PartFault>
+) -> Result<SearchText, PartFault>
     requires few { length prepared.now.start.scripts.items < 2 ^ 32 }
     requires read { HasRead (names_of prepared.now) (setting_of prepared.now) head.now input.now start }
     ensures ok { IfOk result (λ f. IsSumOn form input.now head.now.search (string_bytes f.text) f.is_found
@@ -159,7 +159,7 @@ fn told(
     prepared: &Prepared,
     ends: &[Ending],
     form: EndsForm,
-) -> Result<Finding, PartFault>
+) -> Result<SearchText, PartFault>
     ensures ok { IfOk result (λ f. AreEndsTold form (names_of prepared.now) (before_of prepared.now)
         (setting_of prepared.now) ends.now None (string_bytes f.text) f.is_found) }
     ensures err { IfErr result (λ fault. fault ≡ part.Lab OutOfMemory) }

@@ -18,7 +18,7 @@ use Rattle.hp_schedules.specs.Cursors.{IsAsked, IsCursor, IsIn, IsInFirst, IsReq
 use Rattle.hp_schedules.specs.Interleavings.{is_one_call}
 use Rattle.hp_schedules.specs.Scripts.{after_line, later_operation, line_next, next_in, next_of, own_operation, work_of}
 use Rattle.hp_schedules.specs.declared.cursors.Cursor.{Cursor}
-use Rattle.hp_schedules.specs.declared.cursors.Request.{Request}
+use Rattle.hp_schedules.specs.declared.cursors.NextCall.{NextCall}
 use Rattle.hp_schedules.specs.declared.scripts.Line.{Line}
 use Rattle.hp_schedules.specs.declared.scripts.Line.TheVariants.{Ask, Own, Carry}
 use Rattle.hp_schedules.proofs.Lines.{goes_on, goes_on_all, over_now}
@@ -206,8 +206,8 @@ first_some cpus lines c first none = by_line (slice_get lines c.line) refl
 
 -- ---- a request
 
-pub requested : (cpus : ℕ) (lines : List Line) (receipts : List Receipt) (c : Cursor) (q : Option Request)
-    (r : Request)
+pub requested : (cpus : ℕ) (lines : List Line) (receipts : List Receipt) (c : Cursor) (q : Option NextCall)
+    (r : NextCall)
     → IsAsked c lines q → q ≡ Some r → IsCursor cpus lines receipts c → IsRequested cpus lines receipts q
 requested cpus lines receipts c None r asked some is = absurd (none-some r some)
 requested cpus lines receipts c (Some q) r asked some is = (
@@ -218,7 +218,7 @@ requested cpus lines receipts c (Some q) r asked some is = (
 
 -- by the next line, where this one is over
 requested_next : (cpus : ℕ) (lines : List Line) (receipts : List Receipt) (c n : Cursor) (line : Line)
-    (q : Option Request)
+    (q : Option NextCall)
     → IsCursor cpus lines receipts c → slice_get lines c.line ≡ Some line → asks_at c lines ≡ None
     → n.line ≡ c.line + 1 → n.op ≡ c.op → IsInFirst cpus (drop (c.line + 1) lines) [] n.driver
     → IsAsked n lines q → IsRequested cpus lines receipts q
@@ -229,14 +229,14 @@ requested_next cpus lines receipts c n line q is here over at op_is first asked 
         moved_on cpus lines receipts c n line is here (sym (asks_here c lines line here) ∙ over) at op_is
         first
 
-    by_request : (o : Option Request) → IsAsked n lines o → IsRequested cpus lines receipts o
+    by_request : (o : Option NextCall) → IsAsked n lines o → IsRequested cpus lines receipts o
     by_request None none =
         past_next cpus lines receipts n there (first_some cpus lines n
         (subst (λ (k : ℕ). IsInFirst cpus (drop k lines) [] n.driver) (sym at) first) none)
     by_request (Some r) some = requested cpus lines receipts n (Some r) r some refl there
 
 pub requested_new : (cpus : ℕ) (lines : List Line) (receipts : List Receipt) (c n : Cursor) (line : Line)
-    (q : Option Request)
+    (q : Option NextCall)
     → IsCursor cpus lines receipts c → slice_get lines c.line ≡ Some line → asks_at c lines ≡ None
     → n ≡ cursor_at cpus lines (c.line + 1) c.op → IsAsked n lines q → IsRequested cpus lines receipts q
 requested_new cpus lines receipts c n line q is here over new asked =

@@ -13,7 +13,7 @@ use Rattle.hp_schedules.specs.Cursors.{AreCursors, IsCalledFor, IsCursor, IsRequ
 use Rattle.hp_schedules.specs.Schedules.{Setting, next_call}
 use Rattle.hp_schedules.specs.Scripts.{own_operation, next_of}
 use Rattle.hp_schedules.specs.declared.cursors.Cursor.{Cursor}
-use Rattle.hp_schedules.specs.declared.cursors.Request.{Request}
+use Rattle.hp_schedules.specs.declared.cursors.NextCall.{NextCall}
 use Rattle.hp_schedules.specs.declared.scripts.Line.{Line}
 use Rattle.hp_schedules.proofs.Asked.{begins}
 use Rattle.hp_schedules.proofs.Counts.{get_set_cases}
@@ -70,7 +70,7 @@ asked_is g news cpus cpu lines next same here is =
     ap (option_and_then (λ (xs : List Line). next_of g.layout.cpus xs (receipts_of cpu news))) here
     ∙ (ap (λ (n : ℕ). next_of n lines (receipts_of cpu news)) (sym same) ∙ sym is)
 
-pub called_for : (g : Setting) (news : List Record) (cpu : ℕ) (lines : List Line) (q : Option Request)
+pub called_for : (g : Setting) (news : List Record) (cpu : ℕ) (lines : List Line) (q : Option NextCall)
     → slice_get g.scripts cpu ≡ Some lines → IsRequested g.layout.cpus lines (receipts_of cpu news) q
     → IsCalledFor g cpu news q
 called_for g news cpu lines None here none =
@@ -85,7 +85,7 @@ called_for g news cpu lines (Some q) here some = (
 
 -- as it is read
 pub requested_at : (g : Setting) (news : List Record) (cpus cpu : ℕ) (scripts : List (List Line))
-    (lines shown : List Line) (cursors : List Cursor) (cursor : Cursor) (q : Option Request)
+    (lines shown : List Line) (cursors : List Cursor) (cursor : Cursor) (q : Option NextCall)
     → g.scripts ≡ scripts → g.layout.cpus ≡ cpus → slice_get scripts cpu ≡ Some lines → shown ≡ lines
     → slice_get cursors cpu ≡ Some cursor → AreCursors g news cursors
     → ((receipts : List Receipt) → IsCursor cpus shown receipts cursor → IsRequested cpus shown receipts q)
@@ -169,7 +169,7 @@ cursors_more g news r cursors lines later here is all =
 
 -- the processor's cursor goes on from where its script asked for the call
 pub went_on : (g : Setting) (news : List Record) (r : Record) (cpus cpu : ℕ) (scripts : List (List Line))
-    (lines shown : List Line) (old new : List Cursor) (later : Cursor) (request : Request)
+    (lines shown : List Line) (old new : List Cursor) (later : Cursor) (request : NextCall)
     → g.scripts ≡ scripts → g.layout.cpus ≡ cpus → r.cpu ≡ cpu → slice_get scripts cpu ≡ Some lines
     → shown ≡ lines → ((receipts : List Receipt) (event : Event) → IsCursor cpus shown receipts request.from
     → asks_at request.from shown ≡ Some event → IsCursor cpus shown (receipts ++ receipt_of r ∷ []) later)

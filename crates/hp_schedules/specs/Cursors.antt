@@ -11,7 +11,7 @@ use Rattle.hp_units.specs.declared.replies.Record.{Record}
 use Rattle.hp_schedules.specs.Schedules.{Setting, next_call}
 use Rattle.hp_schedules.specs.Scripts.{after_line, next_in, next_of, own_operation, work_of}
 use Rattle.hp_schedules.specs.declared.cursors.Cursor.{Cursor}
-use Rattle.hp_schedules.specs.declared.cursors.Request.{Request}
+use Rattle.hp_schedules.specs.declared.cursors.NextCall.{NextCall}
 use Rattle.hp_schedules.specs.declared.scripts.Line.{Line}
 use Rattle.hp_schedules.specs.declared.scripts.Line.TheVariants.{Ask, Own, Carry}
 
@@ -63,12 +63,12 @@ cursor_at cpus lines line op = record {
 }
 
 -- what the cursor's own line calls next
-abbrev pub IsAsked : Cursor → List Line → Option Request → Type 0
+abbrev pub IsAsked : Cursor → List Line → Option NextCall → Type 0
 IsAsked c lines None = asks_at c lines ≡ None
 IsAsked c lines (Some q) = (asks_at c lines ≡ Some q.event) × (q.from ≡ c)
 
 -- what a script calls after its receipts, with the position of the line that calls it
-abbrev pub IsRequested : (cpus : ℕ) → List Line → List Receipt → Option Request → Type 0
+abbrev pub IsRequested : (cpus : ℕ) → List Line → List Receipt → Option NextCall → Type 0
 IsRequested cpus lines receipts None = next_of cpus lines receipts ≡ None
 IsRequested cpus lines receipts (Some q) =
     (next_of cpus lines receipts ≡ Some q.event) × IsCursor cpus lines receipts q.from
@@ -84,7 +84,7 @@ pub record AreCursors (g : Setting) (news : List Record) (cursors : List Cursor)
       → IsCursor g.layout.cpus lines (receipts_of cpu news) c
 
 -- what a processor's script calls after the new records, with the position of the line
-abbrev pub IsCalledFor : Setting → (cpu : ℕ) → List Record → Option Request → Type 0
+abbrev pub IsCalledFor : Setting → (cpu : ℕ) → List Record → Option NextCall → Type 0
 IsCalledFor g cpu news None = next_call g cpu news ≡ None
 IsCalledFor g cpu news (Some q) =
     (next_call g cpu news ≡ Some q.event) × ((lines : List Line) → slice_get g.scripts cpu ≡ Some lines

@@ -25,7 +25,7 @@ pub struct Cursor {
 
 /// The next call of a script.
 #[derive(Drop)]
-pub struct Request {
+pub struct NextCall {
     /// The event to call.
     pub event: Event,
     /// The position of the script at the line that makes this call.
@@ -57,7 +57,7 @@ impl Cursor {
         alloc: Global,
         cpus: u32,
         lines: &[Line],
-    ) -> Result<Option<Request>, AllocError>
+    ) -> Result<Option<NextCall>, AllocError>
         ensures { IfOk result (λ request. (receipts : List Receipt)
             → IsCursor cpus lines.now receipts self.now → IsRequested cpus lines.now receipts request) }
     {
@@ -72,14 +72,14 @@ impl Cursor {
 
     /// Returns the next call of the current line, or `None` if the line is
     /// finished or there is none.
-    fn asked(&self, alloc: Global, lines: &[Line]) -> Result<Option<Request>, AllocError>
+    fn asked(&self, alloc: Global, lines: &[Line]) -> Result<Option<NextCall>, AllocError>
         ensures { IfOk result (IsAsked self.now lines.now) }
     {
         let Some(line) = lines.get(self.line) else {
             return Ok(None);
         };
         match self.event(alloc, line)? {
-            Some(event) => Ok(Some(Request { event, from: *self })),
+            Some(event) => Ok(Some(NextCall { event, from: *self })),
             None => Ok(None),
         }
     }

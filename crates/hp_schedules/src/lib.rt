@@ -27,7 +27,7 @@ mod tally;
 
 pub use changes::{Change, change_of};
 pub use closed::is_closed;
-pub use cursors::{Cursor, Request};
+pub use cursors::{Cursor, NextCall};
 pub use digests::{key_digest, learn, mixed};
 pub use exchanges::Exchanges;
 pub use laws::{
@@ -35,9 +35,9 @@ pub use laws::{
     schedules_are_interleavings,
 };
 pub use multinomials::{HowMany, call_count, interleavings_of};
-pub use outcomes::{Answers, Outcome, all_answers};
-pub use part_numbers::PartNumber;
-pub use parts::Part;
+pub use outcomes::{Replies, Outcome, all_answers};
+pub use part_numbers::ShardId;
+pub use parts::Shard;
 pub use positions::Positions;
 pub use rows::{Rows, Share};
 pub use scripts::{Line, Script, Work, undo_nothing};

@@ -3,12 +3,12 @@ ghost use Rattle.std.specs.Prelude.{◌≡◌, ◌↔◌, IfOk, IsTrue, fold};
 ghost use Rattle.hp_schedules.specs.Digests.{mixed_reply, replies_digest};
 
 use crate::digests::{mixed, reply_number};
-use crate::outcomes::Answers;
+use crate::outcomes::Replies;
 use hp_units::Reply;
 use std::alloc::{AllocError, Global};
 
 /// Returns whether each processor has the same replies in both.
-pub(crate) fn same_answers(all: &[Answers], others: &[Answers]) -> bool
+pub(crate) fn same_answers(all: &[Replies], others: &[Replies]) -> bool
     ensures { IsTrue result ↔ (all.now ≡ others.now) }
 {
     if all.len() != others.len() {
@@ -38,7 +38,7 @@ fn same_replies(replies: &[Reply], others: &[Reply]) -> bool
 }
 
 /// Returns copies of all processors' replies.
-pub(crate) fn copies_of(alloc: Global, all: &[Answers]) -> Result<Vec<Answers>, AllocError>
+pub(crate) fn copies_of(alloc: Global, all: &[Replies]) -> Result<Vec<Replies>, AllocError>
     ensures { IfOk result (λ copies. copies.items ≡ all.now) }
 {
     let mut copies = Vec::new(alloc);
@@ -51,7 +51,7 @@ pub(crate) fn copies_of(alloc: Global, all: &[Answers]) -> Result<Vec<Answers>, 
 }
 
 /// Returns the hash of all processors' replies.
-pub(crate) fn answers_digest(all: &[Answers]) -> u64
+pub(crate) fn answers_digest(all: &[Replies]) -> u64
     ensures { result ≡ replies_digest all.now }
 {
     let mut digest = 0;

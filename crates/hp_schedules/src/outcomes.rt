@@ -11,11 +11,11 @@ use std::marker::Model;
 
 /// One processor's replies, in the order of its calls. A contract sees them as a list.
 #[derive(Drop)]
-pub struct Answers {
+pub struct Replies {
     replies: Vec<Reply>,
 }
 
-impl Model for Answers {
+impl Model for Replies {
     ghost use Rattle.std.specs.Prelude.{List};
     ghost use Rattle.hp_units.specs.declared.replies.Reply.{Reply};
 
@@ -27,7 +27,7 @@ impl Model for Answers {
 /// How a schedule ends: the replies to each processor, and the final row of each memory block.
 #[derive(Drop)]
 pub struct Outcome {
-    replies: Vec<Answers>,
+    replies: Vec<Replies>,
     blocks: Vec<Row>,
 }
 
@@ -39,28 +39,28 @@ impl Model for Outcome {
     ghost view = { λ o. record { replies = o.replies.items; blocks = o.blocks.items } };
 }
 
-impl Answers {
+impl Replies {
     /// Returns the replies in order.
     pub fn as_slice(&self) -> &[Reply]
         ensures { result.now ≡ self.now }
     {
-        let Answers { replies } = self;
+        let Replies { replies } = self;
         replies.as_slice()
     }
 
     /// Returns a copy.
-    pub(crate) fn copy(&self, alloc: Global) -> Result<Answers, AllocError>
+    pub(crate) fn copy(&self, alloc: Global) -> Result<Replies, AllocError>
         ensures { IfOk result (λ copy. copy ≡ self.now) }
     {
         let mut replies = Vec::new(alloc);
         replies.extend_from_slice(self.as_slice())?;
-        Ok(Answers { replies })
+        Ok(Replies { replies })
     }
 }
 
 impl Outcome {
     /// Creates an outcome from its parts. Allocates nothing.
-    pub fn new(replies: Vec<Answers>, blocks: Vec<Row>) -> Outcome
+    pub fn new(replies: Vec<Replies>, blocks: Vec<Row>) -> Outcome
         ensures { result ≡ record { replies = replies.items; blocks = blocks.items } }
     {
         Outcome { replies, blocks }
@@ -68,7 +68,7 @@ impl Outcome {
 
     /// Returns each processor's replies, from processor 0 on. The number of an opened operation is
     /// always 0 there.
-    pub fn replies(&self) -> &[Answers]
+    pub fn replies(&self) -> &[Replies]
         ensures { result.now ≡ self.now.replies }
     {
         let answers = &self.replies;
@@ -128,7 +128,7 @@ pub fn all_answers(
     alloc: Global,
     processors: u32,
     records: &[Record],
-) -> Result<Vec<Answers>, AllocError>
+) -> Result<Vec<Replies>, AllocError>
     ensures { IfOk result (λ all. all.items ≡ replies_below processors records.now) }
 {
     let mut all = Vec::new(alloc);
@@ -141,7 +141,7 @@ pub fn all_answers(
 }
 
 /// Returns the replies to one processor among the records.
-fn answers_to(alloc: Global, cpu: Cpu, records: &[Record]) -> Result<Answers, AllocError>
+fn answers_to(alloc: Global, cpu: Cpu, records: &[Record]) -> Result<Replies, AllocError>
     ensures { IfOk result (λ answers. answers ≡ replies_to cpu records.now) }
 {
     let mut replies = Vec::new(alloc);
@@ -152,7 +152,7 @@ fn answers_to(alloc: Global, cpu: Cpu, records: &[Record]) -> Result<Answers, Al
         replies.reserve(1)?;
         replies.push_reserved(told(&record.reply));
     }
-    Ok(Answers { replies })
+    Ok(Replies { replies })
 }
 
 /// Returns the reply with 0 in place of the number of an opened operation.
@@ -168,7 +168,7 @@ pub(crate) fn told(reply: &Reply) -> Reply
 }
 
 /// Returns whether `answers` are the replies to each of `processors` processors.
-fn are_answers_below(answers: &[Answers], processors: u32, records: &[Record]) -> bool
+fn are_answers_below(answers: &[Replies], processors: u32, records: &[Record]) -> bool
     ensures { IsTrue result ↔ (answers.now ≡ replies_below processors records.now) }
 {
     if answers.len() != processors as usize {

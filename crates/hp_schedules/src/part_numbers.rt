@@ -2,7 +2,7 @@
 ghost use Rattle.std.specs.Prelude.{◌≡◌, ◌↔◌, ◌≤◌, IfSome, IsSome};
 ghost use Rattle.hp_schedules.specs.PartNumbers.{part_by};
 
-use crate::parts::Part;
+use crate::parts::Shard;
 use std::marker::Model;
 
 /// The largest number of parts.
@@ -10,12 +10,12 @@ const MOST: u64 = 1_000_000;
 
 /// One part of a search: its number, from 1 on, and the number of parts, at most 1,000,000.
 #[derive(Clone, Copy, Drop)]
-pub struct PartNumber {
+pub struct ShardId {
     number: u32,
     of: u32,
 }
 
-impl Model for PartNumber {
+impl Model for ShardId {
     ghost use Rattle.std.specs.Prelude.{◌≤◌};
     ghost use Rattle.hp_schedules.specs.PartNumbers.{NumberValue};
 
@@ -28,17 +28,17 @@ impl Model for PartNumber {
     ghost inverse = { λ v. record { number = v.number; of = v.of } };
 }
 
-impl PartNumber {
+impl ShardId {
     /// Returns part `number` of `of`, counted from 1. Returns `None` if there is no such part, or
     /// if there are more than 1,000,000.
-    pub fn new(number: u64, of: u64) -> Option<PartNumber>
+    pub fn new(number: u64, of: u64) -> Option<ShardId>
         ensures some { IsSome result ↔ ((1 ≤ number) × (number ≤ of) × (of ≤ 1000000)) }
         ensures is { IfSome result (λ part. part ≡ record { number = number; of = of }) }
     {
         if number < 1 || number > of || of > MOST {
             return None;
         }
-        Some(PartNumber {
+        Some(ShardId {
             number: number as u32,
             of: of as u32,
         })
@@ -59,10 +59,10 @@ impl PartNumber {
     }
 
     /// Returns the part itself, given how many first calls decide to which part a schedule belongs.
-    pub fn part(&self, calls: u32) -> Part
+    pub fn part(&self, calls: u32) -> Shard
         ensures { result ≡ part_by self.now calls }
     {
-        match Part::new(self.number - 1, self.of, calls) {
+        match Shard::new(self.number - 1, self.of, calls) {
             Some(part) => part,
             None => unreachable!(),
         }

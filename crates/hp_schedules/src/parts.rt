@@ -12,13 +12,13 @@ use std::marker::Model;
 /// The processors of a schedule's first `calls` calls are the digits of a number, the highest
 /// first. That number modulo `of` is the index of the schedule's part.
 #[derive(Clone, Copy, Drop)]
-pub struct Part {
+pub struct Shard {
     index: u32,
     of: u32,
     calls: u32,
 }
 
-impl Model for Part {
+impl Model for Shard {
     ghost use Rattle.std.specs.Prelude.{◌<◌};
     ghost use Rattle.hp_schedules.specs.Parts.{PartValue};
 
@@ -31,12 +31,12 @@ impl Model for Part {
     ghost inverse = { λ v. record { index = v.index; of = v.of; calls = v.calls } };
 }
 
-impl Part {
+impl Shard {
     /// Returns the only part of one, which holds all schedules.
-    pub fn whole() -> Part
+    pub fn whole() -> Shard
         ensures { result ≡ record { index = 0; of = 1; calls = 0 } }
     {
-        Part {
+        Shard {
             index: 0,
             of: 1,
             calls: 0,
@@ -44,12 +44,12 @@ impl Part {
     }
 
     /// Returns the part at `index`, counted from 0, or `None` if there is no such part.
-    pub fn new(index: u32, of: u32, calls: u32) -> Option<Part>
+    pub fn new(index: u32, of: u32, calls: u32) -> Option<Shard>
         ensures some { IsSome result ↔ (index < of) }
         ensures is { IfSome result (λ part. part ≡ record { index = index; of = of; calls = calls }) }
     {
         if index < of {
-            Some(Part { index, of, calls })
+            Some(Shard { index, of, calls })
         } else {
             None
         }

@@ -6,7 +6,7 @@ ghost use Rattle.hp_schedules.specs.Cursors.{AreCursors, IsCalledFor, cursor_at}
 ghost use Rattle.hp_schedules.specs.Schedules.{Setting};
 ghost use Rattle.hp_schedules.specs.Scripts.{own_operation};
 
-use crate::cursors::{Cursor, Request};
+use crate::cursors::{Cursor, NextCall};
 use crate::scripts::Script;
 use hp_units::{Cpu, Record, Serial};
 use std::alloc::{AllocError, Global};
@@ -35,7 +35,7 @@ impl Positions {
         cpus: u32,
         scripts: &[Script],
         cpu: u32,
-    ) -> Result<Option<Request>, AllocError>
+    ) -> Result<Option<NextCall>, AllocError>
         requires { length self.now.cursors.items ≡ length scripts.now }
         ensures { IfOk result (λ request. (g : Setting) (news : List NewRecord) → g.scripts ≡ scripts.now
             → g.layout.cpus ≡ cpus → AreCursors g news self.now.cursors.items
@@ -64,7 +64,7 @@ impl Positions {
         cpus: u32,
         scripts: &[Script],
         cpu: u32,
-        request: &Request,
+        request: &NextCall,
         latest: &Record,
     ) -> Cursor
         requires whose { latest.now.cpu ≡ cpu }

@@ -7,7 +7,7 @@ ghost use Rattle.hp_search.specs.Faults.{FillsAlongSome};
 ghost use Rattle.hp_search.specs.Prepared.{before_of, names_of, setting_of};
 ghost use Rattle.hp_search.specs.Texts.{end_keys, exploration_text, numbered_text, objects_text, replay_text};
 
-use crate::found::Finding;
+use crate::found::SearchText;
 use crate::prepared::Prepared;
 use crate::{EndsForm, write_counts, write_end, write_keys, write_more};
 use hp_explore::{Exploration, ExploreFault};
@@ -23,7 +23,7 @@ impl Prepared {
         alloc: Global,
         explored: &Exploration,
         form: EndsForm,
-    ) -> Result<Finding, ExploreFault>
+    ) -> Result<SearchText, ExploreFault>
         ensures ok { IfOk result
             (λ f. IsTold form (names_of self.now) (before_of self.now) (setting_of self.now) explored.now
             (string_bytes f.text) f.is_found) }
@@ -47,7 +47,7 @@ impl Prepared {
         ends: &[Ending],
         more: Option<HowMany>,
         form: EndsForm,
-    ) -> Result<Finding, ExploreFault>
+    ) -> Result<SearchText, ExploreFault>
         ensures ok { IfOk result
             (λ f. AreEndsTold form (names_of self.now) (before_of self.now) (setting_of self.now)
             ends.now more (string_bytes f.text) f.is_found) }
@@ -59,7 +59,7 @@ impl Prepared {
             EndsForm::Words => {
                 let mut text = String::new(alloc);
                 self.write_words(&mut text, alloc, ends, more)?;
-                Ok(Finding {
+                Ok(SearchText {
                     text,
                     is_found: more.is_none(),
                 })
@@ -68,7 +68,7 @@ impl Prepared {
                 let mut text = String::new(alloc);
                 self.write_objects(&mut text, alloc, ends)?;
                 write_more(&mut text, total_of(ends), more)?;
-                Ok(Finding {
+                Ok(SearchText {
                     text,
                     is_found: more.is_none(),
                 })
@@ -182,7 +182,7 @@ impl Prepared {
         ends: &[Ending],
         more: Option<HowMany>,
         number: u64,
-    ) -> Result<Finding, ExploreFault>
+    ) -> Result<SearchText, ExploreFault>
         ensures ok { IfOk result
             (λ f. IsEndTold (names_of self.now) (before_of self.now) (setting_of self.now) ends.now more
             number (string_bytes f.text) f.is_found) }
@@ -194,7 +194,7 @@ impl Prepared {
             Some(end) => {
                 let schedule = end.first.as_slice();
                 let text = self.replay_told(alloc, schedule)?;
-                Ok(Finding {
+                Ok(SearchText {
                     text,
                     is_found: true,
                 })
@@ -202,7 +202,7 @@ impl Prepared {
             None => {
                 let mut text = String::new(alloc);
                 write_counts(&mut text, ends, more)?;
-                Ok(Finding {
+                Ok(SearchText {
                     text,
                     is_found: false,
                 })

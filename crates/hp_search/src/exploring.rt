@@ -5,7 +5,7 @@ ghost use Rattle.hp_search.specs.Faults.{IsFaultOf};
 ghost use Rattle.hp_search.specs.Prepared.{before_of, names_of, setting_of};
 ghost use Rattle.hp_search.specs.Explorations.{IsExplorationOf, IsExploredOn, IsFaultWithin};
 
-use crate::{EndsForm, Finding, Prepared, prepare};
+use crate::{EndsForm, SearchText, Prepared, prepare};
 use hp_explore::{ExploreFault, Watch, explore};
 use hp_lab_faults::LabFault;
 use std::alloc::Global;
@@ -35,7 +35,7 @@ pub fn explore_text<W: Watch>(
     limit: u64,
     form: EndsForm,
     watch: &mut W,
-) -> Result<Finding, LabFault>
+) -> Result<SearchText, LabFault>
     ensures ok { IfOk result (λ f.
         IsExplorationOf form input.now setup limit (string_bytes f.text) f.is_found) }
     ensures err { IfErr result (IsFaultOf input.now setup limit) }
@@ -55,7 +55,7 @@ fn explored<W: Watch>(
     form: EndsForm,
     limit: u64,
     watch: &mut W,
-) -> Result<Finding, ExploreFault>
+) -> Result<SearchText, ExploreFault>
     requires { length prepared.now.start.scripts.items < 2 ^ 32 }
     ensures ok { IfOk result (λ f. IsExploredOn form (names_of prepared.now) (before_of prepared.now)
         (setting_of prepared.now) limit (string_bytes f.text) f.is_found) }

@@ -7,7 +7,7 @@ ghost use Rattle.hp_search.specs.Findings.{IsFindFaultOf, IsFindTold, IsFindingO
 ghost use Rattle.hp_search.specs.FoundTexts.{absent_told, found_text, schedule_text};
 
 use crate::{
-    Finding, Prepared, ScheduleForm, absent_object, absent_text, found_object, nearest_text,
+    SearchText, Prepared, ScheduleForm, absent_object, absent_text, found_object, nearest_text,
     prepare,
 };
 use hp_explore::{ExploreFault, FindFault, Found, Watch, changes_of, find};
@@ -41,7 +41,7 @@ pub fn find_text<W: Watch>(
     wanted: &[Wanted],
     form: ScheduleForm,
     watch: &mut W,
-) -> Result<Finding, LabFault>
+) -> Result<SearchText, LabFault>
     ensures ok { IfOk result (λ f.
         IsFindingOf form input.now setup limit wanted.now (string_bytes f.text) f.is_found) }
     ensures err { IfErr result (IsFindFaultOf input.now setup limit wanted.now) }
@@ -64,7 +64,7 @@ fn found<W: Watch>(
     form: ScheduleForm,
     limit: u64,
     watch: &mut W,
-) -> Result<Finding, FindFault>
+) -> Result<SearchText, FindFault>
     requires few { length prepared.now.start.scripts.items < 2 ^ 32 }
     requires within { AreWithin (setting_of prepared.now).layout wanted.now }
     ensures ok { IfOk result (λ f. IsFoundOn form (names_of prepared.now) (before_of prepared.now)
@@ -95,21 +95,21 @@ fn found_told(
     prepared: &Prepared,
     found: &Found,
     form: ScheduleForm,
-) -> Result<Finding, AllocError>
+) -> Result<SearchText, AllocError>
     ensures { IfOk result (λ f. IsFoundTold form (names_of prepared.now) (before_of prepared.now)
         (setting_of prepared.now) found.now (string_bytes f.text) f.is_found) }
 {
     match found {
         Found::Nearest(schedule) => {
             let text = schedule_told(alloc, prepared, schedule.as_slice(), form)?;
-            Ok(Finding {
+            Ok(SearchText {
                 text,
                 is_found: true,
             })
         }
         Found::Absent(schedules) => {
             let text = absent_told(alloc, *schedules, form)?;
-            Ok(Finding {
+            Ok(SearchText {
                 text,
                 is_found: false,
             })

@@ -24,7 +24,7 @@ mod words;
 pub use exploring::explore_text;
 pub use finding::find_text;
 pub use forms::{EndsForm, ScheduleForm};
-pub use found::Finding;
+pub use found::SearchText;
 pub use objects::{absent_object, found_object, write_keys, write_more};
 pub use prepared::{Prepared, prepare};
 pub use replays::replay_text;

@@ -4,7 +4,7 @@ ghost use Rattle.hp_spelling.specs.Separated.{separated};
 ghost use Rattle.hp_text.specs.State.{zone_word};
 ghost use Rattle.hp_search.specs.Objects.{absent_object, answer_list, block_string, first_object, found_object, keys_text, more_object, played_list, reply_string};
 
-use hp_schedules::{Answers, Ending, HowMany};
+use hp_schedules::{Replies, Ending, HowMany};
 use hp_spelling::{write_calls, write_mark};
 use hp_text::write_reply_words;
 use hp_units::{Record, Reply, Row, State, Text, Zone};
@@ -71,7 +71,7 @@ pub fn write_keys(
 }
 
 /// Writes the replies of each processor, from processor 0.
-fn write_answers(out: &mut String, all: &[Answers]) -> Result<(), AllocError>
+fn write_answers(out: &mut String, all: &[Replies]) -> Result<(), AllocError>
     ensures { OnOk result
         (string_bytes out.new ≡ string_bytes out.old ++ separated (codes ", ") answer_list true all.now) }
 {

@@ -5,7 +5,7 @@ ghost use Rattle.hp_search.specs.Faults.{IsFaultOf};
 ghost use Rattle.hp_search.specs.Prepared.{before_of, names_of, setting_of};
 ghost use Rattle.hp_search.specs.Explorations.{IsExplorationOf, IsExploredOn, IsFaultWithin};
 
-use crate::{EndsForm, Finding, Prepared, prepare};
+use crate::{EndsForm, SearchText, Prepared, prepare};
 use hp_explore::{ExploreFault, Watch, explore_with_jobs};
 use hp_lab_faults::LabFault;
 use std::alloc::Global;
@@ -24,7 +24,7 @@ pub fn explore_text_with_jobs<W: Watch>(
     form: EndsForm,
     jobs: u32,
     watch: &mut W,
-) -> Result<Finding, LabFault>
+) -> Result<SearchText, LabFault>
     ensures ok { IfOk result (λ f.
         IsExplorationOf form input.now setup limit (string_bytes f.text) f.is_found) }
     ensures err { IfErr result (IsFaultOf input.now setup limit) }
@@ -46,7 +46,7 @@ fn explored<W: Watch>(
     form: EndsForm,
     jobs: u32,
     watch: &mut W,
-) -> Result<Finding, ExploreFault>
+) -> Result<SearchText, ExploreFault>
     requires { length prepared.now.start.scripts.items < 2 ^ 32 }
     ensures ok { IfOk result (λ f. IsExploredOn form (names_of prepared.now) (before_of prepared.now)
         (setting_of prepared.now) limit (string_bytes f.text) f.is_found) }

@@ -1,11 +1,11 @@
 //! Ends, and a schedule that was found, as words.
 ghost use Rattle.std.specs.Prelude.{◌≡◌, ◌++◌, IfOk, OnOk, option_map, string_bytes};
 ghost use Rattle.std.specs.List.{flat_map};
-ghost use Rattle.hp_text.specs.Answers.{bare_reply_line};
+ghost use Rattle.hp_text.specs.Replies.{bare_reply_line};
 ghost use Rattle.hp_text.specs.State.{block_line};
 ghost use Rattle.hp_search.specs.Words.{absent_text, answers_text, blocks_text, counts_text, end_text, nearest_text, played_text, processors_text, total_text};
 
-use hp_schedules::{Answers, Ending, HowMany, total_of};
+use hp_schedules::{Replies, Ending, HowMany, total_of};
 use hp_spelling::write_calls;
 use hp_text::{write_reply, write_row};
 use hp_units::{Block, Cpu, Layout, Record, Reply, Row, Text};
@@ -70,7 +70,7 @@ pub fn write_end(
 }
 
 /// Writes the replies of each processor, from processor 0.
-fn write_processors(out: &mut String, cpus: u32, replies: &[Answers]) -> Result<(), AllocError>
+fn write_processors(out: &mut String, cpus: u32, replies: &[Replies]) -> Result<(), AllocError>
     ensures { OnOk result (string_bytes out.new ≡ string_bytes out.old ++ processors_text cpus replies.now) }
 {
     for number in 0..cpus {
@@ -80,7 +80,7 @@ fn write_processors(out: &mut String, cpus: u32, replies: &[Answers]) -> Result<
 }
 
 /// Writes a processor's number and its replies.
-fn write_answers(out: &mut String, cpu: Cpu, answers: Option<&Answers>) -> Result<(), AllocError>
+fn write_answers(out: &mut String, cpu: Cpu, answers: Option<&Replies>) -> Result<(), AllocError>
     ensures { OnOk result (string_bytes out.new
         ≡ string_bytes out.old ++ answers_text cpu (option_map (λ a. a.now) answers.entry)) }
 {

@@ -12,7 +12,7 @@ use Rattle.hp_units.specs.declared.replies.Receipt.{Receipt}
 use Rattle.hp_units.specs.declared.replies.Record.{Record}
 use Rattle.hp_laws.proofs.Lists.{get_end, get_left, get_push_cases, take_next}
 use Rattle.hp_machine.proofs.Replies.{receipts_more}
-use Rattle.hp_shared.specs.declared.marks.Mark.{Mark}
+use Rattle.hp_shared.specs.declared.marks.Compared.{Compared}
 use Rattle.hp_shared.specs.Marks.{AreMarks, AreSeated, IsMark, lower}
 use Rattle.hp_shared.specs.Comparing.{IsCompared, IsOutcome, IsSeatAt, IsSeatOf, IsSettled, IsTwinless, IsUnseated, MismatchesAt, StraysAt, StraysHere}
 use Rattle.hp_shared.specs.Shared.{SeatValue}
@@ -69,26 +69,26 @@ receipts_same cpu h x other =
 -- ---- one more record
 
 -- a mark's count stays within the records
-pub counts_records : (history : List Record) (seats : List SeatValue) (marks : List Mark)
-    (cpu place limit : ℕ) (m : Mark)
+pub counts_records : (history : List Record) (seats : List SeatValue) (marks : List Compared)
+    (cpu place limit : ℕ) (m : Compared)
     → AreMarks history seats marks → IsSeatAt seats cpu place → slice_get marks place ≡ Some m
     → length history < limit → m.next < limit
 counts_records history seats marks cpu place limit m are at here room =
     let found = are place at.0 at.1 in
     let same : found.0 ≡ m = same_item (slice_get marks place) found.0 m found.1 here in
     let next : m.next ≡ length (receipts_of at.0.cpu history) =
-    ap (λ (x : Mark). x.next) (sym same) ∙ found.2.next in
+    ap (λ (x : Compared). x.next) (sym same) ∙ found.2.next in
     omega (arith, next, few_receipts at.0.cpu history, room)
 
 -- a mark stands at the place of each seat
-pub has_mark : (history : List Record) (seats : List SeatValue) (marks : List Mark) (cpu place : ℕ)
+pub has_mark : (history : List Record) (seats : List SeatValue) (marks : List Compared) (cpu place : ℕ)
     → AreMarks history seats marks → IsSeatAt seats cpu place → place < length marks
 has_mark history seats marks cpu place are at =
     let found = are place at.0 at.1 in slice_get_within marks place found.0 found.1
 
 -- a record of a seat
-pub marked : (seats : List SeatValue) (marks : List Mark) (latest : Record) (place : ℕ) (seat : SeatValue)
-    (was new : Mark) (receipts : List Receipt)
+pub marked : (seats : List SeatValue) (marks : List Compared) (latest : Record) (place : ℕ) (seat : SeatValue)
+    (was new : Compared) (receipts : List Receipt)
     → ((p : ℕ) → IsTwinless seats p) → IsSeatAt seats latest.cpu place → slice_get marks place ≡ Some was
     → slice_get seats place ≡ Some seat → receipts ≡ seat.receipts
     → ((done : List Receipt) → IsMark receipts done was
@@ -119,7 +119,7 @@ marked seats marks latest place seat was new receipts apart at marked_was seat_t
         (same_item (slice_get marks place) found.0 was found.1 marked_was) found.2
 
     by_place : (p ≡ place) ⊎ (p ≢ place)
-        → (m : Mark) × (slice_get (set marks place new) p ≡ Some m)
+        → (m : Compared) × (slice_get (set marks place new) p ≡ Some m)
         × IsMark s.receipts (receipts_of s.cpu (history ++ latest ∷ [])) m
     by_place (inl is) =
         let same : seat ≡ s =
@@ -142,7 +142,7 @@ marked seats marks latest place seat was new receipts apart at marked_was seat_t
         )
 
 -- a record of no seat
-pub unmarked : (seats : List SeatValue) (marks : List Mark) (latest : Record) → IsUnseated seats latest.cpu
+pub unmarked : (seats : List SeatValue) (marks : List Compared) (latest : Record) → IsUnseated seats latest.cpu
     → (history : List Record) → AreMarks history seats marks → AreMarks (history ++ latest ∷ []) seats marks
 unmarked seats marks latest none history are p s there =
     let found = are p s there in (
@@ -159,12 +159,12 @@ pub next_taken : {X : Type 0} (xs : List X) (at : ℕ) (x : X) → slice_get xs 
 next_taken xs at x get = ap (λ (k : ℕ). take k xs) (add-one at) ∙ take_next xs at x get
 
 -- after no records, and after one more of them
-pub marks_none : (history : List Record) (seats : List SeatValue) (marks : List Mark)
+pub marks_none : (history : List Record) (seats : List SeatValue) (marks : List Compared)
     → AreMarks history seats marks → AreMarks (history ++ []) seats marks
 marks_none history seats marks are =
     subst (λ (rs : List Record). AreMarks rs seats marks) (sym (append-nil history)) are
 
-pub marks_next : (history records : List Record) (seats : List SeatValue) (marks : List Mark) (at : ℕ)
+pub marks_next : (history records : List Record) (seats : List SeatValue) (marks : List Compared) (at : ℕ)
     (r : Record)
     → slice_get records at ≡ Some r → AreMarks ((history ++ take at records) ++ r ∷ []) seats marks
     → AreMarks (history ++ take (at + 1) records) seats marks
@@ -184,14 +184,14 @@ take_all zero (x ∷ xs) long = absurd (omega arith)
 take_all (suc n) (x ∷ xs) long = ap (λ ys. x ∷ ys) (take_all n xs (omega arith))
 
 -- before any record
-pub fresh_marks : (seats : List SeatValue) (n : ℕ) (m : Mark) → length seats ≤ n
+pub fresh_marks : (seats : List SeatValue) (n : ℕ) (m : Compared) → length seats ≤ n
     → m ≡ record { next = 0; lowest = None } → AreMarks [] seats (replicate n m)
 fresh_marks seats n m long is place seat there =
     let inside : place < n =
     (let within = slice_get_within seats place seat there in omega (arith, long)) in (
       m,
       slice_get-get_or (replicate n m) place m (omega (arith, length-replicate n m, inside))
-          ∙ ap (λ (x : Mark). Some x) (get_or-replicate n place m m inside),
+          ∙ ap (λ (x : Compared). Some x) (get_or-replicate n place m m inside),
       subst (IsMark seat.receipts []) (sym is) (record { next = refl; lowest = λ at b none. absurd cc }),
     )
 
@@ -360,8 +360,8 @@ compared_all history seats end o long found =
     ])
 
 -- a seat's own outcome, by its mark
-pub finished : (history : List Record) (seats : List SeatValue) (marks : List Mark) (place : ℕ)
-    (seat : SeatValue) (m : Mark) (receipts : List Receipt) (here : Option ℕ)
+pub finished : (history : List Record) (seats : List SeatValue) (marks : List Compared) (place : ℕ)
+    (seat : SeatValue) (m : Compared) (receipts : List Receipt) (here : Option ℕ)
     → AreMarks history seats marks → slice_get seats place ≡ Some seat → slice_get marks place ≡ Some m
     → receipts ≡ seat.receipts
     → ((done : List Receipt) → IsMark receipts done m

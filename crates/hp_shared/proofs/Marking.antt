@@ -7,7 +7,7 @@ use Rattle.std.proofs.lemmas.Option.{slice_get_within}
 use Rattle.hp_units.specs.Receipts.{DifferAt}
 use Rattle.hp_units.specs.declared.replies.Receipt.{Receipt}
 use Rattle.hp_laws.proofs.Lists.{get_end, get_left, get_push_cases, get_some}
-use Rattle.hp_shared.specs.declared.marks.Mark.{Mark}
+use Rattle.hp_shared.specs.declared.marks.Compared.{Compared}
 use Rattle.hp_shared.specs.Marks.{Agrees, DiffersBefore, EntryDiffersAt, IsMark, lower}
 use Rattle.hp_shared.specs.Comparing.{IsOutcome}
 use Rattle.hp_shared.proofs.Outcomes.{joined, mapped}
@@ -43,7 +43,7 @@ differs_back receipts done b n d =
           (subst (λ (x : Receipt). EntryDiffersAt (slice_get receipts d.0) x n) (sym e.1) d.3))
     ]
 
-pub mark_stepped : (receipts done : List Receipt) (b : Receipt) (m : Mark) (here low : Option ℕ)
+pub mark_stepped : (receipts done : List Receipt) (b : Receipt) (m : Compared) (here low : Option ℕ)
     → IsOutcome (slice_get receipts m.next ≡ Some b) (EntryDiffersAt (slice_get receipts m.next) b) here
     → low ≡ lower m.lowest here → IsMark receipts done m
     → IsMark receipts (done ++ b ∷ []) (record { next = m.next + 1; lowest = low })
@@ -79,7 +79,7 @@ IsEndedBefore receipts done end =
     (λ serial. DiffersBefore receipts done serial ⊎ StandsAfter receipts done end serial)
 
 -- before any of them
-pub ends_before_none : (receipts done : List Receipt) (m : Mark) → IsMark receipts done m
+pub ends_before_none : (receipts done : List Receipt) (m : Compared) → IsMark receipts done m
     → IsEndedBefore receipts done m.next m.lowest
 ends_before_none receipts done m mark =
     mapped (Agrees receipts done) (Agrees receipts done × (m.next ≤ length done)) (DiffersBefore receipts

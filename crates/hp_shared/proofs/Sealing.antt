@@ -9,7 +9,7 @@ use Rattle.hp_history.specs.Volumes.{records_in, volume_of}
 use Rattle.hp_history.proofs.Chains.{count_more}
 use Rattle.hp_history.specs.declared.volumes.Volume.{Volume}
 use Rattle.hp_machine.specs.Machine.{MachineValue, last_serial, sealed}
-use Rattle.hp_shared.specs.declared.marks.Mark.{Mark}
+use Rattle.hp_shared.specs.declared.marks.Compared.{Compared}
 use Rattle.hp_shared.specs.Comparing.{IsOutcome, StraysAt}
 use Rattle.hp_shared.specs.Marks.{AreMarks, AreSeated, lower}
 use Rattle.hp_shared.specs.Shared.{SeatValue}
@@ -93,7 +93,7 @@ records_on vs at v records get own =
     ap (λ (rs : List Record). sealed_records (take at vs) ++ rs) own ∙ sym (records_next vs at v get)
 
 pub marks_on : (vs : List Volume) (at : ℕ) (v : Volume) (records : List Record) (seats : List SeatValue)
-    (marks : List Mark)
+    (marks : List Compared)
     → slice_get vs at ≡ Some v → records ≡ v.records
     → AreMarks (sealed_records (take at vs) ++ records) seats marks
     → AreMarks (sealed_records (take (at + 1) vs)) seats marks

@@ -3,7 +3,7 @@ use Rattle.std.specs.Prelude.{◌≡◌, ◌≢◌, ℕ, ◌+◌, ◌^◌, ◌<�
 use Rattle.hp_units.specs.Receipts.{receipts_of}
 use Rattle.hp_units.specs.declared.replies.Receipt.{Receipt}
 use Rattle.hp_units.specs.declared.replies.Record.{Record}
-use Rattle.hp_shared.specs.declared.marks.Mark.{Mark}
+use Rattle.hp_shared.specs.declared.marks.Compared.{Compared}
 use Rattle.hp_shared.specs.Comparing.{IsOutcome, IsSeatOf, StraysAt}
 use Rattle.hp_shared.specs.Shared.{SeatValue}
 
@@ -28,23 +28,23 @@ abbrev pub Agrees : List Receipt → List Receipt → Type 0
 Agrees receipts done = (at : ℕ) (b : Receipt) → slice_get done at ≡ Some b → slice_get receipts at ≡ Some b
 
 -- the mark after the receipts `done`
-pub record IsMark (receipts done : List Receipt) (m : Mark) : Type 0 where
+pub record IsMark (receipts done : List Receipt) (m : Compared) : Type 0 where
   pub next : m.next ≡ length done
   pub lowest : IsOutcome (Agrees receipts done) (DiffersBefore receipts done) m.lowest
 
 -- each seat's mark after the records so far
-abbrev pub AreMarks : List Record → List SeatValue → List Mark → Type 0
+abbrev pub AreMarks : List Record → List SeatValue → List Compared → Type 0
 AreMarks history seats marks =
     (place : ℕ) (seat : SeatValue) → slice_get seats place ≡ Some seat
-    → (m : Mark) × (slice_get marks place ≡ Some m) × IsMark seat.receipts (receipts_of seat.cpu history) m
+    → (m : Compared) × (slice_get marks place ≡ Some m) × IsMark seat.receipts (receipts_of seat.cpu history) m
 
 -- `more` records can follow those that were marked: together they are fewer than 2^64
-abbrev pub HasRoom : ℕ → List SeatValue → List Mark → Type 0
+abbrev pub HasRoom : ℕ → List SeatValue → List Compared → Type 0
 HasRoom more seats marks =
     (history : List Record) × (length history + more < 2 ^ 64) × AreMarks history seats marks
 
 -- the records are marked, after any that were marked before
-abbrev pub AreMarkedOn : List Record → List SeatValue → List Mark → List Mark → Type 0
+abbrev pub AreMarkedOn : List Record → List SeatValue → List Compared → List Compared → Type 0
 AreMarkedOn records seats old new =
     (history : List Record) → AreMarks history seats old → AreMarks (history ++ records) seats new
 

@@ -7,7 +7,7 @@ ghost use Rattle.hp_history.specs.Volumes.{records_in};
 ghost use Rattle.hp_shared.specs.Volumes.{ReachSealed, all_records, sealed_records};
 
 use crate::job::Job;
-use crate::marks::{Mark, lower};
+use crate::marks::{Compared, lower};
 use crate::seat::Seat;
 use hp_history::Volume;
 use hp_machine::Machine;
@@ -78,7 +78,7 @@ pub fn compare<L: Job>(
 {
     // No effect at run time: from this call the proof reads the bound on the number of all records.
     let _ = machine.last_serial();
-    let mut marks = vec![in alloc; Mark::start(); seats.len()]?;
+    let mut marks = vec![in alloc; Compared::start(); seats.len()]?;
     let sealed = mark_volumes(seats, &mut marks, volumes);
     let latest = mark_records(seats, &mut marks, machine.history());
     let strays = lower(sealed, latest);
@@ -93,7 +93,7 @@ pub fn compare<L: Job>(
 /// belongs to no seat.
 fn mark_volumes<L: Job>(
     seats: &Vec<Seat<L>>,
-    marks: &mut Vec<Mark>,
+    marks: &mut Vec<Compared>,
     volumes: &Vec<Volume>,
 ) -> Option<Serial>
     requires apart { (place : ℕ) → IsTwinless seats.now.items place }
@@ -117,7 +117,7 @@ fn mark_volumes<L: Job>(
 /// seat.
 fn mark_records<L: Job>(
     seats: &Vec<Seat<L>>,
-    marks: &mut Vec<Mark>,
+    marks: &mut Vec<Compared>,
     records: &[Record],
 ) -> Option<Serial>
     requires apart { (place : ℕ) → IsTwinless seats.now.items place }
@@ -136,7 +136,7 @@ fn mark_records<L: Job>(
 /// Marks one more record at its seat. Returns the record's serial if it belongs to no seat.
 fn mark_record<L: Job>(
     seats: &Vec<Seat<L>>,
-    marks: &mut Vec<Mark>,
+    marks: &mut Vec<Compared>,
     latest: &Record,
 ) -> Option<Serial>
     requires apart { (place : ℕ) → IsTwinless seats.now.items place }

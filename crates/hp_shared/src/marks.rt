@@ -9,32 +9,32 @@ use hp_units::{Receipt, Record, Serial};
 
 /// How far a seat's receipts have been compared with its processor's records.
 #[derive(Clone, Copy, Drop)]
-pub struct Mark {
+pub struct Compared {
     /// How many of the processor's records were compared.
     pub next: usize,
     /// The lowest serial so far at which the seat's receipts differ from them.
     pub lowest: Option<Serial>,
 }
 
-impl Mark {
+impl Compared {
     /// Returns the mark before any record.
-    pub fn start() -> Mark
+    pub fn start() -> Compared
         ensures { result ≡ record { next = 0; lowest = None } }
     {
-        Mark {
+        Compared {
             next: 0,
             lowest: None,
         }
     }
 
     /// Returns the mark after one more record of the seat's processor.
-    pub fn step(self, receipts: &[Receipt], latest: &Record) -> Mark
+    pub fn step(self, receipts: &[Receipt], latest: &Record) -> Compared
         requires { self.next < 2 ^ 64 - 1 }
         ensures { (done : List Receipt) → IsMark receipts.now done self
             → IsMark receipts.now (done ++ receipt_of latest.now ∷ []) result }
     {
         let here = difference(receipts, self.next, latest);
-        Mark {
+        Compared {
             next: self.next + 1,
             lowest: lower(self.lowest, here),
         }

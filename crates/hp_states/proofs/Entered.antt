@@ -9,7 +9,7 @@ use Rattle.hp_states.specs.Seen.{Grow}
 use Rattle.hp_states.specs.Walks.{IsPartWalkedBefore, IsPartWalkedThrough}
 use Rattle.hp_states.specs.declared.frames.Entry.{Entry}
 use Rattle.hp_states.specs.declared.frames.Entry.TheVariants.{Counted, Open}
-use Rattle.hp_states.specs.declared.frames.Frame.{Frame}
+use Rattle.hp_states.specs.declared.frames.Level.{Level}
 use Rattle.hp_states.specs.declared.frames.Kept.{Kept}
 use Rattle.hp_schedules.specs.Parts.{AllOfPart, ComesTo, IsOfPart, PartValue}
 use Rattle.hp_schedules.specs.Schedules.{Setting, schedule_of}
@@ -23,7 +23,7 @@ use Rattle.hp_states.proofs.Rooms.{done_apart}
 -- ---- as the ends grow
 
 pub frame_grows : (g : Setting) (part : PartValue) (old new : List Ending) (news : List Record)
-    (frame : Frame)
+    (frame : Level)
     → Grow old new → IsFrame g part news old frame → IsFrame g part news new frame
 frame_grows g part old new news frame grow is = record {
   comes = is.comes;
@@ -38,7 +38,7 @@ frame_grows g part old new news frame grow is = record {
 -- ---- a place that the walk comes to
 
 -- it is walked, and this is kept of it
-fresh_frame : (g : Setting) (news : List Record) (part : PartValue) (ends : List Ending) (frame : Frame)
+fresh_frame : (g : Setting) (news : List Record) (part : PartValue) (ends : List Ending) (frame : Level)
     → ComesTo (length g.scripts) part (schedule_of news)
     → IsPartWalkedBefore g part (schedule_of news) ends → IsFresh ends frame
     → IsFrame g part news ends frame
@@ -52,7 +52,7 @@ fresh_frame g news part ends frame comes walked fresh = record {
   };
 }
 
-pub entered_fresh : (g : Setting) (news : List Record) (part : PartValue) (ends : List Ending) (frame : Frame)
+pub entered_fresh : (g : Setting) (news : List Record) (part : PartValue) (ends : List Ending) (frame : Level)
     → ComesTo (length g.scripts) part (schedule_of news)
     → IsPartWalkedBefore g part (schedule_of news) ends → IsFresh ends frame
     → IsEntered g news part ends ends (Open frame)
@@ -60,7 +60,7 @@ entered_fresh g news part ends frame comes walked fresh =
     (refl, fresh.0, fresh.1, fresh_frame g news part ends frame comes walked fresh)
 
 -- where all that go on from there belong to the part
-pub entered_within : (g : Setting) (news : List Record) (ends : List Ending) (frame : Frame)
+pub entered_within : (g : Setting) (news : List Record) (ends : List Ending) (frame : Level)
     → IsFresh ends frame
     → IsEnteredWithin g news ends ends (Open frame)
 entered_within g news ends frame fresh part all walked =
@@ -97,21 +97,21 @@ let_in g news part records n old new entry is many long of walked within =
     walked
 
 -- or nothing is
-pub bare_fresh : (ends : List Ending) (frame : Frame)
+pub bare_fresh : (ends : List Ending) (frame : Level)
     → frame ≡ record { next = 0; is_over = true; kept = None } → IsFresh ends frame
 bare_fresh ends frame is = (
-  ap (λ (f : Frame). f.next) is,
-  ap (λ (f : Frame). f.is_over) is,
+  ap (λ (f : Level). f.next) is,
+  ap (λ (f : Level). f.is_over) is,
   λ k here. absurd (none-some k (sym (ap kept_of is) ∙ here)),
 )
 
-pub kept_fresh : (ends : List Ending) (frame : Frame) (boxed : Box Kept Global) (kept : Kept)
+pub kept_fresh : (ends : List Ending) (frame : Level) (boxed : Box Kept Global) (kept : Kept)
     → frame ≡ record { next = 0; is_over = true; kept = Some boxed } → boxed.value ≡ kept
     → kept.earlier.items ≡ map (λ (e : Ending). e.count) ends
     → IsFresh ends frame
 kept_fresh ends frame boxed kept is same counted = (
-  ap (λ (f : Frame). f.next) is,
-  ap (λ (f : Frame). f.is_over) is,
+  ap (λ (f : Level). f.next) is,
+  ap (λ (f : Level). f.is_over) is,
   λ k found. subst (λ (x : Kept). x.earlier.items ≡ map (λ (e : Ending). e.count) ends)
       (sym same ∙ same_Some boxed.value k (sym (ap kept_of is) ∙ found)) counted,
 )

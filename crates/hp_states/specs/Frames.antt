@@ -13,7 +13,7 @@ use Rattle.hp_states.specs.Seen.{Grow, IsMemo, IsOnWay, MemoValue}
 use Rattle.hp_states.specs.Walks.{BeforeInPart, IsPartWalkedBefore, IsPartWalkedThrough}
 use Rattle.hp_states.specs.declared.frames.Entry.{Entry}
 use Rattle.hp_states.specs.declared.frames.Entry.TheVariants.{Counted, Open}
-use Rattle.hp_states.specs.declared.frames.Frame.{Frame}
+use Rattle.hp_states.specs.declared.frames.Level.{Level}
 use Rattle.hp_states.specs.declared.frames.Kept.{Kept}
 use Rattle.hp_schedules.specs.declared.cursors.Cursor.{Cursor}
 use Rattle.hp_schedules.specs.declared.rows.Share.{Share}
@@ -27,18 +27,18 @@ pub record IsPlaceKept (g : Setting) (part : PartValue) (news : List Record) (en
   pub before : AreCounted (BeforeInPart g part (schedule_of news)) old
   pub grown : Grow old ends
 
-abbrev pub kept_of : Frame → Option Kept
+abbrev pub kept_of : Level → Option Kept
 kept_of frame = option_map (λ (boxed : Box Kept Global). boxed.value) frame.kept
 
 -- a frame with all processors still to be tried; if it keeps counts, they are those of these ends
-abbrev pub IsFresh : List Ending → Frame → Type 0
+abbrev pub IsFresh : List Ending → Level → Type 0
 IsFresh ends frame =
     (frame.next ≡ 0) × (frame.is_over ≡ true)
     × ((k : Kept) → kept_of frame ≡ Some k → k.earlier.items ≡ map (λ e. e.count) ends)
 
 -- the frame of a place that the part's search has reached
 pub record IsFrame (g : Setting) (part : PartValue) (news : List Record) (ends : List Ending)
-    (frame : Frame) : Type 0 where
+    (frame : Level) : Type 0 where
   pub comes : ComesTo (length g.scripts) part (schedule_of news)
   pub kept : (k : Kept) → kept_of frame ≡ Some k → IsPlaceKept g part news ends k
 
@@ -85,7 +85,7 @@ pub record IsArrival (g : Setting) (part : PartValue) (news : List Record) (memo
 
 -- the search of a part leaves a place, all of which is walked, and its frame
 pub record IsLeaving (g : Setting) (part : PartValue) (news : List Record) (cursors : List Cursor)
-    (ends : List Ending) (memo : MemoValue) (frame : Frame) : Type 0 where
+    (ends : List Ending) (memo : MemoValue) (frame : Level) : Type 0 where
   pub played : plays g (schedule_of news) ≡ Some news
   pub cursors_are : AreCursors g news cursors
   pub frame_is : IsFrame g part news ends frame

@@ -11,11 +11,11 @@ ghost use Rattle.hp_schedules.specs.Shares.{AreAtEnds};
 ghost use Rattle.hp_schedules.specs.declared.tally.Ending.{Ending};
 
 use crate::ends::ended_rows;
-use crate::frames::{Entry, Frame, Kept};
+use crate::frames::{Entry, Level, Kept};
 use crate::memo::Memo;
 use crate::watch::Watch;
 use hp_memory::Memory;
-use hp_schedules::{Part, Positions, Share, Tally, fit_in};
+use hp_schedules::{Shard, Positions, Share, Tally, fit_in};
 use hp_units::Record;
 use std::alloc::{AllocError, Global};
 
@@ -30,7 +30,7 @@ pub fn arrive<W: Watch>(
     records: &[Record],
     memory: &Memory,
     positions: &Positions,
-    part: Part,
+    part: Shard,
     processors: u32,
     tally: &mut Tally,
     memo: &mut Memo,
@@ -49,7 +49,7 @@ pub fn arrive<W: Watch>(
 {
     if records.len() < part.calls() as usize {
         let _has_key = memo.come_to(alloc, memory, positions, processors)?;
-        return Ok(Entry::Open(Frame::new(None)));
+        return Ok(Entry::Open(Level::new(None)));
     }
     if part.leaves_out(processors, records) {
         return Ok(Entry::Counted);
@@ -81,12 +81,12 @@ fn enter<W: Watch>(
 {
     let has_key = memo.come_to(alloc, memory, positions, processors)?;
     if !has_key {
-        return Ok(Entry::Open(Frame::new(None)));
+        return Ok(Entry::Open(Level::new(None)));
     }
     if let Some(shares) = memo.shares() {
         return Ok(add_shares(tally, shares, watch));
     }
-    let frame = Frame::keeping(alloc, tally)?;
+    let frame = Level::keeping(alloc, tally)?;
     Ok(Entry::Open(frame))
 }
 
@@ -98,7 +98,7 @@ fn add_shares<W: Watch>(tally: &mut Tally, shares: &[Share], watch: &mut W) -> E
     ensures limit { tally.new.limit ≡ tally.old.limit }
 {
     if !fit_in(shares, tally.room()) {
-        return Entry::Open(Frame::new(None));
+        return Entry::Open(Level::new(None));
     }
     tally.add(shares);
     watch.counted(tally.total());
@@ -135,9 +135,9 @@ pub fn note<W: Watch>(
 pub fn leave(
     records: &[Record],
     positions: &Positions,
-    part: Part,
+    part: Shard,
     processors: u32,
-    frame: Frame,
+    frame: Level,
     tally: &Tally,
     memo: &mut Memo,
 ) -> Result<(), AllocError>

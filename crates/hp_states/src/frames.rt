@@ -12,7 +12,7 @@ pub struct Kept {
 }
 
 /// A place on the way.
-pub struct Frame {
+pub struct Level {
     /// The processor whose call is tried next.
     pub next: u32,
     /// True while no processor before `next` had a call to make.
@@ -22,9 +22,9 @@ pub struct Frame {
 }
 
 /// Keeps callers from proving again how each field is dropped.
-impl Drop for Frame {
+impl Drop for Level {
     fn drop(self) {
-        let Frame {
+        let Level {
             next: _,
             is_over: _,
             kept: _kept,
@@ -38,15 +38,15 @@ pub enum Entry {
     /// Its schedules are counted, or belong to another part.
     Counted,
     /// It is to be walked.
-    Open(Frame),
+    Open(Level),
 }
 
-impl Frame {
+impl Level {
     /// Creates a frame with all processors still to be tried.
-    pub(crate) fn new(kept: Option<Box<Kept>>) -> Frame
+    pub(crate) fn new(kept: Option<Box<Kept>>) -> Level
         ensures { result ≡ record { next = 0; is_over = true; kept = kept } }
     {
-        Frame {
+        Level {
             next: 0,
             is_over: true,
             kept,
@@ -55,16 +55,16 @@ impl Frame {
 
     /// Creates a frame that keeps the counts, unless there are too many ends: it holds
     /// one count per end.
-    pub(crate) fn keeping(alloc: Global, tally: &Tally) -> Result<Frame, AllocError>
+    pub(crate) fn keeping(alloc: Global, tally: &Tally) -> Result<Level, AllocError>
         ensures { IfOk result (IsFresh tally.now.ends) }
     {
         if tally.has_many_ends() {
-            return Ok(Frame::new(None));
+            return Ok(Level::new(None));
         }
         let earlier = tally.counts(alloc)?;
         match Box::new(alloc, Kept { earlier }) {
             Ok(kept) => {
-                let held = Frame::new(Some(kept));
+                let held = Level::new(Some(kept));
                 Ok(held)
             }
             Err(_failed) => Err(AllocError),
@@ -75,7 +75,7 @@ impl Frame {
     pub(crate) fn into_kept(self) -> Option<Box<Kept>>
         ensures { result ≡ self.kept }
     {
-        let Frame {
+        let Level {
             next: _,
             is_over: _,
             kept,
@@ -84,16 +84,16 @@ impl Frame {
     }
 
     /// Moves on past a processor that had no call to make.
-    pub fn passed(self) -> Frame
+    pub fn passed(self) -> Level
         requires { self.next < 2 ^ 32 - 1 }
         ensures { result ≡ record self { next = self.next + 1 } }
     {
-        let Frame {
+        let Level {
             next,
             is_over,
             kept,
         } = self;
-        Frame {
+        Level {
             next: next + 1,
             is_over,
             kept,
@@ -101,16 +101,16 @@ impl Frame {
     }
 
     /// Moves on past a processor that made a call.
-    pub fn led_on(self) -> Frame
+    pub fn led_on(self) -> Level
         requires { self.next < 2 ^ 32 - 1 }
         ensures { result ≡ record self { next = self.next + 1; is_over = false } }
     {
-        let Frame {
+        let Level {
             next,
             is_over: _,
             kept,
         } = self;
-        Frame {
+        Level {
             next: next + 1,
             is_over: false,
             kept,

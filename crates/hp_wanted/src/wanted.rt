@@ -2,7 +2,7 @@
 ghost use Rattle.std.specs.Prelude.{◌≡◌, ◌↔◌, IsTrue, None, Some, slice_get};
 ghost use Rattle.hp_wanted.specs.Wanted.{HasAnswer, HasLine, HasReply, IsAsWanted, IsKindOf, Meets, kind_of};
 
-use hp_schedules::{Answers, Outcome};
+use hp_schedules::{Replies, Outcome};
 use hp_units::{Block, Cpu, Frame, Refusal, Reply, Row};
 
 /// A pattern for a reply.
@@ -47,7 +47,7 @@ impl Pattern {
     }
 
     /// Returns whether one of any processor's replies matches.
-    fn is_among_all(&self, all: &[Answers]) -> bool
+    fn is_among_all(&self, all: &[Replies]) -> bool
         ensures { IsTrue result ↔ HasAnswer self.now all.now None }
     {
         for index in 0..all.len() {
@@ -60,7 +60,7 @@ impl Pattern {
 
     /// Returns whether one of this processor's replies matches, or one of any processor's if `cpu`
     /// is `None`.
-    fn is_answered(&self, all: &[Answers], cpu: Option<Cpu>) -> bool
+    fn is_answered(&self, all: &[Replies], cpu: Option<Cpu>) -> bool
         ensures { IsTrue result ↔ HasAnswer self.now all.now cpu }
     {
         match cpu {

@@ -5,7 +5,7 @@ use hp_explore::Silent;
 use hp_search::explore_text;
 use hp_lab_faults::PartFault;
 use hp_part_files::{part_text, sum_text};
-use hp_schedules::PartNumber;
+use hp_schedules::ShardId;
 use std::alloc::{AllocError, Global};
 use std::test::Fail;
 
@@ -16,7 +16,7 @@ const RACE: &str = "0 map db 0;0 write db 0 0 7;0 kalloc 0;0 begin off 1;0 migra
 const SETUP: u64 = 3;
 
 /// The text of a part of a scenario; empty where it has none.
-fn part_of(alloc: Global, input: &[u8], number: PartNumber, limit: u64) -> String {
+fn part_of(alloc: Global, input: &[u8], number: ShardId, limit: u64) -> String {
     match part_text(alloc, input, SETUP, limit, number, &mut Silent) {
         Ok(finding) => finding.text,
         Err(_fault) => String::new(alloc),
@@ -25,7 +25,7 @@ fn part_of(alloc: Global, input: &[u8], number: PartNumber, limit: u64) -> Strin
 
 /// The text of one of so many parts of the race; empty where it has none.
 fn part(alloc: Global, number: u64, of: u64, limit: u64) -> Result<String, AllocError> {
-    let Some(number) = PartNumber::new(number, of) else {
+    let Some(number) = ShardId::new(number, of) else {
         return Ok(String::new(alloc));
     };
     let scenario = scenario(alloc, 40, RACE)?;

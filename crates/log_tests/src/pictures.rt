@@ -3,7 +3,7 @@
 ghost use Rattle.std.specs.Prelude.{◌≡◌};
 
 use crate::streams::{LogBytes, Report, answer_of};
-use hp_log_pictures::{Columns, Marks, draw_log};
+use hp_log_pictures::{Columns, BlockSigns, draw_log};
 use hp_logs::LogForm;
 use hp_verdicts::{AllowedKinds, JudgeFault, JudgeOptions, SizeFault};
 use std::alloc::{AllocError, Global};
@@ -54,9 +54,9 @@ fn an_unlawful_log_is_drawn_too(rt: HostRuntime) {
 /// none.
 fn long_columns(alloc: Global) -> Result<Columns, AllocError> {
     let mut columns = Columns::new(alloc);
-    columns.read(1999, 7, Marks::none(), Marks::of_online(false))?;
+    columns.read(1999, 7, BlockSigns::none(), BlockSigns::of_online(false))?;
     let next = columns.event_count().max(2000);
-    columns.read(next, 0, Marks::none(), Marks::none())?;
+    columns.read(next, 0, BlockSigns::none(), BlockSigns::none())?;
     columns.extend(columns.event_count().max(3000))?;
     Ok(columns)
 }

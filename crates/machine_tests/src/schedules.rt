@@ -2,7 +2,7 @@
 ghost use Rattle.std.specs.Prelude.{◌≡◌, IfOk, length};
 
 use hp_schedules::{
-    Change, Exchanges, Line, Outcome, Part, Positions, Rows, Script, Share, Tally, all_answers,
+    Change, Exchanges, Line, Outcome, Shard, Positions, Rows, Script, Share, Tally, all_answers,
     call_count, change_of, fit_in, is_closed, key_digest, learn, mixed, schedule_of, undo_nothing,
 };
 use hp_units::{Cpu, Event, Frame, Order, Record, Reply, Serial};
@@ -138,7 +138,7 @@ fn is_ended(alloc: Global, records: &[Record]) -> Result<bool, AllocError>
     let replies = all_answers(alloc, 1, records)?;
     let outcome = Outcome::new(replies, Vec::new(alloc));
     let schedule = schedule_of(alloc, records)?;
-    let is_whole = !Part::whole().leaves_out(1, records);
+    let is_whole = !Shard::whole().leaves_out(1, records);
     let is_one = outcome.replies().len() == 1 && schedule.len() == 1;
     Ok(is_one && is_whole && is_closed(records) && matches!(change_of(&taken()), Change::Ends))
 }

@@ -1,11 +1,11 @@
 //! The exit status and the message at the program's end.
-use hp_commands::{Outcome, ProgramFault};
+use hp_commands::{ProgramEnd, ProgramFault};
 use hp_units::{Cpu, LayoutFault, Serial};
 use std::alloc::{AllocError, Global};
 use std::test::Fail;
 
 /// Returns whether an outcome has this status and this text.
-fn is_said(alloc: Global, outcome: Outcome, status: u8, text: &str) -> Result<bool, AllocError> {
+fn is_said(alloc: Global, outcome: ProgramEnd, status: u8, text: &str) -> Result<bool, AllocError> {
     let line = format!(in alloc; "{outcome}")?;
     Ok(outcome.status() == status && line.as_str() == text)
 }
@@ -13,7 +13,7 @@ fn is_said(alloc: Global, outcome: Outcome, status: u8, text: &str) -> Result<bo
 /// Returns whether each fault in the table has status 1 and the text beside it.
 fn are_said(alloc: Global, table: &[(ProgramFault, &str)]) -> Result<bool, AllocError> {
     for (fault, text) in table {
-        if !is_said(alloc, Outcome::Failed(*fault), 1, text)? {
+        if !is_said(alloc, ProgramEnd::Failed(*fault), 1, text)? {
             return Ok(false);
         }
     }
@@ -39,8 +39,8 @@ fn ends_have_their_status_and_text(rt: HostRuntime) -> Result<(), Fail> {
         (ProgramFault::OutOfMemory, "hotplug: out of memory"),
         (ProgramFault::WriteFailed, "hotplug: writing failed"),
     ];
-    assert!(rt; is_said(rt.alloc(), Outcome::Done, 0, "")?);
-    assert!(rt; is_said(rt.alloc(), Outcome::NoCommand, 2, usage)?);
+    assert!(rt; is_said(rt.alloc(), ProgramEnd::Done, 0, "")?);
+    assert!(rt; is_said(rt.alloc(), ProgramEnd::NoCommand, 2, usage)?);
     assert!(rt; are_said(rt.alloc(), table.as_slice())?);
     Ok(())
 }

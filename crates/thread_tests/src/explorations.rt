@@ -6,7 +6,7 @@ use hp_explore::{ExploreFault, Silent, explore, explore_part, kept_counts_are_ad
 use hp_machine::Machine;
 use hp_explore::{calls_for, explore_with_jobs, sum};
 use hp_schedules::{
-    Answers, Ending, Line, Part, Script, alike_places_go_on_alike, counts_are_unique,
+    Replies, Ending, Line, Shard, Script, alike_places_go_on_alike, counts_are_unique,
     interleavings_are_counted, schedules_are_interleavings, total_of,
 };
 use hp_units::{Boot, Cpu, Event, Frame, Layout, Order, Parts, Refusal, Reply};
@@ -57,7 +57,7 @@ fn scripts(alloc: Global, order: u32, count: u32) -> Result<Vec<Script>, AllocEr
 }
 
 /// Returns whether a processor had this reply, and no other.
-fn is_sole(answers: &Answers, reply: &Reply) -> bool {
+fn is_sole(answers: &Replies, reply: &Reply) -> bool {
     match answers.as_slice() {
         [sole] => sole.same(reply),
         _ => false,
@@ -159,7 +159,7 @@ fn three_parts(
     let mut lists = Vec::new(alloc);
     for index in 0..3 {
         lists.reserve(1)?;
-        if let Some(part) = Part::new(index, 3, 2) {
+        if let Some(part) = Shard::new(index, 3, 2) {
             let explored = explore_part(alloc, machine, scripts, part, 100, &mut Silent)?;
             lists.push_reserved(explored.ends);
         }
@@ -205,13 +205,13 @@ fn a_search_in_threads_finds_the_same(rt: HostRuntime) -> Result<(), Fail> {
 }
 
 /// Returns whether a part has these numbers.
-fn shows(part: &Part, index: u32, of: u32, calls: u32) -> bool {
+fn shows(part: &Shard, index: u32, of: u32, calls: u32) -> bool {
     part.index() == index && part.of() == of && part.calls() == calls
 }
 
 #[test]
 fn parts_and_laws(rt: HostRuntime) {
-    assert!(rt; shows(&Part::whole(), 0, 1, 0) && calls_for(2, 3) == 8);
+    assert!(rt; shows(&Shard::whole(), 0, 1, 0) && calls_for(2, 3) == 8);
     counts_are_unique();
     interleavings_are_counted();
     schedules_are_interleavings();

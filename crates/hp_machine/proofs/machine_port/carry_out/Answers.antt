@@ -5,7 +5,7 @@ use Rattle.hp_machine.proofs.machine_port.carry_out.Goals as goal
 
 pub returns : goal.returns
 returns g c =
-    let value = g.M.Answers.machine in
+    let value = g.M.CallMachine.machine in
     let ran = c.run_plan-end.ensures in
     let made =
     calls_made c.new-port.result c.run_plan-end.new.port (λ p. p.machine.ghost_name) (λ p. p.cpu)

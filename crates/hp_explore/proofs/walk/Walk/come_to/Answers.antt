@@ -7,7 +7,7 @@ use Rattle.hp_states.specs.Places.{memory_at}
 use Rattle.hp_states.specs.Seen.{IsMemo, IsOnWay}
 use Rattle.hp_units.specs.declared.replies.Record.{Record}
 use Rattle.hp_states.specs.Walks.{IsPartWalkedBefore}
-use Rattle.hp_states.specs.declared.frames.Frame.{Frame}
+use Rattle.hp_states.specs.declared.frames.Level.{Level}
 use Rattle.hp_schedules.specs.declared.tally.Ending.{Ending}
 use Rattle.hp_explore.proofs.Framing.{back_setting, below_many, frames_pushed, walk_opens}
 use Rattle.hp_states.proofs.Keeping.{memo_added, memo_same}
@@ -85,7 +85,7 @@ returns-in-Counted-clause-less o c =
     * (w.processors + 2) ^ (w.path.setting.layout.history + 1 - length (frames_of w)))
     (sym (back_setting w.path.setting w.path.news c.take_back.ensures.back.0 w.path c.take_back.new.path refl
     c.take_back.ensures.back.1))
-    (subst (λ (fs : List Frame). left_of w.processors w.path.setting.layout.history fs
+    (subst (λ (fs : List Level). left_of w.processors w.path.setting.layout.history fs
     < (digits w.processors (frames_of w) + 1)
     * (w.processors + 2) ^ (w.path.setting.layout.history + 1 - length (frames_of w)))
     (sym (ap reverse c.in_ok-reserve.ensures.items))
@@ -135,7 +135,7 @@ returns-in-Open-clause-less o c =
     let pushed =
     frames_pushed w.frames.items c.reserve.new.self.items c.push_reserved.new.self.items c.in-Open.frame
     c.in_ok-reserve.ensures.items c.push_reserved.ensures.items in
-    subst (λ (fs : List Frame). left_of w.processors w.path.setting.layout.history fs
+    subst (λ (fs : List Level). left_of w.processors w.path.setting.layout.history fs
     < (digits w.processors (frames_of w) + 1)
     * (w.processors + 2) ^ (w.path.setting.layout.history + 1 - length (frames_of w)))
     (sym pushed)

@@ -4,7 +4,7 @@ use Rattle.hp_explore.specs.Frames.{frames_of, left_of}
 use Rattle.hp_explore.specs.Paths.{IsForth, PathValue}
 use Rattle.hp_schedules.specs.Schedules.{Setting}
 use Rattle.hp_states.specs.Seen.{IsMemo, IsOnWay}
-use Rattle.hp_states.specs.declared.frames.Frame.{Frame}
+use Rattle.hp_states.specs.declared.frames.Level.{Level}
 use Rattle.hp_explore.proofs.Framing.{frames_pushed}
 use Rattle.hp_states.proofs.Keeping.{memo_extended}
 use Rattle.std.proofs.lemmas.Result.{err_from_is_err_and}
@@ -58,10 +58,10 @@ returns-then-not-branch-clause-less o c =
     c.in_ok-reserve.ensures.items c.push_reserved.ensures.items in
     subst (λ (g : Setting). left_of w.processors g.layout.history (reverse c.push_reserved.new.self.items)
     < left_of w.processors w.path.setting.layout.history (c.args.frame ∷ frames_of w)) (sym same)
-    (subst (λ (fs : List Frame). left_of w.processors w.path.setting.layout.history fs
+    (subst (λ (fs : List Level). left_of w.processors w.path.setting.layout.history fs
     < left_of w.processors w.path.setting.layout.history (c.args.frame ∷ frames_of w)) (sym pushed)
     (left_passed n most (frames_of w) c.args.frame c.passed.result c.requires.some
-    (ap (λ (f : Frame). f.next) c.passed.ensures)))
+    (ap (λ (f : Level). f.next) c.passed.ensures)))
 
 pub returns-then-not-branch-clause-same : goal.returns-then-not-branch-clause-same
 returns-then-not-branch-clause-same o c = (
@@ -129,7 +129,7 @@ returns-clause-less o c =
     c.in_ok-reserve.ensures.items c.push_reserved-2.ensures.items in
     left_led w.processors w.path.setting c.forward.new.self.setting (frames_of w)
     (reverse c.push_reserved-2.new.self.items) c.args.frame c.led_on.result _ same pushed c.requires.some
-    (ap (λ (f : Frame). f.next) c.led_on.ensures) c.in_ok-come_to.ensures.less
+    (ap (λ (f : Level). f.next) c.led_on.ensures) c.in_ok-come_to.ensures.less
 
 pub returns-clause-same : goal.returns-clause-same
 returns-clause-same o c =

@@ -4,7 +4,7 @@ use Rattle.hp_explore.specs.Frames.{AreBelow}
 use Rattle.hp_schedules.specs.Notes.{TallyValue}
 use Rattle.hp_explore.specs.Paths.{PathValue}
 use Rattle.hp_states.specs.Seen.{IsMemo, IsOnWay}
-use Rattle.hp_states.specs.declared.frames.Frame.{Frame}
+use Rattle.hp_states.specs.declared.frames.Level.{Level}
 use Rattle.hp_explore.proofs.Framing.{on_begun, walk_begun}
 use Rattle.hp_explore.proofs.walk.Walk.start.Goals as goal
 
@@ -19,7 +19,7 @@ returns-clause-coming c =
       on = on_begun p c.args.part begun;
       below =
           subst (AreBelow p.setting c.args.part ends p.news)
-          (sym (ap (λ (fs : List Frame). reverse fs) c.new.ensures.items)) begun;
+          (sym (ap (λ (fs : List Level). reverse fs) c.new.ensures.items)) begun;
       memo =
           subst (λ (q : PathValue). IsMemo q.setting ends c.in_ok-memo.memo) (sym c.in_ok-path.ensures)
           (c.in_ok-memo.ensures.memo ends);

@@ -3,13 +3,13 @@ use Rattle.std.proofs.Common.{◌≡◌, ◌+◌, ◌<◌, ◌∷◌, ◌++◌, 
 use Rattle.hp_explore.specs.Frames.{AreWalked, IsWalking, frames_of, left, left_of}
 use Rattle.hp_schedules.specs.Schedules.{schedule_of}
 use Rattle.hp_states.specs.Walks.{IsPartWalkedBefore}
-use Rattle.hp_states.specs.declared.frames.Frame.{Frame}
+use Rattle.hp_states.specs.declared.frames.Level.{Level}
 use Rattle.hp_explore.specs.declared.walk.Walk.{Walk}
 use Rattle.hp_explore.proofs.Framing.{frames_popped, no_frames, none_left}
 use Rattle.hp_explore.proofs.walk.Walk.step.Goals as goal
 
 -- with the latest frame off the stack the walk is as before
-off_stack : (w : Walk) (rest : Vec Frame Global) (popped : Option Frame) (frame : Frame)
+off_stack : (w : Walk) (rest : Vec Level Global) (popped : Option Level) (frame : Level)
     → w.frames.items ≡ rest.items ++ option_to_list popped → popped ≡ Some frame → IsWalking w (frames_of w)
     → IsWalking (record w { frames = rest }) (frame ∷ reverse rest.items)
 off_stack w rest popped frame is some walking = record {
@@ -54,7 +54,7 @@ pub returns-in_default-clause-ok : goal.returns-in_default-clause-ok
 returns-in_default-clause-ok o c =
     let w = c.args.self.now in
     let none =
-    subst (λ (p : Option Frame). MatchOption p ((vec_len w.frames ≡ 0) × (vec_len c.pop.new.self ≡ 0))
+    subst (λ (p : Option Level). MatchOption p ((vec_len w.frames ≡ 0) × (vec_len c.pop.new.self ≡ 0))
     (λ _. vec_len c.pop.new.self + 1 ≡ vec_len w.frames)) c.in_default.is c.pop.ensures.cases in
     subst (AreWalked w.path.setting w.part w.tally.ends w.path.news)
     (no_frames w.frames.items c.pop.new.self.items c.pop.result c.pop.ensures.items c.in_default.is
@@ -67,7 +67,7 @@ returns-then-frame-self-clause-ok o c =
     frames_popped w.frames.items c.pop.new.self.items c.pop.result c.in-Some.frame c.pop.ensures.items
     c.in-Some.is in (
       c.in_ok-go_on.ensures.kept,
-      subst (λ (fs : List Frame). left c.go_on.new.self (frames_of c.go_on.new.self)
+      subst (λ (fs : List Level). left c.go_on.new.self (frames_of c.go_on.new.self)
           < left_of w.processors w.path.setting.layout.history fs) (sym popped) c.in_ok-go_on.ensures.less,
     )
 
@@ -78,7 +78,7 @@ returns-clause-ok o c =
     frames_popped w.frames.items c.pop.new.self.items c.pop.result c.in-Some.frame c.pop.ensures.items
     c.in-Some.is in (
       c.in_ok-go_back.ensures.kept,
-      subst (λ (fs : List Frame). left c.go_back.new.self (frames_of c.go_back.new.self)
+      subst (λ (fs : List Level). left c.go_back.new.self (frames_of c.go_back.new.self)
           < left_of w.processors w.path.setting.layout.history fs) (sym popped) c.in_ok-go_back.ensures.less,
     )
 

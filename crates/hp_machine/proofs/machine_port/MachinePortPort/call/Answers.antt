@@ -15,7 +15,7 @@ showing receipts fault cpus = record { receipts = receipts; fault = fault; cpus 
 
 pub returns-in-Ok-clause-ok : goal.returns-in-Ok-clause-ok
 returns-in-Ok-clause-ok g c =
-    let value = g.M.Answers.machine in
+    let value = g.M.CallMachine.machine in
     let answer : ℕ × Reply = (c.in-Ok.field-0-0, c.in-Ok.reply) in
     record {
       receipt = receipt_for c.args.event.now answer;
@@ -37,7 +37,7 @@ returns-in-Err-clause-leaves g c = (
   search rules,
   search rules,
   c.in-Err.ensures.err,
-  cause_of (g.M.Answers.machine c.args.self.now.machine.now) c.in-Err.fault c.in-Err.ensures.full,
+  cause_of (g.M.CallMachine.machine c.args.self.now.machine.now) c.in-Err.fault c.in-Err.ensures.full,
 )
 
 pub returns-in-Ok-clause-err : goal.returns-in-Ok-clause-err
@@ -51,7 +51,7 @@ returns-in-Err-clause-ok g c = search rules
 
 pub returns-in-Err-clause-err : goal.returns-in-Err-clause-err
 returns-in-Err-clause-err g c =
-    let old : MachineValue = g.M.Answers.machine c.args.self.now.machine.now in
+    let old : MachineValue = g.M.CallMachine.machine c.args.self.now.machine.now in
     ap (λ (m : MachineValue). port_value m c.args.self.now.cpu (Some c.in-Err.fault)) c.in-Err.ensures.err
     ∙ sym (ap (λ (rs : List Receipt). showing rs (Some c.in-Err.fault) old.layout.cpus)
     (append-nil (receipts_of c.args.self.now.cpu old.history)))

@@ -1,6 +1,6 @@
 -- What is kept is the counts of now.
 use Rattle.hp_states.proofs.Entered.{bare_fresh, kept_fresh}
-use Rattle.hp_states.proofs.frames.Frame.keeping.Goals as goal
+use Rattle.hp_states.proofs.frames.Level.keeping.Goals as goal
 
 pub returns-then-has_many_ends : goal.returns-then-has_many_ends
 returns-then-has_many_ends c = bare_fresh c.args.tally.now.ends c.new.result c.new.ensures

@@ -1,5 +1,5 @@
 use Rattle.std.proofs.Common.{rules}
-use Rattle.hp_commands.proofs.outcome.OutcomeDisplay.fmt.Goals as goal
+use Rattle.hp_commands.proofs.outcome.ProgramEndDisplay.fmt.Goals as goal
 
 pub returns-in-NoCommand-clause-writes : goal.returns-in-NoCommand-clause-writes
 returns-in-NoCommand-clause-writes g c = search rules

@@ -5,7 +5,7 @@ use Rattle.std.proofs.lemmas.List.{take-map}
 use Rattle.hp_units.specs.declared.replies.Record.{Record}
 use Rattle.hp_schedules.specs.Parts.{PartValue, part_number}
 use Rattle.hp_schedules.specs.Schedules.{schedule_of}
-use Rattle.hp_schedules.proofs.parts.Part.is_of.Goals as goal
+use Rattle.hp_schedules.proofs.parts.Shard.is_of.Goals as goal
 
 numbered : (n index of calls number : ℕ) (first records : List Record) (part : PartValue)
     → record { index = index; of = of; calls = calls } ≡ part → first ≡ take calls records

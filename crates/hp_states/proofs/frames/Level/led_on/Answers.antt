@@ -1,5 +1,5 @@
 use Rattle.std.proofs.Common.{refl}
-use Rattle.hp_states.proofs.frames.Frame.led_on.Goals as goal
+use Rattle.hp_states.proofs.frames.Level.led_on.Goals as goal
 
 pub returns : goal.returns
 returns c = refl
