@@ -4,14 +4,12 @@ ghost use Rattle.std.specs.Prelude.{◌≡◌, if◌then◌else◌, IfErr, IfOk,
 ghost use Rattle.hotplug_lab.specs.Words.{IsAddedOf, IsAnswerOf, IsExploringOf, IsPartialOf, IsSearchOf, IsUnanswered};
 ghost use Rattle.hp_lab_shell.specs.declared.words.Word.TheVariants.{Explore, Find, Never, Part, Sum};
 
-use hp_search::{EndsForm, ScheduleForm};
-use hp_search::{explore_text_with_jobs, find_text};
 use hp_lab_faults::ProgramFault;
 use hp_lab_shell::{Answer, Exploration, Word, checked, drawn, logged, traced};
 use hp_part_files::{part_text, sum_text};
-use hp_states::Watch;
-use hp_search::SearchText;
 use hp_schedules::ShardId;
+use hp_search::{EndsForm, ScheduleForm, SearchText, explore_text_with_jobs, find_text};
+use hp_states::Watch;
 use hp_wanted::Wanted;
 use std::alloc::Global;
 use std::thread::Threads;

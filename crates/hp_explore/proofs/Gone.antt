@@ -20,7 +20,7 @@ use Rattle.hp_schedules.specs.Schedules.{Setting, next_call, plays, record_of_ca
 use Rattle.hp_explore.specs.Settings.{setting}
 use Rattle.hp_states.specs.Walks.{IsAt}
 use Rattle.hp_explore.specs.Walks.{IsGone, IsNextSerial, LeadsTo, with_record}
-use Rattle.hp_schedules.specs.declared.scripts.Line.{Line}
+use Rattle.hp_schedules.specs.declared.scripts.Step.{Step}
 use Rattle.hp_schedules.proofs.Plays.{plays_push}
 
 -- ---- its reply
@@ -86,7 +86,7 @@ gone_record g news serial cpu event reply is said =
     told : ℕ → Reply → Record
     told k answer = record { serial = k; cpu = cpu; event = event; reply = answer }
 
-pub gone_leads : (start : MachineValue) (scripts : List (List Line)) (p n : StepsValue) (serial cpu : ℕ)
+pub gone_leads : (start : MachineValue) (scripts : List (List Step)) (p n : StepsValue) (serial cpu : ℕ)
     (event copied : Event) (reply : Reply)
     → IsAt (setting start scripts) p → next_call (setting start scripts) cpu p.records ≡ Some event
     → IsNextSerial start p.records serial → IsGone start cpu serial event → copied ≡ event

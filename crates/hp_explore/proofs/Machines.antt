@@ -15,7 +15,7 @@ use Rattle.hp_machine.specs.Machine.{IsCalled, IsHistory, MachineValue, is_full,
 use Rattle.hp_machine.proofs.Machines.{room}
 use Rattle.hp_steps.specs.Steps.{StepsValue}
 use Rattle.hp_explore.specs.declared.exploring.ExploreFault.TheVariants.{HistoryFull}
-use Rattle.hp_schedules.specs.declared.scripts.Line.{Line}
+use Rattle.hp_schedules.specs.declared.scripts.Step.{Step}
 use Rattle.hp_explore.specs.Faults.{IsCause, fault_of}
 use Rattle.hp_states.specs.Rooms.{is_full_after}
 use Rattle.hp_schedules.specs.Schedules.{Setting, next_call, plays, record_of_call, schedule_of}
@@ -115,7 +115,7 @@ had_room m result fault a ok full = by_test (is_full m) refl
     by_test false e = e
 
 -- the machine where the scripts begin
-pub reached_start : (m : MachineValue) (scripts : List (List Line)) → IsReached (setting m scripts) m
+pub reached_start : (m : MachineValue) (scripts : List (List Step)) → IsReached (setting m scripts) m
 unfolding plays
 reached_start m scripts = record {
   layout = refl;
@@ -157,7 +157,7 @@ at_machine g m steps here kept is =
     })
 
 -- the place where they begin
-pub start_place : (m : MachineValue) (scripts : List (List Line)) → place_of (setting m scripts) m ≡ []
+pub start_place : (m : MachineValue) (scripts : List (List Step)) → place_of (setting m scripts) m ≡ []
 start_place m scripts = ap schedule_of (drop-length m.history)
 
 -- whether its history is full is so by the new records alone

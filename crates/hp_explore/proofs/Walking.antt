@@ -9,7 +9,7 @@ use Rattle.hp_schedules.specs.declared.tally.Ending.{Ending}
 use Rattle.hp_explore.specs.Faults.{FillsAlong}
 use Rattle.hp_schedules.specs.Orders.{HasMoreThan}
 use Rattle.hp_explore.specs.Fronts.{AreFirstInPart}
-use Rattle.hp_schedules.specs.declared.scripts.Line.{Line}
+use Rattle.hp_schedules.specs.declared.scripts.Step.{Step}
 use Rattle.hp_schedules.specs.Parts.{IsCompleteInPart, PartValue}
 use Rattle.hp_schedules.specs.Schedules.{Setting, next_call, outcome_after, plays, schedule_of}
 use Rattle.hp_explore.specs.Settings.{setting}
@@ -57,7 +57,7 @@ first_exceed g part limit ends first =
 abbrev pub ArePlayed : Setting → List ℕ → MachineValue → Type 0
 ArePlayed g played m = IsReached g m × (place_of g m ≡ played)
 
-pub played_none : (start m : MachineValue) (scripts : List (List Line)) (schedule : List ℕ) → m ≡ start
+pub played_none : (start m : MachineValue) (scripts : List (List Step)) (schedule : List ℕ) → m ≡ start
     → ArePlayed (setting start scripts) (take 0 schedule) m
 played_none start m scripts schedule is =
     subst (ArePlayed (setting start scripts) []) (sym is)

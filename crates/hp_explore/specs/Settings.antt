@@ -2,9 +2,9 @@
 use Rattle.std.specs.Prelude.{List}
 use Rattle.hp_machine.specs.Machine.{MachineValue}
 use Rattle.hp_schedules.specs.Schedules.{Setting}
-use Rattle.hp_schedules.specs.declared.scripts.Line.{Line}
+use Rattle.hp_schedules.specs.declared.scripts.Step.{Step}
 
 -- the scripts on a machine as it is
-abbrev pub setting : MachineValue → List (List Line) → Setting
+abbrev pub setting : MachineValue → List (List Step) → Setting
 setting m scripts =
     record { layout = m.layout; base = m.base; before = m.before; start = m.history; scripts = scripts }

@@ -11,7 +11,7 @@ ghost use Rattle.hp_explore.specs.Settings.{setting};
 
 use crate::walk::Walk;
 use hp_machine::Machine;
-use hp_schedules::{Ending, Shard, Script, call_count};
+use hp_schedules::{CallScript, Ending, Shard, call_count};
 use hp_states::Watch;
 use hp_units::CallFault;
 use std::alloc::{AllocError, Global};
@@ -79,7 +79,7 @@ impl From<CallFault> for ExploreFault {
 pub fn explore<W: Watch>(
     alloc: Global,
     machine: &Machine,
-    scripts: &[Script],
+    scripts: &[CallScript],
     limit: u64,
     watch: &mut W,
 ) -> Result<Exploration, ExploreFault>
@@ -118,7 +118,7 @@ pub fn explore<W: Watch>(
 pub fn explore_part<W: Watch>(
     alloc: Global,
     machine: &Machine,
-    scripts: &[Script],
+    scripts: &[CallScript],
     part: Shard,
     limit: u64,
     watch: &mut W,
@@ -159,7 +159,7 @@ pub fn explore_part<W: Watch>(
 pub fn room_needed(
     alloc: Global,
     machine: &Machine,
-    scripts: &[Script],
+    scripts: &[CallScript],
 ) -> Result<Option<u64>, AllocError>
     ensures { IfOk result (IsRoomNeeded (setting machine.now scripts.now)) }
 {

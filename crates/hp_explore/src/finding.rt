@@ -10,7 +10,7 @@ use crate::fault::FindFault;
 use crate::searching::first_within;
 use crate::{ExploreFault, Watch, explore};
 use hp_machine::Machine;
-use hp_schedules::{Script, total_of};
+use hp_schedules::{CallScript, total_of};
 use hp_units::Cpu;
 use hp_wanted::{Wanted, end_with};
 use std::alloc::Global;
@@ -52,7 +52,7 @@ pub enum Found {
 pub fn find<W: Watch>(
     alloc: Global,
     machine: &Machine,
-    scripts: &[Script],
+    scripts: &[CallScript],
     wanted: &[Wanted],
     limit: u64,
     watch: &mut W,
@@ -89,7 +89,7 @@ pub fn find<W: Watch>(
 fn nearest_to(
     alloc: Global,
     machine: &Machine,
-    scripts: &[Script],
+    scripts: &[CallScript],
     wanted: &[Wanted],
     known: &[Cpu],
 ) -> Result<Vec<Cpu>, ExploreFault>
@@ -115,7 +115,7 @@ fn nearest_to(
 fn nearest_below(
     alloc: Global,
     machine: &Machine,
-    scripts: &[Script],
+    scripts: &[CallScript],
     wanted: &[Wanted],
     from: u64,
     below: u64,

@@ -14,7 +14,7 @@ use crate::rooms::left_after;
 use crate::summing::sum;
 use crate::{Exploration, ExploreFault, Silent, Watch, explore, explore_part};
 use hp_machine::Machine;
-use hp_schedules::{Ending, Shard, Script};
+use hp_schedules::{CallScript, Ending, Shard};
 use std::alloc::Global;
 use std::thread;
 use std::thread::Threads;
@@ -38,7 +38,7 @@ pub fn explore_with_jobs<R: Threads + Sync, W: Watch>(
     rt: &R,
     alloc: Global,
     machine: &Machine,
-    scripts: &[Script],
+    scripts: &[CallScript],
     limit: u64,
     jobs: u32,
     watch: &mut W,
@@ -80,7 +80,7 @@ fn search_parts<R: Threads + Sync, W: Watch>(
     rt: &R,
     alloc: Global,
     machine: &Machine,
-    scripts: &[Script],
+    scripts: &[CallScript],
     parts: u32,
     limit: u64,
     watch: &mut W,
@@ -109,7 +109,7 @@ fn ends_of_parts<R: Threads + Sync>(
     rt: &R,
     alloc: Global,
     machine: &Machine,
-    scripts: &[Script],
+    scripts: &[CallScript],
     parts: u32,
     calls: u32,
     limit: u64,
@@ -137,7 +137,7 @@ fn ends_of_parts<R: Threads + Sync>(
 fn ends_of_part(
     alloc: Global,
     machine: &Machine,
-    scripts: &[Script],
+    scripts: &[CallScript],
     parts: u32,
     calls: u32,
     index: usize,

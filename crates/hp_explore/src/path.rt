@@ -12,7 +12,7 @@ use crate::turns::{advance, step_back, steps_of};
 use crate::ways::Turn;
 use hp_machine::Machine;
 use hp_memory::Memory;
-use hp_schedules::{Outcome, Positions, Script};
+use hp_schedules::{CallScript, Outcome, Positions};
 use hp_states::outcome_at;
 use hp_steps::Steps;
 use hp_units::{Cpu, Event, Record};
@@ -25,7 +25,7 @@ use std::marker::Model;
 /// the machine and the scripts, and the records made since.
 pub struct Path<'a> {
     machine: &'a Machine,
-    scripts: &'a [Script],
+    scripts: &'a [CallScript],
     here: Steps,
     positions: Positions,
     turns: Vec<Turn>,
@@ -61,7 +61,7 @@ impl<'a> Path<'a> {
     pub fn start(
         alloc: Global,
         machine: &'a Machine,
-        scripts: &'a [Script],
+        scripts: &'a [CallScript],
     ) -> Result<Path<'a>, AllocError>
         ensures { IfOk result
             (λ path. path ≡ record { setting = setting machine.now scripts.now; news = [] }) }

@@ -9,7 +9,7 @@ ghost use Rattle.hp_explore.specs.declared.exploring.ExploreFault.TheVariants.{H
 use crate::exploring::ExploreFault;
 use crate::turns::latest;
 use hp_machine::Machine;
-use hp_schedules::{Positions, Script};
+use hp_schedules::{CallScript, Positions};
 use hp_units::{Cpu, Record};
 use std::alloc::Global;
 
@@ -25,7 +25,7 @@ use std::alloc::Global;
 pub fn play(
     alloc: Global,
     machine: &Machine,
-    scripts: &[Script],
+    scripts: &[CallScript],
     schedule: &[Cpu],
 ) -> Result<Option<Machine>, ExploreFault>
     ensures ok { IfOk result (IsPlayed (setting machine.now scripts.now) schedule.now) }
@@ -48,7 +48,7 @@ pub fn play(
 fn make_call(
     alloc: Global,
     start: &Machine,
-    scripts: &[Script],
+    scripts: &[CallScript],
     played: &mut Machine,
     positions: &mut Positions,
     cpu: Cpu,

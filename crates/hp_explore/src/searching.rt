@@ -11,7 +11,7 @@ ghost use Rattle.hp_explore.specs.Searches.{IsDown, IsSearching, IsTurned, IsUp}
 use crate::changes::changes_with;
 use crate::{ExploreFault, Path, is_over};
 use hp_machine::Machine;
-use hp_schedules::Script;
+use hp_schedules::CallScript;
 use hp_units::Cpu;
 use hp_wanted::{Wanted, are_met};
 use std::alloc::{AllocError, Global};
@@ -54,7 +54,7 @@ impl<'a> Model for Search<'a> {
 pub(crate) fn first_within(
     alloc: Global,
     machine: &Machine,
-    scripts: &[Script],
+    scripts: &[CallScript],
     wanted: &[Wanted],
     budget: u64,
 ) -> Result<Option<Vec<Cpu>>, ExploreFault>
@@ -79,7 +79,7 @@ impl<'a> Search<'a> {
     fn start(
         alloc: Global,
         machine: &'a Machine,
-        scripts: &'a [Script],
+        scripts: &'a [CallScript],
     ) -> Result<Search<'a>, AllocError>
         ensures { IfOk result (λ search. search ≡ record {
           path = record { setting = setting machine.now scripts.now; news = [] };

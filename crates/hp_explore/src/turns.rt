@@ -18,7 +18,7 @@ use crate::exploring::ExploreFault;
 use crate::playing::{play, records_from};
 use crate::ways::{Turn, Way};
 use hp_machine::Machine;
-use hp_schedules::{Positions, Script, schedule_of};
+use hp_schedules::{CallScript, Positions, schedule_of};
 use hp_steps::Steps;
 use hp_units::{Cpu, Event, Record, Refusal, Reply, Serial};
 use std::alloc::{AllocError, Global};
@@ -29,7 +29,7 @@ use std::alloc::{AllocError, Global};
 pub(crate) fn advance(
     alloc: Global,
     start: &Machine,
-    scripts: &[Script],
+    scripts: &[CallScript],
     here: &mut Steps,
     positions: &mut Positions,
     turns: &mut Vec<Turn>,
@@ -87,7 +87,7 @@ pub(crate) fn step_back(
 fn make_turn(
     alloc: Global,
     start: &Machine,
-    scripts: &[Script],
+    scripts: &[CallScript],
     here: &mut Steps,
     cpu: u32,
     event: &Event,
@@ -142,7 +142,7 @@ fn may_go_back(event: &Event) -> bool
 fn steps_after(
     alloc: Global,
     start: &Machine,
-    scripts: &[Script],
+    scripts: &[CallScript],
     here: &Steps,
     cpu: u32,
     serial: Serial,
@@ -197,7 +197,7 @@ fn with_record(alloc: Global, here: &Steps, latest: Record) -> Result<Steps, All
 fn replayed(
     alloc: Global,
     start: &Machine,
-    scripts: &[Script],
+    scripts: &[CallScript],
     news: &[Record],
     cpu: u32,
 ) -> Result<Option<Steps>, ExploreFault>

@@ -17,7 +17,7 @@ use crate::exploring::ExploreFault;
 use crate::path::Path;
 use crate::turns::latest;
 use hp_machine::Machine;
-use hp_schedules::{Ending, Shard, Script, Tally, is_closed, undo_nothing};
+use hp_schedules::{CallScript, Ending, Shard, Tally, is_closed, undo_nothing};
 use hp_states::{Entry, Level, Memo, Watch, arrive, leave, note};
 use std::alloc::{AllocError, Global};
 
@@ -61,7 +61,7 @@ impl<'a> Walk<'a> {
     pub(crate) fn start(
         alloc: Global,
         machine: &'a Machine,
-        scripts: &'a [Script],
+        scripts: &'a [CallScript],
         part: Shard,
         limit: u64,
     ) -> Result<Walk<'a>, AllocError>
@@ -279,7 +279,7 @@ impl<'a> Walk<'a> {
 }
 
 /// Returns an empty memo for the beginning of the scripts.
-fn memo_at(alloc: Global, machine: &Machine, scripts: &[Script]) -> Result<Memo, AllocError>
+fn memo_at(alloc: Global, machine: &Machine, scripts: &[CallScript]) -> Result<Memo, AllocError>
     ensures memo { IfOk result
         (λ memo. (ends : List Ending) → IsMemo (setting machine.now scripts.now) ends memo) }
     ensures way { IfOk result (IsOnWay (setting machine.now scripts.now) []) }
@@ -291,7 +291,7 @@ fn memo_at(alloc: Global, machine: &Machine, scripts: &[Script]) -> Result<Memo,
 
 /// Returns whether walked places are worth keeping: there are several scripts, and none of them
 /// undoes steps by their serials.
-fn keeps_places(scripts: &[Script]) -> bool
+fn keeps_places(scripts: &[CallScript]) -> bool
     ensures { result ≡ true → UndoNothing scripts.now }
 {
     if scripts.len() < 2 {

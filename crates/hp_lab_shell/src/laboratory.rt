@@ -4,8 +4,8 @@ ghost use Rattle.std.specs.Thread.{IsSync};
 
 use crate::words::Word;
 use hp_lab_faults::ProgramFault;
-use hp_states::Watch;
 use hp_scripts::Unbegun;
+use hp_states::Watch;
 use hp_streams::{Sink, Source};
 use std::alloc::Global;
 use std::thread::Threads;

@@ -2,10 +2,10 @@
 
 use crate::checks::{ALL, LIMIT};
 use clap::ArgMatches;
-use hp_search::{EndsForm, ScheduleForm};
 use hp_lab_command::{FILE, FIND, JOBS, JSON, LOG, NEVER, PART, PROGRESS, SCENARIO};
 use hp_numbers::number64;
 use hp_schedules::ShardId;
+use hp_search::{EndsForm, ScheduleForm};
 use hp_trace::View;
 use hp_wanted::Wanted;
 

@@ -58,8 +58,16 @@ impl LogBands {
             }
             LogEvent::OnlineBegins { block, .. } => self.add(log, block.0, none),
             LogEvent::OfflineBegins { block } => self.add(log, block.0, none),
-            LogEvent::OnlineEnds { block, ok } => self.add(log, block.0, BlockSigns::of_online(*ok)),
-            LogEvent::OfflineEnds { block, ok } => self.add(log, block.0, BlockSigns::of_offline(*ok)),
+            LogEvent::OnlineEnds { block, ok } => self.add(
+                log,
+                block.0,
+                BlockSigns::of_online(*ok),
+            ),
+            LogEvent::OfflineEnds { block, ok } => self.add(
+                log,
+                block.0,
+                BlockSigns::of_offline(*ok),
+            ),
             LogEvent::Other => Ok(()),
         }
     }

@@ -8,7 +8,7 @@ ghost use Rattle.hp_part_files.specs.Ends.{IsEndOf, IsFollowed};
 
 use hp_explore::{ExploreFault, Path, is_over};
 use hp_machine::Machine;
-use hp_schedules::{Outcome, Shard, Script};
+use hp_schedules::{CallScript, Outcome, Shard};
 use hp_units::Cpu;
 use std::alloc::{AllocError, Global};
 
@@ -20,7 +20,7 @@ use std::alloc::{AllocError, Global};
 pub(crate) fn end_of(
     alloc: Global,
     machine: &Machine,
-    scripts: &[Script],
+    scripts: &[CallScript],
     part: Shard,
     schedule: &[Cpu],
 ) -> Result<Option<Outcome>, ExploreFault>

@@ -10,7 +10,7 @@ use crate::writing::write_part;
 use hp_explore::{Exploration, ExploreFault, Watch, calls_for, explore_part};
 use hp_lab_faults::LabFault;
 use hp_schedules::{ShardId, total_of};
-use hp_search::{SearchText, Prepared, prepare, write_more};
+use hp_search::{Prepared, SearchText, prepare, write_more};
 use simdutf8::basic::from_utf8;
 use std::alloc::Global;
 

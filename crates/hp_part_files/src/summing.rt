@@ -19,7 +19,7 @@ use crate::{Head, OrderFault, PartEnds, ends_by_number, head_from, is_head, json
 use hp_explore::{SumFault, sum};
 use hp_lab_faults::{LabFault, PartFault};
 use hp_schedules::Ending;
-use hp_search::{EndsForm, SearchText, Prepared, prepare};
+use hp_search::{EndsForm, Prepared, SearchText, prepare};
 use serde_json::Value;
 use std::alloc::Global;
 

@@ -21,7 +21,7 @@ use Rattle.hp_schedules.specs.Alike.{AreAlike, AreJoined, UndoNothing, exchanges
 use Rattle.hp_schedules.specs.Outcomes.{OutcomeValue, ended_rows_below, replies_below, replies_to, told}
 use Rattle.hp_schedules.specs.Schedules.{EndsWith, Setting, next_call, outcome_after, play_one, plays, record_of_call}
 use Rattle.hp_schedules.specs.Scripts.{later_operation, next_in, next_of, own_operation}
-use Rattle.hp_schedules.specs.declared.scripts.Line.{Line}
+use Rattle.hp_schedules.specs.declared.scripts.Step.{Step}
 use Rattle.hp_schedules.proofs.Opened.{cancelled_same, joined_more}
 use Rattle.hp_schedules.proofs.Plays.{from_news, plays_on, plays_one, recorded, stays_none}
 use Rattle.hp_schedules.proofs.Steps.{receipts_push}
@@ -131,7 +131,7 @@ alike_more g h k r leaves alike = record {
 -- ---- the same requests
 
 -- of a script
-script_same : (cpus cpu : ℕ) (lines : List Line) (h k : List Record) → exchanges cpu h ≡ exchanges cpu k
+script_same : (cpus cpu : ℕ) (lines : List Step) (h k : List Record) → exchanges cpu h ≡ exchanges cpu k
     → own_operation (receipts_of cpu h) ≡ own_operation (receipts_of cpu k)
     → next_of cpus lines (receipts_of cpu h) ≡ next_of cpus lines (receipts_of cpu k)
 script_same cpus cpu lines h k same begun =
@@ -146,7 +146,7 @@ pub call_same : (g : Setting) (h k : List Record) (cpu : ℕ) → AreAlike g h k
 unfolding next_call
 call_same g h k cpu alike = by_script (slice_get g.scripts cpu) refl
   where
-    by_script : (o : Option (List Line)) → slice_get g.scripts cpu ≡ o
+    by_script : (o : Option (List Step)) → slice_get g.scripts cpu ≡ o
         → option_and_then (λ lines. next_of g.layout.cpus lines (receipts_of cpu h)) o
         ≡ option_and_then (λ lines. next_of g.layout.cpus lines (receipts_of cpu k)) o
     by_script None here = refl
@@ -155,11 +155,11 @@ call_same g h k cpu alike = by_script (slice_get g.scripts cpu) refl
         script_same g.layout.cpus cpu lines h k (alike.exchanged cpu within) (alike.begun cpu within)
 
 -- which undo nothing by serials
-script_leaves : (scripts : List (List Line)) (cpu : ℕ) (lines : List Line) → UndoNothing scripts
+script_leaves : (scripts : List (List Step)) (cpu : ℕ) (lines : List Step) → UndoNothing scripts
     → slice_get scripts cpu ≡ Some lines → list_all leaves_lines lines ≡ true
 script_leaves [] cpu lines all here = absurd cc
 script_leaves (first ∷ scripts) zero lines all here =
-    subst (λ (ls : List Line). list_all leaves_lines ls ≡ true) (same_Some first lines here)
+    subst (λ (ls : List Step). list_all leaves_lines ls ≡ true) (same_Some first lines here)
     (and_parts _ _ all).0
 script_leaves (first ∷ scripts) (suc cpu) lines all here =
     script_leaves scripts cpu lines (and_parts _ _ all).1 here
@@ -169,7 +169,7 @@ pub call_leaves : (g : Setting) (h : List Record) (cpu : ℕ) (e : Event) → Un
 unfolding next_call
 call_leaves g h cpu e all is = by_script (slice_get g.scripts cpu) refl is
   where
-    by_script : (o : Option (List Line)) → slice_get g.scripts cpu ≡ o
+    by_script : (o : Option (List Step)) → slice_get g.scripts cpu ≡ o
         → option_and_then (λ lines. next_of g.layout.cpus lines (receipts_of cpu h)) o ≡ Some e
         → leaves_steps (effect_of e) ≡ true
     by_script None here asked = absurd cc

@@ -19,21 +19,21 @@ use Rattle.hp_schedules.specs.Interleavings.{is_one_call}
 use Rattle.hp_schedules.specs.Scripts.{after_line, later_operation, line_next, next_in, next_of, own_operation, work_of}
 use Rattle.hp_schedules.specs.declared.cursors.Cursor.{Cursor}
 use Rattle.hp_schedules.specs.declared.cursors.NextCall.{NextCall}
-use Rattle.hp_schedules.specs.declared.scripts.Line.{Line}
-use Rattle.hp_schedules.specs.declared.scripts.Line.TheVariants.{Ask, Own, Carry}
+use Rattle.hp_schedules.specs.declared.scripts.Step.{Step}
+use Rattle.hp_schedules.specs.declared.scripts.Step.TheVariants.{Ask, Own, Carry}
 use Rattle.hp_schedules.proofs.Lines.{goes_on, goes_on_all, over_now}
 use Rattle.hp_schedules.proofs.OneCalls.{skips, stays}
 
 -- ---- the line at a place
 
-line_here : (lines : List Line) (k : ℕ) (line : Line) → slice_get lines k ≡ Some line
+line_here : (lines : List Step) (k : ℕ) (line : Step) → slice_get lines k ≡ Some line
     → drop k lines ≡ line ∷ drop (suc k) lines
 line_here [] k line here = absurd cc
-line_here (first ∷ lines) zero line here = ap (λ (l : Line). l ∷ lines) (same_Some first line here)
+line_here (first ∷ lines) zero line here = ap (λ (l : Step). l ∷ lines) (same_Some first line here)
 line_here (first ∷ lines) (suc k) line here = line_here lines k line here
 
 -- the lines from there on, with the next one by its number
-lines_here : (lines : List Line) (k : ℕ) (line : Line) → slice_get lines k ≡ Some line
+lines_here : (lines : List Step) (k : ℕ) (line : Step) → slice_get lines k ≡ Some line
     → drop k lines ≡ line ∷ drop (k + 1) lines
 lines_here lines k line here =
     line_here lines k line here ∙ ap (λ (n : ℕ). line ∷ drop n lines) (sym (add-one k))
@@ -69,32 +69,32 @@ before cpus turns =
     none_tried : turns ≡ turns - 0
     none_tried = omega arith
 
-first_is : (cpus : ℕ) (line : Line) → IsIn cpus line [] (first_driver cpus line)
+first_is : (cpus : ℕ) (line : Step) → IsIn cpus line [] (first_driver cpus line)
 first_is cpus (Ask event) = refl
 first_is cpus (Own work) = refl
 first_is cpus (Carry plan turns) = before cpus turns
 
-first_past : (cpus k : ℕ) (lines : List Line) (d : Driver) → length lines ≤ k
+first_past : (cpus k : ℕ) (lines : List Step) (d : Driver) → length lines ≤ k
     → IsInFirst cpus (drop k lines) [] d
 first_past cpus k lines d past =
-    subst (λ (ls : List Line). IsInFirst cpus ls [] d) (sym (drop_of_length-le lines past)) tt
+    subst (λ (ls : List Step). IsInFirst cpus ls [] d) (sym (drop_of_length-le lines past)) tt
 
 -- so it is at each line, and past the last one
-first_there : (cpus : ℕ) (lines : List Line) (k op : ℕ)
+first_there : (cpus : ℕ) (lines : List Step) (k op : ℕ)
     → IsInFirst cpus (drop k lines) [] (cursor_at cpus lines k op).driver
 first_there cpus [] k op = first_past cpus k [] (cursor_at cpus [] k op).driver (omega arith)
 first_there cpus (line ∷ lines) zero op = (first_is cpus line, λ n later. refl)
 first_there cpus (line ∷ lines) (suc k) op = first_there cpus lines k op
 
 -- where a script begins
-pub begins : (cpus : ℕ) (lines : List Line) → IsCursor cpus lines [] (cursor_at cpus lines 0 0)
+pub begins : (cpus : ℕ) (lines : List Step) → IsCursor cpus lines [] (cursor_at cpus lines 0 0)
 begins cpus lines =
     record { own = []; begun = refl; ahead = λ op later. refl; here = first_there cpus lines 0 0 }
 
 -- ---- what is asked for
 
 -- by the first of lines
-first_asks : (cpus op : ℕ) (line : Line) (lines : List Line) (own : List Receipt) (c : Cursor) (e : Event)
+first_asks : (cpus op : ℕ) (line : Step) (lines : List Step) (own : List Receipt) (c : Cursor) (e : Event)
     → c.op ≡ op → IsInFirst cpus (line ∷ lines) own c.driver → asks c line ≡ Some e
     → next_in cpus op (line ∷ lines) own ≡ Some e
 first_asks cpus op (Ask event) lines own c e begun at is =
@@ -111,7 +111,7 @@ first_asks cpus op (Carry plan turns) lines own c e begun at is =
     (line_next cpus op (Carry plan turns) own)) on ∙ some
 
 -- where it is over
-first_over : (cpus op : ℕ) (line : Line) (lines : List Line) (own later : List Receipt) (c : Cursor)
+first_over : (cpus op : ℕ) (line : Step) (lines : List Step) (own later : List Receipt) (c : Cursor)
     → IsInFirst cpus (line ∷ lines) own c.driver → asks c line ≡ None
     → next_in cpus op (line ∷ lines) (own ++ later) ≡ next_in cpus op lines later
 first_over cpus op (Ask event) lines own later c at is = absurd cc
@@ -123,32 +123,32 @@ first_over cpus op (Carry plan turns) lines own later c at is =
     (at.1 op later ∙ over_now cpus op (Carry plan turns) own later none)
 
 -- what stands at a place
-asks_here : (c : Cursor) (lines : List Line) (line : Line) → slice_get lines c.line ≡ Some line
+asks_here : (c : Cursor) (lines : List Step) (line : Step) → slice_get lines c.line ≡ Some line
     → asks_at c lines ≡ asks c line
 asks_here c lines line here = ap (option_and_then (asks c)) here
 
 -- the first of the lines from there on
-at_first : (cpus : ℕ) (lines : List Line) (receipts : List Receipt) (c : Cursor) (line : Line)
+at_first : (cpus : ℕ) (lines : List Step) (receipts : List Receipt) (c : Cursor) (line : Step)
     (is : IsCursor cpus lines receipts c)
     → slice_get lines c.line ≡ Some line → IsInFirst cpus (line ∷ drop (c.line + 1) lines) is.own c.driver
 at_first cpus lines receipts c line is here =
-    subst (λ (ls : List Line). IsInFirst cpus ls is.own c.driver) (lines_here lines c.line line here) is.here
+    subst (λ (ls : List Step). IsInFirst cpus ls is.own c.driver) (lines_here lines c.line line here) is.here
 
-ahead_first : (cpus : ℕ) (lines : List Line) (receipts : List Receipt) (c : Cursor) (line : Line)
+ahead_first : (cpus : ℕ) (lines : List Step) (receipts : List Receipt) (c : Cursor) (line : Step)
     (is : IsCursor cpus lines receipts c) (op : ℕ) (later : List Receipt)
     → slice_get lines c.line ≡ Some line
     → next_in cpus op lines (receipts ++ later)
     ≡ next_in cpus op (line ∷ drop (c.line + 1) lines) (is.own ++ later)
 ahead_first cpus lines receipts c line is op later here =
     is.ahead op later
-    ∙ ap (λ (ls : List Line). next_in cpus op ls (is.own ++ later)) (lines_here lines c.line line here)
+    ∙ ap (λ (ls : List Step). next_in cpus op ls (is.own ++ later)) (lines_here lines c.line line here)
 
 -- so the script asks for what its line does
-asks_next : (cpus : ℕ) (lines : List Line) (receipts : List Receipt) (c : Cursor) (e : Event)
+asks_next : (cpus : ℕ) (lines : List Step) (receipts : List Receipt) (c : Cursor) (e : Event)
     → IsCursor cpus lines receipts c → asks_at c lines ≡ Some e → next_of cpus lines receipts ≡ Some e
 asks_next cpus lines receipts c e is asked = by_line (slice_get lines c.line) refl
   where
-    by_line : (o : Option Line) → slice_get lines c.line ≡ o → next_of cpus lines receipts ≡ Some e
+    by_line : (o : Option Step) → slice_get lines c.line ≡ o → next_of cpus lines receipts ≡ Some e
     by_line None here = absurd (none-some e (sym (ap (option_and_then (asks c)) here) ∙ asked))
     by_line (Some line) here =
         ap (next_in cpus (own_operation receipts) lines) (sym (append-nil receipts))
@@ -158,17 +158,17 @@ asks_next cpus lines receipts c e is asked = by_line (slice_get lines c.line) re
         (at_first cpus lines receipts c line is here) (sym (asks_here c lines line here) ∙ asked)))
 
 -- and after its last line for nothing
-pub past_next : (cpus : ℕ) (lines : List Line) (receipts : List Receipt) (c : Cursor)
+pub past_next : (cpus : ℕ) (lines : List Step) (receipts : List Receipt) (c : Cursor)
     → IsCursor cpus lines receipts c → length lines ≤ c.line → next_of cpus lines receipts ≡ None
 past_next cpus lines receipts c is past =
     ap (next_in cpus (own_operation receipts) lines) (sym (append-nil receipts))
     ∙ (is.ahead (own_operation receipts) []
-    ∙ ap (λ (ls : List Line). next_in cpus (own_operation receipts) ls (is.own ++ []))
+    ∙ ap (λ (ls : List Step). next_in cpus (own_operation receipts) ls (is.own ++ []))
     (drop_of_length-le lines past))
 
 -- ---- the next line
 
-moved_on : (cpus : ℕ) (lines : List Line) (receipts : List Receipt) (c n : Cursor) (line : Line)
+moved_on : (cpus : ℕ) (lines : List Step) (receipts : List Receipt) (c n : Cursor) (line : Step)
     → IsCursor cpus lines receipts c → slice_get lines c.line ≡ Some line → asks c line ≡ None
     → n.line ≡ c.line + 1 → n.op ≡ c.op → IsInFirst cpus (drop (c.line + 1) lines) [] n.driver
     → IsCursor cpus lines receipts n
@@ -184,29 +184,29 @@ moved_on cpus lines receipts c n line is here over at op_is first = record {
 }
 
 -- which asks for something
-first_some : (cpus : ℕ) (lines : List Line) (c : Cursor) → IsInFirst cpus (drop c.line lines) [] c.driver
+first_some : (cpus : ℕ) (lines : List Step) (c : Cursor) → IsInFirst cpus (drop c.line lines) [] c.driver
     → asks_at c lines ≡ None → length lines ≤ c.line
 first_some cpus lines c first none = by_line (slice_get lines c.line) refl
   where
-    begins : (line : Line) → IsIn cpus line [] c.driver → asks c line ≡ None → ⊥
+    begins : (line : Step) → IsIn cpus line [] c.driver → asks c line ≡ None → ⊥
     begins (Ask event) is over = cc
     begins (Own work) is over = cc
     begins (Carry plan turns) is over = none-some _ (sym over ∙ is.next plan)
 
-    by_line : (o : Option Line) → slice_get lines c.line ≡ o → length lines ≤ c.line
+    by_line : (o : Option Step) → slice_get lines c.line ≡ o → length lines ≤ c.line
     by_line None here = past lines c.line here
       where
-        past : (ls : List Line) (k : ℕ) → slice_get ls k ≡ None → length ls ≤ k
+        past : (ls : List Step) (k : ℕ) → slice_get ls k ≡ None → length ls ≤ k
         past [] k h = omega arith
         past (l ∷ ls) zero h = absurd cc
         past (l ∷ ls) (suc k) h = let le = past ls k h in omega (arith, le)
     by_line (Some line) here =
-        absurd (begins line (subst (λ (ls : List Line). IsInFirst cpus ls [] c.driver)
+        absurd (begins line (subst (λ (ls : List Step). IsInFirst cpus ls [] c.driver)
         (line_here lines c.line line here) first).0 (sym (asks_here c lines line here) ∙ none))
 
 -- ---- a request
 
-pub requested : (cpus : ℕ) (lines : List Line) (receipts : List Receipt) (c : Cursor) (q : Option NextCall)
+pub requested : (cpus : ℕ) (lines : List Step) (receipts : List Receipt) (c : Cursor) (q : Option NextCall)
     (r : NextCall)
     → IsAsked c lines q → q ≡ Some r → IsCursor cpus lines receipts c → IsRequested cpus lines receipts q
 requested cpus lines receipts c None r asked some is = absurd (none-some r some)
@@ -217,7 +217,7 @@ requested cpus lines receipts c (Some q) r asked some is = (
 )
 
 -- by the next line, where this one is over
-requested_next : (cpus : ℕ) (lines : List Line) (receipts : List Receipt) (c n : Cursor) (line : Line)
+requested_next : (cpus : ℕ) (lines : List Step) (receipts : List Receipt) (c n : Cursor) (line : Step)
     (q : Option NextCall)
     → IsCursor cpus lines receipts c → slice_get lines c.line ≡ Some line → asks_at c lines ≡ None
     → n.line ≡ c.line + 1 → n.op ≡ c.op → IsInFirst cpus (drop (c.line + 1) lines) [] n.driver
@@ -235,7 +235,7 @@ requested_next cpus lines receipts c n line q is here over at op_is first asked 
         (subst (λ (k : ℕ). IsInFirst cpus (drop k lines) [] n.driver) (sym at) first) none)
     by_request (Some r) some = requested cpus lines receipts n (Some r) r some refl there
 
-pub requested_new : (cpus : ℕ) (lines : List Line) (receipts : List Receipt) (c n : Cursor) (line : Line)
+pub requested_new : (cpus : ℕ) (lines : List Step) (receipts : List Receipt) (c n : Cursor) (line : Step)
     (q : Option NextCall)
     → IsCursor cpus lines receipts c → slice_get lines c.line ≡ Some line → asks_at c lines ≡ None
     → n ≡ cursor_at cpus lines (c.line + 1) c.op → IsAsked n lines q → IsRequested cpus lines receipts q
@@ -254,7 +254,7 @@ begun_later receipts r was op is later =
     later ∙ (ap (λ (n : ℕ). later_operation n r) is ∙ sym (fold_push later_operation 0 receipts r))
 
 -- a line of one call is over
-answered_once : (cpus : ℕ) (lines : List Line) (receipts : List Receipt) (c n : Cursor) (line : Line)
+answered_once : (cpus : ℕ) (lines : List Step) (receipts : List Receipt) (c n : Cursor) (line : Step)
     (r : Receipt)
     → slice_get lines c.line ≡ Some line → is_one_call line ≡ true → n.line ≡ c.line + 1
     → n.op ≡ later_operation c.op r → IsInFirst cpus (drop (c.line + 1) lines) [] n.driver
@@ -272,12 +272,12 @@ answered_once cpus lines receipts c n line r here one at op_is first is = record
   here = subst (λ (k : ℕ). IsInFirst cpus (drop k lines) [] n.driver) (sym at) first;
 }
   where
-    none_yet : (l : Line) → IsIn cpus l is.own c.driver → is_one_call l ≡ true → is.own ≡ []
+    none_yet : (l : Step) → IsIn cpus l is.own c.driver → is_one_call l ≡ true → is.own ≡ []
     none_yet (Ask event) own single = own
     none_yet (Own work) own single = own
     none_yet (Carry plan turns) own single = absurd cc
 
-pub answered_new : (cpus : ℕ) (lines : List Line) (receipts : List Receipt) (c n : Cursor) (line : Line)
+pub answered_new : (cpus : ℕ) (lines : List Step) (receipts : List Receipt) (c n : Cursor) (line : Step)
     (r : Receipt)
     → slice_get lines c.line ≡ Some line → is_one_call line ≡ true
     → n ≡ cursor_at cpus lines (c.line + 1) (later_operation c.op r)
@@ -290,7 +290,7 @@ answered_new cpus lines receipts c n line r here one new is =
     is
 
 -- a plan goes on
-pub answered_run : (cpus : ℕ) (lines : List Line) (receipts : List Receipt) (c n : Cursor) (line : Line)
+pub answered_run : (cpus : ℕ) (lines : List Step) (receipts : List Receipt) (c n : Cursor) (line : Step)
     (r : Receipt) (e : Event)
     → slice_get lines c.line ≡ Some line → is_one_call line ≡ false → asks_at c lines ≡ Some e
     → n.line ≡ c.line → n.op ≡ later_operation c.op r → MovesOn c.driver r.event r.reply n.driver
@@ -305,13 +305,13 @@ answered_run cpus lines receipts c n line r e here one asked at op_is moves is =
       ∙ ap (λ (k : ℕ). next_in cpus op (drop k lines) ((is.own ++ r ∷ []) ++ later)) (sym at)));
   here =
       subst (λ (k : ℕ). IsInFirst cpus (drop k lines) (is.own ++ r ∷ []) n.driver) (sym at)
-      (subst (λ (ls : List Line). IsInFirst cpus ls (is.own ++ r ∷ []) n.driver)
+      (subst (λ (ls : List Step). IsInFirst cpus ls (is.own ++ r ∷ []) n.driver)
       (sym (lines_here lines c.line line here))
       (by_line line (at_first cpus lines receipts c line is here) one
       (sym (asks_here c lines line here) ∙ asked)));
 }
   where
-    by_line : (l : Line) → IsInFirst cpus (l ∷ drop (c.line + 1) lines) is.own c.driver
+    by_line : (l : Step) → IsInFirst cpus (l ∷ drop (c.line + 1) lines) is.own c.driver
         → is_one_call l ≡ false → asks c l ≡ Some e
         → IsInFirst cpus (l ∷ drop (c.line + 1) lines) (is.own ++ r ∷ []) n.driver
     by_line (Ask event) at several some = absurd cc

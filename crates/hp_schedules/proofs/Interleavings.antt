@@ -10,7 +10,7 @@ use Rattle.hp_units.specs.Receipts.{receipt_of, receipts_of}
 use Rattle.hp_units.specs.declared.events.Event.{Event}
 use Rattle.hp_units.specs.declared.replies.Record.{Record}
 use Rattle.hp_units.specs.declared.replies.Receipt.{Receipt}
-use Rattle.hp_schedules.specs.declared.scripts.Line.{Line}
+use Rattle.hp_schedules.specs.declared.scripts.Step.{Step}
 use Rattle.hp_schedules.specs.Interleavings.{AreOneCalls, IsCallCount, IsInterleaving, IsRoomNeeded, holds_no_plan, script_length, script_lengths}
 use Rattle.hp_schedules.specs.Multinomials.{IsMultinomial, sum, turns_of}
 use Rattle.hp_schedules.specs.Orders.{HasCount}
@@ -26,11 +26,11 @@ use Rattle.hp_schedules.proofs.Uniqueness.{only_count}
 
 -- ---- lines
 
-abbrev AllOne : List Line → Type 0
+abbrev AllOne : List Step → Type 0
 AllOne lines = holds_no_plan lines ≡ true
 
 -- a script of such scripts is one
-one_script : (scripts : List (List Line)) (cpu : ℕ) (lines : List Line) → AreOneCalls scripts
+one_script : (scripts : List (List Step)) (cpu : ℕ) (lines : List Step) → AreOneCalls scripts
     → slice_get scripts cpu ≡ Some lines → AllOne lines
 one_script [] cpu lines all here = absurd cc
 one_script (first ∷ scripts) zero lines all here =
@@ -39,7 +39,7 @@ one_script (first ∷ scripts) (suc cpu) lines all here =
     one_script scripts cpu lines (and_parts _ _ all).1 here
 
 -- lines ask for something where there are fewer receipts than lines
-asks : (cpus op : ℕ) (lines : List Line) (rs : List Receipt) → AllOne lines → length rs < length lines
+asks : (cpus op : ℕ) (lines : List Step) (rs : List Receipt) → AllOne lines → length rs < length lines
     → (e : Event) × (next_in cpus op lines rs ≡ Some e)
 asks cpus op [] rs all less = absurd (omega arith)
 asks cpus op (line ∷ lines) [] all less =
@@ -50,7 +50,7 @@ asks cpus op (line ∷ lines) (r ∷ rs) all less =
     (later.0, skips cpus op line lines r rs (and_parts _ _ all).0 ∙ later.1)
 
 -- and for nothing where there are as many
-asks_none : (cpus op : ℕ) (lines : List Line) (rs : List Receipt) → AllOne lines → length lines ≤ length rs
+asks_none : (cpus op : ℕ) (lines : List Step) (rs : List Receipt) → AllOne lines → length lines ≤ length rs
     → next_in cpus op lines rs ≡ None
 asks_none cpus op [] rs all le = refl
 asks_none cpus op (line ∷ lines) [] all le = absurd (omega arith)
@@ -70,7 +70,7 @@ call_asks : (g : Setting) (cpu : ℕ) (news : List Record) → AreOneCalls g.scr
 unfolding next_call
 call_asks g cpu news all less = by_script (slice_get g.scripts cpu) refl less
   where
-    by_script : (o : Option (List Line)) → slice_get g.scripts cpu ≡ o
+    by_script : (o : Option (List Step)) → slice_get g.scripts cpu ≡ o
         → made cpu news < option_map_or (λ lines. length lines) o 0
         → (e : Event) × (option_and_then (λ lines. next_of g.layout.cpus lines (receipts_of cpu news))
         (slice_get g.scripts cpu) ≡ Some e)
@@ -80,7 +80,7 @@ call_asks g cpu news all less = by_script (slice_get g.scripts cpu) refl less
         asks g.layout.cpus (own_operation (receipts_of cpu news)) lines (receipts_of cpu news)
         (one_script g.scripts cpu lines all is) h in (
           e.0,
-          ap (option_and_then (λ (ls : List Line). next_of g.layout.cpus ls (receipts_of cpu news))) is
+          ap (option_and_then (λ (ls : List Step). next_of g.layout.cpus ls (receipts_of cpu news))) is
               ∙ e.1,
         )
 
@@ -89,14 +89,14 @@ call_none : (g : Setting) (cpu : ℕ) (news : List Record) → AreOneCalls g.scr
 unfolding next_call
 call_none g cpu news all le = by_script (slice_get g.scripts cpu) refl le
   where
-    by_script : (o : Option (List Line)) → slice_get g.scripts cpu ≡ o
+    by_script : (o : Option (List Step)) → slice_get g.scripts cpu ≡ o
         → option_map_or (λ lines. length lines) o 0 ≤ made cpu news
         → option_and_then (λ lines. next_of g.layout.cpus lines (receipts_of cpu news))
         (slice_get g.scripts cpu) ≡ None
     by_script None is h =
-        ap (option_and_then (λ (ls : List Line). next_of g.layout.cpus ls (receipts_of cpu news))) is
+        ap (option_and_then (λ (ls : List Step). next_of g.layout.cpus ls (receipts_of cpu news))) is
     by_script (Some lines) is h =
-        ap (option_and_then (λ (ls : List Line). next_of g.layout.cpus ls (receipts_of cpu news))) is
+        ap (option_and_then (λ (ls : List Step). next_of g.layout.cpus ls (receipts_of cpu news))) is
         ∙ asks_none g.layout.cpus (own_operation (receipts_of cpu news)) lines (receipts_of cpu news)
         (one_script g.scripts cpu lines all is) h
 
@@ -212,7 +212,7 @@ complete_schedules g s all = (to, from)
 -- ---- how many there are
 
 -- the length of a processor's script
-length_at : (scripts : List (List Line)) (cpu : ℕ)
+length_at : (scripts : List (List Step)) (cpu : ℕ)
     → get_or (script_lengths scripts) cpu 0 ≡ script_length scripts cpu
 length_at [] cpu = refl
 length_at (lines ∷ scripts) zero = refl
@@ -248,7 +248,7 @@ lengths_count g m all is =
 
 -- ---- how many calls there are, and the room that they need
 
-pub calls_told : (scripts : List (List Line)) (lengths : List ℕ) (calls : Option ℕ) → AreOneCalls scripts
+pub calls_told : (scripts : List (List Step)) (lengths : List ℕ) (calls : Option ℕ) → AreOneCalls scripts
     → lengths ≡ script_lengths scripts
     → IfSome calls (λ n. (n ≡ sum lengths) × (sum lengths < 18446744073709551616))
     → IfNone calls (18446744073709551616 ≤ sum lengths) → IsCallCount scripts calls
@@ -267,6 +267,6 @@ room_told g lines records None one all are over =
 room_told g lines records (Some needed) one all are is = (one, omega (arith, is.1, all, are))
 
 -- a script that holds a plan
-pub with_plan : (scripts : List (List Line)) (none : Bool) → none ≡ list_all holds_no_plan scripts
+pub with_plan : (scripts : List (List Step)) (none : Bool) → none ≡ list_all holds_no_plan scripts
     → none ≡ false → AreOneCalls scripts → ⊥
 with_plan scripts none is unset one = let both : true ≡ false = sym one ∙ (sym is ∙ unset) in cc

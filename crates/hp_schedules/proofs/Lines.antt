@@ -3,11 +3,11 @@ use Rattle.std.proofs.Common.{◌≡◌, ℕ, List, [], ◌∷◌, ◌++◌, Opt
 use Rattle.std.specs.Option.{option_map_or}
 use Rattle.hp_units.specs.declared.events.Event.{Event}
 use Rattle.hp_units.specs.declared.replies.Receipt.{Receipt}
-use Rattle.hp_schedules.specs.declared.scripts.Line.{Line}
+use Rattle.hp_schedules.specs.declared.scripts.Step.{Step}
 use Rattle.hp_schedules.specs.Scripts.{after_line, line_next}
 
 -- after the receipts so far
-pub over_now : (cpus op : ℕ) (line : Line) (earlier later : List Receipt)
+pub over_now : (cpus op : ℕ) (line : Step) (earlier later : List Receipt)
     → line_next cpus op line earlier ≡ None → after_line cpus op line earlier later ≡ Some later
 over_now cpus op line earlier [] none =
     ap (λ (o : Option Event). option_map_or (λ event. None) o (Some [])) none
@@ -16,7 +16,7 @@ over_now cpus op line earlier (r ∷ rs) none =
     option_map_or (λ event. after_line cpus op line (earlier ++ r ∷ []) rs) o (Some (r ∷ rs))) none
 
 -- not yet
-pub goes_on : (cpus op : ℕ) (line : Line) (earlier : List Receipt) (r : Receipt) (rs : List Receipt)
+pub goes_on : (cpus op : ℕ) (line : Step) (earlier : List Receipt) (r : Receipt) (rs : List Receipt)
     (e : Event)
     → line_next cpus op line earlier ≡ Some e
     → after_line cpus op line earlier (r ∷ rs) ≡ after_line cpus op line (earlier ++ r ∷ []) rs
@@ -24,7 +24,7 @@ goes_on cpus op line earlier r rs e some =
     ap (λ (o : Option Event).
     option_map_or (λ event. after_line cpus op line (earlier ++ r ∷ []) rs) o (Some (r ∷ rs))) some
 
-pub goes_on_all : (cpus op : ℕ) (line : Line) (earlier : List Receipt) (e : Event)
+pub goes_on_all : (cpus op : ℕ) (line : Step) (earlier : List Receipt) (e : Event)
     → line_next cpus op line earlier ≡ Some e → after_line cpus op line earlier [] ≡ None
 goes_on_all cpus op line earlier e some =
     ap (λ (o : Option Event). option_map_or (λ event. None) o (Some [])) some

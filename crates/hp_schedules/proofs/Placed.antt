@@ -14,7 +14,7 @@ use Rattle.hp_schedules.specs.Schedules.{Setting, next_call}
 use Rattle.hp_schedules.specs.Scripts.{own_operation, next_of}
 use Rattle.hp_schedules.specs.declared.cursors.Cursor.{Cursor}
 use Rattle.hp_schedules.specs.declared.cursors.NextCall.{NextCall}
-use Rattle.hp_schedules.specs.declared.scripts.Line.{Line}
+use Rattle.hp_schedules.specs.declared.scripts.Step.{Step}
 use Rattle.hp_schedules.proofs.Asked.{begins}
 use Rattle.hp_schedules.proofs.Counts.{get_set_cases}
 use Rattle.hp_schedules.proofs.Plays.{none_past}
@@ -30,28 +30,28 @@ made_at f (a ∷ xs) zero x y here there =
     ap f (sym (same_Some a x here)) ∙ same_Some (f a) y there
 made_at f (a ∷ xs) (suc k) x y here there = made_at f xs k x y here there
 
-pub many_begun : (cpus : ℕ) (scripts : List (List Line)) (cursors : List Cursor)
-    → cursors ≡ map (λ (lines : List Line). cursor_at cpus lines 0 0) scripts
+pub many_begun : (cpus : ℕ) (scripts : List (List Step)) (cursors : List Cursor)
+    → cursors ≡ map (λ (lines : List Step). cursor_at cpus lines 0 0) scripts
     → length cursors ≡ length scripts
 many_begun cpus scripts cursors is =
-    ap length is ∙ length-map scripts (λ (lines : List Line). cursor_at cpus lines 0 0)
+    ap length is ∙ length-map scripts (λ (lines : List Step). cursor_at cpus lines 0 0)
 
-pub all_begun : (g : Setting) (cpus : ℕ) (scripts : List (List Line)) (cursors : List Cursor)
+pub all_begun : (g : Setting) (cpus : ℕ) (scripts : List (List Step)) (cursors : List Cursor)
     → g.scripts ≡ scripts → g.layout.cpus ≡ cpus
-    → cursors ≡ map (λ (lines : List Line). cursor_at cpus lines 0 0) scripts → AreCursors g [] cursors
+    → cursors ≡ map (λ (lines : List Step). cursor_at cpus lines 0 0) scripts → AreCursors g [] cursors
 all_begun g cpus scripts cursors scripts_is cpus_is is =
     record { many = ap length begun ∙ length-map g.scripts first; each = each }
   where
-    first : List Line → Cursor
+    first : List Step → Cursor
     first lines = cursor_at g.layout.cpus lines 0 0
 
     begun : cursors ≡ map first g.scripts
     begun =
         is
-        ∙ (ap (λ (n : ℕ). map (λ (lines : List Line). cursor_at n lines 0 0) scripts) (sym cpus_is)
+        ∙ (ap (λ (n : ℕ). map (λ (lines : List Step). cursor_at n lines 0 0) scripts) (sym cpus_is)
         ∙ ap (map first) (sym scripts_is))
 
-    each : (cpu : ℕ) (lines : List Line) (c : Cursor) → slice_get g.scripts cpu ≡ Some lines
+    each : (cpu : ℕ) (lines : List Step) (c : Cursor) → slice_get g.scripts cpu ≡ Some lines
         → slice_get cursors cpu ≡ Some c → IsCursor g.layout.cpus lines [] c
     each cpu lines c here there =
         subst (IsCursor g.layout.cpus lines [])
@@ -62,15 +62,15 @@ all_begun g cpus scripts cursors scripts_is cpus_is is =
 -- ---- a request
 
 -- the event that a processor's script asks for
-pub asked_is : (g : Setting) (news : List Record) (cpus cpu : ℕ) (lines : List Line) (next : Option Event)
+pub asked_is : (g : Setting) (news : List Record) (cpus cpu : ℕ) (lines : List Step) (next : Option Event)
     → cpus ≡ g.layout.cpus → slice_get g.scripts cpu ≡ Some lines
     → next ≡ next_of cpus lines (receipts_of cpu news) → next_call g cpu news ≡ next
 unfolding next_call
 asked_is g news cpus cpu lines next same here is =
-    ap (option_and_then (λ (xs : List Line). next_of g.layout.cpus xs (receipts_of cpu news))) here
+    ap (option_and_then (λ (xs : List Step). next_of g.layout.cpus xs (receipts_of cpu news))) here
     ∙ (ap (λ (n : ℕ). next_of n lines (receipts_of cpu news)) (sym same) ∙ sym is)
 
-pub called_for : (g : Setting) (news : List Record) (cpu : ℕ) (lines : List Line) (q : Option NextCall)
+pub called_for : (g : Setting) (news : List Record) (cpu : ℕ) (lines : List Step) (q : Option NextCall)
     → slice_get g.scripts cpu ≡ Some lines → IsRequested g.layout.cpus lines (receipts_of cpu news) q
     → IsCalledFor g cpu news q
 called_for g news cpu lines None here none =
@@ -78,14 +78,14 @@ called_for g news cpu lines None here none =
 called_for g news cpu lines (Some q) here some = (
   asked_is g news g.layout.cpus cpu lines (Some q.event) refl here (sym some.0),
   λ ls there. let same : lines ≡ ls = same_Some lines ls (sym here ∙ there) in (
-    subst (λ (l : List Line). IsCursor g.layout.cpus l (receipts_of cpu news) q.from) same some.1,
-    subst (λ (l : List Line). asks_at q.from l ≡ Some q.event) same some.2,
+    subst (λ (l : List Step). IsCursor g.layout.cpus l (receipts_of cpu news) q.from) same some.1,
+    subst (λ (l : List Step). asks_at q.from l ≡ Some q.event) same some.2,
   ),
 )
 
 -- as it is read
-pub requested_at : (g : Setting) (news : List Record) (cpus cpu : ℕ) (scripts : List (List Line))
-    (lines shown : List Line) (cursors : List Cursor) (cursor : Cursor) (q : Option NextCall)
+pub requested_at : (g : Setting) (news : List Record) (cpus cpu : ℕ) (scripts : List (List Step))
+    (lines shown : List Step) (cursors : List Cursor) (cursor : Cursor) (q : Option NextCall)
     → g.scripts ≡ scripts → g.layout.cpus ≡ cpus → slice_get scripts cpu ≡ Some lines → shown ≡ lines
     → slice_get cursors cpu ≡ Some cursor → AreCursors g news cursors
     → ((receipts : List Receipt) → IsCursor cpus shown receipts cursor → IsRequested cpus shown receipts q)
@@ -94,22 +94,22 @@ requested_at g news cpus cpu scripts lines shown cursors cursor q scripts_is cpu
     asks =
     called_for g news cpu lines q within
     (subst (λ (n : ℕ). IsRequested n lines (receipts_of cpu news) q) (sym cpus_is)
-    (subst (λ (ls : List Line). IsRequested cpus ls (receipts_of cpu news) q) same
-    (asks (receipts_of cpu news) (subst (λ (ls : List Line). IsCursor cpus ls (receipts_of cpu news) cursor)
+    (subst (λ (ls : List Step). IsRequested cpus ls (receipts_of cpu news) q) same
+    (asks (receipts_of cpu news) (subst (λ (ls : List Step). IsCursor cpus ls (receipts_of cpu news) cursor)
     (sym same) (subst (λ (n : ℕ). IsCursor n lines (receipts_of cpu news) cursor) cpus_is
     (all.each cpu lines cursor within there))))))
   where
     within : slice_get g.scripts cpu ≡ Some lines
-    within = ap (λ (xs : List (List Line)). slice_get xs cpu) scripts_is ∙ here
+    within = ap (λ (xs : List (List Step)). slice_get xs cpu) scripts_is ∙ here
 
 -- a processor that has no script asks for nothing
-pub requested_past : (g : Setting) (news : List Record) (cpu : ℕ) (scripts : List (List Line))
+pub requested_past : (g : Setting) (news : List Record) (cpu : ℕ) (scripts : List (List Step))
     → g.scripts ≡ scripts → length scripts ≤ cpu → next_call g cpu news ≡ None
 requested_past g news cpu scripts scripts_is past =
-    none_past g news cpu (subst (λ (xs : List (List Line)). length xs ≤ cpu) (sym scripts_is) past)
+    none_past g news cpu (subst (λ (xs : List (List Step)). length xs ≤ cpu) (sym scripts_is) past)
 
 -- one whose script asks for something has one
-pub called_within : (g : Setting) (cpu : ℕ) (news : List Record) (scripts : List (List Line)) (event : Event)
+pub called_within : (g : Setting) (cpu : ℕ) (news : List Record) (scripts : List (List Step)) (event : Event)
     → g.scripts ≡ scripts → next_call g cpu news ≡ Some event → cpu < length scripts
 called_within g cpu news scripts event scripts_is asked = by_place (cases_lt cpu (length scripts))
   where
@@ -126,7 +126,7 @@ set_back [] k c former here = absurd cc
 set_back (x ∷ xs) zero c former here = ap (λ (y : Cursor). y ∷ xs) (sym (same_Some x former here))
 set_back (x ∷ xs) (suc k) c former here = ap (λ (ys : List Cursor). x ∷ ys) (set_back xs k c former here)
 
-cursors_more : (g : Setting) (news : List Record) (r : Record) (cursors : List Cursor) (lines : List Line)
+cursors_more : (g : Setting) (news : List Record) (r : Record) (cursors : List Cursor) (lines : List Step)
     (later : Cursor)
     → slice_get g.scripts r.cpu ≡ Some lines
     → IsCursor g.layout.cpus lines (receipts_of r.cpu news ++ receipt_of r ∷ []) later
@@ -149,7 +149,7 @@ cursors_more g news r cursors lines later here is all =
         by_owner true e = absurd (off (sym (eqb-true r.cpu k e)))
         by_owner false e = receipts_push k news r false e ∙ append-nil (receipts_of k news)
 
-    each : (k : ℕ) (ls : List Line) (c : Cursor) → slice_get g.scripts k ≡ Some ls
+    each : (k : ℕ) (ls : List Step) (c : Cursor) → slice_get g.scripts k ≡ Some ls
         → slice_get (set cursors r.cpu later) k ≡ Some c
         → IsCursor g.layout.cpus ls (receipts_of k (news ++ r ∷ [])) c
     each k ls c h i = by_place (get_set_cases cursors r.cpu later k c i)
@@ -160,7 +160,7 @@ cursors_more g news r cursors lines later here is all =
             let same : lines ≡ ls =
             same_Some lines ls (sym here ∙ (ap (slice_get g.scripts) (sym at.0) ∙ h)) in
             subst (IsCursor g.layout.cpus ls (receipts_of k (news ++ r ∷ []))) at.1
-            (subst (λ (l : List Line). IsCursor g.layout.cpus l (receipts_of k (news ++ r ∷ [])) later) same
+            (subst (λ (l : List Step). IsCursor g.layout.cpus l (receipts_of k (news ++ r ∷ [])) later) same
             (subst (λ (n : ℕ). IsCursor g.layout.cpus lines (receipts_of n (news ++ r ∷ [])) later) (sym at.0)
             (subst (λ (xs : List Receipt). IsCursor g.layout.cpus lines xs later) (sym own) is)))
         by_place (inr off) =
@@ -168,8 +168,8 @@ cursors_more g news r cursors lines later here is all =
             (all.each k ls c h off.1)
 
 -- the processor's cursor goes on from where its script asked for the call
-pub went_on : (g : Setting) (news : List Record) (r : Record) (cpus cpu : ℕ) (scripts : List (List Line))
-    (lines shown : List Line) (old new : List Cursor) (later : Cursor) (request : NextCall)
+pub went_on : (g : Setting) (news : List Record) (r : Record) (cpus cpu : ℕ) (scripts : List (List Step))
+    (lines shown : List Step) (old new : List Cursor) (later : Cursor) (request : NextCall)
     → g.scripts ≡ scripts → g.layout.cpus ≡ cpus → r.cpu ≡ cpu → slice_get scripts cpu ≡ Some lines
     → shown ≡ lines → ((receipts : List Receipt) (event : Event) → IsCursor cpus shown receipts request.from
     → asks_at request.from shown ≡ Some event → IsCursor cpus shown (receipts ++ receipt_of r ∷ []) later)
@@ -184,16 +184,16 @@ went_on g news r cpus cpu scripts lines shown old new later request scripts_is c
     (subst (λ (k : ℕ). IsCursor g.layout.cpus lines (receipts_of k news ++ receipt_of r ∷ []) later)
     (sym whose)
     (subst (λ (n : ℕ). IsCursor n lines (receipts_of cpu news ++ receipt_of r ∷ []) later) (sym cpus_is)
-    (subst (λ (ls : List Line). IsCursor cpus ls (receipts_of cpu news ++ receipt_of r ∷ []) later) same
+    (subst (λ (ls : List Step). IsCursor cpus ls (receipts_of cpu news ++ receipt_of r ∷ []) later) same
     (after (receipts_of cpu news) request.event
-    (subst (λ (ls : List Line). IsCursor cpus ls (receipts_of cpu news) request.from) (sym same)
+    (subst (λ (ls : List Step). IsCursor cpus ls (receipts_of cpu news) request.from) (sym same)
     (subst (λ (n : ℕ). IsCursor n lines (receipts_of cpu news) request.from) cpus_is
     (called.1 lines within).0))
-    (subst (λ (ls : List Line). asks_at request.from ls ≡ Some request.event) (sym same)
+    (subst (λ (ls : List Step). asks_at request.from ls ≡ Some request.event) (sym same)
     (called.1 lines within).1))))) all)
   where
     within : slice_get g.scripts cpu ≡ Some lines
-    within = ap (λ (xs : List (List Line)). slice_get xs cpu) scripts_is ∙ here
+    within = ap (λ (xs : List (List Step)). slice_get xs cpu) scripts_is ∙ here
 
 -- ---- the operation that a processor began last
 

@@ -10,7 +10,7 @@ use Rattle.hp_units.specs.declared.events.Event.{Event}
 use Rattle.hp_units.specs.declared.replies.Record.{Record}
 use Rattle.hp_units.specs.declared.replies.Reply.{Reply}
 use Rattle.hp_schedules.specs.Outcomes.{OutcomeValue}
-use Rattle.hp_schedules.specs.declared.scripts.Line.{Line}
+use Rattle.hp_schedules.specs.declared.scripts.Step.{Step}
 use Rattle.hp_schedules.specs.Orders.{Extends}
 use Rattle.hp_schedules.specs.Schedules.{EndsWith, Setting, outcome_after, next_call, play_one, plays, record_of_call}
 use Rattle.hp_schedules.specs.Scripts.{next_of}
@@ -67,7 +67,7 @@ pub none_past : (g : Setting) (news : List Record) (cpu : ℕ) → length g.scri
     → next_call g cpu news ≡ None
 unfolding next_call
 none_past g news cpu past =
-    ap (option_and_then (λ (lines : List Line). next_of g.layout.cpus lines (receipts_of cpu news)))
+    ap (option_and_then (λ (lines : List Step). next_of g.layout.cpus lines (receipts_of cpu news)))
     (slice_get_past g.scripts cpu past)
 
 -- so whoever asks has one

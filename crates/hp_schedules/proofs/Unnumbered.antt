@@ -17,10 +17,10 @@ use Rattle.hp_units.specs.declared.replies.Reply.{Reply}
 use Rattle.hp_units.specs.declared.replies.Reply.TheVariants.{Done, Moved, Opened, Refused}
 use Rattle.hp_schedules.specs.Alike.{leaves_lines, leaves_steps, unnumbered}
 use Rattle.hp_schedules.specs.Scripts.{after_line, line_next, next_in, once, work_of}
-use Rattle.hp_schedules.specs.declared.scripts.Line.{Line}
-use Rattle.hp_schedules.specs.declared.scripts.Line.TheVariants.{Ask, Own, Carry}
-use Rattle.hp_schedules.specs.declared.scripts.Work.{Work}
-use Rattle.hp_schedules.specs.declared.scripts.Work.TheVariants as work
+use Rattle.hp_schedules.specs.declared.scripts.Step.{Step}
+use Rattle.hp_schedules.specs.declared.scripts.Step.TheVariants.{Ask, Own, Carry}
+use Rattle.hp_schedules.specs.declared.scripts.StepWork.{StepWork}
+use Rattle.hp_schedules.specs.declared.scripts.StepWork.TheVariants as work
 
 -- ---- the driver
 
@@ -84,14 +84,14 @@ once_same : (e : Event) (rs : List Receipt) → once e (plain rs) ≡ once e rs
 once_same e [] = refl
 once_same e (r ∷ rs) = refl
 
-line_same : (cpus op : ℕ) (line : Line) (rs : List Receipt)
+line_same : (cpus op : ℕ) (line : Step) (rs : List Receipt)
     → line_next cpus op line (plain rs) ≡ line_next cpus op line rs
 line_same cpus op (Ask event) rs = once_same event rs
 line_same cpus op (Own work) rs = once_same (work_of op work) rs
 line_same cpus op (Carry plan turns) rs = driver_same cpus turns plan rs
 
 -- what a line leaves of the receipts
-rest_same : (cpus op : ℕ) (line : Line) (earlier later : List Receipt)
+rest_same : (cpus op : ℕ) (line : Step) (earlier later : List Receipt)
     → after_line cpus op line (plain earlier) (plain later)
     ≡ option_map plain (after_line cpus op line earlier later)
 rest_same cpus op line earlier [] =
@@ -121,7 +121,7 @@ rest_same cpus op line earlier (r ∷ rs) =
     by_next (Some e) longer = longer
 
 -- what lines ask for
-pub next_plain : (cpus op : ℕ) (lines : List Line) (rs : List Receipt)
+pub next_plain : (cpus op : ℕ) (lines : List Step) (rs : List Receipt)
     → next_in cpus op lines (map unnumbered rs) ≡ next_in cpus op lines rs
 next_plain cpus op [] rs = refl
 next_plain cpus op (line ∷ lines) rs =
@@ -167,7 +167,7 @@ after_leaves cpus turns rs (Migrate op) (Refused NothingToMove) = refl
 after_leaves cpus turns rs (Commit op) (Refused (NotFree frame)) = drain_leaves cpus turns op 0 rs
 after_leaves cpus turns rs e reply = tt
 
-work_leaves : (op : ℕ) (work : Work) → leaves_steps (effect_of (work_of op work)) ≡ true
+work_leaves : (op : ℕ) (work : StepWork) → leaves_steps (effect_of (work_of op work)) ≡ true
 work_leaves op (work.DrainFor cpu) = refl
 work_leaves op work.Migrate = refl
 work_leaves op work.Commit = refl
@@ -177,7 +177,7 @@ once_leaves : (e : Event) (rs : List Receipt) → leaves_steps (effect_of e) ≡
 once_leaves e [] leaves = leaves
 once_leaves e (r ∷ rs) leaves = tt
 
-line_leaves : (cpus op : ℕ) (line : Line) (rs : List Receipt) → leaves_lines line ≡ true
+line_leaves : (cpus op : ℕ) (line : Step) (rs : List Receipt) → leaves_lines line ≡ true
     → Leaves (line_next cpus op line rs)
 line_leaves cpus op (Ask event) rs leaves = once_leaves event rs leaves
 line_leaves cpus op (Own work) rs leaves = once_leaves (work_of op work) rs (work_leaves op work)
@@ -188,7 +188,7 @@ line_leaves cpus op (Carry plan turns) rs leaves = by_last (last_or None rs)
     by_last None = refl
     by_last (Some r) = after_leaves cpus turns rs r.event r.reply
 
-pub lines_leave : (cpus op : ℕ) (lines : List Line) (rs : List Receipt) (e : Event)
+pub lines_leave : (cpus op : ℕ) (lines : List Step) (rs : List Receipt) (e : Event)
     → list_all leaves_lines lines ≡ true → next_in cpus op lines rs ≡ Some e
     → leaves_steps (effect_of e) ≡ true
 lines_leave cpus op [] rs e all is = absurd cc

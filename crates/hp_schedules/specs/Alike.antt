@@ -13,8 +13,8 @@ use Rattle.hp_units.specs.declared.replies.Record.{Record}
 use Rattle.hp_schedules.specs.Openings.{AreOpen, Opening}
 use Rattle.hp_schedules.specs.Schedules.{Setting}
 use Rattle.hp_schedules.specs.Scripts.{own_operation}
-use Rattle.hp_schedules.specs.declared.scripts.Line.{Line}
-use Rattle.hp_schedules.specs.declared.scripts.Line.TheVariants.{Ask, Own, Carry}
+use Rattle.hp_schedules.specs.declared.scripts.Step.{Step}
+use Rattle.hp_schedules.specs.declared.scripts.Step.TheVariants.{Ask, Own, Carry}
 
 -- an event drops no earlier steps, except that a Cancel drops its own operation's
 abbrev pub leaves_steps : Effect → Bool
@@ -24,15 +24,15 @@ leaves_steps (Cancels op) = true
 leaves_steps Acts = true
 
 -- no line of the scripts undoes steps by their serials
-abbrev pub leaves_lines : Line → Bool
+abbrev pub leaves_lines : Step → Bool
 leaves_lines (Ask event) = leaves_steps (effect_of event)
 leaves_lines (Own work) = true
 leaves_lines (Carry plan turns) = true
 
-abbrev pub leaves_script : List Line → Bool
+abbrev pub leaves_script : List Step → Bool
 leaves_script lines = list_all leaves_lines lines
 
-abbrev pub UndoNothing : List (List Line) → Type 0
+abbrev pub UndoNothing : List (List Step) → Type 0
 UndoNothing scripts = list_all leaves_script scripts ≡ true
 
 -- a receipt without its serial, and the list of these for one processor

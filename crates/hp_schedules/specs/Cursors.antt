@@ -12,26 +12,26 @@ use Rattle.hp_schedules.specs.Schedules.{Setting, next_call}
 use Rattle.hp_schedules.specs.Scripts.{after_line, next_in, next_of, own_operation, work_of}
 use Rattle.hp_schedules.specs.declared.cursors.Cursor.{Cursor}
 use Rattle.hp_schedules.specs.declared.cursors.NextCall.{NextCall}
-use Rattle.hp_schedules.specs.declared.scripts.Line.{Line}
-use Rattle.hp_schedules.specs.declared.scripts.Line.TheVariants.{Ask, Own, Carry}
+use Rattle.hp_schedules.specs.declared.scripts.Step.{Step}
+use Rattle.hp_schedules.specs.declared.scripts.Step.TheVariants.{Ask, Own, Carry}
 
 -- the event that a line, and that the cursor's own line, calls next; None if it is finished
-abbrev pub asks : Cursor → Line → Option Event
+abbrev pub asks : Cursor → Step → Option Event
 asks c (Ask event) = Some event
 asks c (Own work) = Some (work_of c.op work)
 asks c (Carry plan turns) = event_in plan c.driver.stage
 
-abbrev pub asks_at : Cursor → List Line → Option Event
+abbrev pub asks_at : Cursor → List Step → Option Event
 asks_at c lines = option_and_then (asks c) (slice_get lines c.line)
 
 -- a line's receipts so far, and the driver of its plan after them
-abbrev pub IsIn : (cpus : ℕ) → Line → List Receipt → Driver → Type 0
+abbrev pub IsIn : (cpus : ℕ) → Step → List Receipt → Driver → Type 0
 IsIn cpus (Ask event) own d = own ≡ []
 IsIn cpus (Own work) own d = own ≡ []
 IsIn cpus (Carry plan turns) own d = IsAfter cpus turns own d
 
 -- the same of the first of several lines, which was not finished before the last of them
-abbrev pub IsInFirst : (cpus : ℕ) → List Line → List Receipt → Driver → Type 0
+abbrev pub IsInFirst : (cpus : ℕ) → List Step → List Receipt → Driver → Type 0
 IsInFirst cpus [] own d = Unit {0}
 IsInFirst cpus (line ∷ lines) own d =
     IsIn cpus line own d × ((op : ℕ) (later : List Receipt)
@@ -39,7 +39,7 @@ IsInFirst cpus (line ∷ lines) own d =
 
 -- a cursor is where a script is after its processor's receipts: the lines from there on call what
 -- the script calls after these and any later receipts
-pub record IsCursor (cpus : ℕ) (lines : List Line) (receipts : List Receipt) (c : Cursor) : Type 0 where
+pub record IsCursor (cpus : ℕ) (lines : List Step) (receipts : List Receipt) (c : Cursor) : Type 0 where
   pub own : List Receipt
   pub begun : c.op ≡ own_operation receipts
   pub ahead : (op : ℕ) (later : List Receipt)
@@ -50,12 +50,12 @@ pub record IsCursor (cpus : ℕ) (lines : List Line) (receipts : List Receipt) (
 abbrev pub driver_before : (cpus turns : ℕ) → Driver
 driver_before cpus turns = record { cpus = cpus; left = turns; why = None; stage = Begins }
 
-abbrev pub first_driver : (cpus : ℕ) → Line → Driver
+abbrev pub first_driver : (cpus : ℕ) → Step → Driver
 first_driver cpus (Ask event) = driver_before cpus 0
 first_driver cpus (Own work) = driver_before cpus 0
 first_driver cpus (Carry plan turns) = driver_before cpus turns
 
-abbrev pub cursor_at : (cpus : ℕ) → List Line → (line op : ℕ) → Cursor
+abbrev pub cursor_at : (cpus : ℕ) → List Step → (line op : ℕ) → Cursor
 cursor_at cpus lines line op = record {
   line = line;
   op = op;
@@ -63,12 +63,12 @@ cursor_at cpus lines line op = record {
 }
 
 -- what the cursor's own line calls next
-abbrev pub IsAsked : Cursor → List Line → Option NextCall → Type 0
+abbrev pub IsAsked : Cursor → List Step → Option NextCall → Type 0
 IsAsked c lines None = asks_at c lines ≡ None
 IsAsked c lines (Some q) = (asks_at c lines ≡ Some q.event) × (q.from ≡ c)
 
 -- what a script calls after its receipts, with the position of the line that calls it
-abbrev pub IsRequested : (cpus : ℕ) → List Line → List Receipt → Option NextCall → Type 0
+abbrev pub IsRequested : (cpus : ℕ) → List Step → List Receipt → Option NextCall → Type 0
 IsRequested cpus lines receipts None = next_of cpus lines receipts ≡ None
 IsRequested cpus lines receipts (Some q) =
     (next_of cpus lines receipts ≡ Some q.event) × IsCursor cpus lines receipts q.from
@@ -79,7 +79,7 @@ IsRequested cpus lines receipts (Some q) =
 -- each cursor is where its processor's script is after the new records
 pub record AreCursors (g : Setting) (news : List Record) (cursors : List Cursor) : Type 0 where
   pub many : length cursors ≡ length g.scripts
-  pub each : (cpu : ℕ) (lines : List Line) (c : Cursor)
+  pub each : (cpu : ℕ) (lines : List Step) (c : Cursor)
       → slice_get g.scripts cpu ≡ Some lines → slice_get cursors cpu ≡ Some c
       → IsCursor g.layout.cpus lines (receipts_of cpu news) c
 
@@ -87,5 +87,5 @@ pub record AreCursors (g : Setting) (news : List Record) (cursors : List Cursor)
 abbrev pub IsCalledFor : Setting → (cpu : ℕ) → List Record → Option NextCall → Type 0
 IsCalledFor g cpu news None = next_call g cpu news ≡ None
 IsCalledFor g cpu news (Some q) =
-    (next_call g cpu news ≡ Some q.event) × ((lines : List Line) → slice_get g.scripts cpu ≡ Some lines
+    (next_call g cpu news ≡ Some q.event) × ((lines : List Step) → slice_get g.scripts cpu ≡ Some lines
     → IsCursor g.layout.cpus lines (receipts_of cpu news) q.from × (asks_at q.from lines ≡ Some q.event))

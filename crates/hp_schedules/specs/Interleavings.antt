@@ -6,43 +6,43 @@ use Rattle.hp_schedules.specs.Multinomials.{IsMultinomial, sum, turns_of}
 use Rattle.hp_schedules.specs.Schedules.{Setting}
 use Rattle.hp_schedules.specs.declared.multinomials.HowMany.{HowMany}
 use Rattle.hp_schedules.specs.declared.multinomials.HowMany.TheVariants.{Exactly, MoreThanLimit, Unknown}
-use Rattle.hp_schedules.specs.declared.scripts.Line.{Line}
-use Rattle.hp_schedules.specs.declared.scripts.Line.TheVariants.{Ask, Own, Carry}
+use Rattle.hp_schedules.specs.declared.scripts.Step.{Step}
+use Rattle.hp_schedules.specs.declared.scripts.Step.TheVariants.{Ask, Own, Carry}
 
 -- the line is one call
-abbrev pub is_one_call : Line → Bool
+abbrev pub is_one_call : Step → Bool
 is_one_call (Ask event) = true
 is_one_call (Own work) = true
 is_one_call (Carry plan turns) = false
 
 -- each line of a script, and of all scripts, is one call
-abbrev pub holds_no_plan : List Line → Bool
+abbrev pub holds_no_plan : List Step → Bool
 holds_no_plan lines = list_all is_one_call lines
 
-abbrev pub AreOneCalls : List (List Line) → Type 0
+abbrev pub AreOneCalls : List (List Step) → Type 0
 AreOneCalls scripts = list_all holds_no_plan scripts ≡ true
 
 -- the number of lines of a processor's script
-abbrev pub script_length : List (List Line) → (cpu : ℕ) → ℕ
+abbrev pub script_length : List (List Step) → (cpu : ℕ) → ℕ
 script_length scripts cpu = option_map_or (λ lines. length lines) (slice_get scripts cpu) 0
 
-abbrev pub script_lengths : List (List Line) → List ℕ
+abbrev pub script_lengths : List (List Step) → List ℕ
 script_lengths scripts = map (λ lines. length lines) scripts
 
 -- each processor occurs in the schedule as often as its script has lines
-abbrev pub IsInterleaving : List (List Line) → List ℕ → Type 0
+abbrev pub IsInterleaving : List (List Step) → List ℕ → Type 0
 IsInterleaving scripts schedule = (cpu : ℕ) → turns_of cpu schedule ≡ script_length scripts cpu
 
 -- the number is the multinomial coefficient of the scripts' lengths
-abbrev pub IsCountOfLengths : List (List Line) → ℕ → Type 0
+abbrev pub IsCountOfLengths : List (List Step) → ℕ → Type 0
 IsCountOfLengths scripts m = IsMultinomial (script_lengths scripts) m
 
 -- each line is one call, and there are more interleavings than the limit
-abbrev pub AreTooMany : List (List Line) → (limit : ℕ) → Type 0
+abbrev pub AreTooMany : List (List Step) → (limit : ℕ) → Type 0
 AreTooMany scripts limit = AreOneCalls scripts × ((m : ℕ) → IsCountOfLengths scripts m → limit < m)
 
 -- how many calls a complete schedule has, if each line is one call; None if not, or if 2^64 or more
-abbrev pub IsCallCount : List (List Line) → Option ℕ → Type 0
+abbrev pub IsCallCount : List (List Step) → Option ℕ → Type 0
 IsCallCount scripts None = AreOneCalls scripts → 2 ^ 64 ≤ sum (script_lengths scripts)
 IsCallCount scripts (Some calls) = AreOneCalls scripts × (calls ≡ sum (script_lengths scripts))
 
@@ -56,7 +56,7 @@ IsRoomNeeded g (Some needed) =
 
 -- what is known before any call about how many there are: a number up to the limit; more than the
 -- limit; or nothing, if a line may be several calls or there are 2^64 lines or more
-abbrev pub IsKnown : List (List Line) → (limit : ℕ) → HowMany → Type 0
+abbrev pub IsKnown : List (List Step) → (limit : ℕ) → HowMany → Type 0
 IsKnown scripts limit (Exactly m) = AreOneCalls scripts × IsCountOfLengths scripts m × (m ≤ limit)
 IsKnown scripts limit MoreThanLimit = AreTooMany scripts limit
 IsKnown scripts limit Unknown = AreOneCalls scripts → 2 ^ 64 ≤ sum (script_lengths scripts)

@@ -6,7 +6,7 @@ use Rattle.hp_units.specs.History.{reply_of, value_of}
 use Rattle.hp_units.specs.Receipts.{receipts_of}
 use Rattle.hp_units.specs.declared.events.Event.{Event}
 use Rattle.hp_units.specs.declared.replies.Record.{Record}
-use Rattle.hp_schedules.specs.declared.scripts.Line.{Line}
+use Rattle.hp_schedules.specs.declared.scripts.Step.{Step}
 use Rattle.hp_schedules.specs.Outcomes.{OutcomeValue, outcome}
 use Rattle.hp_schedules.specs.Scripts.{next_of}
 
@@ -17,7 +17,7 @@ pub record Setting : Type 0 where
   pub base : Memory
   pub before : ℕ
   pub start : List Record
-  pub scripts : List (List Line)
+  pub scripts : List (List Step)
 
 -- the next event of a processor's script after the new records; None at its end or without a script
 unfoldable pub next_call : Setting → (cpu : ℕ) → List Record → Option Event

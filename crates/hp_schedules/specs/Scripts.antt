@@ -6,10 +6,10 @@ use Rattle.hp_units.specs.Marks.{is_opening, mark_of}
 use Rattle.hp_units.specs.declared.events.Event.{Event}
 use Rattle.hp_units.specs.declared.events.Event.TheVariants.{DrainFor as DrainsFor, Migrate as Migrates, Commit as Commits, Cancel as Cancels}
 use Rattle.hp_units.specs.declared.replies.Receipt.{Receipt}
-use Rattle.hp_schedules.specs.declared.scripts.Line.{Line}
-use Rattle.hp_schedules.specs.declared.scripts.Line.TheVariants.{Ask, Own, Carry}
-use Rattle.hp_schedules.specs.declared.scripts.Work.{Work}
-use Rattle.hp_schedules.specs.declared.scripts.Work.TheVariants.{DrainFor, Migrate, Commit, Cancel}
+use Rattle.hp_schedules.specs.declared.scripts.Step.{Step}
+use Rattle.hp_schedules.specs.declared.scripts.Step.TheVariants.{Ask, Own, Carry}
+use Rattle.hp_schedules.specs.declared.scripts.StepWork.{StepWork}
+use Rattle.hp_schedules.specs.declared.scripts.StepWork.TheVariants.{DrainFor, Migrate, Commit, Cancel}
 
 -- the operation that a processor began last: the serial of its last Begin, refused or not; else 0
 abbrev pub later_operation : ℕ → Receipt → ℕ
@@ -19,7 +19,7 @@ abbrev pub own_operation : List Receipt → ℕ
 own_operation receipts = fold later_operation 0 receipts
 
 -- the event of work on an operation
-abbrev pub work_of : (op : ℕ) → Work → Event
+abbrev pub work_of : (op : ℕ) → StepWork → Event
 work_of op (DrainFor cpu) = DrainsFor op cpu
 work_of op Migrate = Migrates op
 work_of op Commit = Commits op
@@ -32,25 +32,25 @@ once event (r ∷ rs) = None
 
 -- the next event of a line after its own receipts; None if it is finished. A plan's line is a
 -- driver's run
-abbrev pub line_next : (cpus op : ℕ) → Line → List Receipt → Option Event
+abbrev pub line_next : (cpus op : ℕ) → Step → List Receipt → Option Event
 line_next cpus op (Ask event) receipts = once event receipts
 line_next cpus op (Own work) receipts = once (work_of op work) receipts
 line_next cpus op (Carry plan turns) receipts = next_event cpus turns plan receipts
 
 -- the receipts that are left after a line is finished; None if it needs all of them and goes on
-abbrev pub after_line : (cpus op : ℕ) → Line → (earlier later : List Receipt) → Option (List Receipt)
+abbrev pub after_line : (cpus op : ℕ) → Step → (earlier later : List Receipt) → Option (List Receipt)
 after_line cpus op line earlier [] = option_map_or (λ event. None) (line_next cpus op line earlier) (Some [])
 after_line cpus op line earlier (r ∷ rs) =
     option_map_or (λ event. after_line cpus op line (earlier ++ r ∷ []) rs) (line_next cpus op line earlier)
     (Some (r ∷ rs))
 
 -- the next event of the lines, after the receipts since the first of them began
-abbrev pub next_in : (cpus op : ℕ) → List Line → List Receipt → Option Event
+abbrev pub next_in : (cpus op : ℕ) → List Step → List Receipt → Option Event
 next_in cpus op [] receipts = None
 next_in cpus op (line ∷ lines) receipts =
     option_map_or (λ rest. next_in cpus op lines rest) (after_line cpus op line [] receipts)
     (line_next cpus op line receipts)
 
 -- the next event of a script after its processor's receipts
-abbrev pub next_of : (cpus : ℕ) → List Line → List Receipt → Option Event
+abbrev pub next_of : (cpus : ℕ) → List Step → List Receipt → Option Event
 next_of cpus lines receipts = next_in cpus (own_operation receipts) lines receipts

@@ -6,7 +6,7 @@ ghost use Rattle.hp_units.specs.declared.events.Event.{Event as AnyEvent};
 ghost use Rattle.hp_units.specs.declared.replies.Receipt.{Receipt};
 ghost use Rattle.hp_schedules.specs.Cursors.{IsAsked, IsCursor, IsRequested, asks, asks_at, cursor_at, driver_before, first_driver};
 
-use crate::scripts::{Line, Script, later_operation};
+use crate::scripts::{CallScript, Step, later_operation};
 use hp_ops::Driver;
 use hp_units::{Event, Record, Serial};
 use std::alloc::{AllocError, Global};
@@ -34,14 +34,14 @@ pub struct NextCall {
 
 impl Cursor {
     /// Returns the position before the first line.
-    pub(crate) fn start(cpus: u32, script: &Script) -> Cursor
+    pub(crate) fn start(cpus: u32, script: &CallScript) -> Cursor
         ensures { result ≡ cursor_at cpus script.now 0 0 }
     {
         Cursor::new(cpus, script.lines(), 0, Serial(0))
     }
 
     /// Returns the position at the beginning of a line.
-    fn new(cpus: u32, lines: &[Line], line: usize, op: Serial) -> Cursor
+    fn new(cpus: u32, lines: &[Step], line: usize, op: Serial) -> Cursor
         ensures { result ≡ cursor_at cpus lines.now line op }
     {
         Cursor {
@@ -56,7 +56,7 @@ impl Cursor {
         &self,
         alloc: Global,
         cpus: u32,
-        lines: &[Line],
+        lines: &[Step],
     ) -> Result<Option<NextCall>, AllocError>
         ensures { IfOk result (λ request. (receipts : List Receipt)
             → IsCursor cpus lines.now receipts self.now → IsRequested cpus lines.now receipts request) }
@@ -72,7 +72,7 @@ impl Cursor {
 
     /// Returns the next call of the current line, or `None` if the line is
     /// finished or there is none.
-    fn asked(&self, alloc: Global, lines: &[Line]) -> Result<Option<NextCall>, AllocError>
+    fn asked(&self, alloc: Global, lines: &[Step]) -> Result<Option<NextCall>, AllocError>
         ensures { IfOk result (IsAsked self.now lines.now) }
     {
         let Some(line) = lines.get(self.line) else {
@@ -85,18 +85,18 @@ impl Cursor {
     }
 
     /// Returns the line's next event, or `None` if the line is finished.
-    fn event(&self, alloc: Global, line: &Line) -> Result<Option<Event>, AllocError>
+    fn event(&self, alloc: Global, line: &Step) -> Result<Option<Event>, AllocError>
         ensures { IfOk result (λ next. next ≡ asks self.now line.now) }
     {
         match line {
-            Line::Ask(event) => Ok(Some(event.copy(alloc)?)),
-            Line::Own(work) => Ok(Some(work.event(self.op))),
-            Line::Carry { plan, .. } => self.driver.next(alloc, plan),
+            Step::Ask(event) => Ok(Some(event.copy(alloc)?)),
+            Step::Own(work) => Ok(Some(work.event(self.op))),
+            Step::Carry { plan, .. } => self.driver.next(alloc, plan),
         }
     }
 
     /// Returns the position after the current line's call, given the record of that call.
-    pub(crate) fn after(&self, cpus: u32, lines: &[Line], latest: &Record) -> Cursor
+    pub(crate) fn after(&self, cpus: u32, lines: &[Step], latest: &Record) -> Cursor
         ensures { (receipts : List Receipt) (event : AnyEvent) → IsCursor cpus lines.now receipts self.now
             → asks_at self.now lines.now ≡ Some event
             → IsCursor cpus lines.now (receipts ++ receipt_of latest.now ∷ []) result }
@@ -119,7 +119,7 @@ impl Cursor {
 }
 
 /// Returns the driver at the beginning of a line, or an unused one if there is no such line.
-fn first_driver(cpus: u32, lines: &[Line], line: usize) -> Driver
+fn first_driver(cpus: u32, lines: &[Step], line: usize) -> Driver
     ensures { result ≡ option_map_or (first_driver cpus) (slice_get lines.now line) (driver_before cpus 0) }
 {
     match lines.get(line) {
@@ -129,11 +129,11 @@ fn first_driver(cpus: u32, lines: &[Line], line: usize) -> Driver
 }
 
 /// Returns the migration limit of a line's plan, or 0 if the line has no plan.
-fn turns_of(line: &Line) -> u32
+fn turns_of(line: &Step) -> u32
     ensures { (cpus : ℕ) → driver_before cpus result ≡ first_driver cpus line.now }
 {
     match line {
-        Line::Carry { turns, .. } => *turns,
+        Step::Carry { turns, .. } => *turns,
         _ => 0,
     }
 }

@@ -35,10 +35,10 @@ pub use laws::{
     schedules_are_interleavings,
 };
 pub use multinomials::{HowMany, call_count, interleavings_of};
-pub use outcomes::{Replies, Outcome, all_answers};
+pub use outcomes::{Outcome, Replies, all_answers};
 pub use part_numbers::ShardId;
 pub use parts::Shard;
 pub use positions::Positions;
 pub use rows::{Rows, Share};
-pub use scripts::{Line, Script, Work, undo_nothing};
+pub use scripts::{CallScript, Step, StepWork, undo_nothing};
 pub use tally::{Ending, Tally, fit_in, schedule_of, total_of};

@@ -4,7 +4,7 @@ ghost use Rattle.std.specs.List.{list_all};
 ghost use Rattle.hp_schedules.specs.Interleavings.{IsCallCount, IsKnown, holds_no_plan, script_lengths};
 ghost use Rattle.hp_schedules.specs.Multinomials.{ExceedsWith, IsMultinomial, IsMultinomialWith, sum};
 
-use crate::scripts::Script;
+use crate::scripts::CallScript;
 use std::alloc::{AllocError, Global};
 
 /// The number of interleavings, as far as it is known before any call.
@@ -23,7 +23,7 @@ pub enum HowMany {
 /// (Knuth 1, 1.2.6), if each line is one call.
 pub fn interleavings_of(
     alloc: Global,
-    scripts: &[Script],
+    scripts: &[CallScript],
     limit: u64,
 ) -> Result<HowMany, AllocError>
     ensures { IfOk result (IsKnown scripts.now limit) }
@@ -45,7 +45,7 @@ pub fn interleavings_of(
 ///
 /// Returns `None` if a script carries a plan, whose calls only a search can count, or if the number
 /// is 2^64 or more.
-pub fn call_count(alloc: Global, scripts: &[Script]) -> Result<Option<u64>, AllocError>
+pub fn call_count(alloc: Global, scripts: &[CallScript]) -> Result<Option<u64>, AllocError>
     ensures { IfOk result (IsCallCount scripts.now) }
 {
     if !hold_no_plan(scripts) {
@@ -56,7 +56,7 @@ pub fn call_count(alloc: Global, scripts: &[Script]) -> Result<Option<u64>, Allo
 }
 
 /// Returns the number of lines of each script.
-fn lengths(alloc: Global, scripts: &[Script]) -> Result<Vec<u64>, AllocError>
+fn lengths(alloc: Global, scripts: &[CallScript]) -> Result<Vec<u64>, AllocError>
     ensures { IfOk result (λ lengths. lengths.items ≡ script_lengths scripts.now) }
 {
     let mut lengths = Vec::with_capacity(alloc, scripts.len())?;
@@ -67,7 +67,7 @@ fn lengths(alloc: Global, scripts: &[Script]) -> Result<Vec<u64>, AllocError>
 }
 
 /// Returns whether each line of each script is one call.
-fn hold_no_plan(scripts: &[Script]) -> bool
+fn hold_no_plan(scripts: &[CallScript]) -> bool
     ensures { result ≡ list_all holds_no_plan scripts.now }
 {
     for script in scripts {

@@ -7,7 +7,7 @@ ghost use Rattle.hp_schedules.specs.Schedules.{Setting};
 ghost use Rattle.hp_schedules.specs.Scripts.{own_operation};
 
 use crate::cursors::{Cursor, NextCall};
-use crate::scripts::Script;
+use crate::scripts::CallScript;
 use hp_units::{Cpu, Record, Serial};
 use std::alloc::{AllocError, Global};
 
@@ -19,7 +19,7 @@ pub struct Positions {
 
 impl Positions {
     /// Returns the positions before any call.
-    pub fn start(alloc: Global, cpus: u32, scripts: &[Script]) -> Result<Positions, AllocError>
+    pub fn start(alloc: Global, cpus: u32, scripts: &[CallScript]) -> Result<Positions, AllocError>
         ensures many { IfOk result (λ positions. length positions.cursors.items ≡ length scripts.now) }
         ensures begun { IfOk result (λ positions. (g : Setting) → g.scripts ≡ scripts.now
             → g.layout.cpus ≡ cpus → AreCursors g [] positions.cursors.items) }
@@ -33,7 +33,7 @@ impl Positions {
         &self,
         alloc: Global,
         cpus: u32,
-        scripts: &[Script],
+        scripts: &[CallScript],
         cpu: u32,
     ) -> Result<Option<NextCall>, AllocError>
         requires { length self.now.cursors.items ≡ length scripts.now }
@@ -62,7 +62,7 @@ impl Positions {
     pub fn go_on(
         &mut self,
         cpus: u32,
-        scripts: &[Script],
+        scripts: &[CallScript],
         cpu: u32,
         request: &NextCall,
         latest: &Record,
@@ -93,7 +93,7 @@ impl Positions {
 }
 
 /// Returns a cursor at the beginning of each script.
-fn begun(alloc: Global, cpus: u32, scripts: &[Script]) -> Result<Vec<Cursor>, AllocError>
+fn begun(alloc: Global, cpus: u32, scripts: &[CallScript]) -> Result<Vec<Cursor>, AllocError>
     ensures { IfOk result (λ cursors. cursors.items ≡ map (λ lines. cursor_at cpus lines 0 0) scripts.now) }
 {
     scripts

@@ -11,7 +11,7 @@ use std::marker::Model;
 
 /// Work on the operation that the processor itself began last.
 #[derive(Clone, Copy, Drop)]
-pub enum Work {
+pub enum StepWork {
     /// Drains a processor's lists.
     DrainFor { cpu: Cpu },
     /// Moves one page.
@@ -24,11 +24,11 @@ pub enum Work {
 
 /// One line of a script.
 #[derive(Drop)]
-pub enum Line {
+pub enum Step {
     /// Calls one event.
     Ask(Event),
     /// Works on the operation that the processor began last.
-    Own(Work),
+    Own(StepWork),
     /// Lets the driver carry out a plan with at most `turns` migrations. The driver's calls count
     /// as the processor's.
     Carry { plan: Plan, turns: u32 },
@@ -36,39 +36,39 @@ pub enum Line {
 
 /// The calls of one processor, in order. A contract sees a script as the list of its lines.
 #[derive(Drop)]
-pub struct Script {
-    lines: Vec<Line>,
+pub struct CallScript {
+    lines: Vec<Step>,
 }
 
-impl Model for Script {
+impl Model for CallScript {
     ghost use Rattle.std.specs.Prelude.{List};
-    ghost use Rattle.hp_schedules.specs.declared.scripts.Line.{Line};
+    ghost use Rattle.hp_schedules.specs.declared.scripts.Step.{Step};
 
-    ghost Value = { List Line };
+    ghost Value = { List Step };
 
     ghost view = { λ s. s.lines.items };
 }
 
-impl Work {
+impl StepWork {
     /// Returns the event that does this work on operation `op`.
     pub(crate) fn event(self, op: Serial) -> Event
         ensures { result ≡ work_of op self }
     {
         match self {
-            Work::DrainFor { cpu } => Event::DrainFor { op, cpu },
-            Work::Migrate => Event::Migrate { op },
-            Work::Commit => Event::Commit { op },
-            Work::Cancel => Event::Cancel { op },
+            StepWork::DrainFor { cpu } => Event::DrainFor { op, cpu },
+            StepWork::Migrate => Event::Migrate { op },
+            StepWork::Commit => Event::Commit { op },
+            StepWork::Cancel => Event::Cancel { op },
         }
     }
 }
 
-impl Line {
+impl Step {
     /// Returns whether the line is one call.
     pub(crate) fn is_one_call(&self) -> bool
         ensures { result ≡ is_one_call self.now }
     {
-        !matches!(self, Line::Carry { .. })
+        !matches!(self, Step::Carry { .. })
     }
 
     /// Returns whether the line undoes no steps by their serials.
@@ -76,22 +76,22 @@ impl Line {
         ensures { result ≡ leaves_lines self.now }
     {
         match self {
-            Line::Ask(event) => !matches!(event, Event::UndoAfter { .. }),
+            Step::Ask(event) => !matches!(event, Event::UndoAfter { .. }),
             _ => true,
         }
     }
 }
 
-impl Script {
+impl CallScript {
     /// Creates a script from its lines. Allocates nothing.
-    pub fn new(lines: Vec<Line>) -> Self
+    pub fn new(lines: Vec<Step>) -> Self
         ensures { result ≡ lines.items }
     {
-        Script { lines }
+        CallScript { lines }
     }
 
     /// Returns the lines in order.
-    pub(crate) fn lines(&self) -> &[Line]
+    pub(crate) fn lines(&self) -> &[Step]
         ensures { result.now ≡ self.now }
     {
         let lines = &self.lines;
@@ -135,7 +135,7 @@ pub(crate) fn later_operation(op: Serial, serial: Serial, event: &Event) -> Seri
 }
 
 /// Returns whether no script undoes steps by their serials.
-pub fn undo_nothing(scripts: &[Script]) -> bool
+pub fn undo_nothing(scripts: &[CallScript]) -> bool
     ensures { result ≡ list_all leaves_script scripts.now }
 {
     for script in scripts {

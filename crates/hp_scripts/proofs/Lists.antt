@@ -4,7 +4,7 @@ use borrow.Author.Count.{below_more}
 use Rattle.std.proofs.lemmas.List.{take_more}
 use Rattle.std.proofs.lemmas.List.FromFn.{map-range_with_len_more}
 use Rattle.hp_machine.specs.Machine.{MachineValue}
-use Rattle.hp_schedules.specs.declared.scripts.Line as step
+use Rattle.hp_schedules.specs.declared.scripts.Step as step
 use Rattle.hp_scenario.specs.Asked.{asked_by}
 use Rattle.hp_scenario.specs.declared.lines.Line.{Line}
 use Rattle.hp_scenario.specs.Unfit.{unfit}

@@ -10,9 +10,9 @@ use Rattle.hp_schedules.specs.Interleavings.{IsKnown, holds_no_plan, is_one_call
 use Rattle.hp_schedules.specs.Multinomials.{IsMultinomial, sum}
 use Rattle.hp_schedules.specs.declared.multinomials.HowMany.{HowMany}
 use Rattle.hp_schedules.specs.declared.multinomials.HowMany.TheVariants.{Exactly, MoreThanLimit, Unknown}
-use Rattle.hp_schedules.specs.declared.scripts.Line.{Line as Step}
-use Rattle.hp_schedules.specs.declared.scripts.Line.TheVariants.{Ask}
-use Rattle.hp_schedules.specs.declared.scripts.Work as own
+use Rattle.hp_schedules.specs.declared.scripts.Step.{Step}
+use Rattle.hp_schedules.specs.declared.scripts.Step.TheVariants.{Ask}
+use Rattle.hp_schedules.specs.declared.scripts.StepWork as own
 use Rattle.hp_scenario.specs.Asked as asks
 use Rattle.hp_scenario.specs.declared.lines.Line.{Line}
 use Rattle.hp_scripts.specs.Begins.{last_begun, line_begins}

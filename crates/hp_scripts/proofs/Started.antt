@@ -6,7 +6,7 @@ use Rattle.hp_machine.specs.Machine.{MachineValue, booted}
 use Rattle.hp_scenario.specs.declared.lines.Line.{Line}
 use Rattle.hp_scenario.specs.declared.unfit.Unfit.{Unfit}
 use Rattle.hp_scenario.specs.Scenario.{ScenarioValue}
-use Rattle.hp_schedules.specs.declared.scripts.Line.{Line as Step}
+use Rattle.hp_schedules.specs.declared.scripts.Step.{Step}
 use Rattle.hp_scripts.specs.Begins.{begins_in}
 use Rattle.hp_scripts.specs.Checks.{AreFit, IsFirstUnfit, IsUnfit}
 use Rattle.hp_scripts.specs.Scripts.{script_of, scripts_of}

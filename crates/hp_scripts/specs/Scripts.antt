@@ -5,10 +5,10 @@ use Rattle.std.specs.Option.{option_map_or}
 use Rattle.hp_units.specs.declared.events.Event.{Event}
 use Rattle.hp_units.specs.declared.events.Event.TheVariants as event
 use Rattle.hp_schedules.specs.Scripts.{work_of}
-use Rattle.hp_schedules.specs.declared.scripts.Line as step
-use Rattle.hp_schedules.specs.declared.scripts.Line.TheVariants.{Ask, Own, Carry}
-use Rattle.hp_schedules.specs.declared.scripts.Work as own
-use Rattle.hp_schedules.specs.declared.scripts.Work.TheVariants.{DrainFor, Migrate, Commit, Cancel}
+use Rattle.hp_schedules.specs.declared.scripts.Step as step
+use Rattle.hp_schedules.specs.declared.scripts.Step.TheVariants.{Ask, Own, Carry}
+use Rattle.hp_schedules.specs.declared.scripts.StepWork as own
+use Rattle.hp_schedules.specs.declared.scripts.StepWork.TheVariants.{DrainFor, Migrate, Commit, Cancel}
 use Rattle.hp_scenario.specs.Asked as asks
 use Rattle.hp_scenario.specs.declared.lines.Line.{Line}
 use Rattle.hp_scripts.specs.Begins.{last_begun, line_begins}

@@ -6,7 +6,7 @@ ghost use Rattle.hp_scripts.specs.Scripts.{called, explored, line_for, own_if_la
 
 use crate::begins::{Begin, last_begun, line_begins};
 use hp_scenario::{Asked, Line, Work};
-use hp_schedules::{Line as Step, Script, Work as OwnWork};
+use hp_schedules::{CallScript, Step, StepWork};
 use hp_units::{Cpu, Event, Plan, Serial};
 use std::alloc::{AllocError, Global};
 
@@ -17,7 +17,7 @@ pub(crate) fn scripts_of(
     cpus: u32,
     begins: &[Begin],
     lines: &[Line],
-) -> Result<Vec<Script>, AllocError>
+) -> Result<Vec<CallScript>, AllocError>
     ensures { IfOk result (λ scripts. scripts.items ≡ scripts_of cpus begins.now lines.now) }
 {
     let mut scripts = Vec::new(alloc);
@@ -35,7 +35,7 @@ fn script_of(
     cpu: Cpu,
     begins: &[Begin],
     lines: &[Line],
-) -> Result<Script, AllocError>
+) -> Result<CallScript, AllocError>
     ensures { IfOk result (λ script. script ≡ script_of begins.now lines.now cpu) }
 {
     let op = last_begun(cpu, begins);
@@ -45,7 +45,7 @@ fn script_of(
         push_line(&mut steps, alloc, cpu, op, has_begun, line)?;
         has_begun = has_begun || line_begins(cpu, line);
     }
-    Ok(Script::new(steps))
+    Ok(CallScript::new(steps))
 }
 
 /// Appends a line to a processor's steps, if it is the processor's line.
@@ -98,7 +98,7 @@ fn called(alloc: Global, op: Serial, has_begun: bool, event: &Event) -> Result<S
 
 /// Returns work on the operation that the processor began last: `op`, unless its script has begun
 /// one since.
-fn own_step(op: Serial, has_begun: bool, work: OwnWork) -> Step
+fn own_step(op: Serial, has_begun: bool, work: StepWork) -> Step
     ensures { result ≡ own_step op has_begun work }
 {
     if has_begun {
@@ -109,14 +109,14 @@ fn own_step(op: Serial, has_begun: bool, work: OwnWork) -> Step
 }
 
 /// Returns the event of work on operation `op`.
-fn work_on(op: Serial, work: OwnWork) -> Event
+fn work_on(op: Serial, work: StepWork) -> Event
     ensures { result ≡ work_of op work }
 {
     match work {
-        OwnWork::DrainFor { cpu } => Event::DrainFor { op, cpu },
-        OwnWork::Migrate => Event::Migrate { op },
-        OwnWork::Commit => Event::Commit { op },
-        OwnWork::Cancel => Event::Cancel { op },
+        StepWork::DrainFor { cpu } => Event::DrainFor { op, cpu },
+        StepWork::Migrate => Event::Migrate { op },
+        StepWork::Commit => Event::Commit { op },
+        StepWork::Cancel => Event::Cancel { op },
     }
 }
 
@@ -129,20 +129,20 @@ fn carried(alloc: Global, plan: &Plan, turns: u32) -> Result<Step, AllocError>
 }
 
 /// Returns the work that an event asks for on operation 0, or `None` if it asks for none.
-pub(crate) fn own_work(event: &Event) -> Option<OwnWork>
+pub(crate) fn own_work(event: &Event) -> Option<StepWork>
     ensures { result ≡ own_work event.now }
 {
     match event {
-        Event::DrainFor { op, cpu } => own_if_last(*op, OwnWork::DrainFor { cpu: *cpu }),
-        Event::Migrate { op } => own_if_last(*op, OwnWork::Migrate),
-        Event::Commit { op } => own_if_last(*op, OwnWork::Commit),
-        Event::Cancel { op } => own_if_last(*op, OwnWork::Cancel),
+        Event::DrainFor { op, cpu } => own_if_last(*op, StepWork::DrainFor { cpu: *cpu }),
+        Event::Migrate { op } => own_if_last(*op, StepWork::Migrate),
+        Event::Commit { op } => own_if_last(*op, StepWork::Commit),
+        Event::Cancel { op } => own_if_last(*op, StepWork::Cancel),
         _ => None,
     }
 }
 
 /// Returns the work if `op` is 0.
-fn own_if_last(op: Serial, work: OwnWork) -> Option<OwnWork>
+fn own_if_last(op: Serial, work: StepWork) -> Option<StepWork>
     ensures { result ≡ own_if_last op work }
 {
     if op == Serial(0) { Some(work) } else { None }

@@ -10,7 +10,7 @@ use crate::scripts::scripts_of;
 use crate::setup::run_lines;
 use hp_machine::Machine;
 use hp_scenario::{Line, Scenario};
-use hp_schedules::Script;
+use hp_schedules::CallScript;
 use hp_units::Layout;
 use std::alloc::{AllocError, Global};
 
@@ -19,7 +19,7 @@ pub struct Start {
     /// The machine after the setup.
     pub machine: Machine,
     /// The script of each processor, from processor 0.
-    pub scripts: Vec<Script>,
+    pub scripts: Vec<CallScript>,
 }
 
 /// Keeps callers from proving again how each field is dropped.

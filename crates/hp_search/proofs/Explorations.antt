@@ -9,7 +9,7 @@ use Rattle.hp_explore.specs.declared.exploring.ExploreFault.TheVariants.{History
 use Rattle.hp_schedules.specs.Orders.{HasMoreThan}
 use Rattle.hp_explore.specs.Fronts.{AreFirst, IfFirst, IfWhole}
 use Rattle.hp_explore.specs.Settings.{setting}
-use Rattle.hp_schedules.specs.declared.scripts.Line.{Line as Step}
+use Rattle.hp_schedules.specs.declared.scripts.Step.{Step}
 use Rattle.hp_schedules.specs.Schedules.{IsComplete, Setting}
 use Rattle.hp_search.specs.declared.forms.EndsForm.{EndsForm}
 use Rattle.hp_lab_faults.specs.declared.fault.LabFault.{LabFault}

@@ -5,7 +5,7 @@ ghost use Rattle.hp_search.specs.Faults.{IsFaultOf};
 ghost use Rattle.hp_search.specs.Prepared.{before_of, names_of, setting_of};
 ghost use Rattle.hp_search.specs.Explorations.{IsExplorationOf, IsExploredOn, IsFaultWithin};
 
-use crate::{EndsForm, SearchText, Prepared, prepare};
+use crate::{EndsForm, Prepared, SearchText, prepare};
 use hp_explore::{ExploreFault, Watch, explore};
 use hp_lab_faults::LabFault;
 use std::alloc::Global;

@@ -7,7 +7,7 @@ ghost use Rattle.hp_search.specs.Findings.{IsFindFaultOf, IsFindTold, IsFindingO
 ghost use Rattle.hp_search.specs.FoundTexts.{absent_told, found_text, schedule_text};
 
 use crate::{
-    SearchText, Prepared, ScheduleForm, absent_object, absent_text, found_object, nearest_text,
+    Prepared, ScheduleForm, SearchText, absent_object, absent_text, found_object, nearest_text,
     prepare,
 };
 use hp_explore::{ExploreFault, FindFault, Found, Watch, changes_of, find};

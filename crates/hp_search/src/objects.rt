@@ -4,7 +4,7 @@ ghost use Rattle.hp_spelling.specs.Separated.{separated};
 ghost use Rattle.hp_text.specs.State.{zone_word};
 ghost use Rattle.hp_search.specs.Objects.{absent_object, answer_list, block_string, first_object, found_object, keys_text, more_object, played_list, reply_string};
 
-use hp_schedules::{Replies, Ending, HowMany};
+use hp_schedules::{Ending, HowMany, Replies};
 use hp_spelling::{write_calls, write_mark};
 use hp_text::write_reply_words;
 use hp_units::{Record, Reply, Row, State, Text, Zone};

@@ -11,11 +11,11 @@ ghost use Rattle.hp_schedules.specs.Shares.{AreAtEnds};
 ghost use Rattle.hp_schedules.specs.declared.tally.Ending.{Ending};
 
 use crate::ends::ended_rows;
-use crate::frames::{Entry, Level, Kept};
+use crate::frames::{Entry, Kept, Level};
 use crate::memo::Memo;
 use crate::watch::Watch;
 use hp_memory::Memory;
-use hp_schedules::{Shard, Positions, Share, Tally, fit_in};
+use hp_schedules::{Positions, Shard, Share, Tally, fit_in};
 use hp_units::Record;
 use std::alloc::{AllocError, Global};
 

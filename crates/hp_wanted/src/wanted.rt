@@ -2,7 +2,7 @@
 ghost use Rattle.std.specs.Prelude.{◌≡◌, ◌↔◌, IsTrue, None, Some, slice_get};
 ghost use Rattle.hp_wanted.specs.Wanted.{HasAnswer, HasLine, HasReply, IsAsWanted, IsKindOf, Meets, kind_of};
 
-use hp_schedules::{Replies, Outcome};
+use hp_schedules::{Outcome, Replies};
 use hp_units::{Block, Cpu, Frame, Refusal, Reply, Row};
 
 /// A pattern for a reply.

@@ -1,7 +1,6 @@
 //! Explorations and their text.
-use hp_search::EndsForm;
 use hp_explore::Silent;
-use hp_search::explore_text;
+use hp_search::{EndsForm, explore_text};
 use std::alloc::{AllocError, Global};
 use std::test::Fail;
 

@@ -1,11 +1,10 @@
 //! Scenarios that are not explored, and why.
 use super::explorations::scenario;
-use hp_search::EndsForm;
 use hp_explore::Silent;
-use hp_search::explore_text;
 use hp_lab_faults::LabFault;
 use hp_requests::ControlFault;
 use hp_scenario::Unfit;
+use hp_search::{EndsForm, explore_text};
 use std::alloc::{AllocError, Global};
 use std::test::Fail;
 

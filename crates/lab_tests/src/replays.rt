@@ -1,8 +1,7 @@
 //! Interleavings as scenarios.
 use super::explorations::scenario;
-use hp_search::EndsForm;
 use hp_explore::Silent;
-use hp_search::explore_text;
+use hp_search::{EndsForm, explore_text};
 use std::alloc::Global;
 use std::test::Fail;
 

@@ -1,9 +1,8 @@
 //! Searches for an end, and their text.
 use super::explorations::scenario;
-use hp_search::ScheduleForm;
 use hp_explore::Silent;
-use hp_search::find_text;
 use hp_lab_faults::LabFault;
+use hp_search::{ScheduleForm, find_text};
 use hp_wanted::{Wanted, wanted_line};
 use std::alloc::{AllocError, Global};
 use std::test::Fail;

@@ -3,7 +3,7 @@
 ghost use Rattle.std.specs.Prelude.{◌≡◌};
 
 use crate::streams::{LogBytes, Report, answer_of};
-use hp_log_pictures::{Columns, BlockSigns, draw_log};
+use hp_log_pictures::{BlockSigns, Columns, draw_log};
 use hp_logs::LogForm;
 use hp_verdicts::{AllowedKinds, JudgeFault, JudgeOptions, SizeFault};
 use std::alloc::{AllocError, Global};

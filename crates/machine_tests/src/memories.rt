@@ -1,6 +1,6 @@
 //! A step of a memory in layers that is taken back, and the numbers of the states.
-use hp_states::Codes;
 use hp_memory::Memory;
+use hp_states::Codes;
 use hp_tape::Tape;
 use hp_units::{Cpu, Event, Frame, Order, Reply, Serial};
 use layouts_for_tests::{LAST_OFFLINE, four_blocks};

@@ -2,8 +2,9 @@
 ghost use Rattle.std.specs.Prelude.{◌≡◌, IfOk, length};
 
 use hp_schedules::{
-    Change, Exchanges, Line, Outcome, Shard, Positions, Rows, Script, Share, Tally, all_answers,
-    call_count, change_of, fit_in, is_closed, key_digest, learn, mixed, schedule_of, undo_nothing,
+    CallScript, Change, Exchanges, Outcome, Positions, Rows, Shard, Share, Step, Tally,
+    all_answers, call_count, change_of, fit_in, is_closed, key_digest, learn, mixed, schedule_of,
+    undo_nothing,
 };
 use hp_units::{Cpu, Event, Frame, Order, Record, Reply, Serial};
 use indexmap::IndexMap;
@@ -23,18 +24,18 @@ fn taken() -> Record
 }
 
 /// A script of one line.
-fn one_line(alloc: Global) -> Result<Vec<Script>, AllocError>
+fn one_line(alloc: Global) -> Result<Vec<CallScript>, AllocError>
     ensures { IfOk result (λ scripts. length scripts.items ≡ 1) }
 {
     let mut lines = Vec::new(alloc);
-    lines.push(Line::Ask(taken().event))?;
+    lines.push(Step::Ask(taken().event))?;
     let mut scripts = Vec::with_capacity(alloc, 1)?;
-    scripts.push(Script::new(lines))?;
+    scripts.push(CallScript::new(lines))?;
     Ok(scripts)
 }
 
 /// Whether the script is over after its call, and asks for one again once that is taken back.
-fn goes_on_and_back(alloc: Global, scripts: &[Script]) -> Result<bool, AllocError>
+fn goes_on_and_back(alloc: Global, scripts: &[CallScript]) -> Result<bool, AllocError>
     requires { length scripts.now ≡ 1 }
 {
     let mut positions = Positions::start(alloc, 1, scripts)?;

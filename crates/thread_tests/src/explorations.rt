@@ -2,11 +2,13 @@
 //! compares explorations with every order of random scripts.
 ghost use Rattle.std.specs.Prelude.{◌≡◌, IfOk, length};
 
-use hp_explore::{ExploreFault, Silent, explore, explore_part, kept_counts_are_added, play};
+use hp_explore::{
+    ExploreFault, Silent, calls_for, explore, explore_part, explore_with_jobs,
+    kept_counts_are_added, play, sum,
+};
 use hp_machine::Machine;
-use hp_explore::{calls_for, explore_with_jobs, sum};
 use hp_schedules::{
-    Replies, Ending, Line, Shard, Script, alike_places_go_on_alike, counts_are_unique,
+    CallScript, Ending, Replies, Shard, Step, alike_places_go_on_alike, counts_are_unique,
     interleavings_are_counted, schedules_are_interleavings, total_of,
 };
 use hp_units::{Boot, Cpu, Event, Frame, Layout, Order, Parts, Refusal, Reply};
@@ -36,18 +38,18 @@ fn booted(alloc: Global) -> Result<Machine, Fail> {
 }
 
 /// Returns a script of `count` calls that ask for kernel memory of an order.
-fn asks(alloc: Global, order: u32, count: u32) -> Result<Script, AllocError> {
+fn asks(alloc: Global, order: u32, count: u32) -> Result<CallScript, AllocError> {
     let mut lines = Vec::new(alloc);
     for _line in 0..count {
-        lines.push(Line::Ask(Event::KernelAlloc {
+        lines.push(Step::Ask(Event::KernelAlloc {
             order: Order(order),
         }))?;
     }
-    Ok(Script::new(lines))
+    Ok(CallScript::new(lines))
 }
 
 /// Returns two scripts of `count` calls; the second asks for all memory that the kernel can have.
-fn scripts(alloc: Global, order: u32, count: u32) -> Result<Vec<Script>, AllocError>
+fn scripts(alloc: Global, order: u32, count: u32) -> Result<Vec<CallScript>, AllocError>
     ensures { IfOk result (λ scripts. length scripts.items ≡ 2) }
 {
     let mut scripts = Vec::with_capacity(alloc, 2)?;
@@ -80,7 +82,7 @@ fn is_sole_end(end: &Ending, replies: (&Reply, &Reply), first: u32) -> bool {
 
 /// Returns whether an end's schedule can be played, in two calls, and the end has the rows of three
 /// blocks.
-fn is_played(alloc: Global, machine: &Machine, scripts: &[Script], end: &Ending) -> bool {
+fn is_played(alloc: Global, machine: &Machine, scripts: &[CallScript], end: &Ending) -> bool {
     match play(alloc, machine, scripts, end.first.as_slice()) {
         Ok(Some(played)) => played.history().len() == 2 && end.outcome.blocks().len() == 3,
         _ => false,
@@ -88,7 +90,12 @@ fn is_played(alloc: Global, machine: &Machine, scripts: &[Script], end: &Ending)
 }
 
 /// Returns whether there are two ends, and in each the processor that came first got the block.
-fn serve_the_first(alloc: Global, machine: &Machine, scripts: &[Script], ends: &[Ending]) -> bool {
+fn serve_the_first(
+    alloc: Global,
+    machine: &Machine,
+    scripts: &[CallScript],
+    ends: &[Ending],
+) -> bool {
     let got = Reply::Frame(Frame(0));
     let refused = Reply::Refused(Refusal::NoFrame);
     match ends {
@@ -152,7 +159,7 @@ fn same_ends(ends: &[Ending], others: &[Ending]) -> bool {
 fn three_parts(
     alloc: Global,
     machine: &Machine,
-    scripts: &[Script],
+    scripts: &[CallScript],
 ) -> Result<Vec<Vec<Ending>>, ExploreFault>
     requires { length scripts.now ≡ 2 }
 {
@@ -172,7 +179,7 @@ fn jobs_and_parts_find_the_same<R: Threads + Sync>(
     rt: &R,
     alloc: Global,
     machine: &Machine,
-    scripts: &[Script],
+    scripts: &[CallScript],
 ) -> Result<bool, ExploreFault>
     requires { length scripts.now ≡ 2 }
 {

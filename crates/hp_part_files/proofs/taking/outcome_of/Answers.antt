@@ -1,6 +1,6 @@
 -- The history has no room only for a call of the schedule that is played.
 use Rattle.std.proofs.Common.{◌≡◌, ℕ, List, refl, subst}
-use Rattle.hp_schedules.specs.declared.scripts.Line.{Line as Step}
+use Rattle.hp_schedules.specs.declared.scripts.Step.{Step}
 use Rattle.hp_schedules.specs.Parts.{PartValue}
 use Rattle.hp_schedules.specs.Schedules.{Setting}
 use Rattle.hp_explore.specs.Faults.{FillsAlong}

@@ -1,7 +1,7 @@
 use Rattle.std.proofs.Common.{◌≡◌, ◌∙◌, ◌||◌, ℕ, suc, ◌+◌, ◌<◌, Bool, List, [], ◌∷◌, ◌++◌, length, get_or, drop, sym, ap, add-one, append_assoc}
 use Rattle.std.proofs.Math.Seq.{drop-cons}
 use Rattle.hp_scenario.specs.declared.lines.Line.{Line}
-use Rattle.hp_schedules.specs.declared.scripts.Line as step
+use Rattle.hp_schedules.specs.declared.scripts.Step as step
 use Rattle.hp_scripts.specs.Begins.{line_begins}
 use Rattle.hp_scripts.specs.Scripts.{line_for, steps_in}
 use Rattle.hp_scripts.proofs.scripts.script_of.Goals as goal

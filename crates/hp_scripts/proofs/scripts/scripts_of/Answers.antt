@@ -1,5 +1,5 @@
 use Rattle.std.proofs.Common.{◌∷◌, ◌++◌, [], List, ap, ◌∙◌}
-use Rattle.hp_schedules.specs.declared.scripts.Line as step
+use Rattle.hp_schedules.specs.declared.scripts.Step as step
 use Rattle.hp_scripts.proofs.Lists.{scripts_more}
 use Rattle.hp_scripts.proofs.scripts.scripts_of.Goals as goal
 

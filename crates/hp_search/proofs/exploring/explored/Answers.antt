@@ -1,7 +1,7 @@
 -- The ends are those of all complete schedules, or of the first ones.
 use Rattle.std.proofs.Common.{List, string_bytes, subst}
 use Rattle.std.proofs.lemmas.Result.{err_from_is_err_and}
-use Rattle.hp_schedules.specs.declared.scripts.Line.{Line as Step}
+use Rattle.hp_schedules.specs.declared.scripts.Step.{Step}
 use Rattle.hp_explore.specs.Faults.{IsCauseWithin}
 use Rattle.hp_explore.specs.Settings.{setting}
 use Rattle.hp_search.proofs.Explorations.{is_explored}

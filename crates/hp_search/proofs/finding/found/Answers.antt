@@ -1,7 +1,7 @@
 -- What is told is what the search found.
 use Rattle.std.proofs.Common.{List, string_bytes, subst, sym}
 use Rattle.std.proofs.lemmas.Result.{err_from_is_err_and}
-use Rattle.hp_schedules.specs.declared.scripts.Line.{Line as Step}
+use Rattle.hp_schedules.specs.declared.scripts.Step.{Step}
 use Rattle.hp_explore.specs.Settings.{setting}
 use Rattle.hp_explore.specs.FindFaults.{IsFindCause}
 use Rattle.hp_search.specs.Findings.{IsFoundOn, IsFoundTold}

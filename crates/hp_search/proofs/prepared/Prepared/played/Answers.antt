@@ -1,7 +1,7 @@
 use Rattle.std.proofs.Common.{◌≡◌, IfErr, List, Option, subst}
 use Rattle.std.proofs.lemmas.Result.{IfOk-weaker}
 use Rattle.hp_machine.specs.Machine.{MachineValue}
-use Rattle.hp_schedules.specs.declared.scripts.Line.{Line as Step}
+use Rattle.hp_schedules.specs.declared.scripts.Step.{Step}
 use Rattle.hp_explore.specs.Faults.{FillsAlong}
 use Rattle.hp_explore.specs.Settings.{setting}
 use Rattle.hp_explore.specs.Walks.{IsPlayed}
