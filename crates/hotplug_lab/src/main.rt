@@ -23,7 +23,7 @@ use hp_streams::{Sink, Source};
 use serving::serve_word;
 use std::alloc::Global;
 use std::process::ExitCode;
-use std::thread::Threads;
+use std::thread::{self, Threads};
 
 /// Serves the words of the program.
 #[derive(Drop)]
@@ -43,6 +43,12 @@ impl Laboratory for Searches {
     }
 }
 
+/// Runs the program on a thread of its own, whose stack is mapped at once.
+///
+/// The kernel grows the main thread's stack as it is used, and ends the process if the address
+/// space is full by then, as it may be with many jobs. If no thread can be made, the program runs
+/// on this one.
 fn main(rt: HostRuntime) -> ExitCode {
-    run_program(&rt, &Searches, &rt)
+    let (code, ()) = thread::join(&rt, || run_program(&rt, &Searches, &rt), || ());
+    code
 }
