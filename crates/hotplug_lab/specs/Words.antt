@@ -1,5 +1,5 @@
 -- What a word writes of the bytes of a scenario, the exit status, and when each fault comes.
-use Rattle.std.specs.Prelude.{◌≡◌, ◌⊎◌, ℕ, ◌<◌, ◌≤◌, Bool, List, length, Option, IfSome, if◌then◌else◌}
+use Rattle.std.specs.Prelude.{◌≡◌, ◌⊎◌, ℕ, ◌<◌, ◌≤◌, Bool, List, length, Option, IfSome, IsOk, if◌then◌else◌}
 use Rattle.std.specs.Io.KnownBytes.{Appends}
 use Rattle.hp_wanted.specs.declared.wanted.Wanted.{Wanted}
 use Rattle.hp_lab.specs.Explorations.{IsExplorationOf, IsFaultWithin}
@@ -16,8 +16,11 @@ use Rattle.hp_part_files.specs.Faults.{IsSumFault}
 use Rattle.hp_part_files.specs.Parts.{IsFullPart, IsPartOf}
 use Rattle.hp_part_files.specs.Sums.{IsSumOf}
 use Rattle.hp_lab_shell.specs.Checks.{IsCheckOf}
+<<<<<<< ours
 use Rattle.hp_lab_shell.specs.Logs.{HasLog}
 use Rattle.hp_lab_shell.specs.Pictures.{IsPictureOf}
+=======
+>>>>>>> theirs
 use Rattle.hp_trace.specs.Traces.{IsTraceOf}
 use Rattle.hp_lab_faults.specs.declared.fault.LabFault.{LabFault}
 use Rattle.hp_lab_faults.specs.declared.fault.LabFault.TheVariants.{OutOfMemory}
@@ -61,9 +64,13 @@ IsAnswerOf (Find asked wanted form) input text status = IsSearchOf asked wanted.
 IsAnswerOf (Never asked wanted form) input text status =
     IsSearchOf asked wanted.now form 3 0 input text status
 IsAnswerOf (Trace view) input text status = IsTraceOf view input text × (status ≡ 0)
+<<<<<<< ours
 IsAnswerOf (Picture drawing) input text status =
     IsPictureOf drawing.view drawing.cell input text × (status ≡ 0)
 IsAnswerOf Log input text status = HasLog input × (status ≡ 0)
+=======
+IsAnswerOf (Picture drawing) input text status = IsOk (scenario_in input) × (status ≡ 0)
+>>>>>>> theirs
 
 -- the answer of a word to a scenario that has the lines that the word names
 abbrev pub Answers : Word → (input text : List ℕ) → (status : ℕ) → Type 0

@@ -1,10 +1,9 @@
 //! Rows as one picture.
-ghost use Rattle.std.specs.Prelude.{◌≡◌, ◌++◌, ◌<◌, ◌^◌, IfOk, OnOk, string_bytes};
-ghost use Rattle.std.specs.List.{enumerate_from, flat_map, range_with_len};
-ghost use Rattle.hp_svg.specs.Pictures.{block_text, entry_text, grid, note_text, notes_text, opening, picture_of, picture_with, sign_element, style};
-ghost use Rattle.hp_svg.specs.Sheets.{legend_left, legend_top, width_of};
+ghost use Rattle.std.specs.Prelude.{◌<◌, ◌^◌};
 
-use crate::elements::{MOVE_LOOK, write_cell, write_outline, write_path, write_strip, write_text};
+use crate::elements::{
+    MOVE_LOOK, write_cell, write_fitted_text, write_outline, write_path, write_strip, write_text,
+};
 use crate::marks::{marks_in, write_label};
 use crate::moves::write_moves;
 use crate::rows::write_rows;
@@ -22,25 +21,25 @@ const HATCHING: &str = "<pattern id='isolated' width='4' height='4' patternUnits
      <rect width='4' height='4' fill='#eef5ee'/>\
      <path d='M-1 1L1 -1M0 4L4 0M3 5L5 3' stroke='#4f9d69'/></pattern>";
 
-/// The picture of rows as SVG (own rule), where the cell of a frame is so many pixels wide: one row
-/// under another, with its texts and the heads of its memory blocks as text, a rectangle for each run
-/// of equal characters of a block's cells, an outline for each free block with its order, and below
-/// the cells a strip for the mobility of pageblocks; a line from where a page was, in the row above,
-/// to where it moved; above the rows stand a legend of all characters that occur, of outlines, strips
-/// and lines, and the numbers of the blocks and of their first frames. How wide a block is, and how
-/// many there are, is that of the first row; blocks that have no room in 1,600 pixels go on below the
-/// first. Of an owner whose letter is in the legend the name stands there. An error is out of memory.
+/// Returns rows as SVG, with the cell of a frame this many pixels wide.
 ///
-/// Each row has all memory blocks, or none where it is a line of text alone, which stands where
-/// answers do. A text that has no room before what comes next has a line of its own.
+/// Rows are one under another. Each has its texts and the heads of its memory blocks as text, a
+/// rectangle for each run of equal characters of a block's cells (`runs_of`), an outline for each
+/// free block with its order, and below the cells a strip for the mobility of pageblocks. A line
+/// goes from where a page was, in the row above, to where it moved. Above the rows are a legend of
+/// all characters that occur, of outlines, strips and lines, and the numbers of the blocks and of
+/// their first frames. An owner whose letter is in the legend has its name there.
+///
+/// The first row says how wide a block is and how many there are; blocks that have no room in
+/// 1,600 pixels go on below the first. Each row has all memory blocks, or none if it is a line of
+/// text alone, which is where answers are. A text that has no room before what comes next has a
+/// line of its own.
 pub fn picture_of(
     alloc: Global,
     names: &IndexSet<Text>,
     cell: u8,
     rows: &[RowPicture],
-) -> Result<String, AllocError>
-    ensures { IfOk result (λ picture. string_bytes picture ≡ picture_of names.now.keys cell rows.now) }
-{
+) -> Result<String, AllocError> {
     let marks = marks_in(alloc, rows)?;
     let sheet = Sheet::of(rows, cell);
     let mut out = String::new(alloc);
@@ -49,7 +48,6 @@ pub fn picture_of(
 }
 
 /// Writes the picture of rows, with these characters in the legend.
-#[tactic(auto, unfolding(crate::specs::Pictures::picture_with))]
 fn write_picture(
     out: &mut String,
     alloc: Global,
@@ -57,15 +55,11 @@ fn write_picture(
     names: &IndexSet<Text>,
     marks: &[u8],
     rows: &[RowPicture],
-) -> Result<(), AllocError>
-    ensures { OnOk result (string_bytes out.new ≡ string_bytes out.old
-        ++ picture_with sheet names.now.keys marks.now rows.now) }
-{
+) -> Result<(), AllocError> {
     let entries = marks.len() + 4;
     let start = sheet.rows_at(entries);
     write_front(out, sheet, sheet.height(entries, rows))?;
     write_legend(out, alloc, names, marks)?;
-    write_notes(out, marks.len())?;
     write_rows(out, alloc, sheet, start, rows)?;
     write_moves(out, sheet, start, rows)?;
     write_blocks(out, alloc, sheet, entries)?;
@@ -74,11 +68,7 @@ fn write_picture(
 
 /// Writes how a picture of this height begins, and what all rows use: how cells are hatched, lines
 /// between them, and a white ground.
-#[tactic(auto, unfolding(crate::specs::Pictures::style))]
-fn write_front(out: &mut String, sheet: Sheet, height: u128) -> Result<(), AllocError>
-    ensures { OnOk result (string_bytes out.new ≡ string_bytes out.old
-        ++ (opening (width_of sheet) height ++ style sheet)) }
-{
+fn write_front(out: &mut String, sheet: Sheet, height: u128) -> Result<(), AllocError> {
     let width = sheet.width();
     write!(
         out,
@@ -90,11 +80,8 @@ fn write_front(out: &mut String, sheet: Sheet, height: u128) -> Result<(), Alloc
     out.push_str("<rect width='100%' height='100%' fill='#ffffff'/>\n")
 }
 
-/// Writes the lines between the cells of a block, as its rows use them, where cells are wide enough.
-#[tactic(auto, unfolding(crate::specs::Pictures::grid))]
-fn write_grid(out: &mut String, sheet: Sheet) -> Result<(), AllocError>
-    ensures { OnOk result (string_bytes out.new ≡ string_bytes out.old ++ grid sheet) }
-{
+/// Defines the lines between the cells of a block, if cells are wide enough for them.
+fn write_grid(out: &mut String, sheet: Sheet) -> Result<(), AllocError> {
     if !sheet.has_grid() {
         return Ok(());
     }
@@ -108,84 +95,62 @@ fn write_grid(out: &mut String, sheet: Sheet) -> Result<(), AllocError>
     )
 }
 
-/// Writes the legend of characters.
+/// Draws the legend: what each character means, and then each sign.
 fn write_legend(
     out: &mut String,
     alloc: Global,
     names: &IndexSet<Text>,
     marks: &[u8],
-) -> Result<(), AllocError>
-    ensures { OnOk result (string_bytes out.new ≡ string_bytes out.old
-        ++ flat_map (entry_text names.now.keys) (enumerate_from 0 marks.now)) }
-{
+) -> Result<(), AllocError> {
     for (place, mark) in marks.iter().enumerate() {
         write_entry(out, alloc, names, place, *mark)?;
     }
-    Ok(())
-}
-
-/// Writes a character and what it means, at a place of the legend.
-#[tactic(auto, unfolding(crate::specs::Pictures::entry_text))]
-fn write_entry(
-    out: &mut String,
-    alloc: Global,
-    names: &IndexSet<Text>,
-    place: usize,
-    mark: u8,
-) -> Result<(), AllocError>
-    ensures { OnOk result (string_bytes out.new ≡ string_bytes out.old
-        ++ entry_text names.now.keys (place, mark)) }
-{
-    let left = legend_left(place);
-    let top = legend_top(place);
-    let mut label = String::new(alloc);
-    write_label(&mut label, names, mark)?;
-    write_cell(out, left, top, 12, mark)?;
-    let is_narrow = label.len() > 22;
-    write_text(out, left + 18, top + 10, is_narrow, 22, label.as_str())?;
-    out.push_str("\n")
-}
-
-/// What the legend shows besides characters.
-#[derive(Clone, Copy)]
-pub(crate) enum Sign {
-    Outline,
-    Movable,
-    Unmovable,
-    Move,
-}
-
-/// Writes what outlines, strips and lines mean, after so many entries of the legend.
-#[tactic(auto, unfolding(crate::specs::Pictures::notes_text))]
-fn write_notes(out: &mut String, place: usize) -> Result<(), AllocError>
-    requires { place < 2 ^ 63 }
-    ensures { OnOk result (string_bytes out.new ≡ string_bytes out.old ++ notes_text place) }
-{
+    let place = marks.len();
     write_note(out, place, Sign::Outline, "free block, its order")?;
     write_note(out, place + 1, Sign::Movable, "movable pageblock")?;
     write_note(out, place + 2, Sign::Unmovable, "unmovable pageblock")?;
     write_note(out, place + 3, Sign::Move, "page that moved")
 }
 
-/// Writes a sign and its meaning at a place of the legend.
-#[tactic(auto, unfolding(crate::specs::Pictures::note_text))]
-fn write_note(out: &mut String, place: usize, sign: Sign, text: &str) -> Result<(), AllocError>
-    ensures { OnOk result (string_bytes out.new ≡ string_bytes out.old
-        ++ (sign_element (legend_left place) (legend_top place) sign ++ note_text place text.now)) }
-{
+/// Writes a character and what it means, at a place of the legend.
+fn write_entry(
+    out: &mut String,
+    alloc: Global,
+    names: &IndexSet<Text>,
+    place: usize,
+    mark: u8,
+) -> Result<(), AllocError> {
     let left = legend_left(place);
     let top = legend_top(place);
-    write_sign(out, left, top, sign)?;
-    write_text(out, left + 18, top + 10, false, 0, text)?;
+    let mut label = String::new(alloc);
+    write_label(&mut label, names, mark)?;
+    write_cell(out, left, top, 12, mark)?;
+    write_fitted_text(out, left + 18, top + 10, 22, label.as_str())?;
     out.push_str("\n")
 }
 
-/// Writes a sign of the legend.
-#[tactic(auto, unfolding(crate::specs::Elements::move_element, crate::specs::Elements::move_look))]
+/// What the legend shows besides characters.
+#[derive(Clone, Copy)]
+enum Sign {
+    Outline,
+    Movable,
+    Unmovable,
+    Move,
+}
+
+/// Writes a sign and its meaning at a place of the legend.
+fn write_note(out: &mut String, place: usize, sign: Sign, text: &str) -> Result<(), AllocError> {
+    let left = legend_left(place);
+    let top = legend_top(place);
+    write_sign(out, left, top, sign)?;
+    write_text(out, left + 18, top + 10, text)?;
+    out.push_str("\n")
+}
+
+/// Draws a sign of the legend.
 fn write_sign(out: &mut String, left: u128, top: u128, sign: Sign) -> Result<(), AllocError>
     requires left { left < 2 ^ 100 }
     requires top { top < 2 ^ 100 }
-    ensures { OnOk result (string_bytes out.new ≡ string_bytes out.old ++ sign_element left top sign) }
 {
     match sign {
         Sign::Outline => write_outline(out, left, top + 1, 12),
@@ -201,10 +166,7 @@ fn write_blocks(
     alloc: Global,
     sheet: Sheet,
     entries: usize,
-) -> Result<(), AllocError>
-    ensures { OnOk result (string_bytes out.new ≡ string_bytes out.old
-        ++ flat_map (block_text sheet entries) (range_with_len 0 sheet.blocks)) }
-{
+) -> Result<(), AllocError> {
     for block in 0..sheet.blocks as usize {
         write_block(out, alloc, sheet, entries, block)?;
     }
@@ -212,22 +174,19 @@ fn write_blocks(
 }
 
 /// Writes the number of a block and that of its first frame.
-#[tactic(auto, unfolding(crate::specs::Pictures::block_text))]
 fn write_block(
     out: &mut String,
     alloc: Global,
     sheet: Sheet,
     entries: usize,
     block: usize,
-) -> Result<(), AllocError>
-    ensures { OnOk result (string_bytes out.new ≡ string_bytes out.old ++ block_text sheet entries block) }
-{
+) -> Result<(), AllocError> {
     let left = sheet.cells_at(block);
     let top = sheet.number_at(entries, block);
     let frame = sheet.first_frame(block);
     let first = format!(in alloc; "block {block}")?;
     let second = format!(in alloc; "frame {frame}")?;
-    write_text(out, left, top, false, 0, first.as_str())?;
-    write_text(out, left, top + 12, false, 0, second.as_str())?;
+    write_text(out, left, top, first.as_str())?;
+    write_text(out, left, top + 12, second.as_str())?;
     out.push_str("\n")
 }

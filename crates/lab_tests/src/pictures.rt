@@ -1,4 +1,5 @@
 //! Rows drawn as a picture.
+use crate::picture_parts::PARTS;
 use hp_pictures::{BlockPicture, FreeBlock, Move, RowPicture};
 use hp_svg::picture_of;
 use hp_trace::{View, trace_rows};
@@ -7,13 +8,13 @@ use indexmap::IndexSet;
 use std::alloc::{AllocError, Global};
 use std::test::Fail;
 
-type Words = &'static str;
+pub(crate) type Words = &'static str;
 
 /// The head, the cells, the free blocks (place, order, whether isolated) and the kinds of a block.
-type Block = (Words, Words, &'static [(u32, u32, bool)], Words);
+pub(crate) type Block = (Words, Words, &'static [(u32, u32, bool)], Words);
 
 /// What is asked in a row, its answer, the two frames of a page that moved, and the memory blocks.
-type Row = (Words, Words, Option<(u32, u32)>, &'static [Block]);
+pub(crate) type Row = (Words, Words, Option<(u32, u32)>, &'static [Block]);
 
 /// A text of characters that XML spells otherwise, or has not.
 const WORDS: &str = "<&>\"\t";
@@ -170,43 +171,51 @@ fn row(alloc: Global, from: &Row) -> Result<RowPicture, AllocError> {
     Ok(RowPicture::new(asked, answer, page(*frames), blocks))
 }
 
-/// All those rows.
-fn rows(alloc: Global) -> Result<Vec<RowPicture>, AllocError> {
+/// Those rows.
+fn rows(alloc: Global, from: &[Row]) -> Result<Vec<RowPicture>, AllocError> {
     let mut rows = Vec::new(alloc);
-    for each in ROWS {
+    for each in from {
         rows.push(row(alloc, each)?)?;
     }
     Ok(rows)
 }
 
 /// The names of owners.
-fn names(alloc: Global) -> Result<IndexSet<Text>, AllocError> {
-    let name = text(alloc, "db")?;
+fn names(alloc: Global, from: &[Words]) -> Result<IndexSet<Text>, AllocError> {
     let mut names = IndexSet::new(alloc);
-    names.insert(name)?;
+    for name in from {
+        names.insert(text(alloc, name)?)?;
+    }
     Ok(names)
 }
 
-/// The picture of those rows, where the owners have names.
-fn picture_with(alloc: Global, names: &IndexSet<Text>) -> Result<String, AllocError> {
-    picture_of(alloc, names, 8, &rows(alloc)?)
+/// The picture of rows, where the owners have these names and a cell is so wide.
+fn picture(alloc: Global, from: &[Words], cell: u8, drawn: &[Row]) -> Result<String, AllocError> {
+    let names = names(alloc, from)?;
+    picture_of(alloc, &names, cell, &rows(alloc, drawn)?)
 }
 
-/// The picture of those rows, where the first owner has a name.
-fn picture(alloc: Global) -> Result<String, AllocError> {
-    let names = names(alloc)?;
-    picture_with(alloc, &names)
-}
-
-/// Whether the picture of those rows is this one.
+/// Whether the picture of `ROWS` is `PICTURE`.
 fn is_drawn(alloc: Global) -> Result<bool, AllocError> {
-    let drawn = picture(alloc)?;
+    let drawn = picture(alloc, &["db"], 8, ROWS)?;
     Ok(drawn.as_str() == PICTURE)
+}
+
+/// Whether pictures have their parts.
+fn are_parts_drawn(alloc: Global) -> Result<bool, AllocError> {
+    for (names, cell, rows, part) in PARTS {
+        let drawn = picture(alloc, names, *cell, rows)?;
+        if !drawn.as_str().contains(*part) {
+            return Ok(false);
+        }
+    }
+    Ok(true)
 }
 
 #[test]
 fn rows_are_drawn(rt: HostRuntime) -> Result<(), Fail> {
     assert!(rt; is_drawn(rt.alloc())?);
+    assert!(rt; are_parts_drawn(rt.alloc())?);
     Ok(())
 }
 
