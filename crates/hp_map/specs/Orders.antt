@@ -3,11 +3,12 @@ use Rattle.std.specs.Prelude.{ℕ, zero, suc, ◌+◌, ◌*◌, ◌/◌, ◌%◌
 use Rattle.std.specs.List.{flat_map, range_with_len}
 use Rattle.hp_units.specs.Arithmetic.{block_size, pageblock_size}
 use Rattle.hp_units.specs.LayoutParts.{LayoutParts}
-use Rattle.hp_units.specs.Memory.{FreeAreas}
+use Rattle.hp_units.specs.Memory.{FreeAreas, Memory, kernel_order}
 use Rattle.hp_units.specs.declared.rows.Class.{Class}
 use Rattle.hp_units.specs.declared.rows.Class.TheVariants.{Nu, Nm, Mm, IsoN, IsoM}
 use Rattle.hp_buddy.specs.Buddy.{place_of}
 use Rattle.hp_pictures.specs.declared.block_picture.FreeBlock.{FreeBlock}
+use Rattle.hp_pictures.specs.declared.block_picture.KernelBlock.{KernelBlock}
 use Rattle.hp_map.specs.Frames.{place_at, starts_later}
 use Rattle.hp_map.specs.Places.{place_text}
 use Rattle.hp_map.specs.declared.places.Place.{Place}
@@ -115,3 +116,16 @@ free_frame l a block number = free_at (cell_at l number) (place_of a (block * bl
 -- the free blocks that start in the block, by rising frames
 abbrev pub free_of : LayoutParts → FreeAreas → (block : ℕ) → List FreeBlock
 free_of l a block = flat_map (free_frame l a block) (range_with_len 0 (block_size l))
+
+-- ---- the kernel's blocks of a memory block
+
+abbrev pub kernel_at : (at : ℕ) → Option ℕ → List KernelBlock
+kernel_at at None = []
+kernel_at at (Some order) = record { at = at; order = order } ∷ []
+
+abbrev pub kernel_frame : LayoutParts → Memory → (block number : ℕ) → List KernelBlock
+kernel_frame l s block number = kernel_at (cell_at l number) (kernel_order s (block * block_size l + number))
+
+-- the kernel's blocks that start in the block, by rising frames
+abbrev pub kernel_of : LayoutParts → Memory → (block : ℕ) → List KernelBlock
+kernel_of l s block = flat_map (kernel_frame l s block) (range_with_len 0 (block_size l))

@@ -12,7 +12,7 @@ use Rattle.hp_units.specs.Memory.{Memory}
 use Rattle.hp_pictures.specs.Blocks.{BlockValue, block_with}
 use Rattle.hp_map.specs.Names.{Row, State, AbsentState, OfflineState, OnlineState, GoingState}
 use Rattle.hp_map.specs.Kinds.{kinds_text}
-use Rattle.hp_map.specs.Orders.{free_of, ordered_text}
+use Rattle.hp_map.specs.Orders.{free_of, kernel_of, ordered_text}
 use Rattle.hp_map.specs.Frames.{frames_text}
 use Rattle.hp_map.specs.Places.{ArePlacesOf}
 use Rattle.hp_map.specs.declared.places.Place.{Place}
@@ -62,6 +62,7 @@ block_picture l s places shows_orders block =
     block_with (head_text (slice_get s.blocks.rows block) block) (frames_text l places block)
     (if shows_orders then ordered_text l s.free.areas places block else [])
     (free_of l s.free.areas block)
+    (kernel_of l s block)
     (kinds_text l (slice_get s.blocks.rows block) s.free.areas.kinds block)
 
 -- a picture of each memory block by rising number, with each frame as it is placed

@@ -3,13 +3,13 @@ ghost use Rattle.std.specs.Prelude.{◌≡◌, ◌+◌, ◌*◌, ◌/◌, ◌%�
 ghost use Rattle.std.specs.List.{flat_map, range_with_len};
 ghost use Rattle.hp_units.specs.Arithmetic.{block_size, frame_count};
 ghost use Rattle.hp_buddy.specs.Buddy.{place_of};
-ghost use Rattle.hp_map.specs.Orders.{cell_at, free_at, free_of, free_text, has_order, inner_sign, is_isolated_class, isolation_of, order_below, ordered_cell, ordered_sign, ordered_text, plain_sign};
+ghost use Rattle.hp_map.specs.Orders.{cell_at, free_at, free_of, free_text, has_order, inner_sign, is_isolated_class, isolation_of, kernel_at, kernel_of, order_below, ordered_cell, ordered_sign, ordered_text, plain_sign};
 
 use crate::frames::{first_of, place_at, starts_later};
 use crate::marks::size_of;
 use crate::places::Place;
 use hp_machine::Machine;
-use hp_pictures::FreeBlock;
+use hp_pictures::{FreeBlock, KernelBlock};
 use hp_units::{Block, Class, Frame, Layout, Order, Text};
 use std::alloc::{AllocError, Global};
 
@@ -214,4 +214,38 @@ fn is_isolated_class(class: Class) -> bool
         Class::Nu | Class::Nm | Class::Mm => false,
         Class::IsoN | Class::IsoM => true,
     }
+}
+
+/// Returns the kernel's blocks that start in a memory block of the layout, by rising frames.
+pub(crate) fn kernel_of(
+    alloc: Global,
+    machine: &Machine,
+    block: Block,
+) -> Result<Vec<KernelBlock>, AllocError>
+    requires { block < machine.now.layout.blocks }
+    ensures { IfOk result
+        (λ kernel. kernel.items ≡ kernel_of machine.now.layout machine.now.state block) }
+{
+    let mut kernel = Vec::new(alloc);
+    let layout = machine.layout();
+    let first = first_of(layout, block);
+    for number in 0..layout.block_size() {
+        let order = machine.kernel_at(Frame(first + number));
+        add_kernel(&mut kernel, cell_at(layout, number), order)?;
+    }
+    Ok(kernel)
+}
+
+/// Adds the kernel's block of this order, if one starts here.
+fn add_kernel(
+    kernel: &mut Vec<KernelBlock>,
+    at: u32,
+    order: Option<Order>,
+) -> Result<(), AllocError>
+    ensures { OnOk result (kernel.new.items ≡ kernel.old.items ++ kernel_at at order) }
+{
+    if let Some(order) = order {
+        kernel.push(KernelBlock { at, order: order.0 })?;
+    }
+    Ok(())
 }

@@ -6,7 +6,7 @@ ghost use Rattle.hp_map.specs.Pictures.{IsPicture, block_picture, head_text, pla
 use crate::frames::draw_frames;
 use crate::kinds::draw_kinds;
 use crate::map::places_of;
-use crate::orders::{draw_orders, free_of};
+use crate::orders::{draw_orders, free_of, kernel_of};
 use crate::places::Place;
 use hp_machine::Machine;
 use hp_pictures::BlockPicture;
@@ -66,8 +66,11 @@ fn draw_block(
     let cells = draw_frames(alloc, machine.layout(), places, block)?;
     let ordered = draw_orders(alloc, machine, places, shows_orders, block)?;
     let free = free_of(alloc, machine, block)?;
+    let kernel = kernel_of(alloc, machine, block)?;
     let kinds = draw_kinds(alloc, machine, block)?;
-    Ok(BlockPicture::new(head, cells, ordered, free, kinds))
+    Ok(BlockPicture::new(
+        head, cells, ordered, free, kernel, kinds,
+    ))
 }
 
 /// What stands before the cells of a memory block with this row.

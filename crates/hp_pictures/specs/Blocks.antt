@@ -3,19 +3,22 @@ use Rattle.std.specs.Prelude.{ℕ, ◌&&◌, Bool, List, ◌++◌, codes, if◌t
 use Rattle.std.specs.Str.{bytes_eq}
 use Rattle.hp_pictures.specs.Counts.{counts_text, free_counts_text}
 use Rattle.hp_pictures.specs.declared.block_picture.FreeBlock.{FreeBlock}
+use Rattle.hp_pictures.specs.declared.block_picture.KernelBlock.{KernelBlock}
 
 -- what stands before its cells; its cells, and the same with each free block by its order; its free
--- blocks; and a letter for each of its frames, by the mobility of its pageblock
+-- blocks, and the kernel's; and a letter for each of its frames, by the mobility of its pageblock
 pub record BlockValue : Type 0 where
   pub head : List ℕ
   pub cells : List ℕ
   pub ordered : List ℕ
   pub free : List FreeBlock
+  pub kernel : List KernelBlock
   pub kinds : List ℕ
 
-abbrev pub block_with : (head cells ordered : List ℕ) → List FreeBlock → (kinds : List ℕ) → BlockValue
-block_with head cells ordered free kinds =
-    record { head = head; cells = cells; ordered = ordered; free = free; kinds = kinds }
+abbrev pub block_with : (head cells ordered : List ℕ) → List FreeBlock → List KernelBlock → (kinds : List ℕ)
+    → BlockValue
+block_with head cells ordered free kernel kinds =
+    record { head = head; cells = cells; ordered = ordered; free = free; kernel = kernel; kinds = kinds }
 
 -- whether two are drawn alike as text
 abbrev pub is_same : BlockValue → BlockValue → Bool

@@ -18,6 +18,15 @@ pub struct FreeBlock {
     pub is_isolated: bool,
 }
 
+/// A block of the kernel among the cells of a memory block.
+#[derive(Clone, Copy, PartialEq, Eq)]
+pub struct KernelBlock {
+    /// How many characters of the cells come before its first frame, bars included.
+    pub at: u32,
+    /// Its order: it has 2^order frames, side by side.
+    pub order: u32,
+}
+
 /// A memory block as it is drawn (own rule): what stands before its cells, such as `2:M>off`; its
 /// cells, a character for each of its frames with a bar between pageblocks, such as `a1|::`; the same
 /// with each free block by its order, such as `a1|{}`, where that was asked for; its free blocks; and
@@ -28,6 +37,7 @@ pub struct BlockPicture {
     cells: Text,
     ordered: Text,
     free: Vec<FreeBlock>,
+    kernel: Vec<KernelBlock>,
     kinds: Text,
 }
 
@@ -36,7 +46,7 @@ impl Model for BlockPicture {
 
     ghost Value = { BlockValue };
 
-    ghost view = { λ b. block_with b.head b.cells b.ordered b.free.items b.kinds };
+    ghost view = { λ b. block_with b.head b.cells b.ordered b.free.items b.kernel.items b.kinds };
 }
 
 impl BlockPicture {
@@ -46,15 +56,17 @@ impl BlockPicture {
         cells: Text,
         ordered: Text,
         free: Vec<FreeBlock>,
+        kernel: Vec<KernelBlock>,
         kinds: Text,
     ) -> BlockPicture
-        ensures { result ≡ block_with head cells ordered free.items kinds }
+        ensures { result ≡ block_with head cells ordered free.items kernel.items kinds }
     {
         BlockPicture {
             head,
             cells,
             ordered,
             free,
+            kernel,
             kinds,
         }
     }
@@ -85,6 +97,13 @@ impl BlockPicture {
         ensures { result.now ≡ self.now.free }
     {
         self.free.as_slice()
+    }
+
+    /// Returns the kernel's blocks that start in it, by rising frames.
+    pub fn kernel(&self) -> &[KernelBlock]
+        ensures { result.now ≡ self.now.kernel }
+    {
+        self.kernel.as_slice()
     }
 
     /// A letter for each of its frames, by the mobility of its pageblock: `M` for a movable one, `U` for

@@ -9,6 +9,6 @@ mod block_picture;
 mod counts;
 mod row_picture;
 
-pub use block_picture::{BlockPicture, FreeBlock};
+pub use block_picture::{BlockPicture, FreeBlock, KernelBlock};
 pub use counts::{MARKS, frames_in};
 pub use row_picture::{Move, RowPicture};
