@@ -1,7 +1,7 @@
 use Rattle.std.proofs.Common.{◌≡◌}
 use Rattle.std.specs.List.{flat_map, range_with_len}
-use Rattle.hp_map.specs.Orders.{kernel_frame}
-use Rattle.hp_map.proofs.orders.kernel_of.Given as goal
+use Rattle.hp_map.specs.Blocks.{kernel_frame}
+use Rattle.hp_map.proofs.blocks.kernel_of.Given as goal
 
 abbrev pub invariant-loop-number : goal.invariant-loop-number
 invariant-loop-number l =
