@@ -1,7 +1,7 @@
 use Rattle.std.proofs.Common.{◌≡◌, string_bytes}
 use Rattle.std.specs.List.{flat_map, range_with_len}
-use Rattle.hp_map.specs.Frames.{frame_text}
-use Rattle.hp_map.proofs.frames.draw_frames.Given as goal
+use Rattle.hp_map.specs.Cells.{frame_text}
+use Rattle.hp_map.proofs.cells.draw_cells.Given as goal
 
 abbrev pub invariant-loop-number : goal.invariant-loop-number
 invariant-loop-number l =

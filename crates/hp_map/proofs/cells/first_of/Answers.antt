@@ -1,7 +1,7 @@
 use Rattle.std.proofs.Common.{◌<◌, arith}
 use Rattle.hp_units.specs.Arithmetic.{block_size}
 use Rattle.hp_map.proofs.Bounds.{block_within_frames}
-use Rattle.hp_map.proofs.frames.first_of.Goals as goal
+use Rattle.hp_map.proofs.cells.first_of.Goals as goal
 
 pub returns-clause-within : goal.returns-clause-within
 returns-clause-within c =

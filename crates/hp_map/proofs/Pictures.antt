@@ -1,0 +1,28 @@
+-- The pictures of memory blocks, one more after another.
+use Rattle.std.proofs.Common.{◌≡◌, ℕ, zero, suc, ◌+◌, List, [], ◌∷◌, ◌++◌, Bool, length, slice_get, IfSome, refl, sym, ap, subst, ◌∙◌}
+use Rattle.std.proofs.lemmas.List.{length-append}
+use Rattle.hp_units.specs.LayoutParts.{LayoutParts}
+use Rattle.hp_units.specs.Memory.{Memory}
+use Rattle.hp_pictures.specs.Blocks.{BlockValue}
+use Rattle.hp_map.specs.Pictures.{ArePictures, IsBlockPicture}
+use Rattle.hp_map.specs.declared.places.Place.{Place}
+
+one_more : (P : ℕ → BlockValue → Type 0) (bs : List BlockValue) (b : BlockValue)
+    → ((k : ℕ) → IfSome (slice_get bs k) (P k)) → P (length bs) b
+    → (k : ℕ) → IfSome (slice_get (bs ++ b ∷ []) k) (P k)
+one_more P [] b each last zero = last
+one_more P [] b each last (suc k) = tt
+one_more P (x ∷ xs) b each last zero = each 0
+one_more P (x ∷ xs) b each last (suc k) = one_more (λ n. P (suc n)) xs b (λ n. each (suc n)) last k
+
+pub pictures_more : (l : LayoutParts) (s : Memory) (places : List Place) (shows_orders : Bool) (n : ℕ)
+    (old new : List BlockValue) (b : BlockValue) → ArePictures l s places shows_orders n old
+    → IsBlockPicture l s places shows_orders n b → new ≡ old ++ b ∷ []
+    → ArePictures l s places shows_orders (n + 1) new
+pictures_more l s places shows_orders n old new b are is more =
+    let P = IsBlockPicture l s places shows_orders in
+    record {
+      all = ap length more ∙ (length-append old (b ∷ []) ∙ ap (λ (k : ℕ). k + 1) are.all);
+      each = subst (λ (bs : List BlockValue). (k : ℕ) → IfSome (slice_get bs k) (P k)) (sym more)
+          (one_more P old b are.each (subst (λ (k : ℕ). P k b) (sym are.all) is));
+    }
