@@ -31,6 +31,6 @@ pub fn drawn(alloc: Global, input: &[u8], view: View, cell: u8) -> Result<Answer
 {
     let scenario = Scenario::read(alloc, input)?;
     let rows = trace_rows(alloc, input, view)?;
-    let text = picture_of(alloc, &scenario.names, cell, &rows)?;
+    let text = picture_of(alloc, &scenario.names, cell, 100, &rows)?;
     Ok(Answer { text, status: 0 })
 }

@@ -1,4 +1,4 @@
--- Runs: cells side by side with the same character (own rule).
+-- Runs: cells side by side with the same character.
 use Rattle.std.specs.Prelude.{ℕ, ◌≡◌, ◌+◌, ◌<◌, List, [], ◌∷◌, drop, replicate, take}
 use Rattle.hp_svg.specs.declared.runs.Run.{Run}
 

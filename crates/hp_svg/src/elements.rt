@@ -4,7 +4,7 @@ ghost use Rattle.std.specs.Prelude.{◌≡◌, ◌*◌, ◌<◌, ◌^◌};
 use crate::marks::{fill_of, ink_of, is_lettered};
 use std::alloc::AllocError;
 
-/// How the line of a page's move looks.
+/// The attributes of the line of a page that moved.
 pub(crate) const MOVE_LOOK: &str = " stroke='#b91c1c' stroke-width='1.2' marker-end='url(#arrow)'";
 
 /// Writes a character for XML. One that no XML document may contain, a tab and a line end become
@@ -20,7 +20,7 @@ fn write_escaped(out: &mut String, c: char) -> Result<(), AllocError> {
     }
 }
 
-/// Writes the characters of a text, and its end.
+/// Writes the characters of a text and its closing tag.
 fn write_content(out: &mut String, text: &str) -> Result<(), AllocError> {
     for c in text.chars() {
         write_escaped(out, c)?;
@@ -68,7 +68,7 @@ fn write_box(
     )
 }
 
-/// Writes the character of cells on them.
+/// Writes the character of cells on them, in a colour that is seen there.
 fn write_letter(out: &mut String, x: u128, y: u128, mark: u8) -> Result<(), AllocError> {
     let ink = ink_of(mark);
     let letter = char::from(mark);
@@ -96,7 +96,7 @@ pub(crate) fn write_cell(
     write_letter(out, x + 2, y + 9, mark)
 }
 
-/// Draws the mobility of pageblocks as a strip, unless their memory block is not in use.
+/// Draws the mobility of pageblocks as a strip; nothing if their memory block is not in use.
 pub(crate) fn write_strip(
     out: &mut String,
     x: u128,
@@ -119,32 +119,61 @@ pub(crate) fn cells_of(cell: u8, count: usize) -> u128
     cell as u128 * count as u128
 }
 
-/// Draws the outline of a free block, within its cells.
+/// Who a block of frames belongs to, which decides the colours of its outline and its order.
+#[derive(Clone, Copy)]
+pub(crate) enum Holder {
+    /// Nobody: the block is free.
+    Nobody,
+    /// The kernel.
+    Kernel,
+}
+
+/// Draws the outline of a block of frames, within its cells.
 pub(crate) fn write_outline(
     out: &mut String,
     x: u128,
     y: u128,
     width: u128,
+    holder: Holder,
 ) -> Result<(), AllocError> {
+    let stroke = match holder {
+        Holder::Nobody => "#14532d",
+        Holder::Kernel => "#fbbf24",
+    };
     write!(
         out,
         "<rect x='{x}' y='{y}' width='{width}' height='10' rx='3' fill='none' \
-         stroke='#14532d'/>"
+         stroke='{stroke}'/>"
     )
 }
 
-/// Writes the order of a free block in it.
+/// Writes the order of a block of frames in it, with a rim in the colour of its cells or near it.
 pub(crate) fn write_order(
     out: &mut String,
     x: u128,
     y: u128,
     order: u32,
+    holder: Holder,
 ) -> Result<(), AllocError> {
+    let (ink, rim) = match holder {
+        Holder::Nobody => ("#052e16", "#ffffff"),
+        Holder::Kernel => ("#fbbf24", "#3d3d3d"),
+    };
     write!(
         out,
-        "<text x='{x}' y='{y}' font-size='8' fill='#052e16' stroke='#ffffff' stroke-width='2' \
+        "<text x='{x}' y='{y}' font-size='8' fill='{ink}' stroke='{rim}' stroke-width='2' \
          paint-order='stroke'>{order}</text>"
     )
+}
+
+/// Writes the number of a frame above its cell.
+pub(crate) fn write_frame_number(
+    out: &mut String,
+    x: u128,
+    y: u128,
+    number: u128,
+) -> Result<(), AllocError> {
+    write!(out, "<text x='{x}' y='{y}' font-size='8'>{number}</text>")
 }
 
 /// Draws a line from one point to another.

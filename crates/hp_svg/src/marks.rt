@@ -1,14 +1,14 @@
 //! The characters of cells: their colours, and what they mean.
 ghost use Rattle.std.specs.Prelude.{◌≡◌, ◌≤◌, IsTrue, map};
 ghost use Rattle.hp_pictures.specs.Counts.{known_marks};
-ghost use Rattle.hp_svg.specs.Marks.{all_differ};
+ghost use Rattle.hp_svg.specs.Marks.{all_differ, fill_in};
 
 use hp_numbers::Text;
 use hp_pictures::{MARKS, RowPicture};
 use indexmap::IndexSet;
 use std::alloc::{AllocError, Global};
 
-/// The characters whose colours are dark.
+/// The characters that are written in white, since their colours are dark.
 const DARK: &str = "Kacfhijmpqsvxyz";
 
 /// The colour of each character that has a meaning: of a frame that is free, isolated, offline,
@@ -65,7 +65,9 @@ pub(crate) fn is_lettered(mark: u8) -> bool {
 }
 
 /// Returns the colour of a character; white for one without a meaning.
-pub(crate) fn fill_of(mark: u8) -> &'static str {
+pub(crate) fn fill_of(mark: u8) -> &'static str
+    ensures { result.now ≡ fill_in (map (λ entry. (entry.0, entry.1.now)) FILLS.now) mark }
+{
     for (known, fill) in FILLS {
         if *known == mark {
             return *fill;
@@ -143,6 +145,6 @@ pub(crate) fn marks_in(alloc: Global, rows: &[RowPicture]) -> Result<Vec<u8>, Al
 
 /// No two characters that have a meaning have the same colour.
 pub fn colours_differ()
-    ensures known { map (λ entry. entry.0) FILLS.now ≡ known_marks }
-    ensures differ { IsTrue (all_differ (map (λ entry. entry.1.now) FILLS.now)) }
+    ensures { IsTrue (all_differ (map (fill_in (map (λ entry. (entry.0, entry.1.now)) FILLS.now))
+        known_marks)) }
 {}

@@ -2,11 +2,12 @@
 ghost use Rattle.std.specs.Prelude.{◌<◌, ◌^◌};
 
 use crate::elements::{
-    cells_of, write_cell, write_fitted_text, write_order, write_outline, write_strip, write_text,
+    Holder, cells_of, write_cell, write_fitted_text, write_order, write_outline, write_strip,
+    write_text,
 };
 use crate::runs::{Run, runs_of};
 use crate::sheets::{ANSWER, ASKED, Sheet, lines_above};
-use hp_pictures::{BlockPicture, FreeBlock, RowPicture};
+use hp_pictures::{BlockPicture, RowPicture};
 use std::alloc::{AllocError, Global};
 
 /// Draws rows, one under another from `start` on.
@@ -26,7 +27,7 @@ pub(crate) fn write_rows(
     out.push_str("\n</g>\n")
 }
 
-/// Draws a row. A line of text alone is where answers are.
+/// Draws a row. A row of text alone is drawn where answers are.
 fn write_row(
     out: &mut String,
     alloc: Global,
@@ -91,8 +92,8 @@ fn write_head(
     write_fitted_text(out, left, top + 10, 7, text.as_str())
 }
 
-/// Draws the cells of a block, the mobility of its pageblocks, lines between cells, and its free
-/// blocks.
+/// Draws the cells of a block, the mobility of its pageblocks, lines between cells, and the outlines
+/// of blocks of frames.
 fn write_frames(
     out: &mut String,
     alloc: Global,
@@ -113,10 +114,7 @@ fn write_frames(
         write_strips(out, sheet.cell, left, top, *run)?;
     }
     write_lines(out, sheet, left, top)?;
-    for free in block.free() {
-        write_free_block(out, sheet.cell, left, top, *free)?;
-    }
-    Ok(())
+    write_outlines(out, sheet.cell, left, top, block)
 }
 
 /// Draws cells with the same character. A bar between pageblocks is a gap.
@@ -164,22 +162,49 @@ fn write_lines(out: &mut String, sheet: Sheet, left: u128, top: u128) -> Result<
     write!(out, "<use href='#lines' x='{left}' y='{top}'/>")
 }
 
-/// Draws the outline of a free block, and its order if that is not 0 and has room.
-fn write_free_block(
+/// Draws the outlines of the free blocks and of the kernel's blocks.
+fn write_outlines(
     out: &mut String,
     cell: u8,
     left: u128,
     top: u128,
-    block: FreeBlock,
+    block: &BlockPicture,
 ) -> Result<(), AllocError>
     requires left { left < 2 ^ 107 }
     requires top { top < 2 ^ 107 }
 {
-    let x = left + cells_of(cell, block.at as usize);
-    let width = cells_of(cell, 1 << block.order.min(31));
-    write_outline(out, x + 1, top + 1, width.saturating_sub(2))?;
-    if block.order == 0 || width < 16 {
+    for free in block.free() {
+        let x = left + cells_of(cell, free.at as usize);
+        write_block(out, cell, x, top, free.order, Holder::Nobody)?;
+    }
+    for kernel in block.kernel() {
+        let x = left + cells_of(cell, kernel.at as usize);
+        write_block(out, cell, x, top, kernel.order, Holder::Kernel)?;
+    }
+    Ok(())
+}
+
+/// Draws the outline of a block of frames, and its order if that is not 0 and has room. The letter
+/// of the kernel's cells may be before the order.
+fn write_block(
+    out: &mut String,
+    cell: u8,
+    x: u128,
+    top: u128,
+    order: u32,
+    holder: Holder,
+) -> Result<(), AllocError>
+    requires left { x < 2 ^ 108 }
+    requires top { top < 2 ^ 107 }
+{
+    let width = cells_of(cell, 1 << order.min(31));
+    write_outline(out, x + 1, top + 1, width.saturating_sub(2), holder)?;
+    if order == 0 || width < 16 {
         return Ok(());
     }
-    write_order(out, x + 4, top + 9, block.order)
+    let before = match holder {
+        Holder::Nobody => 4,
+        Holder::Kernel => 9,
+    };
+    write_order(out, x + before, top + 9, order, holder)
 }

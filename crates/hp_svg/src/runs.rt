@@ -8,9 +8,9 @@ use std::alloc::{AllocError, Global};
 /// Cells side by side with the same character, which are drawn as one rectangle.
 #[derive(Clone, Copy)]
 pub struct Run {
-    /// How many cells are before them.
+    /// The number of cells before them.
     pub at: usize,
-    /// How many they are.
+    /// The number of cells.
     pub count: usize,
     /// Their character.
     pub mark: u8,

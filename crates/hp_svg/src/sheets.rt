@@ -8,18 +8,22 @@ use crate::elements::cells_of;
 use hp_numbers::Frame;
 use hp_pictures::{BlockPicture, RowPicture, frames_in};
 
-/// How many letters have room for what was asked, and for what was answered.
+/// How many letters of what was asked have room.
 pub(crate) const ASKED: usize = 29;
 
+/// How many letters of an answer have room.
 pub(crate) const ANSWER: usize = 25;
 
-/// The size of a row: how many blocks the first row has, how many characters the first of them has,
-/// how many of these are frames, and how wide a cell is.
+/// The size of a row.
 #[derive(Clone, Copy)]
 pub(crate) struct Sheet {
+    /// The number of memory blocks.
     pub(crate) blocks: u32,
+    /// The number of characters of a block's cells.
     pub(crate) cells: u32,
+    /// The number of frames among them.
     pub(crate) frames: u32,
+    /// The width of a cell.
     pub(crate) cell: u8,
 }
 
@@ -28,12 +32,14 @@ fn bounded(count: usize) -> u32 {
     count.min(u32::MAX as usize) as u32
 }
 
-/// Returns the blocks of the first row.
+/// Returns the blocks of the first row that has any.
 fn first_blocks(rows: &[RowPicture]) -> &[BlockPicture] {
-    match rows {
-        [row, ..] => row.blocks(),
-        [] => &[],
+    for row in rows {
+        if !row.blocks().is_empty() {
+            return row.blocks();
+        }
     }
+    &[]
 }
 
 /// Returns the cells of the first block.
@@ -45,7 +51,7 @@ fn first_cells(blocks: &[BlockPicture]) -> &str {
 }
 
 impl Sheet {
-    /// Returns the size of the first row, with cells of this width.
+    /// Returns the size of the first row that has blocks, with cells of this width.
     pub(crate) fn of(rows: &[RowPicture], cell: u8) -> Sheet {
         let blocks = first_blocks(rows);
         let cells = first_cells(blocks);
@@ -152,7 +158,9 @@ impl Sheet {
     }
 
     /// Returns the number of the first frame of a block.
-    pub(crate) fn first_frame(&self, block: usize) -> u128 {
+    pub(crate) fn first_frame(&self, block: usize) -> u128
+        ensures { result < 2 ^ 96 }
+    {
         block as u128 * self.frames as u128
     }
 
@@ -176,12 +184,36 @@ impl Sheet {
         (self.frames as u64 / (bars + 1)).max(1)
     }
 
+    /// Returns where the cell begins of the frame after `offset` others of its block.
+    pub(crate) fn cell_left(&self, block: usize, offset: u64) -> u128
+        requires { offset < 2 ^ 32 }
+        ensures { result < 2 ^ 108 }
+    {
+        let bars = offset / self.pageblock_size();
+        self.cells_at(block) + cells_of(self.cell, (offset + bars) as usize)
+    }
+
+    /// Returns how many frames there are from one number above the cells of a block to the next,
+    /// if the longest has this many digits of 5 pixels: 1 if each cell has room for its number, a
+    /// pageblock if that has, and otherwise a whole block.
+    pub(crate) fn number_step(&self, digits: usize) -> u64
+        ensures { 0 < result }
+    {
+        let room = 5 * digits as u128 + 2;
+        let pageblock = self.pageblock_size();
+        if self.cell as u128 >= room {
+            1
+        } else if cells_of(self.cell, pageblock as usize) >= room {
+            pageblock
+        } else {
+            (self.frames as u64).max(1)
+        }
+    }
+
     /// Returns the middle of a frame's cell, across.
     pub(crate) fn frame_left(&self, frame: Frame) -> u128 {
-        let offset = self.offset_of(frame);
-        let bars = offset / self.pageblock_size();
-        let left = self.cells_at(self.block_of(frame));
-        left + cells_of(self.cell, (offset + bars) as usize) + self.cell as u128 / 2
+        let left = self.cell_left(self.block_of(frame), self.offset_of(frame));
+        left + self.cell as u128 / 2
     }
 
     /// Returns the middle of a frame's cell, down, if the blocks of its row begin at `here`.
@@ -192,7 +224,9 @@ impl Sheet {
     }
 
     /// Returns the width of a picture.
-    pub(crate) fn width(&self) -> u128 {
+    pub(crate) fn width(&self) -> u128
+        ensures { result < 2 ^ 106 }
+    {
         let blocks = (self.blocks as u128).min(self.per_strip());
         let end = 384 + self.blocks_width(blocks);
         end.max(820)
@@ -223,7 +257,9 @@ impl Sheet {
     }
 
     /// Returns the height of a picture, with room for one more line below the rows.
-    pub(crate) fn height(&self, entries: usize, rows: &[RowPicture]) -> u128 {
+    pub(crate) fn height(&self, entries: usize, rows: &[RowPicture]) -> u128
+        ensures { result < 2 ^ 106 }
+    {
         let mut height = 0u128;
         for row in rows {
             height += self.row_height(row);
