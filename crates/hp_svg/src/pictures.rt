@@ -143,7 +143,7 @@ fn write_notes(out: &mut String, place: usize, has_kernel: bool) -> Result<(), A
 {
     write_note(out, place, Sign::Free, "free block, its order")?;
     if has_kernel {
-        write_note(out, place + 1, Sign::Kernel, "kernel block, its order")?;
+        write_note(out, place + 1, Sign::Kernel, "kernel block, order")?;
     }
     let place = place + 1 + has_kernel as usize;
     write_note(out, place, Sign::Movable, "movable pageblock")?;

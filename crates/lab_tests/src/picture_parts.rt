@@ -1,17 +1,23 @@
-//! Parts of pictures, as hp_svg drew them when its text was proved to be that of a definition.
-use crate::pictures::{Block, Row, Words};
+//! Parts of pictures, most as hp_svg drew them when its text was proved to be that of a definition.
+use crate::pictures::{Block, ROWS, Row, Words};
 
-/// The names of owners, the width of a cell, rows, and a part of their picture.
-pub(crate) type Part = (&'static [Words], u8, &'static [Row], Words);
+/// The names of owners, the width of a cell, the scale in percent, rows, and a part of their
+/// picture.
+pub(crate) type Part = (&'static [Words], u8, u16, &'static [Row], Words);
 
-/// What is shown of all characters, of narrow cells, of texts and blocks that have no room, and of
-/// nothing.
+/// What is shown of all characters, of narrow cells, of texts and blocks that have no room, of
+/// nothing, of the kernel's blocks, of rows that begin with text alone, and at other scales.
 pub(crate) const PARTS: &[Part] = &[
-    (NAMES, 1, MARKED, LEGEND),
-    (&["db"], 3, NARROW, NARROW_ROW),
-    (&["db"], 3, NARROW, UNNAMED),
-    (&[], 255, FOLDED, FOLDED_ROWS),
-    (&[], 8, &[], EMPTY),
+    (NAMES, 1, 100, MARKED, LEGEND),
+    (&["db"], 3, 100, NARROW, NARROW_ROW),
+    (&["db"], 3, 100, NARROW, UNNAMED),
+    (&[], 255, 100, FOLDED, FOLDED_ROWS),
+    (&[], 8, 100, &[], EMPTY),
+    (&[], 8, 100, KERNEL, KERNEL_ROWS),
+    (&[], 8, 100, KERNEL, KERNEL_NUMBERS),
+    (&["db"], 8, 25, ROWS, QUARTER),
+    (&["db"], 8, 33, ROWS, THIRD),
+    (&["db"], 8, 400, ROWS, FOURFOLD),
 ];
 
 /// More names than letters, the first of which is longer than its room in a legend.
@@ -50,7 +56,13 @@ const MARKED: &[Row] = &[(
     "all characters",
     "",
     None,
-    &[("0:N", ".:- K0123456789|abcdefghijklmnopqrstuvwxyz", &[], "")],
+    &[(
+        "0:N",
+        ".:- K0123456789|abcdefghijklmnopqrstuvwxyz",
+        &[],
+        &[],
+        "",
+    )],
 )];
 
 /// A row whose cells are too narrow for most letters and orders, if a cell is 3 wide.
@@ -62,15 +74,16 @@ const NARROW: &[Row] = &[(
         "0:N",
         "aabbb..|........",
         &[(5, 1, false), (8, 3, false)],
+        &[],
         "MMMMUUU|MMMMMMMM",
     )],
 )];
 
 /// Memory blocks of which only two have room side by side, if a cell is 255 wide.
 const THREE: &[Block] = &[
-    ("0:N", "aa", &[], "MM"),
-    ("1:M", ".a", &[(0, 0, false)], "UU"),
-    ("2:M", "..", &[(0, 1, false)], "UM"),
+    ("0:N", "aa", &[], &[], "MM"),
+    ("1:M", ".a", &[(0, 0, false)], &[], "UU"),
+    ("2:M", "..", &[(0, 1, false)], &[], "UM"),
 ];
 
 /// Rows with those blocks, one of them with texts that need lines of their own, and with a page
@@ -84,6 +97,21 @@ const FOLDED: &[Row] = &[
         THREE,
     ),
     ("words", "", None, &[]),
+];
+
+/// Rows with the kernel's blocks of orders 0 to 2, the first row of text alone.
+const KERNEL: &[Row] = &[
+    ("the 2 calls above 1021 times more", "", None, &[]),
+    (
+        "kernel",
+        "",
+        None,
+        &[
+            ("0:N", "KKK.", &[(3, 0, false)], &[(0, 0), (1, 1)], "UUUU"),
+            ("1:N", "KKKK", &[], &[(0, 2)], "UUUU"),
+            ("2:N", "....", &[(0, 2, false)], &[], "MMMM"),
+        ],
+    ),
 ];
 
 /// The meaning of each character, with its colours, and the first name squeezed.
@@ -211,10 +239,44 @@ const FOLDED_ROWS: &str =
      transform='translate(0 102)'><path d='M1069 6L766 82'/></g></defs><use href='#moves' \
      stroke='#ffffff' stroke-width='3' stroke-opacity='0.6'/><use href='#moves' stroke='#b91c1c' \
      stroke-width='1.2' marker-end='url(#arrow)'/>\n\
-     <text x='384' y='60'>block 0</text><text x='384' y='72'>frame 0</text>\n\
-     <text x='942' y='60'>block 1</text><text x='942' y='72'>frame 2</text>\n\
-     <text x='384' y='84'>block 2</text><text x='384' y='96'>frame 4</text>\n\
+     <text x='384' y='60'>block 0</text><text x='336' y='72'> frame</text><text x='384' y='72' \
+     font-size='8'>0</text><text x='639' y='72' font-size='8'>1</text>\n\
+     <text x='942' y='60'>block 1</text><text x='894' y='72'> frame</text><text x='942' y='72' \
+     font-size='8'>2</text><text x='1197' y='72' font-size='8'>3</text>\n\
+     <text x='384' y='84'>block 2</text><text x='336' y='96'> frame</text><text x='384' y='96' \
+     font-size='8'>4</text><text x='639' y='96' font-size='8'>5</text>\n\
      </svg>\n";
 
 /// The size of a picture without rows.
 const EMPTY: &str = "width='820' height='76' viewBox='0 0 820 76'";
+
+/// A line of text alone above a row; outlines of the kernel's blocks, and an order beside the letter
+/// of its cells.
+const KERNEL_ROWS: &str = "<text x='188' y='10'>the 2 calls above 1021 times more</text>\n\
+     <text x='8' y='24'>kernel</text><text x='336' y='24'> 0:N</text><rect x='384' y='14' \
+     width='24' height='12' fill='#3d3d3d'/><text x='386' y='23' font-size='8' \
+     fill='#ffffff'>K</text><rect x='408' y='14' width='8' height='12' fill='#7fbf7b'/><rect \
+     x='384' y='26' width='32' height='2' fill='#4c1d95'/><use href='#lines' x='384' \
+     y='14'/><rect x='409' y='15' width='6' height='10' rx='3' fill='none' \
+     stroke='#14532d'/><rect x='385' y='15' width='6' height='10' rx='3' fill='none' \
+     stroke='#fbbf24'/><rect x='393' y='15' width='14' height='10' rx='3' fill='none' \
+     stroke='#fbbf24'/><text x='401' y='23' font-size='8' fill='#fbbf24' stroke='#3d3d3d' \
+     stroke-width='2' paint-order='stroke'>1</text><text x='416' y='24'> 1:N</text><rect x='464' \
+     y='14' width='32' height='12' fill='#3d3d3d'/><text x='466' y='23' font-size='8' \
+     fill='#ffffff'>K</text><rect x='464' y='26' width='32' height='2' fill='#4c1d95'/><use \
+     href='#lines' x='464' y='14'/><rect x='465' y='15' width='30' height='10' rx='3' \
+     fill='none' stroke='#fbbf24'/><text x='473' y='23' font-size='8' fill='#fbbf24' \
+     stroke='#3d3d3d' stroke-width='2' paint-order='stroke'>2</text>";
+
+/// The first frame of each block, whose cells and pageblocks have no room for more numbers.
+const KERNEL_NUMBERS: &str =
+    "<text x='384' y='60'>block 0</text><text x='384' y='72'>frame 0</text>\n\
+     <text x='464' y='60'>block 1</text><text x='464' y='72'>frame 4</text>\n\
+     <text x='544' y='60'>block 2</text><text x='544' y='72'>frame 8</text>\n";
+
+/// The size at a quarter, a third and four times the scale.
+const QUARTER: &str = "width='205' height='38' viewBox='0 0 820 150'";
+
+const THIRD: &str = "width='271' height='50' viewBox='0 0 820 150'";
+
+const FOURFOLD: &str = "width='3280' height='600' viewBox='0 0 820 150'";
