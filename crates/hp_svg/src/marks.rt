@@ -68,7 +68,14 @@ pub(crate) fn is_lettered(mark: u8) -> bool {
 pub(crate) fn fill_of(mark: u8) -> &'static str
     ensures { result.now ≡ fill_in (map (λ entry. (entry.0, entry.1.now)) FILLS.now) mark }
 {
-    for (known, fill) in FILLS {
+    fill_in(FILLS, mark)
+}
+
+/// Returns the colour of a character by a table; white without an entry.
+fn fill_in(fills: &[(u8, &'static str)], mark: u8) -> &'static str
+    ensures { result.now ≡ fill_in (map (λ entry. (entry.0, entry.1.now)) fills.now) mark }
+{
+    for (known, fill) in fills {
         if *known == mark {
             return *fill;
         }
