@@ -1,4 +1,4 @@
-use Rattle.std.proofs.Common.{◌≡◌, ap, ◌∙◌}
+use Rattle.std.proofs.Common.{ap, ◌∙◌}
 use Rattle.hp_map.specs.Cells.{cells_text}
 use Rattle.hp_map.proofs.Pictures.{picture_is}
 use Rattle.hp_map.proofs.picture.draw_block.Goals as goal
