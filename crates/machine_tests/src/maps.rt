@@ -18,14 +18,14 @@ type Wanted = (
     &'static str,
 );
 
-/// Five memory blocks of two pageblocks: the kernel has a frame and a block of two, a processor's
-/// list a frame, an owner a page, and a plan is begun that takes one memory block offline and
-/// brings two online.
+/// Five memory blocks of two pageblocks: the kernel has a block of two frames and a single one,
+/// processors' lists a frame each, an owner a page, and a plan is begun that takes one memory block
+/// offline and brings two online.
 const BEGUN: &[Wanted] = &[
     (
-        ["0:N", "K1KK|....", "K1KK|(2.)", "UUUU|MMMM"],
+        ["0:N", "KKK1|....", "KKK1|(2.)", "UUUU|MMMM"],
         &[(5, 2, false)],
-        &[(0, 0), (2, 1)],
+        &[(0, 1), (2, 0)],
         "8: .*4 K*3 1*1 (2)*1",
     ),
     (
@@ -222,8 +222,8 @@ fn begin(alloc: Global, wishes: &[(u32, Wish)]) -> Result<Event, AllocError> {
 
 /// Whether the five memory blocks are drawn as wanted.
 fn draws_begun(alloc: Global, machine: &mut Machine) -> Result<bool, AllocError> {
-    let one = Event::KernelAlloc { order: Order(0) };
     let two = Event::KernelAlloc { order: Order(1) };
+    let one = Event::KernelAlloc { order: Order(0) };
     let map = Event::Map {
         owner: Owner(0),
         page: Page(0),
@@ -232,8 +232,8 @@ fn draws_begun(alloc: Global, machine: &mut Machine) -> Result<bool, AllocError>
         alloc,
         &[(1, Wish::Off), (2, Wish::Normal), (3, Wish::Movable)],
     )?;
-    let is_done = does(alloc, machine, Cpu(1), &one)
-        && does(alloc, machine, Cpu(0), &two)
+    let is_done = does(alloc, machine, Cpu(0), &two)
+        && does(alloc, machine, Cpu(1), &one)
         && does(alloc, machine, Cpu(0), &map)
         && does(alloc, machine, Cpu(0), &plan);
     let blocks = picture_of(alloc, machine, true)?;
