@@ -1,5 +1,5 @@
 -- Where the bars of a memory block's texts are.
-use Rattle.std.proofs.Common.{◌≡◌, ℕ, ◌+◌, ◌%◌, ◌<◌, Bool, true, false, List, [], ◌∷◌, ◌++◌, map, refl, sym, ap, ◌∙◌, arith}
+use Rattle.std.proofs.Common.{◌≡◌, ℕ, ◌+◌, ◌*◌, Bool, true, false, List, [], ◌∷◌, ◌++◌, refl, ap, ◌∙◌, arith, if◌then◌else◌}
 use Rattle.std.proofs.lemmas.Bool.{ne_eqb}
 use Rattle.std.proofs.lemmas.List.{map-append}
 use Rattle.std.specs.List.{flat_map, range_with_len}
@@ -13,18 +13,18 @@ use Rattle.hp_map.specs.declared.places.Place.TheVariants.{Absent, Offline, Free
 
 one_cell : (is_later : Bool) (sign : ℕ) → is_bar sign ≡ false
     → bars_in (cell_text is_later sign) ≡ (if is_later then true ∷ [] else []) ++ false ∷ []
-one_cell true sign no = ap (λ (b : Bool). true ∷ b ∷ []) no
-one_cell false sign no = ap (λ (b : Bool). b ∷ []) no
+one_cell true sign plain = ap (λ (b : Bool). true ∷ b ∷ []) plain
+one_cell false sign plain = ap (λ (b : Bool). b ∷ []) plain
 
 -- a cell more
 pub bars_more : (l : LayoutParts) (n : ℕ) (is_later : Bool) (sign : ℕ) (old new : List ℕ)
     → is_later ≡ starts_later l n → is_bar sign ≡ false
     → bars_in old ≡ flat_map (cell_bars l) (range_with_len 0 n) → new ≡ old ++ cell_text is_later sign
     → bars_in new ≡ flat_map (cell_bars l) (range_with_len 0 (n + 1))
-bars_more l n is_later sign old new later no before is =
+bars_more l n is_later sign old new later plain before is =
     items_more (cell_bars l) n [] (bars_in old) (bars_in new) (bars_in (cell_text is_later sign)) before
     (ap bars_in is ∙ map-append is_bar old (cell_text is_later sign))
-    (ap (λ (b : Bool). bars_in (cell_text b sign)) later ∙ one_cell (starts_later l n) sign no)
+    (ap (λ (b : Bool). bars_in (cell_text b sign)) later ∙ one_cell (starts_later l n) sign plain)
 
 -- no place is drawn as a bar
 no_bar : (p : Place) → is_bar (place_sign p) ≡ false

@@ -4,7 +4,7 @@ use Rattle.hp_units.specs.LayoutParts.{LayoutParts}
 use Rattle.hp_units.specs.Memory.{Memory}
 use Rattle.hp_pictures.specs.Blocks.{BlockValue}
 use Rattle.hp_map.specs.Blocks.{free_of, kernel_of}
-use Rattle.hp_map.specs.Cells.{bars_in, block_bars, cells_text}
+use Rattle.hp_map.specs.Cells.{bars_in, cells_text}
 use Rattle.hp_map.specs.Places.{ArePlacesOf}
 use Rattle.hp_map.specs.declared.places.Place.{Place}
 

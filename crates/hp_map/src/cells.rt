@@ -37,7 +37,6 @@ pub(crate) fn first_of(layout: &Layout, block: Block) -> u32
 }
 
 /// Returns the place of a frame of the layout.
-#[tactic(auto, using(std::proofs::lemmas::Option::unwrap_or-slice_get))]
 pub(crate) fn place_at(places: &Vec<Place>, frame: u32) -> Place
     ensures { result ≡ place_at places.now.items frame }
 {

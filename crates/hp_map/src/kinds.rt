@@ -19,7 +19,11 @@ pub(crate) fn draw_kinds(alloc: Global, machine: &Machine, block: Block) -> Resu
     let first = first_of(layout, block);
     for number in 0..layout.block_size() {
         let kind = machine.kind(pageblock_of(layout, Frame(first + number)));
-        write_cell(&mut out, starts_later(layout, number), letter(is_in_use, kind))?;
+        write_cell(
+            &mut out,
+            starts_later(layout, number),
+            letter(is_in_use, kind),
+        )?;
     }
     Ok(Text::new(out))
 }

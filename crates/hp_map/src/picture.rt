@@ -64,9 +64,7 @@ fn draw_block(
     let free = free_of(alloc, machine, block)?;
     let kernel = kernel_of(alloc, machine, block)?;
     let kinds = draw_kinds(alloc, machine, block)?;
-    Ok(BlockPicture::new(
-        head, cells, ordered, free, kernel, kinds,
-    ))
+    Ok(BlockPicture::new(head, cells, ordered, free, kernel, kinds))
 }
 
 /// Returns what comes before the cells of a memory block with this row.
