@@ -144,20 +144,25 @@ def is_cell(element):
     return element.get("height") == "12"
 
 
+FREE, KERNEL = "#14532d", "#fbbf24"
+
+
 def pictured(svg, cell=8):
     """The texts of a picture's rows, how many cells of each meaning they have, and how many
-    outlines of each width, where a cell is so wide."""
+    outlines of each colour and width, if a cell is this wide."""
     root = ElementTree.fromstring(svg)
     rows = root.find(SVG + "g")
     above = list(root)[:list(root).index(rows)]
     fills = [element.get("fill") for element in above if is_cell(element)]
-    legend = dict(zip(fills, texts_in(above)))
+    legend = {}
+    for fill, text in zip(fills, texts_in(above)):
+        legend.setdefault(fill, text)
     cells, outlines = Counter(), Counter()
     for box in rows.iter(SVG + "rect"):
         if is_cell(box):
             cells[legend[box.get("fill")]] += int(box.get("width")) // cell
         elif box.get("fill") == "none":
-            outlines[(int(box.get("width")) + 2) // cell] += 1
+            outlines[box.get("stroke"), (int(box.get("width")) + 2) // cell] += 1
     return texts_in(rows), cells, outlines
 
 
@@ -183,6 +188,41 @@ def check_lines(checks, where, trace, svg):
     for before, after, is_down in lines:
         checks.holds(where, len(before) == 1 and before == after and is_down,
                      f"a line from {before} to {after}, downwards: {is_down}")
+
+
+def check_kernel(checks, where, svg, outlines, kernel):
+    """The outlines of the kernel's blocks have 2^order frames each, and together all its frames;
+    each begins at a cell of the kernel. They are in the legend if there are any."""
+    sizes = {size: count for (stroke, size), count in outlines.items() if stroke == KERNEL}
+    powers = all(size & (size - 1) == 0 for size in sizes)
+    checks.holds(where, powers, f"kernel blocks of {sorted(sizes)} frames")
+    frames = sum(size * count for size, count in sizes.items())
+    checks.holds(where, frames == kernel, f"{frames} frames in kernel blocks, not {kernel}")
+    checks.holds(where, ("kernel block, order" in svg) == (kernel > 0), "no such sign in the legend")
+
+
+def numbers_in(layout, cell):
+    """The numbers of frames that a picture has, each with where it begins: of each frame if cells
+    have room, else of the first in each pageblock, else of the first in each block."""
+    size, pageblocks, blocks = 1 << layout["order"], layout["pageblocks"], layout["blocks"]
+    frames = size * pageblocks
+    room = 5 * len(str(frames * blocks - 1)) + 2
+    step = 1 if cell >= room else size if cell * size >= room else frames
+    width = 48 + cell * (frames + pageblocks - 1)
+    side_by_side = max(1216 - width, 0) // width + 1
+    for number in range(0, frames * blocks, step):
+        block, offset = divmod(number, frames)
+        left = 384 + block % side_by_side * width + cell * (offset + offset // size)
+        yield left, f"frame {number}" if step == frames else str(number)
+
+
+def check_numbers(checks, where, svg, layout, cell=8):
+    root = list(ElementTree.fromstring(svg))
+    below = [text for text in root[root.index(next(e for e in root if e.tag == SVG + "use")):]
+             if text.tag == SVG + "text" and re.fullmatch("(frame )?[0-9]+", text.text)]
+    drawn = [(int(text.get("x")), text.text) for text in below]
+    wanted = list(numbers_in(layout, cell))
+    checks.holds(where, drawn == wanted, f"numbers {drawn[:9]} in place of {wanted[:9]}")
 
 
 def label_of(label):
@@ -218,7 +258,10 @@ def check_picture(checks, programs, name, scenario):
     counts = Counter(meaning(mark, names) for mark in marks)
     checks.holds(where, cells == counts, f"{cells} in place of {counts}")
     sizes = Counter(map(len, BRACKETS.findall(drawn)))
-    checks.holds(where, outlines == sizes, f"{outlines} in place of {sizes}")
+    free = {size: count for (stroke, size), count in outlines.items() if stroke == FREE}
+    checks.holds(where, free == sizes, f"{free} in place of {sizes}")
+    check_kernel(checks, where, svg, outlines, marks.count("K"))
+    check_numbers(checks, where, svg, scenario["layout"])
     checks.holds(where, is_harmless(svg), "has a control character")
     check_lines(checks, where, text, svg)
 
@@ -247,6 +290,7 @@ def check_wide(checks, programs):
             drawn = sum(cells.values())
             checks.holds(where, drawn == WIDE_ROWS * blocks * frames, f"cells: {cells}")
             check_lines(checks, where, trace, svg)
+            check_numbers(checks, where, svg, layout, cell)
             check_frame(checks, where, svg, 384 + 48 + cell * (frames + pageblocks - 1))
 
 

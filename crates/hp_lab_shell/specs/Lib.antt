@@ -2,5 +2,4 @@ pub mod Checks
 pub mod Faults
 pub mod Logs
 pub mod Needs
-pub mod Pictures
 pub mod Scripts

@@ -9,7 +9,7 @@
 //! What clap parsed, and what a file or a stream gives or takes, no contract can say: that is tried on
 //! the built program.
 //!
-//! Read src/words.rt and src/laboratory.rt first, then specs/Needs, specs/Checks and specs/Pictures.
+//! Read src/words.rt and src/laboratory.rt first, then specs/Needs and specs/Checks.
 #![tactic(auto)]
 
 mod answer;

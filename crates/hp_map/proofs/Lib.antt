@@ -1,5 +1,7 @@
+mod Bars
 mod Bounds
 pub mod MarkLemmas
+mod Pictures
 pub mod PlaceLemmas
 mod PlacesTogether
 pub mod Walks

@@ -1,7 +1,6 @@
-pub mod Frames
-pub mod Kinds
+pub mod Blocks
+pub mod Cells
 pub mod Marks
 pub mod Names
-pub mod Orders
 pub mod Pictures
 pub mod Places

@@ -1,72 +1,33 @@
--- A memory drawn block by block (own rule).
-use Rattle.std.specs.Prelude.{ℕ, ◌≡◌, Bool, List, [], ◌++◌, codes, map, Option, Some, None, slice_get, if◌then◌else◌}
-use Rattle.std.specs.Fmt.{decimal}
-use Rattle.std.specs.List.{range_with_len}
-use Rattle.hp_units.specs.declared.rows.Claim.{Claim}
-use Rattle.hp_units.specs.declared.rows.Wish.{Wish}
-use Rattle.hp_units.specs.declared.rows.Wish.TheVariants as wish
-use Rattle.hp_units.specs.declared.rows.Zone.{Zone}
-use Rattle.hp_units.specs.declared.rows.Zone.TheVariants.{Normal, Movable}
+-- A picture of a memory, block by block.
+use Rattle.std.specs.Prelude.{ℕ, ◌≡◌, Bool, List, [], length, slice_get, IfSome, if◌then◌else◌}
 use Rattle.hp_units.specs.LayoutParts.{LayoutParts}
 use Rattle.hp_units.specs.Memory.{Memory}
-use Rattle.hp_pictures.specs.Blocks.{BlockValue, block_with}
-use Rattle.hp_map.specs.Names.{Row, State, AbsentState, OfflineState, OnlineState, GoingState}
-use Rattle.hp_map.specs.Kinds.{kinds_text}
-use Rattle.hp_map.specs.Orders.{free_of, ordered_text}
-use Rattle.hp_map.specs.Frames.{frames_text}
+use Rattle.hp_pictures.specs.Blocks.{BlockValue}
+use Rattle.hp_map.specs.Blocks.{free_of, kernel_of}
+use Rattle.hp_map.specs.Cells.{bars_in, cells_text}
 use Rattle.hp_map.specs.Places.{ArePlacesOf}
 use Rattle.hp_map.specs.declared.places.Place.{Place}
 
--- ---- the head of a memory block
+-- the picture of a memory block: each frame is drawn in its place; its free blocks and the kernel's; and
+-- as many characters, with bars at the same places, in its kinds and in the cells by orders, if these are
+-- shown
+pub record IsBlockPicture (l : LayoutParts) (s : Memory) (places : List Place) (shows_orders : Bool)
+    (block : ℕ) (picture : BlockValue) : Type 0 where
+  pub cells : picture.cells ≡ cells_text l places block
+  pub ordered : bars_in picture.ordered ≡ (if shows_orders then bars_in picture.cells else [])
+  pub free : picture.free ≡ free_of l s.free.areas block
+  pub kernel : picture.kernel ≡ kernel_of l s block
+  pub kinds : bars_in picture.kinds ≡ bars_in picture.cells
 
-abbrev pub zone_letter : Option Zone → List ℕ
-zone_letter None = []
-zone_letter (Some Normal) = codes "N"
-zone_letter (Some Movable) = codes "M"
+-- a picture of each memory block, by rising number
+pub record ArePictures (l : LayoutParts) (s : Memory) (places : List Place) (shows_orders : Bool)
+    (count : ℕ) (blocks : List BlockValue) : Type 0 where
+  pub all : length blocks ≡ count
+  pub each : (block : ℕ) → IfSome (slice_get blocks block) (IsBlockPicture l s places shows_orders block)
 
--- its zone where it is in use, and else its state
-abbrev pub state_text : State → Option Zone → List ℕ
-state_text AbsentState _ = codes "absent"
-state_text OfflineState _ = codes "off"
-state_text OnlineState zone = zone_letter zone
-state_text GoingState zone = zone_letter zone
-
-abbrev pub wish_text : Wish → List ℕ
-wish_text wish.Off = codes ">off"
-wish_text wish.Normal = codes ">N"
-wish_text wish.Movable = codes ">M"
-
--- what an operation that holds it wishes
-abbrev pub claim_text : Option Claim → List ℕ
-claim_text None = []
-claim_text (Some claim) = wish_text claim.wish
-
--- of a memory block that there is
-abbrev pub place_word : Option Row → List ℕ
-place_word None = []
-place_word (Some row) = state_text row.state row.zone
-
-abbrev pub wish_word : Option Row → List ℕ
-wish_word None = []
-wish_word (Some row) = claim_text row.claim
-
--- ---- the whole
-
--- what stands before the cells of a block with this row
-abbrev pub head_text : Option Row → (block : ℕ) → List ℕ
-head_text row block = decimal block ++ codes ":" ++ place_word row ++ wish_word row
-
-abbrev pub block_picture : LayoutParts → Memory → List Place → (shows_orders : Bool) → (block : ℕ)
-    → BlockValue
-block_picture l s places shows_orders block =
-    block_with (head_text (slice_get s.blocks.rows block) block) (frames_text l places block)
-    (if shows_orders then ordered_text l s.free.areas places block else [])
-    (free_of l s.free.areas block)
-    (kinds_text l (slice_get s.blocks.rows block) s.free.areas.kinds block)
-
--- a picture of each memory block by rising number, with each frame as it is placed
+-- of each memory block, with the place of each frame
 pub record IsPicture (l : LayoutParts) (s : Memory) (shows_orders : Bool)
     (blocks : List BlockValue) : Type 0 where
   pub places : List Place
   pub placed : ArePlacesOf l s places
-  pub drawn : blocks ≡ map (block_picture l s places shows_orders) (range_with_len 0 l.blocks)
+  pub drawn : ArePictures l s places shows_orders l.blocks blocks

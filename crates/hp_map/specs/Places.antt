@@ -1,6 +1,5 @@
--- Where a frame is (own rule).
-use Rattle.std.specs.Prelude.{ℕ, ◌≡◌, ◌+◌, ◌%◌, true, false, List, [], ◌∷◌, codes, length, Some, slice_get, IfSome}
-use Rattle.std.specs.Fmt.{decimal}
+-- Where a frame is.
+use Rattle.std.specs.Prelude.{ℕ, ◌≡◌, ◌+◌, ◌%◌, true, false, List, length, Some, slice_get, IfSome}
 use Rattle.hp_units.specs.Arithmetic.{block_of, frame_count, pageblock_of}
 use Rattle.hp_units.specs.FreeAreas.{is_on}
 use Rattle.hp_units.specs.LayoutParts.{LayoutParts}
@@ -32,12 +31,13 @@ pub record ArePlacesOf (l : LayoutParts) (s : Memory) (places : List Place) : Ty
   pub count : length places ≡ frame_count l
   pub each : (frame : ℕ) → IfSome (slice_get places frame) (IsPlaceOf l s frame)
 
--- the character of a place
-abbrev pub place_text : Place → List ℕ
-place_text Absent = codes " "
-place_text Offline = codes "-"
-place_text Free = codes "."
-place_text Isolated = codes ":"
-place_text Kernel = codes "K"
-place_text (Cached cpu) = decimal (cpu % 10)
-place_text (Page owner) = (97 + owner % 26) ∷ []
+-- the sign of a place: a space, `-`, `.`, `:`, `K`, the last digit of a processor's number, and a letter
+-- from `a` to `z` for an owner, which begin again after 26
+abbrev pub place_sign : Place → ℕ
+place_sign Absent = 32
+place_sign Offline = 45
+place_sign Free = 46
+place_sign Isolated = 58
+place_sign Kernel = 75
+place_sign (Cached cpu) = 48 + cpu % 10
+place_sign (Page owner) = 97 + owner % 26

@@ -1,12 +1,12 @@
 //! A map of a memory: in which place each frame is, and a picture of each memory block.
 //!
-//! The crate owns places and pictures. It reads a machine and changes nothing; it knows nothing of
-//! scenarios, streams or command lines. Read specs/Places first: what it means that a frame is in a
-//! place; then specs/Pictures and specs/Orders. specs/Marks says what each turn of the walk over a
-//! state sets.
+//! The crate owns places and pictures of a machine, and changes nothing in it. Read specs/Places
+//! first: what it means that a frame is in a place; then specs/Pictures. specs/Marks has what each
+//! turn of the walk over a state sets.
 #![tactic(auto)]
 
-mod frames;
+mod blocks;
+mod cells;
 mod kinds;
 mod map;
 mod marks;

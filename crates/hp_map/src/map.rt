@@ -7,8 +7,7 @@ use crate::places::Place;
 use hp_machine::Machine;
 use std::alloc::{AllocError, Global};
 
-/// The place of each frame of a machine's memory, by the frame's number (own rule). What nobody has
-/// is free, since each frame is in exactly one place. An error is out of memory.
+/// Returns the place of each frame of a machine's memory, by the frame's number.
 pub fn places_of(alloc: Global, machine: &Machine) -> Result<Vec<Place>, AllocError>
     ensures { IfOk result (λ places. ArePlacesOf machine.now.layout machine.now.state places.items) }
 {

@@ -1,20 +1,18 @@
-//! Free blocks among the frames of a memory block.
-ghost use Rattle.std.specs.Prelude.{◌≡◌, ◌+◌, ◌*◌, ◌/◌, ◌%◌, ◌-◌, ◌^◌, ◌<◌, ◌≤◌, ◌++◌, [], ◌∷◌, IfOk, IfSome, OnOk, if◌then◌else◌, string_bytes};
-ghost use Rattle.std.specs.List.{flat_map, range_with_len};
-ghost use Rattle.hp_units.specs.Arithmetic.{block_size, frame_count};
-ghost use Rattle.hp_buddy.specs.Buddy.{place_of};
-ghost use Rattle.hp_map.specs.Orders.{cell_at, free_at, free_of, free_text, has_order, inner_sign, is_isolated_class, isolation_of, order_below, ordered_cell, ordered_sign, ordered_text, plain_sign};
+//! The cells of a memory block with each free block drawn by its order.
+ghost use Rattle.std.specs.Prelude.{◌≡◌, ◌<◌, ◌≤◌, [], false, IfOk, IfSome, if◌then◌else◌};
+ghost use Rattle.hp_units.specs.Arithmetic.{frame_count};
+ghost use Rattle.hp_map.specs.Cells.{bars_in, block_bars, is_bar};
 
-use crate::frames::{first_of, place_at, starts_later};
+use crate::cells::{first_of, place_at, starts_later, write_cell};
 use crate::marks::size_of;
 use crate::places::Place;
 use hp_machine::Machine;
-use hp_pictures::FreeBlock;
-use hp_units::{Block, Class, Frame, Layout, Order, Text};
+use hp_units::{Block, Class, Frame, Order, Text};
 use std::alloc::{AllocError, Global};
 
-/// The cells of a memory block of the layout with each free block by its order, where orders are
-/// shown.
+/// Returns the cells of a memory block of the layout with each free block by its order, if orders
+/// are shown, and an empty text if not. A block of order 0 is drawn as `.`, a larger one as its
+/// order in brackets, such as `(3.....)`; isolated ones as `:` and `{3:::::}`.
 pub(crate) fn draw_orders(
     alloc: Global,
     machine: &Machine,
@@ -23,8 +21,8 @@ pub(crate) fn draw_orders(
     block: Block,
 ) -> Result<Text, AllocError>
     requires { block < machine.now.layout.blocks }
-    ensures { IfOk result (λ text. text ≡ (if shows_orders
-        then ordered_text machine.now.layout machine.now.state.free.areas places.now.items block else [])) }
+    ensures { IfOk result
+        (λ text. bars_in text ≡ (if shows_orders then block_bars machine.now.layout else [])) }
 {
     let mut out = String::new(alloc);
     if !shows_orders {
@@ -34,112 +32,85 @@ pub(crate) fn draw_orders(
     let first = first_of(layout, block);
     for number in 0..layout.block_size() {
         let frame = Frame(first + number);
-        let is_later = starts_later(layout, number);
-        let place = place_at(places, frame.0);
-        write_cell(&mut out, machine, is_later, frame, place)?;
+        let sign = sign_in_block(machine, frame, place_at(places, frame.0));
+        write_cell(&mut out, starts_later(layout, number), sign)?;
     }
     Ok(Text::new(out))
 }
 
-/// Writes a frame with this place, after a bar where it starts a later pageblock.
-#[tactic(auto, using(std::proofs::lemmas::Str::encode_ascii))]
-fn write_cell(
-    out: &mut String,
-    machine: &Machine,
-    is_later: bool,
-    frame: Frame,
-    place: Option<Place>,
-) -> Result<(), AllocError>
+/// Returns the character of a frame in this place, by its free block's order if it is free.
+fn sign_in_block(machine: &Machine, frame: Frame, place: Place) -> char
     requires { frame < frame_count machine.now.layout }
-    ensures { OnOk result (string_bytes out.new ≡ string_bytes out.old
-        ++ ordered_cell machine.now.layout machine.now.state.free.areas is_later frame place) }
+    ensures ascii { result < 128 }
+    ensures no_bar { is_bar result ≡ false }
 {
-    if is_later {
-        out.push_str("|")?;
-    }
     match place {
-        Some(place) => match isolation_of(place) {
-            Some(is_isolated) => out.push(free_sign(machine, is_isolated, frame)),
-            None => out.push(place.sign()),
-        },
-        None => Ok(()),
+        Place::Free => free_sign(machine, false, frame),
+        Place::Isolated => free_sign(machine, true, frame),
+        Place::Absent | Place::Offline | Place::Kernel | Place::Cached(_) | Place::Page(_) => {
+            place.sign()
+        }
     }
 }
 
-/// Whether a place is in a free block, and whether that is isolated.
-fn isolation_of(place: Place) -> Option<bool>
-    ensures { result ≡ isolation_of place }
-{
-    match place {
-        Place::Free => Some(false),
-        Place::Isolated => Some(true),
-        Place::Absent | Place::Offline | Place::Kernel | Place::Cached(_) | Place::Page(_) => None,
-    }
-}
-
-/// The character of a frame that is free.
+/// Returns the character of a free frame.
 fn free_sign(machine: &Machine, is_isolated: bool, frame: Frame) -> char
     requires { frame < frame_count machine.now.layout }
     ensures ascii { result < 128 }
-    ensures is { free_text machine.now.layout machine.now.state.free.areas is_isolated frame ≡ result ∷ [] }
+    ensures no_bar { is_bar result ≡ false }
 {
-    match order_below(machine, frame, machine.layout().order() + 1) {
+    match order_of(machine, frame) {
         Some(order) => ordered_sign(is_isolated, order, frame.0 % size_of(order)),
         None => plain_sign(is_isolated),
     }
 }
 
-/// The order of the free block that has a frame, among the orders below a number.
-fn order_below(machine: &Machine, frame: Frame, count: u32) -> Option<Order>
-    requires frame { frame < frame_count machine.now.layout }
-    requires count { count ≤ 11 }
-    ensures is { result ≡ order_below machine.now.state.free.areas frame count }
-    ensures low { IfSome result (λ order. order ≤ 10) }
+/// Returns the order of the free block that holds a frame, if one does. A free block of an order
+/// starts at a multiple of its size (Knuth, volume 1, section 2.5).
+fn order_of(machine: &Machine, frame: Frame) -> Option<Order>
+    requires { frame < frame_count machine.now.layout }
+    ensures { IfSome result (λ order. order ≤ 10) }
 {
-    if count == 0 {
-        return None;
+    for number in 0..machine.layout().order() + 1 {
+        let order = Order(number);
+        if has_order(machine.buddy().place(frame.ancestor(order)), order) {
+            return Some(order);
+        }
     }
-    let order = Order(count - 1);
-    let first = Frame(frame.0 - frame.0 % size_of(order));
-    if has_order(machine.buddy().place(first), order) {
-        return Some(order);
-    }
-    order_below(machine, frame, count - 1)
+    None
 }
 
-/// Whether a free block has an order.
-fn has_order(place: Option<(Class, Order)>, order: Order) -> bool
-    ensures { result ≡ has_order order place }
-{
+/// Returns whether a free block has an order.
+fn has_order(place: Option<(Class, Order)>, order: Order) -> bool {
     match place {
         Some(place) => place.1 == order,
         None => false,
     }
 }
 
-/// The character of a frame of a free block of this order, before which so many of its frames stand.
+/// Returns the character of a frame in a free block of this order, `offset` frames after its first.
 fn ordered_sign(is_isolated: bool, order: Order, offset: u32) -> char
     requires { order ≤ 10 }
     ensures ascii { result < 128 }
-    ensures is { result ≡ ordered_sign is_isolated order offset }
+    ensures no_bar { is_bar result ≡ false }
 {
     if order.0 == 0 {
         plain_sign(is_isolated)
     } else if offset == 0 {
         if is_isolated { '{' } else { '(' }
-    } else if u64::from(offset) + 1 == u64::from(size_of(order)) {
+    } else if offset == size_of(order) - 1 {
         if is_isolated { '}' } else { ')' }
     } else {
         inner_sign(is_isolated, order, offset)
     }
 }
 
-/// The character of a frame within a free block: a digit of its order where it stands after the
-/// first, and else as if it were alone.
+/// Returns the character of a frame between the brackets of a free block: a digit of its order
+/// right after the first bracket, and then as if it were alone.
 fn inner_sign(is_isolated: bool, order: Order, offset: u32) -> char
     requires { order ≤ 10 }
     ensures ascii { result < 128 }
-    ensures is { result ≡ inner_sign is_isolated order offset }
+    ensures no_bar { is_bar result ≡ false }
 {
     if order.0 < 10 && offset == 1 {
         char::from(b'0' + order.0 as u8)
@@ -152,66 +123,10 @@ fn inner_sign(is_isolated: bool, order: Order, offset: u32) -> char
     }
 }
 
-/// The character of a free frame that is alone.
+/// Returns the character of a free frame that is alone.
 fn plain_sign(is_isolated: bool) -> char
     ensures ascii { result < 128 }
-    ensures is { result ≡ plain_sign is_isolated }
+    ensures no_bar { is_bar result ≡ false }
 {
     if is_isolated { ':' } else { '.' }
-}
-
-/// The free blocks of a memory block of the layout, by rising frames.
-pub(crate) fn free_of(
-    alloc: Global,
-    machine: &Machine,
-    block: Block,
-) -> Result<Vec<FreeBlock>, AllocError>
-    requires { block < machine.now.layout.blocks }
-    ensures { IfOk result
-        (λ free. free.items ≡ free_of machine.now.layout machine.now.state.free.areas block) }
-{
-    let mut free = Vec::new(alloc);
-    let layout = machine.layout();
-    let first = first_of(layout, block);
-    for number in 0..layout.block_size() {
-        let place = machine.buddy().place(Frame(first + number));
-        add_free(&mut free, cell_at(layout, number), place)?;
-    }
-    Ok(free)
-}
-
-/// How many characters stand before a frame of a memory block, counted from its first.
-fn cell_at(layout: &Layout, number: u32) -> u32
-    requires { number < 2 ^ 20 }
-    ensures { result ≡ cell_at layout.now number }
-{
-    number + number / layout.pageblock_size()
-}
-
-/// Adds the free block that starts before so many characters, where one does.
-fn add_free(
-    free: &mut Vec<FreeBlock>,
-    at: u32,
-    place: Option<(Class, Order)>,
-) -> Result<(), AllocError>
-    ensures { OnOk result (free.new.items ≡ free.old.items ++ free_at at place) }
-{
-    if let Some(place) = place {
-        free.push(FreeBlock {
-            at,
-            order: place.1.0,
-            is_isolated: is_isolated_class(place.0),
-        })?;
-    }
-    Ok(())
-}
-
-/// Whether the free blocks of a class are isolated.
-fn is_isolated_class(class: Class) -> bool
-    ensures { result ≡ is_isolated_class class }
-{
-    match class {
-        Class::Nu | Class::Nm | Class::Mm => false,
-        Class::IsoN | Class::IsoM => true,
-    }
 }

@@ -1,24 +1,21 @@
-//! A memory drawn block by block.
-ghost use Rattle.std.specs.Prelude.{◌≡◌, ◌<◌, IfOk, map};
-ghost use Rattle.std.specs.List.{range_with_len};
-ghost use Rattle.hp_map.specs.Pictures.{IsPicture, block_picture, head_text, place_word, wish_word};
+//! A picture of a memory, block by block.
+ghost use Rattle.std.specs.Prelude.{◌≡◌, ◌<◌, IfOk};
+ghost use Rattle.hp_map.specs.Pictures.{ArePictures, IsBlockPicture, IsPicture};
 
-use crate::frames::draw_frames;
+use crate::blocks::{free_of, kernel_of};
+use crate::cells::draw_cells;
 use crate::kinds::draw_kinds;
 use crate::map::places_of;
-use crate::orders::{draw_orders, free_of};
+use crate::orders::draw_orders;
 use crate::places::Place;
 use hp_machine::Machine;
 use hp_pictures::BlockPicture;
 use hp_units::{Block, Row, State, Text, Wish, Zone};
 use std::alloc::{AllocError, Global};
 
-/// What is drawn of each memory block of a machine, by rising number: as `2:M>off[a1|::]`, its
-/// number, its zone or its state, what an operation that holds it wishes, and in its cells the place
-/// of each of its frames, by pageblock; its free blocks, and the mobility of its pageblocks. Where
-/// orders are shown, also its cells with each free block by its order: `.` where that is 0, else
-/// between `(` and `)`, as `(3.....)`; isolated ones `:`, and between `{` and `}` (own rule). An error
-/// is out of memory.
+/// Draws each memory block of a machine, by rising number. A head such as `2:M>off` has the number,
+/// the zone or the state, and the wish of the operation that holds the block. The cells by orders
+/// are left empty unless `shows_orders`.
 pub fn picture_of(
     alloc: Global,
     machine: &Machine,
@@ -31,16 +28,15 @@ pub fn picture_of(
     draw_blocks(alloc, machine, &places, shows_orders)
 }
 
-/// Each memory block, drawn with these places.
+/// Draws each memory block with these places.
 fn draw_blocks(
     alloc: Global,
     machine: &Machine,
     places: &Vec<Place>,
     shows_orders: bool,
 ) -> Result<Vec<BlockPicture>, AllocError>
-    ensures { IfOk result (λ blocks. blocks.items ≡ map
-        (block_picture machine.now.layout machine.now.state places.now.items shows_orders)
-        (range_with_len 0 machine.now.layout.blocks)) }
+    ensures { IfOk result (λ blocks. ArePictures machine.now.layout machine.now.state places.now.items
+        shows_orders machine.now.layout.blocks blocks.items) }
 {
     let mut blocks = Vec::new(alloc);
     for number in 0..machine.layout().blocks() {
@@ -50,7 +46,7 @@ fn draw_blocks(
     Ok(blocks)
 }
 
-/// A memory block of the layout.
+/// Draws a memory block of the layout.
 fn draw_block(
     alloc: Global,
     machine: &Machine,
@@ -59,31 +55,28 @@ fn draw_block(
     block: Block,
 ) -> Result<BlockPicture, AllocError>
     requires { block < machine.now.layout.blocks }
-    ensures { IfOk result (λ picture. picture
-        ≡ block_picture machine.now.layout machine.now.state places.now.items shows_orders block) }
+    ensures { IfOk result (λ picture. IsBlockPicture machine.now.layout machine.now.state places.now.items
+        shows_orders block picture) }
 {
     let head = draw_head(alloc, machine.row(block), block)?;
-    let cells = draw_frames(alloc, machine.layout(), places, block)?;
+    let cells = draw_cells(alloc, machine.layout(), places, block)?;
     let ordered = draw_orders(alloc, machine, places, shows_orders, block)?;
     let free = free_of(alloc, machine, block)?;
+    let kernel = kernel_of(alloc, machine, block)?;
     let kinds = draw_kinds(alloc, machine, block)?;
-    Ok(BlockPicture::new(head, cells, ordered, free, kinds))
+    Ok(BlockPicture::new(head, cells, ordered, free, kernel, kinds))
 }
 
-/// What stands before the cells of a memory block with this row.
-fn draw_head(alloc: Global, row: Option<Row>, block: Block) -> Result<Text, AllocError>
-    ensures { IfOk result (λ text. text ≡ head_text row block) }
-{
+/// Returns what comes before the cells of a memory block with this row.
+fn draw_head(alloc: Global, row: Option<Row>, block: Block) -> Result<Text, AllocError> {
     let place = place_word(&row);
     let wish = wish_word(&row);
     let text = format!(in alloc; "{block}:{place}{wish}")?;
     Ok(Text::new(text))
 }
 
-/// The letter of the zone of a memory block in use, and else its state.
-fn place_word(row: &Option<Row>) -> &'static str
-    ensures { result.now ≡ place_word row.now }
-{
+/// Returns the letter of the zone of a memory block in use, and the state of another.
+fn place_word(row: &Option<Row>) -> &'static str {
     match row {
         Some(row) => match row.state {
             State::Absent => "absent",
@@ -98,10 +91,8 @@ fn place_word(row: &Option<Row>) -> &'static str
     }
 }
 
-/// What an operation that holds a memory block wishes.
-fn wish_word(row: &Option<Row>) -> &'static str
-    ensures { result.now ≡ wish_word row.now }
-{
+/// Returns the wish of the operation that holds a memory block, if one does.
+fn wish_word(row: &Option<Row>) -> &'static str {
     match row {
         Some(row) => match row.claim {
             Some(claim) => match claim.wish {

@@ -1,14 +1,13 @@
 //! Where a frame is.
-ghost use Rattle.std.specs.Prelude.{◌≡◌, ◌<◌, [], ◌∷◌, Some};
-ghost use Rattle.hp_map.specs.Places.{place_text};
+ghost use Rattle.std.specs.Prelude.{◌≡◌, ◌<◌};
+ghost use Rattle.hp_map.specs.Places.{place_sign};
 
 use hp_units::{Cpu, Owner};
-use std::fmt;
 
 /// Where a frame is: in exactly one of these places.
 #[derive(Clone, Copy, PartialEq, Eq)]
 pub enum Place {
-    /// In a memory block that is not there.
+    /// In a memory block that is absent.
     Absent,
     /// In a memory block that is offline.
     Offline,
@@ -25,11 +24,11 @@ pub enum Place {
 }
 
 impl Place {
-    /// Its character, as it is displayed.
-    #[tactic(auto, using(std::proofs::lemmas::Fmt::decimal_digit))]
+    /// Returns its character in a memory block's cells: the last digit of a processor's number,
+    /// and `a` to `z` for owners, which begin again after 26.
     pub(crate) fn sign(&self) -> char
         ensures ascii { result < 128 }
-        ensures is { place_text self.now ≡ result ∷ [] }
+        ensures is { result ≡ place_sign self.now }
     {
         match self {
             Place::Absent => ' ',
@@ -40,19 +39,5 @@ impl Place {
             Place::Cached(cpu) => char::from(b'0' + (cpu.0 % 10) as u8),
             Place::Page(owner) => char::from(b'a' + (owner.0 % 26) as u8),
         }
-    }
-}
-
-/// One character: a space, `-`, `.`, `:`, `K`, the last digit of a processor's number, and `a` to
-/// `z` for an owner's, which begin again after 26 (own rule).
-#[tactic(auto, using(std::proofs::lemmas::Str::encode_ascii))]
-impl fmt::Display for Place {
-    ghost use Rattle.hp_map.specs.Places.{place_text};
-
-    ghost output = { λ place. Some (place_text place) };
-
-    fn fmt<W: fmt::Write>(&self, f: &mut fmt::Formatter<W>) -> fmt::Result {
-        let sign = self.sign();
-        write!(f, "{sign}")
     }
 }

@@ -1,4 +1,4 @@
--- A row of memory blocks with texts (own rule).
+-- A row of memory blocks with texts.
 use Rattle.std.specs.Prelude.{ℕ, List, Option}
 use Rattle.hp_pictures.specs.Blocks.{BlockValue}
 use Rattle.hp_pictures.specs.declared.row_picture.Move.{Move}

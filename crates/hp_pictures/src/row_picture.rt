@@ -15,8 +15,8 @@ pub struct Move {
     pub to: Frame,
 }
 
-/// A row: what was asked, what was answered, which page moved by it, and the memory blocks after it by
-/// rising number. Where the row is a line of text alone, it has no answer, no move and no memory blocks.
+/// A row: what was asked, what was answered, which page moved by it, and the memory blocks after
+/// it, by rising number. A line of text alone has no answer, no move and no memory blocks.
 #[derive(Drop)]
 pub struct RowPicture {
     asked: Text,
@@ -34,7 +34,7 @@ impl Model for RowPicture {
 }
 
 impl RowPicture {
-    /// A row of these texts, this move and these memory blocks.
+    /// Makes a row of these texts, this move and these memory blocks.
     pub fn new(
         asked: Text,
         answer: Text,
@@ -51,28 +51,28 @@ impl RowPicture {
         }
     }
 
-    /// What was asked.
+    /// Returns what was asked.
     pub fn asked(&self) -> &str
         ensures { result.now ≡ self.now.asked }
     {
         self.asked.as_str()
     }
 
-    /// What was answered.
+    /// Returns what was answered.
     pub fn answer(&self) -> &str
         ensures { result.now ≡ self.now.answer }
     {
         self.answer.as_str()
     }
 
-    /// Which page moved, if one did.
+    /// Returns which page moved, if one did.
     pub fn moved(&self) -> Option<Move>
         ensures { result ≡ self.now.moved }
     {
         self.moved
     }
 
-    /// Its memory blocks.
+    /// Returns its memory blocks.
     pub fn blocks(&self) -> &[BlockPicture]
         ensures { result.now ≡ self.now.blocks }
     {

@@ -1,8 +1,26 @@
 -- The runs of cells cover them.
-use Rattle.std.proofs.Common.{◌≡◌, ℕ, zero, suc, ◌+◌, ◌<◌, ◌==◌, Bool, cond, List, inl, inr, [], ◌∷◌, ◌++◌, drop, replicate, take, refl, sym, ap, subst, ◌∙◌, add-one, arith}
+use Rattle.std.proofs.Common.{◌≡◌, ℕ, zero, suc, ◌+◌, ◌<◌, ◌==◌, Bool, cond, if◌then◌else◌, List, inl, inr, [], ◌∷◌, ◌++◌, drop, replicate, take, refl, sym, ap, subst, ◌∙◌, add-one, arith}
 use Rattle.std.proofs.lemmas.Bool.{cases_Bool, eqb-true}
-use Rattle.hp_svg.specs.Runs.{Covers, longer, new_run, runs_after, runs_of}
+use Rattle.hp_svg.specs.Runs.{Covers}
 use Rattle.hp_svg.specs.declared.runs.Run.{Run}
+
+-- a run of one cell, and one that a further cell belongs to
+abbrev pub new_run : (at mark : ℕ) → Run
+new_run at mark = record { at = at; count = 1; mark = mark }
+
+abbrev pub longer : Run → Run
+longer run = record run { count = run.count + 1 }
+
+-- a run that has begun, and the runs of the cells after it
+abbrev pub runs_after : Run → List ℕ → List Run
+runs_after run [] = run ∷ []
+runs_after run (mark ∷ cells) =
+    if mark == run.mark then runs_after (longer run) cells
+    else run ∷ runs_after (new_run (run.at + run.count) mark) cells
+
+abbrev pub runs_from : List ℕ → List Run
+runs_from [] = []
+runs_from (mark ∷ cells) = runs_after (new_run 0 mark) cells
 
 -- so many of one character, and others
 take_same : (n mark : ℕ) (cells : List ℕ) → take n (replicate n mark ++ cells) ≡ replicate n mark
@@ -47,6 +65,10 @@ run_covers run (mark ∷ cells) some = elim (cases_Bool (mark == run.mark)) [
       )
 ]
 
-pub cells_covered : (cells : List ℕ) → Covers 0 (runs_of cells) cells
+pub cells_covered : (cells : List ℕ) → Covers 0 (runs_from cells) cells
 cells_covered [] = refl
 cells_covered (mark ∷ cells) = run_covers (new_run 0 mark) cells (omega arith)
+
+-- runs that are these cover the cells
+pub covered_by : (runs : List Run) (cells : List ℕ) → runs ≡ runs_from cells → Covers 0 runs cells
+covered_by runs cells same = subst (λ (rs : List Run). Covers 0 rs cells) (sym same) (cells_covered cells)

@@ -1,4 +1,1 @@
 mod Covering
-mod Entries
-mod Joined
-mod Stacked

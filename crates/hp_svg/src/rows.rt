@@ -1,24 +1,23 @@
 //! The rows of a picture.
-ghost use Rattle.std.specs.Prelude.{◌≡◌, ◌++◌, ◌<◌, ◌^◌, OnOk, string_bytes};
-ghost use Rattle.std.specs.List.{enumerate_from, flat_map};
-ghost use Rattle.hp_svg.specs.Rows.{block_text, blocks_text, column_text, frames_text, free_text, head_text, lines_text, row_text, rows_text, size_of, words_text};
+ghost use Rattle.std.specs.Prelude.{◌<◌, ◌^◌};
 
-use crate::elements::{cells_of, write_order, write_outline, write_text};
-use crate::runs::{Layer, write_cells};
+use crate::elements::{
+    Holder, cells_of, write_cell, write_fitted_text, write_order, write_outline, write_strip,
+    write_text,
+};
+use crate::runs::{Run, runs_of};
 use crate::sheets::{ANSWER, ASKED, Sheet, lines_above};
-use hp_pictures::{BlockPicture, FreeBlock, RowPicture};
+use hp_pictures::{BlockPicture, RowPicture};
 use std::alloc::{AllocError, Global};
 
-/// Writes rows, one under another from some place on.
+/// Draws rows, one under another from `start` on.
 pub(crate) fn write_rows(
     out: &mut String,
     alloc: Global,
     sheet: Sheet,
     start: u128,
     rows: &[RowPicture],
-) -> Result<(), AllocError>
-    ensures { OnOk result (string_bytes out.new ≡ string_bytes out.old ++ rows_text sheet start rows.now) }
-{
+) -> Result<(), AllocError> {
     write!(out, "<g transform='translate(0 {start})'>")?;
     let mut top = 0u128;
     for row in rows {
@@ -28,8 +27,7 @@ pub(crate) fn write_rows(
     out.push_str("\n</g>\n")
 }
 
-/// Writes a row.
-#[tactic(auto, unfolding(crate::specs::Rows::row_text))]
+/// Draws a row. A row of text alone is drawn where answers are.
 fn write_row(
     out: &mut String,
     alloc: Global,
@@ -38,16 +36,17 @@ fn write_row(
     row: &RowPicture,
 ) -> Result<(), AllocError>
     requires { top < 2 ^ 105 }
-    ensures { OnOk result (string_bytes out.new ≡ string_bytes out.old ++ row_text sheet top row.now) }
 {
     if row.blocks().is_empty() {
-        return write_words(out, top, row.asked());
+        write_column(out, 188, top, row.asked())?;
+    } else {
+        write_blocks(out, alloc, sheet, top, row)?;
     }
-    write_blocks(out, alloc, sheet, top, row)
+    out.push_str("\n")
 }
 
-/// Writes a row with memory blocks.
-#[tactic(auto, unfolding(crate::specs::Rows::blocks_text))]
+/// Draws a row with memory blocks. Its answer, and its blocks, are lower if the text before them
+/// has a line of its own.
 fn write_blocks(
     out: &mut String,
     alloc: Global,
@@ -56,93 +55,30 @@ fn write_blocks(
     row: &RowPicture,
 ) -> Result<(), AllocError>
     requires { top < 2 ^ 105 }
-    ensures { OnOk result (string_bytes out.new ≡ string_bytes out.old ++ blocks_text sheet top row.now) }
 {
     let below_asked = top + lines_above(ASKED, row.asked());
     let below_answer = below_asked + lines_above(ANSWER, row.answer());
     write_column(out, 8, top, row.asked())?;
     write_column(out, 188, below_asked, row.answer())?;
-    write_row_blocks(out, alloc, sheet, below_answer, row.blocks())?;
-    out.push_str("\n")
-}
-
-/// Writes a line of text alone: it stands where answers do.
-#[tactic(auto, unfolding(crate::specs::Rows::words_text))]
-fn write_words(out: &mut String, top: u128, text: &str) -> Result<(), AllocError>
-    requires { top < 2 ^ 105 }
-    ensures { OnOk result (string_bytes out.new ≡ string_bytes out.old ++ words_text top text.now) }
-{
-    write_column(out, 188, top, text)?;
-    out.push_str("\n")
-}
-
-/// Writes a text of a row, where there is one.
-#[tactic(auto, unfolding(crate::specs::Rows::column_text))]
-fn write_column(out: &mut String, left: u128, top: u128, text: &str) -> Result<(), AllocError>
-    requires { top < 2 ^ 107 }
-    ensures { OnOk result (string_bytes out.new ≡ string_bytes out.old ++ column_text left top text.now) }
-{
-    if text.is_empty() {
-        return Ok(());
-    }
-    write_text(out, left, top + 10, false, 0, text)
-}
-
-/// Writes the blocks of a row, each in the strip where it stands.
-fn write_row_blocks(
-    out: &mut String,
-    alloc: Global,
-    sheet: Sheet,
-    top: u128,
-    blocks: &[BlockPicture],
-) -> Result<(), AllocError>
-    requires { top < 2 ^ 106 }
-    ensures { OnOk result (string_bytes out.new ≡ string_bytes out.old
-        ++ flat_map (block_text sheet top) (enumerate_from 0 blocks.now)) }
-{
-    for (number, block) in blocks.iter().enumerate() {
-        let strip = top + sheet.strip_top(number);
+    for (number, block) in row.blocks().iter().enumerate() {
+        let strip = below_answer + sheet.strip_top(number);
         write_head(out, alloc, sheet.head_at(number), strip, block.head())?;
-        write_frames(out, sheet, sheet.cells_at(number), strip, block)?;
+        write_frames(out, alloc, sheet, sheet.cells_at(number), strip, block)?;
     }
     Ok(())
 }
 
-/// Writes the cells of a block, the mobility of its pageblocks, lines between cells, and its free blocks.
-#[tactic(auto, unfolding(crate::specs::Rows::frames_text))]
-fn write_frames(
-    out: &mut String,
-    sheet: Sheet,
-    left: u128,
-    top: u128,
-    block: &BlockPicture,
-) -> Result<(), AllocError>
-    requires left { left < 2 ^ 107 }
-    requires top { top < 2 ^ 107 }
-    ensures { OnOk result (string_bytes out.new ≡ string_bytes out.old
-        ++ frames_text sheet left top block.now) }
+/// Writes a text of a row, if there is one.
+fn write_column(out: &mut String, left: u128, top: u128, text: &str) -> Result<(), AllocError>
+    requires { top < 2 ^ 107 }
 {
-    let cells = block.cells().as_bytes();
-    let kinds = block.kinds().as_bytes();
-    write_cells(out, sheet.cell, Layer::Cells, left, top, cells)?;
-    write_cells(out, sheet.cell, Layer::Strips, left, top, kinds)?;
-    write_lines(out, sheet, left, top)?;
-    write_free(out, sheet.cell, left, top, block.free())
-}
-
-/// Writes lines between cells, where these are wide enough, as they stand in the picture's definitions.
-#[tactic(auto, unfolding(crate::specs::Rows::lines_text))]
-fn write_lines(out: &mut String, sheet: Sheet, left: u128, top: u128) -> Result<(), AllocError>
-    ensures { OnOk result (string_bytes out.new ≡ string_bytes out.old ++ lines_text sheet left top) }
-{
-    if !sheet.has_grid() {
+    if text.is_empty() {
         return Ok(());
     }
-    write!(out, "<use href='#lines' x='{left}' y='{top}'/>")
+    write_text(out, left, top + 10, text)
 }
 
-/// Writes the head of a block before its cells; it is made narrower where it has no room there.
-#[tactic(auto, unfolding(crate::specs::Rows::head_text))]
+/// Writes the head of a block before its cells.
 fn write_head(
     out: &mut String,
     alloc: Global,
@@ -151,57 +87,124 @@ fn write_head(
     head: &str,
 ) -> Result<(), AllocError>
     requires { top < 2 ^ 107 }
-    ensures { OnOk result (string_bytes out.new ≡ string_bytes out.old ++ head_text left top head.now) }
 {
     let text = format!(in alloc; " {head}")?;
-    let is_narrow = text.len() > 7;
-    write_text(out, left, top + 10, is_narrow, 7, text.as_str())
+    write_fitted_text(out, left, top + 10, 7, text.as_str())
 }
 
-/// Writes the outlines of free blocks, where a cell is so wide.
-fn write_free(
+/// Draws the cells of a block, the mobility of its pageblocks, lines between cells, and the outlines
+/// of blocks of frames.
+fn write_frames(
+    out: &mut String,
+    alloc: Global,
+    sheet: Sheet,
+    left: u128,
+    top: u128,
+    block: &BlockPicture,
+) -> Result<(), AllocError>
+    requires left { left < 2 ^ 107 }
+    requires top { top < 2 ^ 107 }
+{
+    let cells = runs_of(alloc, block.cells().as_bytes())?;
+    for run in &cells {
+        write_cells(out, sheet.cell, left, top, *run)?;
+    }
+    let kinds = runs_of(alloc, block.kinds().as_bytes())?;
+    for run in &kinds {
+        write_strips(out, sheet.cell, left, top, *run)?;
+    }
+    write_lines(out, sheet, left, top)?;
+    write_outlines(out, sheet.cell, left, top, block)
+}
+
+/// Draws cells with the same character. A bar between pageblocks is a gap.
+fn write_cells(
     out: &mut String,
     cell: u8,
     left: u128,
     top: u128,
-    free: &[FreeBlock],
+    run: Run,
 ) -> Result<(), AllocError>
     requires left { left < 2 ^ 107 }
     requires top { top < 2 ^ 107 }
-    ensures { OnOk result (string_bytes out.new ≡ string_bytes out.old
-        ++ flat_map (free_text cell left top) free.now) }
 {
-    for block in free {
-        write_free_block(out, cell, left, top, *block)?;
+    if run.mark == b'|' {
+        return Ok(());
+    }
+    write_cell(out, left + run.left(cell), top, run.width(cell), run.mark)
+}
+
+/// Draws the mobility of pageblocks side by side, below their cells.
+fn write_strips(
+    out: &mut String,
+    cell: u8,
+    left: u128,
+    top: u128,
+    run: Run,
+) -> Result<(), AllocError>
+    requires left { left < 2 ^ 107 }
+    requires top { top < 2 ^ 107 }
+{
+    write_strip(
+        out,
+        left + run.left(cell),
+        top + 12,
+        run.width(cell),
+        run.mark,
+    )
+}
+
+/// Draws lines between cells, if these are wide enough; `write_grid` defines them.
+fn write_lines(out: &mut String, sheet: Sheet, left: u128, top: u128) -> Result<(), AllocError> {
+    if !sheet.has_grid() {
+        return Ok(());
+    }
+    write!(out, "<use href='#lines' x='{left}' y='{top}'/>")
+}
+
+/// Draws the outlines of the free blocks and of the kernel's blocks.
+fn write_outlines(
+    out: &mut String,
+    cell: u8,
+    left: u128,
+    top: u128,
+    block: &BlockPicture,
+) -> Result<(), AllocError>
+    requires left { left < 2 ^ 107 }
+    requires top { top < 2 ^ 107 }
+{
+    for free in block.free() {
+        let x = left + cells_of(cell, free.at as usize);
+        write_block(out, cell, x, top, free.order, Holder::Nobody)?;
+    }
+    for kernel in block.kernel() {
+        let x = left + cells_of(cell, kernel.at as usize);
+        write_block(out, cell, x, top, kernel.order, Holder::Kernel)?;
     }
     Ok(())
 }
 
-/// Writes the outline of a free block, and its order where it has more than one frame and room.
-#[tactic(auto, unfolding(crate::specs::Rows::free_text))]
-fn write_free_block(
+/// Draws the outline of a block of frames, and its order if that is not 0 and has room. The letter
+/// of the kernel's cells may be before the order.
+fn write_block(
     out: &mut String,
     cell: u8,
-    left: u128,
+    x: u128,
     top: u128,
-    block: FreeBlock,
+    order: u32,
+    holder: Holder,
 ) -> Result<(), AllocError>
-    requires left { left < 2 ^ 107 }
+    requires left { x < 2 ^ 108 }
     requires top { top < 2 ^ 107 }
-    ensures { OnOk result (string_bytes out.new ≡ string_bytes out.old ++ free_text cell left top block) }
 {
-    let x = left + cells_of(cell, block.at as usize);
-    let width = cells_of(cell, size_of(block.order));
-    write_outline(out, x + 1, top + 1, width.saturating_sub(2))?;
-    if block.order == 0 || width < 16 {
+    let width = cells_of(cell, 1 << order.min(31));
+    write_outline(out, x + 1, top + 1, width.saturating_sub(2), holder)?;
+    if order == 0 || width < 16 {
         return Ok(());
     }
-    write_order(out, x + 4, top + 9, block.order)
-}
-
-/// How many frames a free block of an order has; an order is at most 31.
-fn size_of(order: u32) -> usize
-    ensures { result ≡ size_of order }
-{
-    1 << order.min(31)
+    let before = match holder {
+        Holder::Nobody => 4,
+        Holder::Kernel => 9,
+    };
+    write_order(out, x + before, top + 9, order, holder)
 }

@@ -1,67 +1,64 @@
 //! Runs: cells side by side with the same character.
-ghost use Rattle.std.specs.Prelude.{◌≡◌, ◌++◌, ◌+◌, ◌<◌, ◌^◌, OnOk, List, ℕ, string_bytes};
-ghost use Rattle.std.specs.List.{flat_map};
-ghost use Rattle.hp_svg.specs.Elements.{run_text};
-ghost use Rattle.hp_svg.specs.Runs.{Covers, new_run, runs_of};
+ghost use Rattle.std.specs.Prelude.{◌≡◌, ◌*◌, ◌<◌, ◌^◌, IfOk};
+ghost use Rattle.hp_svg.specs.Runs.{Covers};
 
-use crate::elements::write_run;
-use std::alloc::AllocError;
+use crate::elements::cells_of;
+use std::alloc::{AllocError, Global};
 
-/// Cells side by side with the same character: how many stand before them, how many they are, and
-/// the character.
+/// Cells side by side with the same character, which are drawn as one rectangle.
 #[derive(Clone, Copy)]
-pub(crate) struct Run {
-    pub(crate) at: usize,
-    pub(crate) count: usize,
-    pub(crate) mark: u8,
-}
-
-/// What runs are drawn as: cells, or strips below them.
-#[derive(Clone, Copy)]
-pub(crate) enum Layer {
-    Cells,
-    Strips,
+pub struct Run {
+    /// The number of cells before them.
+    pub at: usize,
+    /// The number of cells.
+    pub count: usize,
+    /// Their character.
+    pub mark: u8,
 }
 
 impl Run {
-    /// A run of one cell.
+    /// Returns a run of one cell.
     fn new(at: usize, mark: u8) -> Run
-        ensures { result ≡ new_run at mark }
+        ensures { result ≡ record { at = at; count = 1; mark = mark } }
     {
         Run { at, count: 1, mark }
     }
+
+    /// Returns where the run's rectangle begins, in pixels after the first cell's left edge, if a
+    /// cell has this width.
+    pub fn left(&self, cell: u8) -> u128
+        ensures is { result ≡ cell * self.now.at }
+        ensures low { result < 2 ^ 72 }
+    {
+        cells_of(cell, self.at)
+    }
+
+    /// Returns how wide the run's rectangle is.
+    pub fn width(&self, cell: u8) -> u128
+        ensures is { result ≡ cell * self.now.count }
+        ensures low { result < 2 ^ 72 }
+    {
+        cells_of(cell, self.count)
+    }
 }
 
-/// Writes cells of this width, or strips below them, a rectangle for each run.
-pub(crate) fn write_cells(
-    out: &mut String,
-    cell: u8,
-    layer: Layer,
-    left: u128,
-    top: u128,
-    cells: &[u8],
-) -> Result<(), AllocError>
-    requires left { left < 2 ^ 107 }
-    requires top { top < 2 ^ 107 }
-    ensures { OnOk result (string_bytes out.new ≡ string_bytes out.old
-        ++ flat_map (run_text cell layer left top) (runs_of cells.now)) }
+/// Returns the runs that `picture_of` draws for cells, by rising places.
+pub fn runs_of(alloc: Global, cells: &[u8]) -> Result<Vec<Run>, AllocError>
+    ensures { IfOk result (λ runs. Covers 0 runs.items cells.now) }
 {
+    let mut runs = Vec::new(alloc);
     let [first, rest @ ..] = cells else {
-        return Ok(());
+        return Ok(runs);
     };
     let mut run = Run::new(0, *first);
     for mark in rest {
         if *mark == run.mark {
             run.count += 1;
         } else {
-            write_run(out, cell, layer, left, top, run)?;
+            runs.push(run)?;
             run = Run::new(run.at + run.count, *mark);
         }
     }
-    write_run(out, cell, layer, left, top, run)
+    runs.push(run)?;
+    Ok(runs)
 }
-
-/// Each cell is covered by one run, that has its character.
-pub fn cells_are_covered()
-    ensures { (cells : List ℕ) → Covers 0 (runs_of cells) cells }
-{}

@@ -16,6 +16,8 @@ mod explorations;
 #[cfg(test)]
 mod parts;
 #[cfg(test)]
+mod picture_parts;
+#[cfg(test)]
 mod pictures;
 #[cfg(test)]
 mod refusals;

@@ -1,5 +1,6 @@
 //! Rows drawn as a picture.
-use hp_pictures::{BlockPicture, FreeBlock, Move, RowPicture};
+use crate::picture_parts::PARTS;
+use hp_pictures::{BlockPicture, FreeBlock, KernelBlock, Move, RowPicture};
 use hp_svg::picture_of;
 use hp_trace::{View, trace_rows};
 use hp_units::{Frame, Text};
@@ -7,13 +8,19 @@ use indexmap::IndexSet;
 use std::alloc::{AllocError, Global};
 use std::test::Fail;
 
-type Words = &'static str;
+pub(crate) type Words = &'static str;
 
-/// The head, the cells, the free blocks (place, order, whether isolated) and the kinds of a block.
-type Block = (Words, Words, &'static [(u32, u32, bool)], Words);
+/// Free blocks: the place, the order, and whether it is isolated.
+pub(crate) type Free = &'static [(u32, u32, bool)];
+
+/// Blocks of the kernel: the place and the order.
+pub(crate) type Kernel = &'static [(u32, u32)];
+
+/// The head, the cells, the free blocks, those of the kernel, and the kinds of a block.
+pub(crate) type Block = (Words, Words, Free, Kernel, Words);
 
 /// What is asked in a row, its answer, the two frames of a page that moved, and the memory blocks.
-type Row = (Words, Words, Option<(u32, u32)>, &'static [Block]);
+pub(crate) type Row = (Words, Words, Option<(u32, u32)>, &'static [Block]);
 
 /// A text of characters that XML spells otherwise, or has not.
 const WORDS: &str = "<&>\"\t";
@@ -24,21 +31,23 @@ const BOOT: &[Block] = &[
         "0:N",
         "a...|KK..",
         &[(1, 0, false), (2, 1, false), (7, 1, false)],
+        &[(5, 1)],
         "MMMM|UUUU",
     ),
     (
         "1:M>off",
         ":0::|-- -",
         &[(0, 0, true), (2, 1, true)],
+        &[],
         "MMMM|    ",
     ),
 ];
 
 /// A memory block that is offline.
-const OFFLINE: &[Block] = &[("0:N", "----|----", &[], "    |    ")];
+const OFFLINE: &[Block] = &[("0:N", "----|----", &[], &[], "    |    ")];
 
 /// A row with each kind of cell, one of words, and one whose page moved, to a frame after a bar.
-const ROWS: &[Row] = &[
+pub(crate) const ROWS: &[Row] = &[
     ("   0 boot", "1: done", None, BOOT),
     (WORDS, "", None, &[]),
     ("   1 0 migrate 1", "2: moved 0 5", Some((0, 5)), OFFLINE),
@@ -70,12 +79,15 @@ const PICTURE: &str =
      font-size='8' fill='#ffffff'>a</text><text x='186' y='34'>page of db</text>\n\
      <rect x='328' y='25' width='12' height='10' rx='3' fill='none' stroke='#14532d'/><text \
      x='346' y='34'>free block, its order</text>\n\
-     <rect x='488' y='29' width='12' height='2' fill='#a78bfa'/><text x='506' y='34'>movable \
+     <rect x='488' y='24' width='12' height='12' fill='#3d3d3d'/><text x='490' y='33' \
+     font-size='8' fill='#ffffff'>K</text><rect x='488' y='25' width='12' height='10' rx='3' \
+     fill='none' stroke='#fbbf24'/><text x='506' y='34'>kernel block, order</text>\n\
+     <rect x='648' y='29' width='12' height='2' fill='#a78bfa'/><text x='666' y='34'>movable \
      pageblock</text>\n\
-     <rect x='648' y='29' width='12' height='2' fill='#4c1d95'/><text x='666' y='34'>unmovable \
+     <rect x='8' y='45' width='12' height='2' fill='#4c1d95'/><text x='26' y='50'>unmovable \
      pageblock</text>\n\
-     <path d='M8 42L20 50' stroke='#b91c1c' stroke-width='1.2' marker-end='url(#arrow)'/><text \
-     x='26' y='50'>page that moved</text>\n\
+     <path d='M168 42L180 50' stroke='#b91c1c' stroke-width='1.2' marker-end='url(#arrow)'/><text \
+     x='186' y='50'>page that moved</text>\n\
      <g transform='translate(0 94)'><text x='8' y='10'>   0 boot</text><text x='188' y='10'>1: \
      done</text><text x='336' y='10'> 0:N</text><rect x='384' y='0' width='8' height='12' \
      fill='#0072b2'/><text x='386' y='9' font-size='8' fill='#ffffff'>a</text><rect x='392' y='0' \
@@ -88,7 +100,10 @@ const PICTURE: &str =
      stroke='#14532d'/><text x='404' y='9' font-size='8' fill='#052e16' stroke='#ffffff' \
      stroke-width='2' paint-order='stroke'>1</text><rect x='441' y='1' width='14' height='10' \
      rx='3' fill='none' stroke='#14532d'/><text x='444' y='9' font-size='8' fill='#052e16' \
-     stroke='#ffffff' stroke-width='2' paint-order='stroke'>1</text><text x='456' y='10' \
+     stroke='#ffffff' stroke-width='2' paint-order='stroke'>1</text><rect x='425' y='1' \
+     width='14' height='10' rx='3' fill='none' stroke='#fbbf24'/><text x='433' y='9' \
+     font-size='8' fill='#fbbf24' stroke='#3d3d3d' stroke-width='2' \
+     paint-order='stroke'>1</text><text x='456' y='10' \
      textLength='42' lengthAdjust='spacingAndGlyphs'> 1:M&gt;off</text><rect x='504' y='0' \
      width='8' height='12' fill='url(#isolated)'/><rect x='512' y='0' width='8' height='12' \
      fill='#fff4cc'/><text x='514' y='9' font-size='8' fill='#000000'>0</text><rect x='520' y='0' \
@@ -110,8 +125,10 @@ const PICTURE: &str =
      transform='translate(0 94)'><path d='M388 6L436 34'/></g></defs><use href='#moves' \
      stroke='#ffffff' stroke-width='3' stroke-opacity='0.6'/><use href='#moves' stroke='#b91c1c' \
      stroke-width='1.2' marker-end='url(#arrow)'/>\n\
-     <text x='384' y='76'>block 0</text><text x='384' y='88'>frame 0</text>\n\
-     <text x='504' y='76'>block 1</text><text x='504' y='88'>frame 8</text>\n\
+     <text x='384' y='76'>block 0</text><text x='336' y='88'> frame</text><text x='384' y='88' \
+     font-size='8'>0</text><text x='424' y='88' font-size='8'>4</text>\n\
+     <text x='504' y='76'>block 1</text><text x='456' y='88'> frame</text><text x='504' y='88' \
+     font-size='8'>8</text><text x='544' y='88' font-size='8'>12</text>\n\
      </svg>\n";
 
 /// A text.
@@ -132,15 +149,28 @@ fn free_blocks(alloc: Global, from: &[(u32, u32, bool)]) -> Result<Vec<FreeBlock
     Ok(free)
 }
 
+/// A block of the kernel for each pair.
+fn kernel_blocks(alloc: Global, from: &[(u32, u32)]) -> Result<Vec<KernelBlock>, AllocError> {
+    let mut kernel = Vec::new(alloc);
+    for (at, order) in from {
+        kernel.push(KernelBlock {
+            at: *at,
+            order: *order,
+        })?;
+    }
+    Ok(kernel)
+}
+
 /// A memory block without orders in its cells.
 fn block(alloc: Global, from: &Block) -> Result<BlockPicture, AllocError> {
-    let (head, cells, free, kinds) = from;
+    let (head, cells, free, kernel, kinds) = from;
     let head = text(alloc, head)?;
     let cells = text(alloc, cells)?;
     let kinds = text(alloc, kinds)?;
     let free = free_blocks(alloc, free)?;
+    let kernel = kernel_blocks(alloc, kernel)?;
     let ordered = Text::new(String::new(alloc));
-    Ok(BlockPicture::new(head, cells, ordered, free, kinds))
+    Ok(BlockPicture::new(head, cells, ordered, free, kernel, kinds))
 }
 
 /// Those memory blocks.
@@ -170,43 +200,58 @@ fn row(alloc: Global, from: &Row) -> Result<RowPicture, AllocError> {
     Ok(RowPicture::new(asked, answer, page(*frames), blocks))
 }
 
-/// All those rows.
-fn rows(alloc: Global) -> Result<Vec<RowPicture>, AllocError> {
+/// Those rows.
+fn rows(alloc: Global, from: &[Row]) -> Result<Vec<RowPicture>, AllocError> {
     let mut rows = Vec::new(alloc);
-    for each in ROWS {
+    for each in from {
         rows.push(row(alloc, each)?)?;
     }
     Ok(rows)
 }
 
 /// The names of owners.
-fn names(alloc: Global) -> Result<IndexSet<Text>, AllocError> {
-    let name = text(alloc, "db")?;
+fn names(alloc: Global, from: &[Words]) -> Result<IndexSet<Text>, AllocError> {
     let mut names = IndexSet::new(alloc);
-    names.insert(name)?;
+    for name in from {
+        names.insert(text(alloc, name)?)?;
+    }
     Ok(names)
 }
 
-/// The picture of those rows, where the owners have names.
-fn picture_with(alloc: Global, names: &IndexSet<Text>) -> Result<String, AllocError> {
-    picture_of(alloc, names, 8, &rows(alloc)?)
+/// The picture of rows, where the owners have these names and a cell is this wide, at `scale`
+/// percent.
+fn picture(
+    alloc: Global,
+    from: &[Words],
+    cell: u8,
+    scale: u16,
+    drawn: &[Row],
+) -> Result<String, AllocError> {
+    let names = names(alloc, from)?;
+    picture_of(alloc, &names, cell, scale, &rows(alloc, drawn)?)
 }
 
-/// The picture of those rows, where the first owner has a name.
-fn picture(alloc: Global) -> Result<String, AllocError> {
-    let names = names(alloc)?;
-    picture_with(alloc, &names)
-}
-
-/// Whether the picture of those rows is this one.
+/// Whether the picture of `ROWS` is `PICTURE`.
 fn is_drawn(alloc: Global) -> Result<bool, AllocError> {
-    let drawn = picture(alloc)?;
+    let drawn = picture(alloc, &["db"], 8, 100, ROWS)?;
     Ok(drawn.as_str() == PICTURE)
+}
+
+/// Whether pictures have their parts.
+fn are_parts_drawn(alloc: Global) -> Result<bool, AllocError> {
+    for (names, cell, scale, rows, part) in PARTS {
+        let drawn = picture(alloc, names, *cell, *scale, rows)?;
+        if !drawn.as_str().contains(*part) {
+            return Ok(false);
+        }
+    }
+    Ok(true)
 }
 
 #[test]
 fn rows_are_drawn(rt: HostRuntime) -> Result<(), Fail> {
     assert!(rt; is_drawn(rt.alloc())?);
+    assert!(rt; are_parts_drawn(rt.alloc())?);
     Ok(())
 }
 
@@ -239,7 +284,7 @@ const ALL: View = View {
 /// The picture of a scenario.
 fn scenario_picture(alloc: Global, scenario: &[u8]) -> Option<String> {
     let rows = trace_rows(alloc, scenario, ALL).ok()?;
-    picture_of(alloc, &IndexSet::new(alloc), 8, &rows).ok()
+    picture_of(alloc, &IndexSet::new(alloc), 8, 100, &rows).ok()
 }
 
 /// How many rectangles a picture has.

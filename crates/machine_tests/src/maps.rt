@@ -1,28 +1,106 @@
-//! The memory of a machine at boot, drawn.
-use crate::looks::{Look, finds_in_four_blocks};
+//! The pictures of a machine's memory blocks: at boot, after a kernel's blocks, a page and a Begin,
+//! and with free blocks of each order.
+use crate::looks::{Look, finds_at_boot, finds_in_four_blocks};
 use hp_machine::Machine;
 use hp_map::{Place, picture_of, places_of};
-use hp_pictures::{BlockPicture, frames_in};
+use hp_pictures::{BlockPicture, FreeBlock, KernelBlock, frames_in};
+use hp_units::{Block, Boot, Cpu, Event, Item, Layout, Order, Owner, Page, Parts, Plan, Wish};
 use layouts_for_tests::LAST_ABSENT;
 use std::alloc::{AllocError, Global};
+use std::test::Fail;
 
-/// What a test looks for: the picture of four memory blocks, and a place for each frame.
-#[derive(Clone, Copy)]
-struct Drawn;
+/// A memory block that is wanted: its head, cells, cells by orders and kinds, its free blocks
+/// (place, order, whether isolated), the kernel's (place, order), and what is counted of it.
+type Wanted = (
+    [&'static str; 4],
+    &'static [(u32, u32, bool)],
+    &'static [(u32, u32)],
+    &'static str,
+);
 
-impl Look for Drawn {
-    fn finds(&self, alloc: Global, machine: &mut Machine) -> bool {
-        draws(alloc, machine, BLOCKS) && starts_free(alloc, machine, 16)
-    }
-}
+/// Five memory blocks of two pageblocks: the kernel has a block of two frames and a single one,
+/// processors' lists a frame each, an owner a page, and a plan is begun that takes one memory block
+/// offline and brings two online.
+const BEGUN: &[Wanted] = &[
+    (
+        ["0:N", "KKK1|....", "KKK1|(2.)", "UUUU|MMMM"],
+        &[(5, 2, false)],
+        &[(0, 1), (2, 0)],
+        "8: .*4 K*3 1*1 (2)*1",
+    ),
+    (
+        ["1:M>off", "a0::|::::", "a0{}|{2:}", "MMMM|MMMM"],
+        &[(2, 1, true), (5, 2, true)],
+        &[],
+        "8: :*6 0*1 a*1 {1}*1 {2}*1",
+    ),
+    (
+        ["2:off>N", "----|----", "----|----", "    |    "],
+        &[],
+        &[],
+        "8: -*8",
+    ),
+    (
+        ["3:off>M", "----|----", "----|----", "    |    "],
+        &[],
+        &[],
+        "8: -*8",
+    ),
+    (
+        ["4:absent", "    |    ", "    |    ", "    |    "],
+        &[],
+        &[],
+        "8:  *8",
+    ),
+];
 
-/// The heads and cells of the blocks.
-const BLOCKS: &[(&str, &str)] = &[
+/// The heads and cells of the four blocks at boot.
+const BOOT: &[(&str, &str)] = &[
     ("0:N", "...."),
     ("1:N", "...."),
     ("2:M", "...."),
     ("3:absent", "    "),
 ];
+
+/// What is counted of memory blocks of 1,024 frames: of one of which the kernel has a frame, of one
+/// that is free, and of one with a page that is to go offline.
+const COUNTED: &[&str] = &[
+    "0:N[1024: .*1023 K*1 (0)*1 (1)*1 (2)*1 (3)*1 (4)*1 (5)*1 (6)*1 (7)*1 (8)*1 (9)*1]",
+    "1:N[1024: .*1024 (10)*1]",
+    "2:M>off[1024: :*1023 a*1 {0}*1 {1}*1 {2}*1 {3}*1 {4}*1 {5}*1 {6}*1 {7}*1 {8}*1 {9}*1]",
+];
+
+/// What a free block of each order from 2 on has between its brackets: its order, and so many marks.
+const INNER: &[(&str, u32)] = &[
+    ("2", 1),
+    ("3", 5),
+    ("4", 13),
+    ("5", 29),
+    ("6", 61),
+    ("7", 125),
+    ("8", 253),
+    ("9", 509),
+];
+
+/// What a test looks for.
+#[derive(Clone, Copy)]
+enum Drawn {
+    Boot,
+    Begun,
+    Orders,
+}
+
+impl Look for Drawn {
+    fn finds(&self, alloc: Global, machine: &mut Machine) -> bool {
+        match self {
+            Drawn::Boot => draws(alloc, machine, BOOT) && starts_free(alloc, machine, 16),
+            Drawn::Begun => draws_begun(alloc, machine).unwrap_or(false),
+            Drawn::Orders => draws_orders(alloc, machine).unwrap_or(false),
+        }
+    }
+}
+
+// ---- at boot
 
 /// Whether memory blocks are drawn with these heads and cells, one after another.
 fn are_drawn(blocks: &[BlockPicture], wanted: &[(&str, &str)]) -> bool {
@@ -53,8 +131,225 @@ fn starts_free(alloc: Global, machine: &Machine, count: usize) -> bool {
     }
 }
 
+// ---- after a kernel's blocks, a page and a Begin
+
+/// Whether free blocks are these.
+fn are_free(blocks: &[FreeBlock], wanted: &[(u32, u32, bool)]) -> bool {
+    if blocks.len() != wanted.len() {
+        return false;
+    }
+    for (block, other) in blocks.iter().zip(wanted) {
+        let is_there = block.at == other.0 && block.order == other.1;
+        if !is_there || block.is_isolated != other.2 {
+            return false;
+        }
+    }
+    true
+}
+
+/// Whether the kernel's blocks are these.
+fn are_kernel(blocks: &[KernelBlock], wanted: &[(u32, u32)]) -> bool {
+    if blocks.len() != wanted.len() {
+        return false;
+    }
+    for (block, other) in blocks.iter().zip(wanted) {
+        if block.at != other.0 || block.order != other.1 {
+            return false;
+        }
+    }
+    true
+}
+
+/// Whether a memory block has these texts.
+fn has_texts(block: &BlockPicture, wanted: &[&'static str; 4]) -> bool {
+    let [head, cells, ordered, kinds] = *wanted;
+    block.head() == head
+        && block.cells() == cells
+        && block.ordered() == ordered
+        && block.kinds() == kinds
+}
+
+/// Whether a memory block is written so, with and without orders, and counted so.
+fn is_written(alloc: Global, block: &BlockPicture, wanted: &Wanted) -> Result<bool, AllocError> {
+    let [head, cells, ordered, _] = wanted.0;
+    let mut out = String::new(alloc);
+    block.write(&mut out, false)?;
+    block.write(&mut out, true)?;
+    block.write_counted(&mut out, true)?;
+    let counted = wanted.3;
+    let text = format!(in alloc; "{head}[{cells}]{head}[{ordered}]{head}[{counted}]")?;
+    Ok(out.as_str() == text.as_str())
+}
+
+/// Whether a memory block is the wanted one.
+fn is_wanted(alloc: Global, block: &BlockPicture, wanted: &Wanted) -> bool {
+    has_texts(block, &wanted.0)
+        && are_free(block.free(), wanted.1)
+        && are_kernel(block.kernel(), wanted.2)
+        && is_written(alloc, block, wanted).unwrap_or(false)
+}
+
+/// Whether memory blocks are the wanted ones.
+fn are_wanted(alloc: Global, blocks: &[BlockPicture]) -> bool {
+    if blocks.len() != BEGUN.len() {
+        return false;
+    }
+    for (block, wanted) in blocks.iter().zip(BEGUN) {
+        if !is_wanted(alloc, block, wanted) {
+            return false;
+        }
+    }
+    true
+}
+
+/// Whether a machine does what an event asks for.
+fn does(alloc: Global, machine: &mut Machine, cpu: Cpu, event: &Event) -> bool {
+    machine.call(alloc, cpu, event).is_ok()
+}
+
+/// A Begin with these wishes for these memory blocks.
+fn begin(alloc: Global, wishes: &[(u32, Wish)]) -> Result<Event, AllocError> {
+    let mut items = Vec::new(alloc);
+    for (block, wish) in wishes {
+        items.push(Item {
+            block: Block(*block),
+            wish: *wish,
+        })?;
+    }
+    let plan = Plan::new(alloc, items)?;
+    Ok(Event::Begin { plan })
+}
+
+/// Whether the five memory blocks are drawn as wanted.
+fn draws_begun(alloc: Global, machine: &mut Machine) -> Result<bool, AllocError> {
+    let two = Event::KernelAlloc { order: Order(1) };
+    let one = Event::KernelAlloc { order: Order(0) };
+    let map = Event::Map {
+        owner: Owner(0),
+        page: Page(0),
+    };
+    let plan = begin(
+        alloc,
+        &[(1, Wish::Off), (2, Wish::Normal), (3, Wish::Movable)],
+    )?;
+    let is_done = does(alloc, machine, Cpu(0), &two)
+        && does(alloc, machine, Cpu(1), &one)
+        && does(alloc, machine, Cpu(0), &map)
+        && does(alloc, machine, Cpu(0), &plan);
+    let blocks = picture_of(alloc, machine, true)?;
+    Ok(is_done && are_wanted(alloc, &blocks))
+}
+
+// ---- free blocks of each order
+
+/// The cells of a memory block of which the first frame is not free: one free block of each order.
+fn all_orders(alloc: Global, first: &str, marks: [&str; 3]) -> Result<String, AllocError> {
+    let [open, mark, close] = marks;
+    let mut out = format!(in alloc; "{first}{mark}{open}{close}")?;
+    for (order, count) in INNER {
+        out.push_str(open)?;
+        out.push_str(order)?;
+        for _ in 0..*count {
+            out.push_str(mark)?;
+        }
+        out.push_str(close)?;
+    }
+    Ok(out)
+}
+
+/// The cells of a memory block that is free.
+fn one_block(alloc: Global) -> Result<String, AllocError> {
+    let mut out = String::from_str(alloc, "(10")?;
+    for _ in 0..1020 {
+        out.push_str(".")?;
+    }
+    out.push_str(")")?;
+    Ok(out)
+}
+
+/// Whether memory blocks are counted so.
+fn are_counted(alloc: Global, blocks: &[BlockPicture]) -> Result<bool, AllocError> {
+    for (block, wanted) in blocks.iter().zip(COUNTED) {
+        let mut out = String::new(alloc);
+        block.write_counted(&mut out, true)?;
+        if out.as_str() != *wanted {
+            return Ok(false);
+        }
+    }
+    Ok(true)
+}
+
+/// Whether three memory blocks are drawn by these orders.
+fn are_ordered(alloc: Global, blocks: &[BlockPicture]) -> Result<bool, AllocError> {
+    let kernel = all_orders(alloc, "K", ["(", ".", ")"])?;
+    let whole = one_block(alloc)?;
+    let page = all_orders(alloc, "a", ["{", ":", "}"])?;
+    Ok(match blocks {
+        [first, second, third] => {
+            first.ordered() == kernel.as_str()
+                && second.ordered() == whole.as_str()
+                && third.ordered() == page.as_str()
+        }
+        _ => false,
+    })
+}
+
+/// Whether the three memory blocks of 1,024 frames are drawn as wanted.
+fn draws_orders(alloc: Global, machine: &mut Machine) -> Result<bool, AllocError> {
+    let one = Event::KernelAlloc { order: Order(0) };
+    let map = Event::Map {
+        owner: Owner(0),
+        page: Page(0),
+    };
+    let plan = begin(alloc, &[(2, Wish::Off)])?;
+    let is_done = does(alloc, machine, Cpu(0), &one)
+        && does(alloc, machine, Cpu(0), &map)
+        && does(alloc, machine, Cpu(0), &plan);
+    let blocks = picture_of(alloc, machine, true)?;
+    Ok(is_done && are_ordered(alloc, &blocks)? && are_counted(alloc, &blocks)?)
+}
+
+/// Whether a machine with memory blocks of these pageblocks is drawn so.
+fn finds(alloc: Global, size: (u64, u64, u64), boot: &[Boot], look: &Drawn) -> Result<bool, Fail> {
+    let parts = Parts {
+        order: size.0,
+        pageblocks: size.1,
+        blocks: boot.len() as u64,
+        cpus: 2,
+        batch: size.2,
+        high: 2,
+        owners: 1,
+        pages: 4,
+        words: 1,
+        history: 9,
+        boot,
+    };
+    let layout = Layout::new(alloc, &parts)?;
+    Ok(finds_at_boot(alloc, &layout, look))
+}
+
 #[test]
 fn memory_is_drawn(rt: HostRuntime) {
-    assert!(rt; finds_in_four_blocks(rt.alloc(), LAST_ABSENT, &Drawn));
+    assert!(rt; finds_in_four_blocks(rt.alloc(), LAST_ABSENT, &Drawn::Boot));
     assert!(rt; frames_in("a1|::") == 4);
+}
+
+#[test]
+fn each_part_is_drawn(rt: HostRuntime) -> Result<(), Fail> {
+    let boot = &[
+        Boot::Normal,
+        Boot::Movable,
+        Boot::Offline,
+        Boot::Offline,
+        Boot::Absent,
+    ];
+    assert!(rt; finds(rt.alloc(), (2, 2, 2), boot, &Drawn::Begun)?);
+    Ok(())
+}
+
+#[test]
+fn each_order_is_drawn(rt: HostRuntime) -> Result<(), Fail> {
+    let boot = &[Boot::Normal, Boot::Normal, Boot::Movable];
+    assert!(rt; finds(rt.alloc(), (10, 1, 1), boot, &Drawn::Orders)?);
+    Ok(())
 }

@@ -10,8 +10,8 @@ overflow_mul-all c =
           c.block_width-width.ensures.low,
     )
 
-pub returns-clause-low : goal.returns-clause-low
-returns-clause-low c =
+pub returns : goal.returns
+returns c =
     omega (
       arith,
       mul-lt c.args.count c.block_width-width.result 18446744073709551616 2199023255552 c.requires

@@ -1,0 +1,48 @@
+-- The cells of a memory block: a character for each of its frames, and a bar between pageblocks.
+use Rattle.std.specs.Prelude.{ℕ, ◌+◌, ◌*◌, ◌/◌, ◌%◌, ◌==◌, ◌&&◌, nat_lt, Bool, true, false, List, [], ◌∷◌, ◌++◌, codes, map, slice_get, unwrap_or, if◌then◌else◌}
+use Rattle.std.specs.List.{flat_map, range_with_len}
+use Rattle.hp_units.specs.Arithmetic.{block_size, pageblock_size}
+use Rattle.hp_units.specs.LayoutParts.{LayoutParts}
+use Rattle.hp_map.specs.Places.{place_sign}
+use Rattle.hp_map.specs.declared.places.Place.{Place}
+use Rattle.hp_map.specs.declared.places.Place.TheVariants.{Absent}
+
+-- whether a frame, counted from the first of its memory block, starts a pageblock after the first
+abbrev pub starts_later : LayoutParts → (number : ℕ) → Bool
+starts_later l number = nat_lt 0 number && (number % pageblock_size l == 0)
+
+-- how many characters come before a frame of a memory block, counted from its first
+abbrev pub cell_at : LayoutParts → (number : ℕ) → ℕ
+cell_at l number = number + number / pageblock_size l
+
+-- a character, after a bar if it starts a later pageblock
+abbrev pub cell_text : (is_later : Bool) → (sign : ℕ) → List ℕ
+cell_text is_later sign = (if is_later then codes "|" else []) ++ sign ∷ []
+
+-- the place of a frame of the layout, which has one (ArePlacesOf)
+abbrev pub place_at : List Place → (frame : ℕ) → Place
+place_at places frame = unwrap_or (slice_get places frame) Absent
+
+abbrev pub frame_text : LayoutParts → List Place → (block number : ℕ) → List ℕ
+frame_text l places block number =
+    cell_text (starts_later l number) (place_sign (place_at places (block * block_size l + number)))
+
+-- each frame of the block, by rising number, is drawn by the sign of its place
+abbrev pub cells_text : LayoutParts → List Place → (block : ℕ) → List ℕ
+cells_text l places block = flat_map (frame_text l places block) (range_with_len 0 (block_size l))
+
+-- ---- where the bars are
+
+abbrev pub is_bar : (sign : ℕ) → Bool
+is_bar sign = sign == 124
+
+-- of each character of a text, whether it is a bar
+abbrev pub bars_in : (text : List ℕ) → List Bool
+bars_in text = map is_bar text
+
+abbrev pub cell_bars : LayoutParts → (number : ℕ) → List Bool
+cell_bars l number = (if starts_later l number then true ∷ [] else []) ++ false ∷ []
+
+-- of each character of a memory block
+abbrev pub block_bars : LayoutParts → List Bool
+block_bars l = flat_map (cell_bars l) (range_with_len 0 (block_size l))
