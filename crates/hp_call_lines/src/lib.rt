@@ -4,7 +4,8 @@
 //! is seen on such a walk: how deep brackets nest, comments, and how often a key stands at a depth.
 //! It reads no number and no escape, stands on no other crate of ours, and takes any bytes.
 //!
-//! Read specs/EntryLines first: what `call_lines` promises; then specs/Lexemes and specs/Looks.
+//! Read specs/EntryLines first: what `call_lines` promises. Which lines and counts come of a text is
+//! tested (lab_tests).
 #![tactic(auto)]
 
 mod entry_lines;

@@ -1,6 +1,6 @@
 //! What may be wrong with a scenario.
 ghost use Rattle.std.specs.Prelude.{◌≡◌};
-ghost use Rattle.hp_check.specs.Findings.{is_fault, key_name, key_quoted};
+ghost use Rattle.hp_check.specs.Findings.{is_fault, key_name};
 
 use hp_requests::ControlFault;
 use hp_scenario::Unfit;
@@ -108,27 +108,6 @@ impl Key {
             Key::Words => "words",
             Key::History => "history",
             Key::Boot => "boot",
-        }
-    }
-
-    /// The key between quotation marks.
-    pub(crate) fn quoted(self) -> &'static [u8]
-        ensures { result.now ≡ key_quoted self }
-    {
-        match self {
-            Key::Layout => b"\"layout\"",
-            Key::Calls => b"\"calls\"",
-            Key::Order => b"\"order\"",
-            Key::Pageblocks => b"\"pageblocks\"",
-            Key::Blocks => b"\"blocks\"",
-            Key::Cpus => b"\"cpus\"",
-            Key::Batch => b"\"batch\"",
-            Key::High => b"\"high\"",
-            Key::Owners => b"\"owners\"",
-            Key::Pages => b"\"pages\"",
-            Key::Words => b"\"words\"",
-            Key::History => b"\"history\"",
-            Key::Boot => b"\"boot\"",
         }
     }
 }

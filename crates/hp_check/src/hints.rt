@@ -1,7 +1,4 @@
 //! Why a text is likely to be no JSON.
-ghost use Rattle.std.specs.Prelude.{◌≡◌};
-ghost use Rattle.hp_check.specs.Hints as means;
-
 use crate::finding::Hint;
 use hp_call_lines::{has_comment, is_blank, nests_deeper};
 
@@ -12,9 +9,7 @@ const MARK: &[u8] = &[0xEF, 0xBB, 0xBF];
 const DEEPEST: u64 = 127;
 
 /// Why a text that is no JSON is likely to be none: the first of these that applies.
-pub(crate) fn hint_of(input: &[u8]) -> Hint
-    ensures { result ≡ means.hint_of input.now }
-{
+pub(crate) fn hint_of(input: &[u8]) -> Hint {
     if is_blank(input) {
         Hint::NoText
     } else if input.starts_with(MARK) {

@@ -1,5 +1,5 @@
 //! What is wrong with a scenario, and how many interleavings it has.
-ghost use Rattle.std.specs.Prelude.{◌≡◌, ◌≢◌, ◌-◌, ◌^◌, ◌==◌, [], IfErr, IfOk, OnOk, string_bytes};
+ghost use Rattle.std.specs.Prelude.{◌≡◌, ◌≢◌, ◌-◌, ◌^◌, ◌==◌, [], IfErr, IfOk, OnOk, if◌then◌else◌, string_bytes};
 ghost use Rattle.hp_scenario.specs.Scenario.{scenario_in};
 ghost use Rattle.hp_lab_faults.specs.declared.fault.LabFault.TheVariants.{OutOfMemory};
 ghost use Rattle.hp_lab_faults.specs.declared.program_fault.ProgramFault.TheVariants.{Lab};
@@ -18,9 +18,9 @@ pub(crate) const LIMIT: u64 = 10_000_000;
 /// The lines of a setup that is all of a scenario.
 pub(crate) const ALL: u64 = u64::MAX;
 
-/// What is wrong with the scenario that the bytes are to be, of whose lines so many are the setup, and
-/// how many interleavings the scripts after it have. The status is 0 where nothing is wrong but
-/// warnings, and else 1. An error is out of memory.
+/// Reports what is wrong with a scenario whose first `setup` lines are the setup, and how many
+/// interleavings the scripts after it have. The status is 0 if nothing is wrong but warnings, else 1.
+#[tactic(auto, using(crate::proofs::Judged::status_is))]
 pub fn checked(alloc: Global, input: &[u8], setup: u64) -> Result<Answer, ProgramFault>
     ensures ok { IfOk result (λ answer. IsCheckOf setup input.now (string_bytes answer.text) answer.status) }
     ensures err { IfErr result (λ fault. fault ≡ Lab OutOfMemory) }
@@ -30,8 +30,15 @@ pub fn checked(alloc: Global, input: &[u8], setup: u64) -> Result<Answer, Progra
     write_report(&mut text, alloc, input, &found)?;
     let counted = count_line(alloc, input, setup)?;
     text.push_str(&counted)?;
-    let status = if fault_count(&found) == 0 { 0 } else { 1 };
+    let status = status_of(fault_count(&found));
     Ok(Answer { text, status })
+}
+
+/// The status of a check that found this many faults.
+fn status_of(faults: usize) -> u8
+    ensures { result ≡ (if faults == 0 then 0 else 1) }
+{
+    if faults == 0 { 0 } else { 1 }
 }
 
 /// The line that says how many interleavings the scripts after so many lines of setup have; none

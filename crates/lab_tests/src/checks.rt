@@ -5,7 +5,7 @@ use std::alloc::{AllocError, Global};
 use std::test::Fail;
 
 /// A scenario, and the report on it.
-type Checked = (&'static str, &'static str);
+pub(crate) type Checked = (&'static str, &'static str);
 
 const CHECKED: &[Checked] = &[
     (
@@ -180,13 +180,13 @@ fn report_after(alloc: Global, setup: u64, text: &str) -> Result<String, AllocEr
 }
 
 /// Whether this is the report on a text.
-fn has_report(alloc: Global, text: &str, expected: &str) -> Result<bool, AllocError> {
+pub(crate) fn has_report(alloc: Global, text: &str, expected: &str) -> Result<bool, AllocError> {
     let report = report_after(alloc, u64::MAX, text)?;
     Ok(report.as_str() == expected)
 }
 
 /// The place of the first text on which there is another report.
-fn first_other(alloc: Global, rows: &[Checked]) -> Result<Option<usize>, AllocError> {
+pub(crate) fn first_other(alloc: Global, rows: &[Checked]) -> Result<Option<usize>, AllocError> {
     for (place, (text, expected)) in rows.iter().enumerate() {
         if !has_report(alloc, text, expected)? {
             return Ok(Some(place));
@@ -209,15 +209,15 @@ fn each_text_has_its_report(rt: HostRuntime) -> Result<(), Fail> {
 }
 
 /// Whether the lines of scripts have their report.
-fn are_scripts_checked(alloc: Global) -> Result<bool, AllocError> {
-    let (text, expected) = SCRIPTED;
+pub(crate) fn are_scripts_checked(alloc: Global, checked: Checked) -> Result<bool, AllocError> {
+    let (text, expected) = checked;
     let after_one = report_after(alloc, 1, text)?;
     Ok(after_one.as_str() == expected)
 }
 
 #[test]
 fn scripts_have_their_report(rt: HostRuntime) -> Result<(), Fail> {
-    assert!(rt; are_scripts_checked(rt.alloc())?);
+    assert!(rt; are_scripts_checked(rt.alloc(), SCRIPTED)?);
     Ok(())
 }
 
@@ -247,7 +247,7 @@ fn is_seen() -> bool {
         && has_comment(b"{} # x")
         && nests_deeper(b"[[], {\"[\": [1]}]", 2)
         && !nests_deeper(b"[[], {\"[\": [1]}]", 3)
-        && keys_at(b"{\"a\": \"a\", \"b\": [\"a\"], \"a\" :1}", 1, b"\"a\"") == 2
+        && keys_at(b"{\"a\": \"a\", \"b\": [{\"a\": 0}], \"a\" :1}", 1, b"a") == 2
 }
 
 #[test]
