@@ -1,4 +1,4 @@
--- Texts as JSON has them between quotation marks (RFC 8259, section 7; own rule).
+-- Texts as JSON has them between quotation marks (RFC 8259, section 7).
 use Rattle.std.specs.Prelude.{ℕ, ◌-◌, ◌^◌, ◌==◌, ◌&&◌, ◌||◌, nat_le, nat_lt, Bool, true, false, List, [], ◌++◌, codes, encode_utf8, length, take, if◌then◌else◌}
 use Rattle.std.specs.Fmt.{digits, format_spec, padded_integral}
 use Rattle.std.specs.List.{flat_map}
@@ -13,11 +13,16 @@ are_escaped Escaped = true
 abbrev pub is_bracket : ℕ → Bool
 is_bracket c = (c == 91) || (c == 93)
 
--- a control character, a separator of lines or paragraphs, or a mark of direction
+-- a character is between two, both included
+abbrev pub is_between : (first last c : ℕ) → Bool
+is_between first last c = nat_le first c && nat_le c last
+
+-- a control character, white space other than the space, or a character without a glyph
 abbrev pub is_hidden : ℕ → Bool
 is_hidden c =
-    nat_lt c 32 || ((nat_le 127 c && nat_le c 159) || (c == 1564 || ((nat_le 8206 c && nat_le c 8207)
-    || ((nat_le 8232 c && nat_le c 8238) || (nat_le 8294 c && nat_le c 8297)))))
+    nat_lt c 32 || (is_between 127 160 c || (c == 173 || (c == 1564 || (c == 5760 || (c == 6158
+    || (is_between 8192 8207 c || (is_between 8232 8239 c || (is_between 8287 8303 c || (c == 12288
+    || (c == 65279 || is_between 65529 65531 c))))))))))
 
 -- a character by its number: four digits or more in hexadecimal
 abbrev pub numbered : ℕ → List ℕ

@@ -4,7 +4,7 @@ ghost use Rattle.hp_escapes.specs.Escapes.{are_escaped, escaped, escaped_start, 
 
 use std::alloc::AllocError;
 
-/// Whether square brackets are written by their numbers too.
+/// How square brackets are written.
 #[derive(Clone, Copy, PartialEq, Eq)]
 pub enum Brackets {
     /// As they are.
@@ -13,11 +13,14 @@ pub enum Brackets {
     Escaped,
 }
 
-/// Writes a text as JSON has it between quotation marks (RFC 8259, section 7), with each character
-/// escaped that a terminal may obey or that changes the order in which text is read: the control
-/// characters (U+0000 to U+001F, U+007F to U+009F), separators of lines and paragraphs, and marks
-/// of direction (U+061C, U+200E, U+200F, U+2028 to U+202E, U+2066 to U+2069). So it has one line
-/// (own rule). An error is out of memory.
+/// Writes a text as JSON has it between quotation marks (RFC 8259, section 7), on one line.
+///
+/// Characters that a reader cannot see, that a terminal may obey, or that change the order in which
+/// text is read are written by their numbers (The Unicode Standard, chapter 23): control characters
+/// (U+0000 to U+001F, U+007F to U+009F), white space other than the space (U+00A0, U+1680, U+2000 to
+/// U+200A, U+2028, U+2029, U+202F, U+205F, U+3000), the soft hyphen (U+00AD), characters of no width
+/// (U+180E, U+200B to U+200D, U+2060 to U+2064, U+FEFF), marks of direction (U+061C, U+200E, U+200F,
+/// U+202A to U+202E, U+2066 to U+2069), and marks of annotation (U+206A to U+206F, U+FFF9 to U+FFFB).
 #[tactic(auto, unfolding(crate::specs::Escapes::escaped_text))]
 pub fn write_escaped(out: &mut String, text: &str, brackets: Brackets) -> Result<(), AllocError>
     ensures { OnOk result (string_bytes out.new ≡ string_bytes out.old ++ escaped_text brackets text.now) }
@@ -28,8 +31,8 @@ pub fn write_escaped(out: &mut String, text: &str, brackets: Brackets) -> Result
     Ok(())
 }
 
-/// Writes the first characters of a text as `write_escaped` does, at most so many, and two dots after
-/// them where there are more (own rule). An error is out of memory.
+/// Writes at most `most` characters of a text as [`write_escaped`] does, and `..` after them if the
+/// text has more.
 #[tactic(auto, unfolding(crate::specs::Escapes::escaped_start))]
 pub fn write_start(
     out: &mut String,
@@ -52,7 +55,7 @@ pub fn write_start(
     Ok(())
 }
 
-/// Writes a character as JSON has it.
+/// Writes a character as JSON has it between quotation marks.
 fn write_character(out: &mut String, brackets: Brackets, c: char) -> Result<(), AllocError>
     ensures { OnOk result (string_bytes out.new ≡ string_bytes out.old ++ escaped brackets c) }
 {
@@ -75,7 +78,7 @@ fn write_numbered(out: &mut String, c: char) -> Result<(), AllocError>
     write!(out, "\\u{code:04x}")
 }
 
-/// Whether brackets are written by their numbers.
+/// Returns whether square brackets are written by their numbers.
 fn are_escaped(brackets: Brackets) -> bool
     ensures { result ≡ are_escaped brackets }
 {
@@ -85,21 +88,28 @@ fn are_escaped(brackets: Brackets) -> bool
     }
 }
 
-/// Whether a character is a square bracket.
+/// Returns whether a character is a square bracket.
 fn is_bracket(c: char) -> bool
     ensures { result ≡ is_bracket c }
 {
     c == '[' || c == ']'
 }
 
-/// Whether a terminal may obey a character, or read text in another order after it.
+/// Returns whether a character cannot be seen, is obeyed by a terminal, or changes the order in
+/// which text is read.
 fn is_hidden(c: char) -> bool
     ensures { result ≡ is_hidden c }
 {
     c < ' '
-        || ('\u{7F}' <= c && c <= '\u{9F}')
+        || ('\u{7F}' <= c && c <= '\u{A0}')
+        || c == '\u{AD}'
         || c == '\u{61C}'
-        || ('\u{200E}' <= c && c <= '\u{200F}')
-        || ('\u{2028}' <= c && c <= '\u{202E}')
-        || ('\u{2066}' <= c && c <= '\u{2069}')
+        || c == '\u{1680}'
+        || c == '\u{180E}'
+        || ('\u{2000}' <= c && c <= '\u{200F}')
+        || ('\u{2028}' <= c && c <= '\u{202F}')
+        || ('\u{205F}' <= c && c <= '\u{206F}')
+        || c == '\u{3000}'
+        || c == '\u{FEFF}'
+        || ('\u{FFF9}' <= c && c <= '\u{FFFB}')
 }
