@@ -2,10 +2,9 @@
 use Rattle.std.proofs.Common.{◌≡◌, ℕ, ◌+◌, ◌<◌, ◌≤◌, Bool, true, false, ◌&&◌, List, [], ◌∷◌, ◌++◌, length, get_or, take, Option, Some, None, refl, sym, ap, subst, ◌∙◌, append_assoc, append-nil, arith}
 use Rattle.std.specs.List.{All, list_all}
 use Rattle.std.specs.Option.{option_or}
-use Rattle.std.proofs.lemmas.List.{take_all, take_more}
+use Rattle.std.proofs.lemmas.List.{length-take, take_all, take_more}
 use Rattle.std.proofs.lemmas.List.Elements.{All-append, All-cons, All-nil, All-weaker}
 use Rattle.std.proofs.lemmas.List.Folds.{list_all_more}
-use Rattle.std.proofs.lemmas.Grind.{length-take}
 use Rattle.hp_scenario.specs.declared.fault.ScenarioFault.{ScenarioFault}
 use Rattle.hp_check.specs.Adds.{Adds, IsFirst, first_at, lacks}
 use Rattle.hp_check.specs.Checking.{Begins}
@@ -30,6 +29,11 @@ pub by_cause : {P Q : Finding → Type 0} {fault : Option ScenarioFault} {old ne
 by_cause {P} {Q} weaker h =
     record { added = h.added; is = h.is; each = All-weaker P Q weaker h.added h.each; first = h.first }
 
+-- what is added to no findings
+pub from_none : {P : Finding → Type 0} {fault : Option ScenarioFault} {old new : List Finding} → old ≡ []
+    → Adds P fault old new → Adds P fault [] new
+from_none {P} {fault} {old} {new} e h = subst (λ (l : List Finding). Adds P fault l new) e h
+
 -- ---- two steps
 
 first_of_two : (a b : Option ScenarioFault) (xs ys : List Finding) → IsFirst a xs → IsFirst b ys
@@ -52,9 +56,9 @@ lacks_either : (a b : Bool) → option_or (lacks a) (lacks b) ≡ lacks (a && b)
 lacks_either true b = refl
 lacks_either false b = refl
 
-pub both_lack : {P : Finding → Type 0} {a b : Bool} {old mid new : List Finding}
+pub both_lack : (a b : Bool) {P : Finding → Type 0} {old mid new : List Finding}
     → Adds P (lacks a) old mid → Adds P (lacks b) mid new → Adds P (lacks (a && b)) old new
-both_lack {a = a} {b = b} one two = of_fault (lacks_either a b) (both_added one two)
+both_lack a b one two = of_fault (lacks_either a b) (both_added one two)
 
 pub of_test : {P : Finding → Type 0} {a b : Bool} {old new : List Finding} → a ≡ b
     → Adds P (lacks a) old new → Adds P (lacks b) old new
@@ -100,7 +104,7 @@ pub test_added : {X : Type 0} {P : Finding → Type 0} (p : X → Bool) (xs : Li
     {old now next : List Finding}
     → i < length xs → Adds P (lacks (list_all p (take i xs))) old now → Adds P (lacks (p (get_or xs i d))) now next
     → Adds P (lacks (list_all p (take (i + 1) xs))) old next
-test_added p xs i d lt so_far more = of_test (sym (list_all_more p xs i d lt)) (both_lack so_far more)
+test_added p xs i d lt so_far more = of_test (sym (list_all_more p xs i d lt)) (both_lack _ _ so_far more)
 
 pub tests_added : {X : Type 0} {P : Finding → Type 0} (p : X → Bool) (xs : List X) (i : ℕ)
     {old now : List Finding}

@@ -265,8 +265,11 @@ counted b f fs h =
 none_counted : (lines : ℕ) (found : List Finding) → All (IsWarning lines) found → count_by is_fault found ≡ 0
 none_counted lines [] all = refl
 none_counted lines (f ∷ fs) all =
-    counted false f fs (no_fault lines f (All-head (IsWarning lines) f fs all))
-    ∙ none_counted lines fs (All-tail (IsWarning lines) f fs all)
+    omega (
+      arith,
+      counted false f fs (no_fault lines f (All-head (IsWarning lines) f fs all)),
+      none_counted lines fs (All-tail (IsWarning lines) f fs all),
+    )
 
 pub warnings_agree : (input : List ℕ) (s : ScenarioValue) (found : List Finding) → scenario_in input ≡ Ok s
     → All (IsWarning (length s.lines)) found → Agrees (scenario_in input) found

@@ -1,7 +1,7 @@
 -- The first entry of `calls` that is no line is the line that reading stops at.
 use Rattle.std.proofs.Common.{◌≡◌, ℕ, ◌+◌, ◌<◌, ◌≤◌, Bool, true, false, cond, List, [], ◌∷◌, ◌++◌, codes, length, get_or, map, slice_get, take, Option, Some, None, Result, Ok, Err, is_some, option_and_then, refl, sym, ap, subst, ◌∙◌, arith}
 use Rattle.std.specs.Option.{option_map, option_or}
-use Rattle.std.proofs.lemmas.Grind.{get_or-map, length-map}
+use Rattle.std.proofs.lemmas.List.{get_or-map, length-map}
 use Rattle.std.proofs.lemmas.Option.{same_Some, slice_get-map, slice_get_read}
 use Rattle.serde_json.specs.Data.{Data, Items, no_items, item}
 use Rattle.serde_json.specs.Find.{get, as_array, as_str}
@@ -54,8 +54,8 @@ pub entry_added : (vs : List Value) (i : ℕ) (v : Value) {old now next : List F
     → Adds (IsBadCall (map view vs)) (first_at entry_fault 1 (take (i + 1) (map view vs))) old next
 entry_added vs i v lt at so_far more =
     let same : view v ≡ get_or (map view vs) i (view v) =
-    ap view at ∙ sym (get_or-map view vs i v) in
-    item_added entry_fault (map view vs) i (view v) (omega (arith, lt, length-map view vs)) so_far
+    ap view at ∙ sym (get_or-map view vs i v (view v) lt) in
+    item_added entry_fault (map view vs) i (view v) (omega (arith, lt, length-map vs view)) so_far
     (of_fault (ap (entry_fault (i + 1)) same)
     (by_cause (bad_entry (map view vs) i (view v) (entry_there vs i v lt at)) more))
 
@@ -63,7 +63,7 @@ pub entries_added : (vs : List Value) (i : ℕ) {old now : List Finding} → len
     → Adds (IsBadCall (map view vs)) (first_at entry_fault 1 (take i (map view vs))) old now
     → Adds (IsBadCall (map view vs)) (first_at entry_fault 1 (map view vs)) old now
 entries_added vs i over so_far =
-    items_added entry_fault (map view vs) i (omega (arith, over, length-map view vs)) so_far
+    items_added entry_fault (map view vs) i (omega (arith, over, length-map vs view)) so_far
 
 -- an entry that is no text, one that is a line, and one that is none
 pub no_text_added : (n : ℕ) (d : Data) (old : List Finding) → None ≡ as_str d
@@ -83,12 +83,13 @@ none_said : (o : Option Said) → false ≡ is_some o → o ≡ None
 none_said None h = refl
 none_said (Some x) h = absurd cc
 
-pub bad_added : (n : ℕ) (d : Data) (text : List ℕ) (old new : List Finding) → Some text ≡ as_str d
-    → false ≡ is_some (line_says text) → new ≡ old ++ finding.BadCall n text ∷ []
+pub bad_added : (n : ℕ) (d : Data) (text kept : List ℕ) (old new : List Finding) → Some text ≡ as_str d
+    → false ≡ is_some (line_says text) → kept ≡ text → new ≡ old ++ finding.BadCall n kept ∷ []
     → Adds (IsBadText n d) (entry_fault n d) old new
-bad_added n d text old new is line pushed =
+bad_added n d text kept old new is line same pushed =
     of_fault (said_fault n text false line ∙ ap (text_fault n) is)
-    (one_added (IsBadText n d) (Some (BadLine n)) (finding.BadCall n text) old new pushed
+    (one_added (IsBadText n d) (Some (BadLine n)) (finding.BadCall n text) old new
+    (pushed ∙ ap (λ (t : List ℕ). old ++ finding.BadCall n t ∷ []) same)
     (refl, sym is, none_said (line_says text) line) refl)
 
 -- ---- where reading stops

@@ -87,7 +87,14 @@ fn has_its_keys(place: Place, value: &Value, count: usize) -> bool
     ensures { result ≡ ((count == length (keys_of place))
         && list_all (means.is_there (view value.now)) (keys_of place)) }
 {
-    has_count(place, count) && keys_of(place).iter().all(|key| is_there(value, *key))
+    has_count(place, count) && has_all(place, value)
+}
+
+/// Whether an object has each of its keys.
+fn has_all(place: Place, value: &Value) -> bool
+    ensures { result ≡ list_all (means.is_there (view value.now)) (keys_of place) }
+{
+    keys_of(place).iter().all(|key| is_there(value, *key))
 }
 
 /// Whether an object must have this many keys.

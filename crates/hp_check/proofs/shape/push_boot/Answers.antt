@@ -15,10 +15,10 @@ returns-in_default c =
     of_test (ap (λ (o : Option (Bor Value)). if_there are_boots (option_map (λ v. view v.now) o))
     (sym c.in_default.is)) (none_added IsShape _)
 
-pub returns-in_default-2 : goal.returns-in_default-2
-returns-in_default-2 c =
+pub returns-in_default-as_array : goal.returns-in_default-as_array
+returns-in_default-as_array c =
     on_ok_weaker c.push.result
-    (λ pushed. of_test (no_list boot_at (view c.in-Some.boot.now) c.in_default-2.ensures
+    (λ pushed. of_test (no_list boot_at (view c.in-Some.boot.now) c.in_default-as_array.ensures
     ∙ ap (λ (o : Option (Bor Value)). if_there are_boots (option_map (λ v. view v.now) o)) (sym c.in-Some.is))
     pushed)
     c.push.ensures
@@ -26,7 +26,7 @@ returns-in_default-2 c =
 pub returns : goal.returns
 returns c =
     on_ok_weaker c.push_boots.result
-    (λ items. of_test (list_seen boot_at _ _ (view c.in-Some.boot.now) c.deref.ensures.value c.in-Some-2.ensures
+    (λ items. of_test (list_seen boot_at _ _ (view c.in-Some.boot.now) c.deref.ensures.value c.in-Some-as_array.ensures
     ∙ ap (λ (o : Option (Bor Value)). if_there are_boots (option_map (λ v. view v.now) o)) (sym c.in-Some.is))
     items)
     c.push_boots.ensures

@@ -15,10 +15,10 @@ returns-in_default c =
     of_test (ap (λ (o : Option (Bor Value)). if_there are_texts (option_map (λ v. view v.now) o))
     (sym c.in_default.is)) (none_added IsShape _)
 
-pub returns-in_default-2 : goal.returns-in_default-2
-returns-in_default-2 c =
+pub returns-in_default-as_array : goal.returns-in_default-as_array
+returns-in_default-as_array c =
     on_ok_weaker c.push.result
-    (λ pushed. of_test (no_list as_str (view c.in-Some.calls.now) c.in_default-2.ensures
+    (λ pushed. of_test (no_list as_str (view c.in-Some.calls.now) c.in_default-as_array.ensures
     ∙ ap (λ (o : Option (Bor Value)). if_there are_texts (option_map (λ v. view v.now) o)) (sym c.in-Some.is))
     pushed)
     c.push.ensures
@@ -26,7 +26,7 @@ returns-in_default-2 c =
 pub returns : goal.returns
 returns c =
     on_ok_weaker c.push_texts.result
-    (λ items. of_test (list_seen as_str _ _ (view c.in-Some.calls.now) c.deref.ensures.value c.in-Some-2.ensures
+    (λ items. of_test (list_seen as_str _ _ (view c.in-Some.calls.now) c.deref.ensures.value c.in-Some-as_array.ensures
     ∙ ap (λ (o : Option (Bor Value)). if_there are_texts (option_map (λ v. view v.now) o)) (sym c.in-Some.is))
     items)
     c.push_texts.ensures

@@ -23,5 +23,5 @@ returns c =
     (λ missing. of_test
     (wrong_keys _ c.in_ok-push_unknown.ensures.0 _ (sym c.if-has_its_keys.false ∙ c.has_its_keys.ensures)
     ∙ counted_keys c.args.place (view c.args.value.now) _ _ c.len-count.ensures.len)
-    (both_lack (both_lack c.in_ok-push_count.ensures c.in_ok-push_unknown.ensures.1) missing))
+    (both_lack _ _ (both_lack _ _ c.in_ok-push_count.ensures c.in_ok-push_unknown.ensures.1) missing))
     c.push_missing.ensures

@@ -13,11 +13,11 @@ pub returns-in_default : goal.returns-in_default
 returns-in_default c =
     of_test (ap (λ (o : Option (Bor Value)). if_there are_parts (option_map (λ v. view v.now) o)) (sym c.in_default.is)) (none_added IsShape _)
 
-pub returns-in_default-2 : goal.returns-in_default-2
-returns-in_default-2 c =
+pub returns-in_default-as_object : goal.returns-in_default-as_object
+returns-in_default-as_object c =
     let layout = view c.in-Some.layout.now in
     on_ok_weaker c.push.result
-    (λ pushed. of_test (sym (layout_formless layout (sym c.in_default-2.ensures))
+    (λ pushed. of_test (sym (layout_formless layout (sym c.in_default-as_object.ensures))
     ∙ ap (λ (o : Option (Bor Value)). if_there are_parts (option_map (λ v. view v.now) o)) (sym c.in-Some.is)) pushed)
     c.push.ensures
 
@@ -25,8 +25,8 @@ pub returns : goal.returns
 returns c =
     let layout = view c.in-Some.layout.now in
     on_ok_weaker c.push_boot.result
-    (λ boot. of_test (layout_form layout (members_view c.in-Some-2.members.now.entries)
-    (sym c.in-Some-2.ensures) ∙ ap (λ (o : Option (Bor Value)). if_there are_parts (option_map (λ v. view v.now) o)) (sym c.in-Some.is))
-    (both_lack (both_lack c.in_ok-push_keys.ensures c.in_ok-push_numbers.ensures)
+    (λ boot. of_test (layout_form layout (members_view c.in-Some-as_object.members.now.entries)
+    (sym c.in-Some-as_object.ensures) ∙ ap (λ (o : Option (Bor Value)). if_there are_parts (option_map (λ v. view v.now) o)) (sym c.in-Some.is))
+    (both_lack _ _ (both_lack _ _ c.in_ok-push_keys.ensures c.in_ok-push_numbers.ensures)
     (of_test (ap (if_there are_boots) c.get.ensures) boot)))
     c.push_boot.ensures

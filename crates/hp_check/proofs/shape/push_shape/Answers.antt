@@ -18,8 +18,8 @@ returns c =
     let value = view c.args.value.now in
     on_ok_weaker c.push_calls.result
     (λ calls. of_test (whole_form value (members_view c.in-Some.members.now.entries) (sym c.in-Some.ensures))
-    (both_lack
-    (both_lack c.in_ok-push_keys.ensures (of_test (ap (if_there are_parts) c.get.ensures)
+    (both_lack _ _
+    (both_lack _ _ c.in_ok-push_keys.ensures (of_test (ap (if_there are_parts) c.get.ensures)
     c.in_ok-push_layout.ensures))
     (of_test (ap (if_there are_texts) c.get-2.ensures) calls)))
     c.push_calls.ensures

@@ -8,4 +8,4 @@ loop-name-init c = (true, none_added IsShape _)
 
 pub loop-name-preserved : goal.loop-name-preserved
 loop-name-preserved c =
-    (c.loop-name.invariant.0 && false, both_lack c.loop-name.invariant.1 c.in_ok-push.ensures)
+    (c.loop-name.invariant.0 && false, both_lack c.loop-name.invariant.0 false c.loop-name.invariant.1 c.in_ok-push.ensures)
