@@ -1,4 +1,4 @@
--- In which lines of a text something stands (own rule).
+-- In which lines of a text something is.
 use Rattle.std.specs.Prelude.{◌≡◌, ℕ, ◌+◌, ◌==◌, Bool, true, false, List, count_by, slice_get, take, Some, if◌then◌else◌}
 use Rattle.std.specs.List.{All}
 use Rattle.hp_call_lines.specs.Lexemes.{is_space}
@@ -10,7 +10,7 @@ is_newline b = b == 10
 abbrev pub line_after : (line byte : ℕ) → ℕ
 line_after line byte = if is_newline byte then line + 1 else line
 
--- a line of the text in which a byte stands that is no white space; lines are counted from 1
+-- a line of the text that has a byte other than white space; lines are counted from 1
 pub record IsSignLine (input : List ℕ) (line : ℕ) : Type 0 where
   pub at : ℕ
   pub byte : ℕ

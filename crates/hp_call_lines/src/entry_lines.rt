@@ -1,12 +1,11 @@
-//! In which lines of a scenario's text the entries of `calls` begin.
+//! The lines of a scenario's text in which the entries of `calls` begin.
 ghost use Rattle.std.specs.Prelude.{◌≡◌, ℕ, ◌≤◌, ◌+◌, ◌^◌, ◌<◌, List, [], true, IfOk, OnOk, is_some};
 ghost use Rattle.hp_call_lines.specs.EntryLines.{AreSignLines, KeepSignLines, line_after as line_then};
 
 use crate::lexemes::{Lexeme, Mode, lexeme_at, mode_after};
 use std::alloc::{AllocError, Global};
 
-/// Where a JSON text is, after some of its lexemes: how many brackets are open, and what these
-/// lexemes say of `calls`.
+/// A walk over the lexemes of a JSON text: how many brackets are open, and what came of `calls`.
 #[derive(Drop)]
 struct Walk {
     depth: u64,
@@ -19,7 +18,7 @@ struct Walk {
 }
 
 impl Walk {
-    /// Before the first lexeme.
+    /// Makes a walk before the first lexeme.
     fn new(alloc: Global) -> Walk
         ensures depth { result.depth ≡ 0 }
         ensures lines { result.lines.items ≡ [] }
@@ -93,7 +92,7 @@ impl Walk {
         Ok(())
     }
 
-    /// Goes into a list; that at the key `calls` is begun anew.
+    /// Goes into a list. A list at the key `calls` forgets the lines of an earlier one.
     fn open_list(&mut self)
         requires { self.old.depth + 1 < 2 ^ 64 }
         ensures depth { self.new.depth ≡ self.old.depth + 1 }
@@ -121,8 +120,8 @@ impl Walk {
     }
 }
 
-/// Returns the line of the text in which each entry of `calls` begins, counted from 1; of the last
-/// list if the key comes twice.
+/// Returns the line of the text in which each entry of `calls` begins, counted from 1. If the key comes
+/// twice, the last list counts.
 pub fn call_lines(alloc: Global, input: &[u8]) -> Result<Vec<u64>, AllocError>
     ensures signs { IfOk result (λ lines. AreSignLines input.now lines.items) }
 {
@@ -138,7 +137,7 @@ pub fn call_lines(alloc: Global, input: &[u8]) -> Result<Vec<u64>, AllocError>
     Ok(walk.lines)
 }
 
-/// The line after a byte of this line.
+/// Returns the line after a byte of this line.
 fn line_after(line: u64, byte: u8) -> u64
     requires { line + 1 < 2 ^ 64 }
     ensures { result ≡ line_then line byte }

@@ -36,21 +36,21 @@ pub(crate) enum Lexeme {
     Colon,
 }
 
-/// Whether a byte is white space of JSON.
+/// Returns whether a byte is white space of JSON.
 pub(crate) fn is_space(byte: u8) -> bool
     ensures { result ≡ is_white byte }
 {
     matches!(byte, b' ' | b'\t' | b'\n' | b'\r')
 }
 
-/// Whether a byte is a bracket, a comma or a colon.
+/// Returns whether a byte is a bracket, a comma or a colon.
 fn is_sign(byte: u8) -> bool
     ensures { result ≡ true → is_white byte ≡ false }
 {
     matches!(byte, b'{' | b'}' | b'[' | b']' | b',' | b':')
 }
 
-/// Whether a sign, a word or a text begins at a byte.
+/// Returns whether a sign, a word or a text begins at a byte.
 pub(crate) fn begins(mode: Mode, byte: u8) -> bool
     ensures { result ≡ true → is_white byte ≡ false }
 {
@@ -61,7 +61,7 @@ pub(crate) fn begins(mode: Mode, byte: u8) -> bool
     }
 }
 
-/// How the byte after a byte is read.
+/// Returns how the byte after a byte is read.
 pub(crate) fn mode_after(mode: Mode, byte: u8) -> Mode {
     match (mode, byte) {
         (Mode::Escape, _) => Mode::Text,
@@ -78,7 +78,7 @@ pub(crate) fn mode_after(mode: Mode, byte: u8) -> Mode {
     }
 }
 
-/// What begins at the first byte of the rest of a text, if something does.
+/// Returns what begins at the first byte of the rest of a text, if something does.
 pub(crate) fn lexeme_at(mode: Mode, byte: u8, rest: &[u8]) -> Option<Lexeme>
     ensures { is_some result ≡ true → is_white byte ≡ false }
 {
@@ -89,7 +89,7 @@ pub(crate) fn lexeme_at(mode: Mode, byte: u8, rest: &[u8]) -> Option<Lexeme>
     }
 }
 
-/// What begins at the first byte of the rest of a text.
+/// Returns what begins at the first byte of the rest of a text.
 fn lexeme_of(byte: u8, rest: &[u8]) -> Lexeme {
     match byte {
         b'"' => {

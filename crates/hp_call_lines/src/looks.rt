@@ -1,15 +1,15 @@
-//! What is seen of a text without reading its values.
+//! What can be seen in a text without reading its values.
 ghost use Rattle.std.specs.Prelude.{◌+◌, ◌^◌, ◌<◌, ◌≤◌};
 
 use crate::lexemes::{Mode, begins, is_space, mode_after};
 
-/// Whether a text has nothing but white space of JSON.
+/// Returns whether a text has nothing but white space of JSON.
 pub fn is_blank(input: &[u8]) -> bool {
     input.iter().all(|byte| is_space(*byte))
 }
 
-/// Whether a word outside of texts begins with a slash or with `#`, as a comment does in other
-/// languages: JSON has no such word.
+/// Returns whether a word outside of texts begins with a slash or with `#`, as a comment does in
+/// other languages. JSON has no such word.
 pub fn has_comment(input: &[u8]) -> bool {
     let mut mode = Mode::Between;
     for byte in input {
@@ -22,8 +22,8 @@ pub fn has_comment(input: &[u8]) -> bool {
     false
 }
 
-/// Whether more than `limit` objects and lists are open at once somewhere, by the brackets outside of
-/// texts.
+/// Returns whether more than `limit` objects and lists are open at once somewhere, by the brackets
+/// outside of texts.
 pub fn nests_deeper(input: &[u8], limit: u64) -> bool {
     let mut mode = Mode::Between;
     let mut nested = 0u64;
@@ -37,7 +37,7 @@ pub fn nests_deeper(input: &[u8], limit: u64) -> bool {
     false
 }
 
-/// How many keys of objects have this name where `depth` objects and lists are open: a key is a text
+/// Returns how many keys have this name while `depth` objects and lists are open. A key is a text
 /// with a colon after it. Escapes are not read.
 pub fn keys_at(input: &[u8], depth: u64, name: &[u8]) -> u64 {
     let mut mode = Mode::Between;
@@ -54,7 +54,7 @@ pub fn keys_at(input: &[u8], depth: u64, name: &[u8]) -> u64 {
     count
 }
 
-/// Whether a text begins with this name between quotation marks, and a colon after it.
+/// Returns whether a text begins with this name between quotation marks, and a colon after it.
 fn is_key(text: &[u8], name: &[u8]) -> bool {
     let [b'"', text @ ..] = text else {
         return false;
@@ -62,7 +62,8 @@ fn is_key(text: &[u8], name: &[u8]) -> bool {
     text.starts_with(name) && is_end_of_key(&text[name.len()..])
 }
 
-/// Whether a text begins with a quotation mark, and a colon is the next byte but for white space.
+/// Returns whether a text begins with a quotation mark, and a colon is the next byte but for white
+/// space.
 fn is_end_of_key(text: &[u8]) -> bool {
     let [b'"', text @ ..] = text else {
         return false;
@@ -75,7 +76,25 @@ fn is_end_of_key(text: &[u8]) -> bool {
     false
 }
 
-/// How many are open after a byte.
+/// Returns the text before the byte at a line and a column, both counted from 1, and the text from
+/// that byte on.
+pub fn halves_at(input: &[u8], line: u64, column: u64) -> Option<(&[u8], &[u8])> {
+    let mut here = 1u64;
+    let mut passed = 0u64;
+    for place in 0..input.len() {
+        passed += 1;
+        if here == line && passed == column {
+            return Some(input.split_at(place));
+        }
+        if input[place] == b'\n' {
+            here += 1;
+            passed = 0;
+        }
+    }
+    None
+}
+
+/// Returns how many objects and lists are open after a byte.
 fn nested_after(mode: Mode, byte: u8, nested: u64) -> u64
     requires { nested + 1 < 2 ^ 64 }
     ensures { result ≤ nested + 1 }

@@ -26,7 +26,7 @@ pub(crate) fn push_calls(
     Ok(())
 }
 
-/// The entries of the list at `calls`; none if there is no list.
+/// Returns the entries of the list at `calls`; none if there is no list.
 #[tactic(auto, using(crate::proofs::Entries::items_seen), unfolding(crate::specs::Calls::entries_in))]
 fn entries_of(value: &Value) -> &[Value]
     ensures { map view result.now ≡ entries_in (view value.now) }

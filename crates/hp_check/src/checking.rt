@@ -1,4 +1,4 @@
-//! A scenario checked.
+//! All that is wrong with a scenario.
 ghost use Rattle.std.specs.Prelude.{◌≡◌, [], IfOk, Some, count_by, length};
 ghost use Rattle.std.specs.List.{All};
 ghost use Rattle.serde_json.specs.Errors.{IsMemory};
@@ -9,7 +9,7 @@ ghost use Rattle.hp_check.specs.Checking.{Agrees, HasCause, HaveCauses};
 ghost use Rattle.hp_check.specs.Findings.{is_fault};
 
 use crate::calls::push_calls;
-use crate::finding::{Finding, Hint};
+use crate::finding::Finding;
 use crate::hints::hint_of;
 use crate::ranges::push_ranges;
 use crate::repeats::push_repeats;
@@ -35,7 +35,7 @@ pub fn check(alloc: Global, input: &[u8], setup: u64) -> Result<Vec<Finding>, Al
     }
 }
 
-/// All that is wrong with bytes that are no scenario for this reason.
+/// Returns all that is wrong with bytes that `Scenario::read` refused with this fault.
 fn unless_memory(
     alloc: Global,
     input: &[u8],
@@ -50,7 +50,7 @@ fn unless_memory(
     }
 }
 
-/// The warnings of a scenario, whose text the bytes are.
+/// Returns the warnings of a scenario and of its text.
 #[tactic(auto, using(crate::proofs::Agreement::repeats_are_warnings))]
 fn warnings_in(
     alloc: Global,
@@ -67,18 +67,18 @@ fn warnings_in(
     Ok(found)
 }
 
-/// All that is wrong with bytes that are no scenario.
+/// Returns all that is wrong with bytes that are no scenario.
 fn faults_of(alloc: Global, input: &[u8]) -> Result<Vec<Finding>, AllocError>
     ensures { IfOk result (λ found.
         Adds (HasCause input.now) (fault_in (scenario_in input.now)) [] found.items) }
 {
     match Value::from_slice(alloc, input) {
         Ok(value) => value_faults(alloc, &value),
-        Err(error) => no_value(alloc, hint_of(input), &error),
+        Err(error) => no_value(alloc, input, &error),
     }
 }
 
-/// All that is wrong with a value that is no scenario.
+/// Returns all that is wrong with a value that is no scenario.
 fn value_faults(alloc: Global, value: &Value) -> Result<Vec<Finding>, AllocError>
     ensures { IfOk result (λ found.
         Adds (ValueCause (view value.now)) (fault_in (scenario_of (view value.now))) [] found.items) }
@@ -90,8 +90,8 @@ fn value_faults(alloc: Global, value: &Value) -> Result<Vec<Finding>, AllocError
     Ok(found)
 }
 
-/// The fault of a text that is no JSON, which is likely for this reason.
-fn no_value(alloc: Global, hint: Hint, error: &Error) -> Result<Vec<Finding>, AllocError>
+/// Returns the fault of a text that is no JSON.
+fn no_value(alloc: Global, input: &[u8], error: &Error) -> Result<Vec<Finding>, AllocError>
     ensures { IfOk result (λ found.
         Adds IsNotJson (Some ScenarioFault.NotJson) [] found.items × (¬ IsMemory error.now)) }
 {
@@ -100,12 +100,13 @@ fn no_value(alloc: Global, hint: Hint, error: &Error) -> Result<Vec<Finding>, Al
     }
     let line = error.line() as u64;
     let column = error.column() as u64;
+    let hint = hint_of(input, line, column);
     let mut found = Vec::new(alloc);
     found.push(Finding::NotJson { hint, line, column })?;
     Ok(found)
 }
 
-/// How many of the findings are faults.
+/// Returns how many of the findings are faults.
 pub fn fault_count(findings: &[Finding]) -> usize
     ensures { result ≡ count_by is_fault findings.now }
 {

@@ -3,8 +3,8 @@ use crate::slips::write_slip;
 use hp_units::number32;
 use std::alloc::AllocError;
 
-/// Writes why a text is no line: a space at one of its ends; or the word at fault, if that is seen,
-/// and what was expected.
+/// Writes why a text is no line: a space at one of its ends; or the word at fault, if that can be
+/// told, and what was expected.
 pub(crate) fn write_expected(out: &mut String, text: &str) -> Result<(), AllocError> {
     if text.starts_with(' ') {
         return out.push_str("it begins with a space");
@@ -16,7 +16,8 @@ pub(crate) fn write_expected(out: &mut String, text: &str) -> Result<(), AllocEr
     out.push_str(wanted(text))
 }
 
-/// What was expected of a text: the number of a processor, a verb, or what comes after its verb.
+/// Returns what was expected of a text: the number of a processor, a verb, or what comes after its
+/// verb.
 fn wanted(text: &str) -> &'static str {
     let mut words = text.split(' ');
     let cpu = words.next().and_then(|word| number32(word));
@@ -29,7 +30,7 @@ fn wanted(text: &str) -> &'static str {
     }
 }
 
-/// What was expected of a line with this verb.
+/// Returns what was expected of a line with this verb.
 fn wanted_of(verb: &str) -> &'static str {
     let rows = forms();
     for row in rows {
@@ -40,7 +41,7 @@ fn wanted_of(verb: &str) -> &'static str {
     "its second word is no verb"
 }
 
-/// Each verb with the form of its line; then words that are likely to be meant for one.
+/// Returns each verb with the form of its line, and then words that are likely to be meant for one.
 fn forms() -> &'static [(&'static str, &'static str)] {
     &[
         ("kalloc", "wanted: C kalloc ORDER"),

@@ -1,4 +1,4 @@
-//! Keys that stand twice in a scenario's text.
+//! Keys that come twice in a scenario's text.
 ghost use Rattle.std.specs.Prelude.{OnOk};
 ghost use Rattle.std.specs.List.{All};
 ghost use Rattle.hp_check.specs.Adds.{IsRepeat};
@@ -8,9 +8,10 @@ use crate::shape::keys_of;
 use hp_call_lines::keys_at;
 use std::alloc::AllocError;
 
-/// Adds the keys of a scenario that its text has more than once, of which the last counts: those of
-/// its layout only if no key of the whole comes twice. Else a key of a value that does not count
-/// could be taken for one of the layout.
+/// Adds the keys of a scenario that its text has more than once, of which the last counts.
+///
+/// Those of the layout are added only if no key of the whole comes twice: a key of a value that does
+/// not count could be taken for one of the layout.
 pub(crate) fn push_repeats(found: &mut Vec<Finding>, input: &[u8]) -> Result<(), AllocError>
     requires { All IsRepeat found.old.items }
     ensures { OnOk result (All IsRepeat found.new.items) }
@@ -28,7 +29,7 @@ fn push_repeats_of(found: &mut Vec<Finding>, input: &[u8], place: Place) -> Resu
     requires { All IsRepeat found.old.items }
     ensures { OnOk result (All IsRepeat found.new.items) }
 {
-    // How many objects and lists are open at its keys.
+    // At its keys, this many objects and lists are open.
     let depth = match place {
         Place::Whole => 1,
         Place::Layout => 2,

@@ -1,14 +1,15 @@
-//! How findings are written.
+//! The text of findings.
 use crate::checking::fault_count;
 use crate::expected::write_expected;
 use crate::finding::{Finding, Hint, OutOfRange, Place, Shape, Warning};
-use crate::quotes::write_quoted;
+use crate::quotes::{write_quoted, write_unexpected};
 use crate::shape::keys_of;
 use hp_call_lines::call_lines;
 use std::alloc::{AllocError, Global};
 
 /// Writes findings on a scenario, one per line, and how many faults and warnings there are. A
-/// finding on a text of `calls` has its number, and the line of the scenario's text if it is found.
+/// finding on a text of `calls` has its number, and the line of the input in which it begins, if
+/// that is known.
 pub fn write_report(
     out: &mut String,
     alloc: Global,
@@ -28,8 +29,9 @@ pub fn write_report(
 fn write_finding(out: &mut String, lines: &[u64], finding: &Finding) -> Result<(), AllocError> {
     match finding {
         Finding::NotJson { hint, line, column } => {
-            let reason = reason_of(*hint);
-            writeln!(out, "line {line}, column {column}: not JSON{reason}")
+            write!(out, "line {line}, column {column}: not JSON")?;
+            write_hint(out, *hint)?;
+            out.push_str("\n")
         }
         Finding::Shape(shape) => write_shape(out, lines, shape),
         Finding::Layout(part) => write_range(out, *part),
@@ -51,14 +53,21 @@ fn write_finding(out: &mut String, lines: &[u64], finding: &Finding) -> Result<(
     }
 }
 
-/// Why a text is likely to be no JSON, in words.
-fn reason_of(hint: Hint) -> &'static str {
+/// Writes why a text is likely to be no JSON.
+fn write_hint(out: &mut String, hint: Hint) -> Result<(), AllocError> {
     match hint {
-        Hint::NoText => ": there is no text",
-        Hint::ByteOrderMark => ": it begins with a byte order mark, which JSON has not",
-        Hint::TooDeep => ": more than 127 objects and lists in one another",
-        Hint::Comment => ": it has a comment, and JSON has none",
-        Hint::Nothing => "",
+        Hint::NoText => out.push_str(": there is no text"),
+        Hint::ByteOrderMark => {
+            out.push_str(": it begins with a byte order mark, which JSON has not")
+        }
+        Hint::Comma => out.push_str(": a comma too many before it"),
+        Hint::Unexpected(c) => {
+            out.push_str(": ")?;
+            write_unexpected(out, c)
+        }
+        Hint::TooDeep => out.push_str(": more than 127 objects and lists in one another"),
+        Hint::Comment => out.push_str(": it has a comment, and JSON has none"),
+        Hint::Nothing => Ok(()),
     }
 }
 
@@ -78,7 +87,7 @@ fn write_head(out: &mut String, lines: &[u64], number: u64) -> Result<(), AllocE
     }
 }
 
-/// The line in which a text of `calls` begins, by its number.
+/// Returns the line in which a text of `calls` begins, by its number.
 fn line_of(lines: &[u64], number: u64) -> Option<u64> {
     let place = number.checked_sub(1)?;
     lines.get(place as usize).copied()
@@ -117,7 +126,7 @@ fn write_shape(out: &mut String, lines: &[u64], shape: &Shape) -> Result<(), All
     }
 }
 
-/// Writes a key of an object, and what is to be said of it.
+/// Writes a key of an object, and what is wrong with it.
 fn write_key(out: &mut String, place: Place, name: &str, what: &str) -> Result<(), AllocError> {
     write!(out, "{place}: ")?;
     write_quoted(out, name)?;
@@ -182,6 +191,10 @@ fn write_warning(out: &mut String, warning: Warning) -> Result<(), AllocError> {
             out,
             "the lines before fill the history of {history} records"
         ),
+        Warning::Unexpected(c) => {
+            write_unexpected(out, c)?;
+            out.push_str("\n")
+        }
         Warning::Echo(fault) => writeln!(out, "echo: fault {fault}"),
         Warning::Cat(fault) => writeln!(out, "cat: fault {fault}"),
         Warning::NotForScript(why) => writeln!(out, "not for a script: {why}"),

@@ -60,7 +60,7 @@ fn push_keys(
     push_missing(found, place, value)
 }
 
-/// The keys that an object must have.
+/// Returns the keys that an object must have.
 pub(crate) fn keys_of(place: Place) -> &'static [Key]
     ensures { result.now ≡ keys_of place }
 {
@@ -82,7 +82,7 @@ pub(crate) fn keys_of(place: Place) -> &'static [Key]
     }
 }
 
-/// Whether an object of this many members has its keys, and no others.
+/// Returns whether an object of this many members has its keys and no others.
 fn has_its_keys(place: Place, value: &Value, count: usize) -> bool
     ensures { result ≡ ((count == length (keys_of place))
         && list_all (means.is_there (view value.now)) (keys_of place)) }
@@ -90,28 +90,28 @@ fn has_its_keys(place: Place, value: &Value, count: usize) -> bool
     has_count(place, count) && has_all(place, value)
 }
 
-/// Whether an object has each of its keys.
+/// Returns whether an object has each of its keys.
 fn has_all(place: Place, value: &Value) -> bool
     ensures { result ≡ list_all (means.is_there (view value.now)) (keys_of place) }
 {
     keys_of(place).iter().all(|key| is_there(value, *key))
 }
 
-/// Whether an object must have this many keys.
+/// Returns whether an object must have this many keys.
 fn has_count(place: Place, count: usize) -> bool
     ensures { result ≡ (count == length (keys_of place)) }
 {
     count == keys_of(place).len()
 }
 
-/// Whether the object has a key.
+/// Returns whether the object has a key.
 fn is_there(value: &Value, key: Key) -> bool
     ensures { result ≡ means.is_there (view value.now) key }
 {
     value.get(key.name()).is_some()
 }
 
-/// Adds that the object has another number of keys.
+/// Adds the number of the object's keys, if it must have another.
 fn push_count(found: &mut Vec<Finding>, place: Place, count: usize) -> Result<(), AllocError>
     ensures { OnOk result
         (Adds IsShape (lacks (count == length (keys_of place))) found.old.items found.new.items) }
@@ -144,7 +144,7 @@ fn push_unknown(
     Ok(())
 }
 
-/// Whether the object may have a key.
+/// Returns whether the object may have a key.
 fn is_key_of(place: Place, name: &str) -> bool {
     keys_of(place).iter().any(|key| name == key.name())
 }
@@ -186,7 +186,7 @@ fn push_layout(
     push_boot(found, layout.get("boot"))
 }
 
-/// The keys of a layout whose values are numbers.
+/// Returns the keys of a layout whose values are numbers.
 fn number_keys() -> &'static [Key]
     ensures { result.now ≡ number_keys }
 {
@@ -204,7 +204,7 @@ fn number_keys() -> &'static [Key]
     ]
 }
 
-/// Adds the keys of a layout whose values are to be numbers and are none.
+/// Adds the keys of a layout whose values must be numbers and are none.
 fn push_numbers(found: &mut Vec<Finding>, layout: &Value) -> Result<(), AllocError>
     ensures { OnOk result (Adds IsShape (lacks (list_all (means.is_number_at (view layout.now)) number_keys))
         found.old.items found.new.items) }
@@ -220,7 +220,7 @@ fn push_numbers(found: &mut Vec<Finding>, layout: &Value) -> Result<(), AllocErr
     Ok(())
 }
 
-/// Whether a value is a number; one that is missing is another fault.
+/// Returns whether a value is a number or is missing, which is another fault.
 fn may_be_number(value: Option<&Value>) -> bool
     ensures { result ≡ means.if_there means.is_number (option_map (λ v. view v.now) value.entry) }
 {
@@ -260,7 +260,7 @@ fn push_boots(found: &mut Vec<Finding>, words: &[Value]) -> Result<(), AllocErro
     Ok(())
 }
 
-/// Whether a value is one of the words of `boot`.
+/// Returns whether a value is one of the words of `boot`.
 fn is_boot(value: &Value) -> bool
     ensures { result ≡ is_some (boot_in (view value.now)) }
 {

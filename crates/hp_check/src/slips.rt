@@ -1,4 +1,4 @@
-//! Words of a text that is no line that cannot stand at their places.
+//! The word at which a text is no line.
 use crate::quotes::write_quoted;
 use hp_units::{number32, number64};
 use std::alloc::AllocError;
@@ -19,7 +19,7 @@ enum Kind {
     Word,
 }
 
-/// Writes the word of a text at which it is no line, if that is seen, and why.
+/// Writes the word at which a text is no line, and why, if that can be told.
 pub(crate) fn write_slip(out: &mut String, text: &str) -> Result<(), AllocError> {
     match slip_in(text) {
         Some((word, why)) => {
@@ -30,8 +30,8 @@ pub(crate) fn write_slip(out: &mut String, text: &str) -> Result<(), AllocError>
     }
 }
 
-/// The first of the words of a text that is not of the kind at its place, and why: the number of a
-/// processor, a verb, what comes after it.
+/// Returns the first word of a text that is not of the kind at its place, and why: the number of a
+/// processor, a verb, or what comes after it.
 fn slip_in(text: &str) -> Option<(&str, &'static str)> {
     let mut words = text.split(' ');
     let cpu = words.next()?;
@@ -52,7 +52,7 @@ fn slip_in(text: &str) -> Option<(&str, &'static str)> {
     None
 }
 
-/// Why a word is not of its kind, if that is seen.
+/// Returns why a word is not of its kind, if that can be told.
 fn why_not(kind: Kind, word: &str) -> Option<&'static str> {
     match kind {
         Kind::Narrow => number_slip(
@@ -70,7 +70,7 @@ fn why_not(kind: Kind, word: &str) -> Option<&'static str> {
     }
 }
 
-/// Why digits are no number, if they are none: a zero in front, or else they are too many.
+/// Returns why digits are no number, if they are none: a zero in front, or else too many.
 fn number_slip(is_number: bool, word: &str, too_many: &'static str) -> Option<&'static str> {
     if is_number || !word.as_bytes().iter().all(|byte| byte.is_ascii_digit()) {
         return None;
@@ -82,7 +82,7 @@ fn number_slip(is_number: bool, word: &str, too_many: &'static str) -> Option<&'
     }
 }
 
-/// Why a word is no name, if it has capitals or other bytes of no name, or is too long.
+/// Returns why a word is no name, if it has other letters than a name, or too many.
 fn name_slip(word: &str) -> Option<&'static str> {
     let capitals = capitals_slip(word);
     if capitals.is_some() {
@@ -98,7 +98,7 @@ fn name_slip(word: &str) -> Option<&'static str> {
     }
 }
 
-/// Why a word is none of the language, if it has a letter from `A` to `Z`.
+/// Returns why a word is none of the language, if it has capitals.
 fn capitals_slip(word: &str) -> Option<&'static str> {
     if word.as_bytes().iter().any(|byte| byte.is_ascii_uppercase()) {
         Some(" has capital letters; ")
@@ -107,12 +107,12 @@ fn capitals_slip(word: &str) -> Option<&'static str> {
     }
 }
 
-/// Whether a byte may stand in a name.
+/// Returns whether a name may have a byte.
 fn is_name_byte(byte: u8) -> bool {
     byte.is_ascii_lowercase() || byte.is_ascii_digit() || byte == b'_'
 }
 
-/// What the words after a verb are, up to the last that is a number or a name.
+/// Returns the kinds of the words after a verb, up to the last that is a number or a name.
 fn kinds_of(verb: &str) -> &'static [Kind] {
     match verb {
         "kalloc" | "kfree" | "drain" | "remove" => &[Kind::Narrow],

@@ -1,16 +1,16 @@
-//! What the lines before a line make of the serials and of the history.
+//! What the lines before a line did to the serials and to the history.
 ghost use Rattle.std.specs.Prelude.{◌≡◌, nat_le};
 
 use hp_scenario::{Asked, Line, Work};
 use hp_units::{Layout, Serial, mark_of};
 use std::alloc::{AllocError, Global};
 
-/// Which records begin an operation, and how many there are since the last seal. In scripts nobody
-/// knows the order of the calls.
+/// Which records begin an operation, and how many there are since the last seal. In scripts the order
+/// of the calls is not known.
 #[derive(Drop)]
 pub(crate) struct Tally {
-    /// Whether each record begins an operation, up to the first plan: nobody knows how many records
-    /// that makes.
+    /// Whether each record begins an operation, up to the first plan: how many records that makes is
+    /// not known.
     begins: Vec<bool>,
     /// Whether a record after these may begin one.
     any_later: bool,
@@ -19,7 +19,7 @@ pub(crate) struct Tally {
 }
 
 impl Tally {
-    /// Before any line.
+    /// Makes the tally of no lines.
     pub(crate) fn new(alloc: Global) -> Tally {
         Tally {
             begins: Vec::new(alloc),
@@ -66,26 +66,26 @@ impl Tally {
         }
     }
 
-    /// Ends the setup: these lines stand in scripts.
+    /// Ends the setup: these lines are in scripts.
     pub(crate) fn end_setup(&mut self, lines: &[Line]) {
         self.any_later |= lines.iter().any(|line| may_open(&line.work));
         self.in_scripts = true;
     }
 
-    /// Whether the lines that are added stand in scripts.
+    /// Returns whether the lines that are added are in scripts.
     pub(crate) fn in_scripts(&self) -> bool {
         self.in_scripts
     }
 
-    /// Whether there are as many records since the last seal as a history takes.
+    /// Returns whether the records since the last seal fill a history.
     pub(crate) fn is_full(&self, history: u64) -> bool
         ensures { result ≡ nat_le history self.now.used }
     {
         history <= self.used
     }
 
-    /// Whether the record of a serial may begin an operation; in scripts 0 is the operation that the
-    /// processor began last.
+    /// Returns whether the record of a serial may begin an operation. In scripts, 0 is the operation
+    /// that the processor began last.
     pub(crate) fn may_begin(&self, op: Serial) -> bool {
         if op.0 == 0 {
             return self.in_scripts;
@@ -99,7 +99,7 @@ impl Tally {
     }
 }
 
-/// Whether a line with this work begins an operation, or may do so.
+/// Returns whether a line with this work begins an operation, or may do so.
 fn may_open(work: &Work) -> bool {
     match work.asked() {
         Asked::Event(event) => mark_of(event).is_opening(),

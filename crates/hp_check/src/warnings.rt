@@ -4,13 +4,14 @@ ghost use Rattle.std.specs.List.{All};
 ghost use Rattle.hp_check.specs.Adds.{IsWarning};
 
 use crate::finding::{Finding, Warning, What};
+use crate::quotes::first_odd;
 use crate::tally::Tally;
 use hp_requests::{ControlFault, File, file_at};
 use hp_scenario::{Asked, Line, Work};
 use hp_units::{Cpu, Event, Layout, Owner, Page, Plan, Serial};
 use std::alloc::{AllocError, Global};
 
-/// Adds the warnings of lines on a layout. The first `setup` lines are the setup, the others stand in
+/// Adds the warnings of lines on a layout. The first `setup` lines are the setup, the others are in
 /// the scripts of their processors.
 pub(crate) fn push_warnings(
     found: &mut Vec<Finding>,
@@ -53,16 +54,36 @@ fn push_each(
     Ok(())
 }
 
-/// The warning of a line, if there is one.
+/// Returns the warning of a line: the first that applies.
 fn line_warning(layout: &Layout, tally: &Tally, line: &Line) -> Option<Warning>
 {
     let work = asked_warning(layout, tally, line.cpu, &line.work);
-    unfit_warning(layout.cpus(), tally.in_scripts(), line)
+    odd_warning(&line.work)
+        .or(unfit_warning(layout.cpus(), tally.in_scripts(), line))
         .or(work)
         .or(turns_warning(layout, &line.work))
 }
 
-/// The warning that a line in a script cannot stand there, with so many processors.
+/// Returns a warning if an `echo` or a `cat` has a character that no word of a control file has.
+fn odd_warning(work: &Work) -> Option<Warning>
+{
+    match work {
+        Work::Echo(echo) => unexpected(first_odd(echo.word()).or(first_odd(echo.path()))),
+        Work::Cat { path } => unexpected(first_odd(path.as_str())),
+        _ => None,
+    }
+}
+
+/// Returns the warning of a character, if there is one.
+fn unexpected(odd: Option<char>) -> Option<Warning>
+{
+    match odd {
+        Some(c) => Some(Warning::Unexpected(c)),
+        None => None,
+    }
+}
+
+/// Returns a warning if a line in a script cannot be there, with this many processors.
 fn unfit_warning(cpus: u32, in_scripts: bool, line: &Line) -> Option<Warning>
 {
     if !in_scripts {
@@ -74,7 +95,7 @@ fn unfit_warning(cpus: u32, in_scripts: bool, line: &Line) -> Option<Warning>
     }
 }
 
-/// The warning of what a line asks for, if there is one.
+/// Returns the warning of what a line asks for.
 fn asked_warning(layout: &Layout, tally: &Tally, cpu: Cpu, work: &Work) -> Option<Warning>
 {
     match work.asked() {
@@ -90,7 +111,7 @@ fn asked_warning(layout: &Layout, tally: &Tally, cpu: Cpu, work: &Work) -> Optio
     }
 }
 
-/// The fault of reading the file at a path, if it has one in every state.
+/// Returns the fault of reading the file at a path, if it has one in every state.
 fn cat_warning(layout: &Layout, path: &str) -> Option<Warning>
 {
     let Some(file) = file_at(path) else {
@@ -109,23 +130,29 @@ fn cat_warning(layout: &Layout, path: &str) -> Option<Warning>
     }
 }
 
-/// The turns that a line names for its plan, if the history has no room for them.
+/// Returns a warning if the history has no room for all turns of a plan: that of a `plan` line, or
+/// that which an `echo` asks for.
 fn turns_warning(layout: &Layout, work: &Work) -> Option<Warning>
 {
-    let Work::Plan { plan: _, turns } = work else {
-        return None;
-    };
-    let history = layout.history();
-    if u64::from(*turns) + u64::from(layout.cpus()) + 2 <= history {
-        return None;
+    match work.asked() {
+        Asked::Plan { plan: _, turns } => turns_past(layout, turns),
+        _ => None,
     }
-    Some(Warning::Turns {
-        turns: *turns,
-        history,
-    })
 }
 
-/// The warning that any call of a processor has here, if there is one.
+/// Returns a warning if the history has no room for a plan's begin, a round of drains, this many
+/// turns, and a commit.
+fn turns_past(layout: &Layout, turns: u32) -> Option<Warning>
+{
+    let history = layout.history();
+    if u64::from(turns) + u64::from(layout.cpus()) + 2 <= history {
+        None
+    } else {
+        Some(Warning::Turns { turns, history })
+    }
+}
+
+/// Returns the warning that any call of a processor has here.
 fn caller_warning(layout: &Layout, tally: &Tally, cpu: Cpu) -> Option<Warning>
 {
     let history = layout.history();
@@ -135,7 +162,7 @@ fn caller_warning(layout: &Layout, tally: &Tally, cpu: Cpu) -> Option<Warning>
     past(What::Processor, cpu.0, layout.cpus())
 }
 
-/// A number, if it is past so many.
+/// Returns a number if it is past this many.
 fn past(what: What, number: u32, count: u32) -> Option<Warning>
 {
     if number < count {
@@ -150,20 +177,20 @@ fn past(what: What, number: u32, count: u32) -> Option<Warning>
     })
 }
 
-/// An owner or else a page, if it is past the layout.
+/// Returns an owner or else a page that is past the layout.
 fn page_past(layout: &Layout, owner: Owner, page: Page) -> Option<Warning>
 {
     let owner = past(What::Owner, owner.0, layout.owners());
     owner.or(past(What::Page, page.0, layout.pages()))
 }
 
-/// An owner, a page or else a word, if it is past the layout.
+/// Returns an owner, a page or else a word that is past the layout.
 fn word_past(layout: &Layout, owner: Owner, page: Page, index: u32) -> Option<Warning>
 {
     page_past(layout, owner, page).or(past(What::Word, index, layout.words()))
 }
 
-/// The first memory block of a plan that is past the layout.
+/// Returns the first memory block of a plan that is past the layout.
 fn plan_past(layout: &Layout, plan: &Plan) -> Option<Warning>
 {
     let blocks = layout.blocks();
@@ -178,7 +205,7 @@ fn plan_past(layout: &Layout, plan: &Plan) -> Option<Warning>
     })
 }
 
-/// The memory block that begins at an address, if it is past the layout.
+/// Returns the memory block that begins at an address, if it is past the layout.
 fn address_past(layout: &Layout, address: u64) -> Option<Warning>
 {
     let bytes = layout.block_bytes();
@@ -197,7 +224,7 @@ fn address_past(layout: &Layout, address: u64) -> Option<Warning>
     })
 }
 
-/// The number of an operation, if no line before begins it.
+/// Returns the number of an operation if no line before begins it.
 fn no_begin(tally: &Tally, op: Serial) -> Option<Warning>
 {
     if tally.may_begin(op) {
@@ -207,7 +234,7 @@ fn no_begin(tally: &Tally, op: Serial) -> Option<Warning>
     }
 }
 
-/// The first thing that an event names and that is not there.
+/// Returns the first thing that an event names and that is not there.
 fn event_warning(layout: &Layout, tally: &Tally, event: &Event) -> Option<Warning>
 {
     match event {

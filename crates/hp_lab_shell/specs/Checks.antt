@@ -4,12 +4,12 @@ use Rattle.hp_scenario.specs.Scenario.{ScenarioValue, scenario_in}
 use Rattle.hp_scenario.specs.declared.fault.ScenarioFault.{ScenarioFault}
 use Rattle.hp_scripts.specs.Counting.{IsCountTold}
 
--- the interleavings that are counted where no limit is given, the most
+-- the most interleavings that are counted if no limit is given
 abbrev pub usual_limit : ℕ
 usual_limit = 10000000
 
--- how many the scripts after the setup have: nothing is said where the bytes are no scenario, and
--- where all lines are the setup
+-- how many the scripts after the setup have: nothing is said if the bytes are no scenario, or if all
+-- lines are the setup
 abbrev pub IsCountIn : (setup : ℕ) → Result ScenarioValue ScenarioFault → (text : List ℕ) → Type 0
 IsCountIn setup (Ok s) text = IsCountTold s.layout.cpus setup s.lines usual_limit text
 IsCountIn setup (Err fault) text = text ≡ []
@@ -18,7 +18,7 @@ abbrev pub IsCountOf : (all : Bool) → (setup : ℕ) → (input text : List ℕ
 IsCountOf true setup input text = text ≡ []
 IsCountOf false setup input text = IsCountIn setup (scenario_in input) text
 
--- the status is 0 just where reading takes the text
+-- the status is 0 exactly if reading takes the text
 abbrev pub status_of : Result ScenarioValue ScenarioFault → ℕ
 status_of (Ok s) = 0
 status_of (Err fault) = 1

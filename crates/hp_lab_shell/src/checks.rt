@@ -12,10 +12,10 @@ use hp_scenario::{Scenario, ScenarioFault};
 use hp_scripts::interleavings_line;
 use std::alloc::{AllocError, Global};
 
-/// The most interleavings that are counted where no limit is given.
+/// The most interleavings that are counted if no limit is given.
 pub(crate) const LIMIT: u64 = 10_000_000;
 
-/// The lines of a setup that is all of a scenario.
+/// The number of setup lines that means all of a scenario.
 pub(crate) const ALL: u64 = u64::MAX;
 
 /// Reports what is wrong with a scenario whose first `setup` lines are the setup, and how many
@@ -34,15 +34,15 @@ pub fn checked(alloc: Global, input: &[u8], setup: u64) -> Result<Answer, Progra
     Ok(Answer { text, status })
 }
 
-/// The status of a check that found this many faults.
+/// Returns the exit status of a check that found this many faults.
 fn status_of(faults: usize) -> u8
     ensures { result ≡ (if faults == 0 then 0 else 1) }
 {
     if faults == 0 { 0 } else { 1 }
 }
 
-/// The line that says how many interleavings the scripts after so many lines of setup have; none
-/// where all lines are the setup, and where the bytes are no scenario. An error is out of memory.
+/// Returns the line that says how many interleavings the scripts after the setup have. There is none
+/// if all lines are the setup, or if the bytes are no scenario.
 #[tactic(auto, using(crate::proofs::Counted::none_asked, crate::proofs::Counted::some_asked))]
 fn count_line(alloc: Global, input: &[u8], setup: u64) -> Result<String, AllocError>
     ensures { IfOk result (λ text. IsCountOf (setup == 2 ^ 64 - 1) setup input.now (string_bytes text)) }
@@ -53,7 +53,7 @@ fn count_line(alloc: Global, input: &[u8], setup: u64) -> Result<String, AllocEr
     count_in(alloc, input, setup)
 }
 
-/// The same, where not all lines are the setup.
+/// Does the same if not all lines are the setup.
 fn count_in(alloc: Global, input: &[u8], setup: u64) -> Result<String, AllocError>
     ensures { IfOk result (λ text. IsCountIn setup (scenario_in input.now) (string_bytes text)) }
 {
@@ -66,7 +66,7 @@ fn count_in(alloc: Global, input: &[u8], setup: u64) -> Result<String, AllocErro
     }
 }
 
-/// No line, where the bytes are no scenario. An error is out of memory.
+/// Returns no line, since the bytes are no scenario.
 fn no_count(alloc: Global, fault: ScenarioFault) -> Result<String, AllocError>
     ensures none { IfOk result (λ text. string_bytes text ≡ []) }
     ensures read { OnOk result (fault ≢ ScenarioFault.OutOfMemory) }

@@ -1,4 +1,4 @@
-//! What is said of the findings that the scenarios of `checks` have not.
+//! The text of findings that no scenario of `checks` has.
 use crate::checks::{Checked, are_scripts_checked, first_other, has_report};
 use std::alloc::{AllocError, Global};
 use std::test::Fail;
@@ -24,8 +24,8 @@ const LIMITED: &[Checked] = &[
     ),
 ];
 
-/// Texts that are no lines, and what is said of each: a number with a zero in front at the last
-/// place of each verb, words that are likely to be meant for a verb, and other letters in a name.
+/// Texts that are no lines, and what the report says of each: a number with a zero in front at the
+/// last place of each verb, words that are likely to be meant for a verb, and other letters in a name.
 const WANTED: &[Checked] = &[
     ("0 kalloc 01", "`01` has a zero in front; wanted: C kalloc ORDER"),
     ("0 kfree 01", "`01` has a zero in front; wanted: C kfree FRAME"),
@@ -88,6 +88,23 @@ const WANTED: &[Checked] = &[
     ),
 ];
 
+/// Texts at whose end the reader of JSON stops, and what the report says: a comma too many, a
+/// character that is odd there, and neither.
+const STOPPED: &[Checked] = &[
+    ("[1, ]", "line 1, column 5: not JSON: a comma too many before it"),
+    ("[1,\n\n]", "line 3, column 1: not JSON: a comma too many before it"),
+    ("{\"a\": 1, }", "line 1, column 10: not JSON: a comma too many before it"),
+    ("[1,,", "line 1, column 4: not JSON: a comma too many before it"),
+    ("{\"a\": 1 , ,", "line 1, column 11: not JSON: a comma too many before it"),
+    ("[\",\", \"a,\" }", "line 1, column 12: not JSON"),
+    ("[}", "line 1, column 2: not JSON"),
+    ("[1, 2}", "line 1, column 6: not JSON"),
+    ("{\u{a0}", "line 1, column 2: not JSON: unexpected `\\u00a0`"),
+    ("[1,\u{200b}", "line 1, column 4: not JSON: unexpected `\\u200b`"),
+    ("[\n\u{feff}", "line 2, column 1: not JSON: unexpected `\\ufeff`"),
+    ("{\u{201c}", "line 1, column 2: not JSON: unexpected `\u{201c}`"),
+];
+
 /// Lines that hardly do what is wanted, beside those above: files, addresses and operations. The
 /// address 0x81 begins no memory block.
 const DOUBTED: Checked = (
@@ -122,6 +139,53 @@ const FILLED: Checked = (
      calls 9 (line 3): warning: no line before begins operation 4\nfaults: 0, warnings: 3\n",
 );
 
+/// An `echo` that takes memory offline is a plan of 1024 turns: a history of 1027 records has no room
+/// for them, with two processors. One that brings memory online is one call.
+const ECHOED: Checked = (
+    "{\"layout\":{\"order\":1,\"pageblocks\":1,\"blocks\":2,\"cpus\":2,\"batch\":1,\"high\":1,\
+     \"owners\":2,\"pages\":2,\"words\":1,\"history\":1027,\"boot\":[\"normal\",\"movable\"]},\n\
+     \"calls\":[\"0 plan 1024 off 1\",\"0 echo offline memory1/state\",\"0 plan 1023 off 1\",\n\
+     \"0 echo 0 memory1/online\",\"0 echo online memory1/state\",\"0 echo offline memory2/state\",\n\
+     \"2 echo offline memory1/state\"]}",
+    "calls 1 (line 2): warning: a history of 1027 records has no room for 1024 turns\n\
+     calls 2 (line 2): warning: a history of 1027 records has no room for 1024 turns\n\
+     calls 4 (line 3): warning: a history of 1027 records has no room for 1024 turns\n\
+     calls 6 (line 3): warning: block 2 is past the layout, which has 2, counted from 0\n\
+     calls 7 (line 4): warning: processor 2 is past the layout, which has 2, counted from 0\n\
+     faults: 0, warnings: 5\n",
+);
+
+/// The same with room for the turns of an `echo`, and no record more: the report says nothing.
+const ROOMY: Checked = (
+    "{\"layout\":{\"order\":1,\"pageblocks\":1,\"blocks\":2,\"cpus\":2,\"batch\":1,\"high\":1,\
+     \"owners\":2,\"pages\":2,\"words\":1,\"history\":1028,\"boot\":[\"normal\",\"movable\"]},\n\
+     \"calls\":[\"0 echo offline memory1/state\",\"0 plan 1024 off 1\"]}",
+    "faults: 0, warnings: 0\n",
+);
+
+/// Characters that cannot be seen: in a key, in texts that are no lines, and in words and paths of
+/// control files.
+const UNSEEN: &[Checked] = &[
+    (
+        "{\"lay\u{ad}out\":1,\"calls\":[\"0\u{a0}seal\",\"0 seal\u{200b}\",\"0 map d\u{200b}b 0\"]}",
+        "scenario: `lay\\u00adout` is no key of it\nscenario: `layout` is missing\n\
+         calls 1 (line 1): `0\\u00a0seal`: its first word is no number of a processor\n\
+         calls 2 (line 1): `0 seal\\u200b`: its second word is no verb\n\
+         calls 3 (line 1): `0 map d\\u200bb 0`: `d\\u200bb` has other letters than a to z, 0 to 9 \
+         and _; wanted: C map NAME PAGE\nfaults: 5, warnings: 0\n",
+    ),
+    (
+        "{\"layout\":{\"order\":1,\"pageblocks\":1,\"blocks\":2,\"cpus\":2,\"batch\":1,\"high\":1,\
+         \"owners\":2,\"pages\":2,\"words\":1,\"history\":40,\"boot\":[\"normal\",\"movable\"]},\n\
+         \"calls\":[\"0 echo online\u{200b} memory1/state\",\"0 echo 1 memory1\u{2044}online\",\n\
+         \"0 cat buddyinfo\u{feff}\",\"0 cat budyinfo\"]}",
+        "calls 1 (line 2): warning: unexpected `\\u200b`\n\
+         calls 2 (line 2): warning: unexpected `\u{2044}`\n\
+         calls 3 (line 3): warning: unexpected `\\ufeff`\n\
+         calls 4 (line 3): warning: cat: fault NoFile\nfaults: 0, warnings: 4\n",
+    ),
+];
+
 /// A plan in a script, which may begin an operation before any line of another script.
 const PLANNED: Checked = (
     "{\"layout\":{\"order\":1,\"pageblocks\":1,\"blocks\":2,\"cpus\":2,\"batch\":1,\"high\":1,\
@@ -133,7 +197,8 @@ const PLANNED: Checked = (
 #[test]
 fn other_texts_have_their_report(rt: HostRuntime) -> Result<(), Fail> {
     assert!(rt; first_other(rt.alloc(), LIMITED)?.is_none());
-    assert!(rt; first_other(rt.alloc(), &[DOUBTED, FILLED])?.is_none());
+    assert!(rt; first_other(rt.alloc(), &[DOUBTED, FILLED, ECHOED, ROOMY])?.is_none());
+    assert!(rt; first_other(rt.alloc(), UNSEEN)?.is_none());
     assert!(rt; are_scripts_checked(rt.alloc(), PLANNED)?);
     Ok(())
 }
@@ -142,7 +207,7 @@ fn other_texts_have_their_report(rt: HostRuntime) -> Result<(), Fail> {
 const ONE_CALL: &str = "{\"layout\":{\"order\":1,\"pageblocks\":1,\"blocks\":1,\"cpus\":1,\"batch\":1,\
     \"high\":1,\"owners\":1,\"pages\":1,\"words\":1,\"history\":1,\"boot\":[\"normal\"]},\"calls\":[\"";
 
-/// Whether this is said of a text that is the one entry of `calls`, and no line.
+/// Returns whether the report says this of a text that is the one entry of `calls`, and no line.
 fn is_wanted(alloc: Global, call: &str, said: &str) -> Result<bool, AllocError> {
     let head = ONE_CALL;
     let text = format!(in alloc; "{head}{call}\"]}}")?;
@@ -151,7 +216,7 @@ fn is_wanted(alloc: Global, call: &str, said: &str) -> Result<bool, AllocError> 
     has_report(alloc, &text, &expected)
 }
 
-/// The place of the first text of which something else is said.
+/// Returns the place of the first text on which the report says something else.
 fn first_unwanted(alloc: Global, rows: &[Checked]) -> Result<Option<usize>, AllocError> {
     for (place, (call, said)) in rows.iter().enumerate() {
         if !is_wanted(alloc, call, said)? {
@@ -159,6 +224,23 @@ fn first_unwanted(alloc: Global, rows: &[Checked]) -> Result<Option<usize>, Allo
         }
     }
     Ok(None)
+}
+
+/// Returns the place of the first text that is no JSON on which the report says something else.
+fn first_unstopped(alloc: Global, rows: &[Checked]) -> Result<Option<usize>, AllocError> {
+    for (place, (text, said)) in rows.iter().enumerate() {
+        let expected = format!(in alloc; "{said}\nfaults: 1, warnings: 0\n")?;
+        if !has_report(alloc, text, &expected)? {
+            return Ok(Some(place));
+        }
+    }
+    Ok(None)
+}
+
+#[test]
+fn commas_and_odd_characters_are_named(rt: HostRuntime) -> Result<(), Fail> {
+    assert!(rt; first_unstopped(rt.alloc(), STOPPED)?.is_none());
+    Ok(())
 }
 
 #[test]
