@@ -102,7 +102,8 @@ items_added {X} f xs i over so_far = of_fault (ap (first_at f 1) (take_all i xs 
 -- the same for a test of each item
 pub test_added : {X : Type 0} {P : Finding → Type 0} (p : X → Bool) (xs : List X) (i : ℕ) (d : X)
     {old now next : List Finding}
-    → i < length xs → Adds P (lacks (list_all p (take i xs))) old now → Adds P (lacks (p (get_or xs i d))) now next
+    → i < length xs → Adds P (lacks (list_all p (take i xs))) old now
+    → Adds P (lacks (p (get_or xs i d))) now next
     → Adds P (lacks (list_all p (take (i + 1) xs))) old next
 test_added p xs i d lt so_far more = of_test (sym (list_all_more p xs i d lt)) (both_lack _ _ so_far more)
 

@@ -130,7 +130,8 @@ by_fault {P} {Q} None why h = record {
 }
 by_fault (Some fault) why h = by_cause (why refl) h
 
-formless : (d : Data) (o : Option Form) → form_of d ≡ o → is_some (lacks (is_some o)) ≡ true → form_of d ≡ None
+formless : (d : Data) (o : Option Form) → form_of d ≡ o → is_some (lacks (is_some o)) ≡ true
+    → form_of d ≡ None
 formless d None e h = e
 formless d (Some form) e h = absurd cc
 
@@ -235,12 +236,13 @@ a_repeat_is_warning lines (finding.Shape s) h = absurd h
 a_repeat_is_warning lines (finding.Layout out) h = absurd h
 a_repeat_is_warning lines (finding.BadCall number text) h = absurd h
 
-pub repeats_are_warnings : (lines : ℕ) (found : List Finding) → All IsRepeat found → All (IsWarning lines) found
+pub repeats_are_warnings : (lines : ℕ) (found : List Finding) → All IsRepeat found
+    → All (IsWarning lines) found
 repeats_are_warnings lines found all =
     All-weaker IsRepeat (IsWarning lines) (a_repeat_is_warning lines) found all
 
-pub warnings_have_causes : (input : List ℕ) (s : ScenarioValue) (found : List Finding) → scenario_in input ≡ Ok s
-    → All (IsWarning (length s.lines)) found → HaveCauses input found
+pub warnings_have_causes : (input : List ℕ) (s : ScenarioValue) (found : List Finding)
+    → scenario_in input ≡ Ok s → All (IsWarning (length s.lines)) found → HaveCauses input found
 warnings_have_causes input s found e all =
     All-weaker (IsWarning (length s.lines)) (HasCause input) (warning_cause input s e) found all
 

@@ -146,7 +146,8 @@ list_stops : (o : Option Items) (script : Script) (texts : List (List ℕ))
 list_stops None script texts t = absurd cc
 list_stops (Some ds) script texts t = entries_stop 1 ds script texts t
 
-pub calls_stop : (d : Data) (script : Script) (texts : List (List ℕ)) → texts_at (codes "calls") d ≡ Some texts
+pub calls_stop : (d : Data) (script : Script) (texts : List (List ℕ))
+    → texts_at (codes "calls") d ≡ Some texts
     → first_at entry_fault 1 (entries_in d) ≡ fault_in (lines_from 1 script texts)
 unfolding texts_at entries_in
 calls_stop d script texts t = list_stops (option_and_then as_array (get (codes "calls") d)) script texts t

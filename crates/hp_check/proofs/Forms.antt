@@ -1,6 +1,7 @@
 -- The tests of the keys and the values, and the form of a scenario.
-use Rattle.std.proofs.Common.{◌≡◌, ℕ, String, Bool, true, false, cond, ◌&&◌, ◌==◌, List, [], ◌∷◌, codes, length, map, Option, Some, None, is_some, option_and_then, refl, sym, ap, ◌∙◌}
+use Rattle.std.proofs.Common.{◌≡◌, ℕ, String, Bor, Bool, true, false, cond, ◌&&◌, ◌==◌, List, [], ◌∷◌, codes, length, map, Option, Some, None, is_some, option_and_then, refl, sym, ap, ◌∙◌}
 use Rattle.std.specs.List.{list_all}
+use Rattle.std.specs.Option.{option_map}
 use Rattle.std.proofs.lemmas.List.Folds.{list_all-append}
 use Rattle.std.specs.declared.alloc.Global.{Global}
 use Rattle.serde_json.proofs.Views.{members_len-members_view}
@@ -18,6 +19,11 @@ use Rattle.hp_check.specs.declared.finding.Key.{Key}
 use Rattle.hp_check.specs.declared.finding.Key.TheVariants as key
 use Rattle.hp_check.specs.declared.finding.Place.{Place}
 use Rattle.hp_check.specs.declared.finding.Place.TheVariants as place
+
+-- a test of what there may be, which is known
+pub seen_there : (f : Data → Bool) {a b : Option (Bor Value)} → a ≡ b
+    → if_there f (option_map (λ v. view v.now) a) ≡ if_there f (option_map (λ v. view v.now) b)
+seen_there f e = ap (λ (o : Option (Bor Value)). if_there f (option_map (λ v. view v.now) o)) e
 
 -- ---- lists
 

@@ -151,8 +151,8 @@ fn is_key_of(place: Place, name: &str) -> bool {
 
 /// Adds the keys that the object lacks.
 fn push_missing(found: &mut Vec<Finding>, place: Place, value: &Value) -> Result<(), AllocError>
-    ensures { OnOk result (Adds IsShape
-        (lacks (list_all (means.is_there (view value.now)) (keys_of place))) found.old.items found.new.items) }
+    ensures { OnOk result (Adds IsShape (lacks (list_all (means.is_there (view value.now)) (keys_of place)))
+        found.old.items found.new.items) }
 {
     let keys = keys_of(place);
     for key in keys {

@@ -55,11 +55,7 @@ fn slip_in(text: &str) -> Option<(&str, &'static str)> {
 /// Returns why a word is not of its kind, if that can be told.
 fn why_not(kind: Kind, word: &str) -> Option<&'static str> {
     match kind {
-        Kind::Narrow => number_slip(
-            number32(word).is_some(),
-            word,
-            " is above 4294967295; ",
-        ),
+        Kind::Narrow => number_slip(number32(word).is_some(), word, " is above 4294967295; "),
         Kind::Wide => number_slip(
             number64(word).is_some(),
             word,

@@ -55,8 +55,7 @@ fn push_each(
 }
 
 /// Returns the warning of a line: the first that applies.
-fn line_warning(layout: &Layout, tally: &Tally, line: &Line) -> Option<Warning>
-{
+fn line_warning(layout: &Layout, tally: &Tally, line: &Line) -> Option<Warning> {
     let work = asked_warning(layout, tally, line.cpu, &line.work);
     odd_warning(&line.work)
         .or(unfit_warning(layout.cpus(), tally.in_scripts(), line))
@@ -65,8 +64,7 @@ fn line_warning(layout: &Layout, tally: &Tally, line: &Line) -> Option<Warning>
 }
 
 /// Returns a warning if an `echo` or a `cat` has a character that no word of a control file has.
-fn odd_warning(work: &Work) -> Option<Warning>
-{
+fn odd_warning(work: &Work) -> Option<Warning> {
     match work {
         Work::Echo(echo) => unexpected(first_odd(echo.word()).or(first_odd(echo.path()))),
         Work::Cat { path } => unexpected(first_odd(path.as_str())),
@@ -75,8 +73,7 @@ fn odd_warning(work: &Work) -> Option<Warning>
 }
 
 /// Returns the warning of a character, if there is one.
-fn unexpected(odd: Option<char>) -> Option<Warning>
-{
+fn unexpected(odd: Option<char>) -> Option<Warning> {
     match odd {
         Some(c) => Some(Warning::Unexpected(c)),
         None => None,
@@ -84,8 +81,7 @@ fn unexpected(odd: Option<char>) -> Option<Warning>
 }
 
 /// Returns a warning if a line in a script cannot be there, with this many processors.
-fn unfit_warning(cpus: u32, in_scripts: bool, line: &Line) -> Option<Warning>
-{
+fn unfit_warning(cpus: u32, in_scripts: bool, line: &Line) -> Option<Warning> {
     if !in_scripts {
         return None;
     }
@@ -96,8 +92,7 @@ fn unfit_warning(cpus: u32, in_scripts: bool, line: &Line) -> Option<Warning>
 }
 
 /// Returns the warning of what a line asks for.
-fn asked_warning(layout: &Layout, tally: &Tally, cpu: Cpu, work: &Work) -> Option<Warning>
-{
+fn asked_warning(layout: &Layout, tally: &Tally, cpu: Cpu, work: &Work) -> Option<Warning> {
     match work.asked() {
         Asked::Event(event) => {
             caller_warning(layout, tally, cpu).or(event_warning(layout, tally, event))
@@ -112,8 +107,7 @@ fn asked_warning(layout: &Layout, tally: &Tally, cpu: Cpu, work: &Work) -> Optio
 }
 
 /// Returns the fault of reading the file at a path, if it has one in every state.
-fn cat_warning(layout: &Layout, path: &str) -> Option<Warning>
-{
+fn cat_warning(layout: &Layout, path: &str) -> Option<Warning> {
     let Some(file) = file_at(path) else {
         return Some(Warning::Cat(ControlFault::NoFile));
     };
@@ -132,8 +126,7 @@ fn cat_warning(layout: &Layout, path: &str) -> Option<Warning>
 
 /// Returns a warning if the history has no room for all turns of a plan: that of a `plan` line, or
 /// that which an `echo` asks for.
-fn turns_warning(layout: &Layout, work: &Work) -> Option<Warning>
-{
+fn turns_warning(layout: &Layout, work: &Work) -> Option<Warning> {
     match work.asked() {
         Asked::Plan { plan: _, turns } => turns_past(layout, turns),
         _ => None,
@@ -142,8 +135,7 @@ fn turns_warning(layout: &Layout, work: &Work) -> Option<Warning>
 
 /// Returns a warning if the history has no room for a plan's begin, a round of drains, this many
 /// turns, and a commit.
-fn turns_past(layout: &Layout, turns: u32) -> Option<Warning>
-{
+fn turns_past(layout: &Layout, turns: u32) -> Option<Warning> {
     let history = layout.history();
     if u64::from(turns) + u64::from(layout.cpus()) + 2 <= history {
         None
@@ -153,8 +145,7 @@ fn turns_past(layout: &Layout, turns: u32) -> Option<Warning>
 }
 
 /// Returns the warning that any call of a processor has here.
-fn caller_warning(layout: &Layout, tally: &Tally, cpu: Cpu) -> Option<Warning>
-{
+fn caller_warning(layout: &Layout, tally: &Tally, cpu: Cpu) -> Option<Warning> {
     let history = layout.history();
     if tally.is_full(history) {
         return Some(Warning::Full { history });
@@ -163,8 +154,7 @@ fn caller_warning(layout: &Layout, tally: &Tally, cpu: Cpu) -> Option<Warning>
 }
 
 /// Returns a number if it is past this many.
-fn past(what: What, number: u32, count: u32) -> Option<Warning>
-{
+fn past(what: What, number: u32, count: u32) -> Option<Warning> {
     if number < count {
         return None;
     }
@@ -178,21 +168,18 @@ fn past(what: What, number: u32, count: u32) -> Option<Warning>
 }
 
 /// Returns an owner or else a page that is past the layout.
-fn page_past(layout: &Layout, owner: Owner, page: Page) -> Option<Warning>
-{
+fn page_past(layout: &Layout, owner: Owner, page: Page) -> Option<Warning> {
     let owner = past(What::Owner, owner.0, layout.owners());
     owner.or(past(What::Page, page.0, layout.pages()))
 }
 
 /// Returns an owner, a page or else a word that is past the layout.
-fn word_past(layout: &Layout, owner: Owner, page: Page, index: u32) -> Option<Warning>
-{
+fn word_past(layout: &Layout, owner: Owner, page: Page, index: u32) -> Option<Warning> {
     page_past(layout, owner, page).or(past(What::Word, index, layout.words()))
 }
 
 /// Returns the first memory block of a plan that is past the layout.
-fn plan_past(layout: &Layout, plan: &Plan) -> Option<Warning>
-{
+fn plan_past(layout: &Layout, plan: &Plan) -> Option<Warning> {
     let blocks = layout.blocks();
     let item = plan
         .as_slice()
@@ -206,8 +193,7 @@ fn plan_past(layout: &Layout, plan: &Plan) -> Option<Warning>
 }
 
 /// Returns the memory block that begins at an address, if it is past the layout.
-fn address_past(layout: &Layout, address: u64) -> Option<Warning>
-{
+fn address_past(layout: &Layout, address: u64) -> Option<Warning> {
     let bytes = layout.block_bytes();
     if address % bytes != 0 {
         return None;
@@ -225,8 +211,7 @@ fn address_past(layout: &Layout, address: u64) -> Option<Warning>
 }
 
 /// Returns the number of an operation if no line before begins it.
-fn no_begin(tally: &Tally, op: Serial) -> Option<Warning>
-{
+fn no_begin(tally: &Tally, op: Serial) -> Option<Warning> {
     if tally.may_begin(op) {
         None
     } else {
@@ -235,8 +220,7 @@ fn no_begin(tally: &Tally, op: Serial) -> Option<Warning>
 }
 
 /// Returns the first thing that an event names and that is not there.
-fn event_warning(layout: &Layout, tally: &Tally, event: &Event) -> Option<Warning>
-{
+fn event_warning(layout: &Layout, tally: &Tally, event: &Event) -> Option<Warning> {
     match event {
         Event::KernelAlloc { order } => past(What::Order, order.0, layout.order() + 1),
         Event::KernelFree { frame } => past(What::Frame, frame.0, layout.frames()),

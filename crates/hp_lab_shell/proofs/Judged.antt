@@ -20,5 +20,6 @@ judged (Err fault) found faults agrees are =
 
 -- it is 0 just where reading takes the text
 pub status_is : (input : List ℕ) (found : List Finding) (faults status : ℕ) → Agrees (scenario_in input) found
-    → faults ≡ count_by is_fault found → status ≡ cond (faults == 0) 0 1 → status ≡ status_of (scenario_in input)
+    → faults ≡ count_by is_fault found → status ≡ cond (faults == 0) 0 1
+    → status ≡ status_of (scenario_in input)
 status_is input found faults status agrees are is = is ∙ judged (scenario_in input) found faults agrees are

@@ -27,10 +27,22 @@ const LIMITED: &[Checked] = &[
 /// Texts that are no lines, and what the report says of each: a number with a zero in front at the
 /// last place of each verb, words that are likely to be meant for a verb, and other letters in a name.
 const WANTED: &[Checked] = &[
-    ("0 kalloc 01", "`01` has a zero in front; wanted: C kalloc ORDER"),
-    ("0 kfree 01", "`01` has a zero in front; wanted: C kfree FRAME"),
-    ("0 map a 01", "`01` has a zero in front; wanted: C map NAME PAGE"),
-    ("0 unmap a 01", "`01` has a zero in front; wanted: C unmap NAME PAGE"),
+    (
+        "0 kalloc 01",
+        "`01` has a zero in front; wanted: C kalloc ORDER",
+    ),
+    (
+        "0 kfree 01",
+        "`01` has a zero in front; wanted: C kfree FRAME",
+    ),
+    (
+        "0 map a 01",
+        "`01` has a zero in front; wanted: C map NAME PAGE",
+    ),
+    (
+        "0 unmap a 01",
+        "`01` has a zero in front; wanted: C unmap NAME PAGE",
+    ),
     (
         "0 write a 0 0 01",
         "`01` has a zero in front; wanted: C write NAME PAGE INDEX VALUE",
@@ -39,13 +51,19 @@ const WANTED: &[Checked] = &[
         "0 read a 0 01",
         "`01` has a zero in front; wanted: C read NAME PAGE INDEX",
     ),
-    ("0 drain 01", "`01` has a zero in front; wanted: C drain CPU"),
+    (
+        "0 drain 01",
+        "`01` has a zero in front; wanted: C drain CPU",
+    ),
     (
         "0 online 0 Normal",
         "`Normal` has capital letters; wanted: C online BLOCK ZONE, where ZONE is normal or \
          movable",
     ),
-    ("0 remove 01", "`01` has a zero in front; wanted: C remove BLOCK"),
+    (
+        "0 remove 01",
+        "`01` has a zero in front; wanted: C remove BLOCK",
+    ),
     (
         "0 begin off 01",
         "`01` has a zero in front; wanted: C begin ITEM .., where an ITEM is off BLOCK, normal \
@@ -55,10 +73,22 @@ const WANTED: &[Checked] = &[
         "0 drainfor 4294967296 01",
         "`01` has a zero in front; wanted: C drainfor OP CPU",
     ),
-    ("0 migrate 01", "`01` has a zero in front; wanted: C migrate OP"),
-    ("0 commit 01", "`01` has a zero in front; wanted: C commit OP"),
-    ("0 cancel 01", "`01` has a zero in front; wanted: C cancel OP"),
-    ("0 undo 01", "`01` has a zero in front; wanted: C undo SERIAL"),
+    (
+        "0 migrate 01",
+        "`01` has a zero in front; wanted: C migrate OP",
+    ),
+    (
+        "0 commit 01",
+        "`01` has a zero in front; wanted: C commit OP",
+    ),
+    (
+        "0 cancel 01",
+        "`01` has a zero in front; wanted: C cancel OP",
+    ),
+    (
+        "0 undo 01",
+        "`01` has a zero in front; wanted: C undo SERIAL",
+    ),
     (
         "0 plan 1 off 01",
         "`01` has a zero in front; wanted: C plan TURNS ITEM .., where an ITEM is off BLOCK, \
@@ -71,9 +101,18 @@ const WANTED: &[Checked] = &[
         "0 probe 0",
         "its second word is no verb; perhaps C echo 0xADDRESS probe",
     ),
-    ("0 alloc 0", "its second word is no verb; perhaps C kalloc ORDER"),
-    ("0 free 0", "its second word is no verb; perhaps C kfree FRAME"),
-    ("0 abort 0", "its second word is no verb; perhaps C cancel OP"),
+    (
+        "0 alloc 0",
+        "its second word is no verb; perhaps C kalloc ORDER",
+    ),
+    (
+        "0 free 0",
+        "its second word is no verb; perhaps C kfree FRAME",
+    ),
+    (
+        "0 abort 0",
+        "its second word is no verb; perhaps C cancel OP",
+    ),
     (
         "0  seal",
         "its second word is no verb; perhaps it has a space too many",
@@ -91,18 +130,45 @@ const WANTED: &[Checked] = &[
 /// Texts at whose end the reader of JSON stops, and what the report says: a comma too many, a
 /// character that is odd there, and neither.
 const STOPPED: &[Checked] = &[
-    ("[1, ]", "line 1, column 5: not JSON: a comma too many before it"),
-    ("[1,\n\n]", "line 3, column 1: not JSON: a comma too many before it"),
-    ("{\"a\": 1, }", "line 1, column 10: not JSON: a comma too many before it"),
-    ("[1,,", "line 1, column 4: not JSON: a comma too many before it"),
-    ("{\"a\": 1 , ,", "line 1, column 11: not JSON: a comma too many before it"),
+    (
+        "[1, ]",
+        "line 1, column 5: not JSON: a comma too many before it",
+    ),
+    (
+        "[1,\n\n]",
+        "line 3, column 1: not JSON: a comma too many before it",
+    ),
+    (
+        "{\"a\": 1, }",
+        "line 1, column 10: not JSON: a comma too many before it",
+    ),
+    (
+        "[1,,",
+        "line 1, column 4: not JSON: a comma too many before it",
+    ),
+    (
+        "{\"a\": 1 , ,",
+        "line 1, column 11: not JSON: a comma too many before it",
+    ),
     ("[\",\", \"a,\" }", "line 1, column 12: not JSON"),
     ("[}", "line 1, column 2: not JSON"),
     ("[1, 2}", "line 1, column 6: not JSON"),
-    ("{\u{a0}", "line 1, column 2: not JSON: unexpected `\\u00a0`"),
-    ("[1,\u{200b}", "line 1, column 4: not JSON: unexpected `\\u200b`"),
-    ("[\n\u{feff}", "line 2, column 1: not JSON: unexpected `\\ufeff`"),
-    ("{\u{201c}", "line 1, column 2: not JSON: unexpected `\u{201c}`"),
+    (
+        "{\u{a0}",
+        "line 1, column 2: not JSON: unexpected `\\u00a0`",
+    ),
+    (
+        "[1,\u{200b}",
+        "line 1, column 4: not JSON: unexpected `\\u200b`",
+    ),
+    (
+        "[\n\u{feff}",
+        "line 2, column 1: not JSON: unexpected `\\ufeff`",
+    ),
+    (
+        "{\u{201c}",
+        "line 1, column 2: not JSON: unexpected `\u{201c}`",
+    ),
 ];
 
 /// Lines that hardly do what is wanted, beside those above: files, addresses and operations. The
@@ -204,15 +270,17 @@ fn other_texts_have_their_report(rt: HostRuntime) -> Result<(), Fail> {
 }
 
 /// A scenario up to its one call.
-const ONE_CALL: &str = "{\"layout\":{\"order\":1,\"pageblocks\":1,\"blocks\":1,\"cpus\":1,\"batch\":1,\
+const ONE_CALL: &str =
+    "{\"layout\":{\"order\":1,\"pageblocks\":1,\"blocks\":1,\"cpus\":1,\"batch\":1,\
     \"high\":1,\"owners\":1,\"pages\":1,\"words\":1,\"history\":1,\"boot\":[\"normal\"]},\"calls\":[\"";
 
 /// Returns whether the report says this of a text that is the one entry of `calls`, and no line.
 fn is_wanted(alloc: Global, call: &str, said: &str) -> Result<bool, AllocError> {
     let head = ONE_CALL;
     let text = format!(in alloc; "{head}{call}\"]}}")?;
-    let expected =
-        format!(in alloc; "calls 1 (line 1): `{call}`: {said}\nfaults: 1, warnings: 0\n")?;
+    let expected = format!(in alloc;
+        "calls 1 (line 1): `{call}`: {said}\nfaults: 1, warnings: 0\n"
+    )?;
     has_report(alloc, &text, &expected)
 }
 

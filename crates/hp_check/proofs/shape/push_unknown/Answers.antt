@@ -8,4 +8,5 @@ loop-name-init c = (true, none_added IsShape _)
 
 pub loop-name-preserved : goal.loop-name-preserved
 loop-name-preserved c =
-    (c.loop-name.invariant.0 && false, both_lack c.loop-name.invariant.0 false c.loop-name.invariant.1 c.in_ok-push.ensures)
+    let fine = c.loop-name.invariant.0 in
+    (fine && false, both_lack fine false c.loop-name.invariant.1 c.in_ok-push.ensures)
