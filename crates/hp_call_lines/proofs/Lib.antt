@@ -1,3 +1,1 @@
 mod Lines
-mod Walked
-mod Looked

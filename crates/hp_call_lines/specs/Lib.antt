@@ -1,3 +1,2 @@
 pub mod EntryLines
 pub mod Lexemes
-pub mod Looks

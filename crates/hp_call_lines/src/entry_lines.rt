@@ -1,40 +1,27 @@
-//! In which lines of a scenario's text the entries of `calls` begin.
-ghost use Rattle.std.specs.Prelude.{◌≡◌, ◌+◌, ◌^◌, ◌<◌, IfOk, OnOk};
-ghost use Rattle.hp_call_lines.specs.EntryLines as means;
+//! The lines of a scenario's text in which the entries of `calls` begin.
+ghost use Rattle.std.specs.Prelude.{◌≡◌, ℕ, ◌≤◌, ◌+◌, ◌^◌, ◌<◌, List, [], true, IfOk, OnOk, is_some};
+ghost use Rattle.hp_call_lines.specs.EntryLines.{AreSignLines, KeepSignLines, line_after as line_then};
 
 use crate::lexemes::{Lexeme, Mode, lexeme_at, mode_after};
 use std::alloc::{AllocError, Global};
-use std::marker::Model;
 
-/// Where a JSON text is, after some of its lexemes: how many brackets are open, and what these
-/// lexemes say of `calls`.
+/// A walk over the lexemes of a JSON text: how many brackets are open, and what came of `calls`.
 #[derive(Drop)]
 struct Walk {
     depth: u64,
+    /// Whether the last key of the whole is `calls`.
     is_key_calls: bool,
     is_in_calls: bool,
     is_entry_next: bool,
+    /// The lines in which the entries so far begin.
     lines: Vec<u64>,
 }
 
-impl Model for Walk {
-    ghost use Rattle.hp_call_lines.specs.EntryLines.{WalkValue};
-
-    ghost Value = { WalkValue };
-
-    ghost view = { λ w. record {
-      depth = w.depth;
-      is_key_calls = w.is_key_calls;
-      is_in_calls = w.is_in_calls;
-      is_entry_next = w.is_entry_next;
-      lines = w.lines.items;
-    } };
-}
-
 impl Walk {
-    /// Before the first lexeme.
+    /// Makes a walk before the first lexeme.
     fn new(alloc: Global) -> Walk
-        ensures { result ≡ means.at_start }
+        ensures depth { result.depth ≡ 0 }
+        ensures lines { result.lines.items ≡ [] }
     {
         Walk {
             depth: 0,
@@ -45,22 +32,16 @@ impl Walk {
         }
     }
 
-    /// Goes past a lexeme that begins in this line, if there is one. An error is out of memory.
+    /// Goes past a lexeme that begins in this line, if there is one.
     fn pass(&mut self, line: u64, lexeme: Option<Lexeme>) -> Result<(), AllocError>
         requires { self.old.depth + 1 < 2 ^ 64 }
-        ensures { OnOk result (self.new ≡ means.past self.old line lexeme) }
+        ensures depth { OnOk result (self.new.depth ≤ self.old.depth + 1) }
+        ensures lines { OnOk result
+            (KeepSignLines (is_some lexeme) line self.old.lines.items self.new.lines.items) }
     {
-        match lexeme {
-            Some(lexeme) => self.pass_lexeme(line, lexeme),
-            None => Ok(()),
-        }
-    }
-
-    /// Goes past a lexeme that begins in this line. An error is out of memory.
-    fn pass_lexeme(&mut self, line: u64, lexeme: Lexeme) -> Result<(), AllocError>
-        requires { self.old.depth + 1 < 2 ^ 64 }
-        ensures { OnOk result (self.new ≡ means.past_lexeme self.old line lexeme) }
-    {
+        let Some(lexeme) = lexeme else {
+            return Ok(());
+        };
         match lexeme {
             Lexeme::Calls => self.pass_text(line, true),
             Lexeme::Text => self.pass_text(line, false),
@@ -87,9 +68,10 @@ impl Walk {
         }
     }
 
-    /// Notes the line in which an entry begins, where one is next. An error is out of memory.
+    /// Notes the line in which an entry begins, if one is next.
     fn note(&mut self, line: u64) -> Result<(), AllocError>
-        ensures { OnOk result (self.new ≡ means.noted self.old line) }
+        ensures depth { OnOk result (self.new.depth ≡ self.old.depth) }
+        ensures lines { OnOk result (KeepSignLines true line self.old.lines.items self.new.lines.items) }
     {
         if self.is_entry_next {
             self.lines.push(line)?;
@@ -98,10 +80,10 @@ impl Walk {
         Ok(())
     }
 
-    /// Goes past a text. At depth 1 it is a key, or the value of one that is not `calls`. An error
-    /// is out of memory.
+    /// Goes past a text. At depth 1 it is a key, or the value of one that is not `calls`.
     fn pass_text(&mut self, line: u64, is_calls: bool) -> Result<(), AllocError>
-        ensures { OnOk result (self.new ≡ means.past_text (means.noted self.old line) is_calls) }
+        ensures depth { OnOk result (self.new.depth ≡ self.old.depth) }
+        ensures lines { OnOk result (KeepSignLines true line self.old.lines.items self.new.lines.items) }
     {
         self.note(line)?;
         if self.depth == 1 {
@@ -110,10 +92,12 @@ impl Walk {
         Ok(())
     }
 
-    /// Goes into a list, where that at the key `calls` is begun anew.
+    /// Goes into a list. A list at the key `calls` forgets the lines of an earlier one.
     fn open_list(&mut self)
         requires { self.old.depth + 1 < 2 ^ 64 }
-        ensures { self.new ≡ means.in_list self.old }
+        ensures depth { self.new.depth ≡ self.old.depth + 1 }
+        ensures lines { (input : List ℕ) → AreSignLines input self.old.lines.items
+            → AreSignLines input self.new.lines.items }
     {
         if self.depth == 1 && self.is_key_calls {
             self.is_in_calls = true;
@@ -125,7 +109,8 @@ impl Walk {
 
     /// Goes out of a list or an object.
     fn close(&mut self)
-        ensures { self.new ≡ means.closed self.old }
+        ensures depth { self.new.depth ≤ self.old.depth }
+        ensures lines { self.new.lines.items ≡ self.old.lines.items }
     {
         self.depth = self.depth.saturating_sub(1);
         self.is_entry_next = false;
@@ -135,11 +120,10 @@ impl Walk {
     }
 }
 
-/// The line of the text in which each entry of `calls` begins, counted from 1. Where the key comes
-/// twice, those of the last list. An error is out of memory.
+/// Returns the line of the text in which each entry of `calls` begins, counted from 1. If the key comes
+/// twice, the last list counts.
 pub fn call_lines(alloc: Global, input: &[u8]) -> Result<Vec<u64>, AllocError>
-    ensures exact { IfOk result (λ lines. lines.items ≡ means.call_lines input.now) }
-    ensures signs { IfOk result (λ lines. means.AreSignLines input.now lines.items) }
+    ensures signs { IfOk result (λ lines. AreSignLines input.now lines.items) }
 {
     let mut walk = Walk::new(alloc);
     let mut mode = Mode::Between;
@@ -153,10 +137,10 @@ pub fn call_lines(alloc: Global, input: &[u8]) -> Result<Vec<u64>, AllocError>
     Ok(walk.lines)
 }
 
-/// The line after a byte of this line.
+/// Returns the line after a byte of this line.
 fn line_after(line: u64, byte: u8) -> u64
     requires { line + 1 < 2 ^ 64 }
-    ensures { result ≡ means.line_after line byte }
+    ensures { result ≡ line_then line byte }
 {
     if byte == b'\n' { line + 1 } else { line }
 }

@@ -1,10 +1,11 @@
-//! In which line of a JSON text each entry of the list at its key `calls` begins.
+//! The line of a JSON text in which each entry of the list at its key `calls` begins.
 //!
 //! The crate owns the walk over a text's signs, words and texts that finds these lines, and what else
-//! is seen on such a walk: how deep brackets nest, comments, and how often a key stands at a depth.
-//! It reads no number and no escape, stands on no other crate of ours, and takes any bytes.
+//! such a walk can see: how deep brackets nest, comments, how often a key comes at a depth, and the
+//! place at a line and a column. It reads no number and no escape, and takes any bytes.
 //!
-//! Read specs/EntryLines first: what `call_lines` promises; then specs/Lexemes and specs/Looks.
+//! Read specs/EntryLines first: what `call_lines` promises. Which lines and counts a text has is
+//! tested (lab_tests).
 #![tactic(auto)]
 
 mod entry_lines;
@@ -12,4 +13,4 @@ mod lexemes;
 mod looks;
 
 pub use entry_lines::call_lines;
-pub use looks::{has_comment, is_blank, keys_at, nests_deeper};
+pub use looks::{halves_at, has_comment, is_blank, keys_at, nests_deeper};

@@ -1,117 +1,283 @@
--- The first finding is the fault that reading gives.
-use Rattle.std.proofs.Common.{◌≡◌, ℕ, zero, suc, ◌+◌, ◌≤◌, Bool, true, false, cond, List, [], ◌∷◌, ◌++◌, codes, count_by, drop, length, slice_get, take, Option, Some, None, Result, Ok, Err, refl, sym, ap, subst, ◌∙◌, arith}
+-- The first finding is the fault that reading gives, and each has its cause.
+use Rattle.std.proofs.Common.{◌≡◌, ℕ, ◌+◌, ◌≤◌, Bool, true, false, cond, List, [], ◌∷◌, ◌++◌, codes, count_by, length, Option, Some, None, Result, Ok, Err, is_some, option_and_then, refl, sym, ap, subst, ◌∙◌, arith}
+use Rattle.std.specs.List.{All}
+use Rattle.std.specs.Option.{option_map, option_or}
+use Rattle.std.proofs.lemmas.List.Elements.{All-head, All-nil, All-tail, All-weaker}
 use Rattle.std.proofs.lemmas.List.Sums.{sum_by-append}
+use Rattle.std.proofs.lemmas.Option.{same_Some}
 use Rattle.serde_json.specs.Data.{Data}
 use Rattle.serde_json.specs.Find.{get}
 use Rattle.hp_units.specs.LayoutParts.{LayoutParts, layout_fault}
 use Rattle.hp_units.specs.declared.layouts.LayoutFault.{LayoutFault}
-use Rattle.hp_scenario.specs.Form.{Form, form_of}
+use Rattle.hp_scenario.specs.Form.{Form, boots_at, form_of, has_keys, parts_of, parts_with, texts_at}
 use Rattle.hp_scenario.specs.Gives.{◌>>=◌, or_fault}
 use Rattle.hp_scenario.specs.Scenario.{ScenarioValue, Script, json_of, layout_or, lines_from, nothing, scenario_in, scenario_of, scenario_with}
 use Rattle.hp_scenario.specs.declared.fault.ScenarioFault.{ScenarioFault}
 use Rattle.hp_scenario.specs.declared.fault.ScenarioFault.TheVariants.{NotJson, BadShape, Layout, BadLine, NotForRun, OutOfMemory}
-use Rattle.hp_scenario.specs.declared.lines.Line.{Line}
-use Rattle.hp_check.specs.Calls.{call_faults_in}
-use Rattle.hp_check.specs.Checking.{AreFaults, AreFindingsOf, faults_in}
-use Rattle.hp_check.specs.Each.{each_below}
-use Rattle.std.specs.Prelude.{nat_lt}
-use Rattle.std.specs.List.{flat_map}
-use Rattle.hp_call_lines.specs.Looks.{keys_at}
-use Rattle.hp_check.specs.Findings.{is_fault, key_quoted, keys_of}
-use Rattle.hp_check.specs.Laws.{Agrees, Begins, FirstFindingsAgree, IsFindingOf}
-use Rattle.hp_check.specs.Ranges.{parts_in, range_faults, range_faults_of}
-use Rattle.hp_check.specs.Repeats.{depth_of, or_others, repeat_of, repeats_in}
-use Rattle.hp_check.specs.Shape.{shape_faults}
-use Rattle.hp_check.specs.Tally.{TallyValue, after_lines, before_scripts, no_lines}
-use Rattle.hp_check.specs.Warnings.{both_warnings, line_warning, part_warnings, warned, warned_at, warnings_of}
+use Rattle.hp_check.specs.Adds.{Adds, IsFirst, IsLayout, IsNotJson, IsRepeat, IsShape, IsWarning, ValueCause, fault_in, first_at, lacks, limit_fault, limit_fault_of}
+use Rattle.hp_check.specs.Calls.{IsBadCall, entries_in, entry_fault}
+use Rattle.hp_check.specs.Checking.{Agrees, Begins, HasCause, HaveCauses, IsFindingOf, IsPastLimits}
+use Rattle.hp_check.specs.Findings.{is_fault}
+use Rattle.hp_check.specs.Ranges.{parts_in}
 use Rattle.hp_check.specs.declared.finding.Finding.{Finding}
 use Rattle.hp_check.specs.declared.finding.Finding.TheVariants as finding
 use Rattle.hp_check.specs.declared.finding.Key.{Key}
 use Rattle.hp_check.specs.declared.finding.Place.{Place}
-use Rattle.hp_check.specs.declared.finding.Place.TheVariants as place
 use Rattle.hp_check.specs.declared.finding.Warning.{Warning}
-use Rattle.hp_check.proofs.CallsAgree.{calls_begin}
-use Rattle.hp_check.proofs.Fronts.{begins_after, begins_left, begins_of_three}
-use Rattle.hp_check.proofs.RangesAgree.{range_begins, range_fine}
-use Rattle.hp_check.proofs.Shapes.{IsMade, parts_are, shape_fine, shape_lacks}
+use Rattle.hp_check.proofs.Added.{both_added, by_cause, of_fault}
+use Rattle.hp_check.proofs.Entries.{calls_stop}
 
--- ---- a scenario has no fault
+-- ---- what a form comes of
 
-warned_none : (number : ℕ) (o : Option Warning) → count_by is_fault (warned number o) ≡ 0
-warned_none number None = refl
-warned_none number (Some w) = refl
+-- its parts are those that are looked at, and its texts the entries of `calls`
+pub record IsMade (d : Data) (form : Form) : Type 0 where
+  pub parts : parts_in d ≡ Some form.parts
+  pub calls : texts_at (codes "calls") d ≡ Some form.calls
 
-warned_at_none : (l : LayoutParts) (t : TallyValue) (number : ℕ) (o : Option Line)
-    → count_by is_fault (warned_at l t number o) ≡ 0
-warned_at_none l t number None = refl
-warned_at_none l t number (Some line) = warned_none number (line_warning l t line)
+abbrev pub form_made : LayoutParts → List (List ℕ) → Form
+form_made parts calls = record { parts = parts; calls = calls }
 
-each_none_fault : (f : ℕ → List Finding) (n : ℕ) → ((k : ℕ) → count_by is_fault (f k) ≡ 0)
-    → count_by is_fault (each_below f n) ≡ 0
-unfolding each_below
-each_none_fault f zero h = refl
-each_none_fault f (suc n) h =
-    sum_by-append (λ x. cond (is_fault x) 1 0) (each_below f n) (f n)
-    ∙ omega (arith, each_none_fault f n h, h n)
+if_some : {A : Type 0} (b : Bool) (o : Option A) (x : A) → cond b o None ≡ Some x → o ≡ Some x
+if_some false o x h = absurd cc
+if_some true o x h = h
 
-part_none : (l : LayoutParts) (t : TallyValue) (before : ℕ) (lines : List Line)
-    → count_by is_fault (part_warnings l t before lines) ≡ 0
-part_none l t before lines =
-    each_none_fault
-    (λ place.
-    warned_at l (after_lines l.history t (take place lines)) (before + place + 1) (slice_get lines place))
-    (length lines) (λ k.
-    warned_at_none l (after_lines l.history t (take k lines)) (before + k + 1) (slice_get lines k))
+parts_read : (l : Data) (p : LayoutParts) → parts_of l ≡ Some p
+    → option_and_then (λ boot. parts_with boot l) (boots_at (codes "boot") l) ≡ Some p
+unfolding parts_of
+parts_read l p h =
+    if_some (has_keys 11 l) (option_and_then (λ boot. parts_with boot l) (boots_at (codes "boot") l)) p h
 
-both_none : (l : LayoutParts) (setup scripts : List Line)
-    → count_by is_fault (both_warnings l setup scripts) ≡ 0
-both_none l setup scripts =
-    let known = before_scripts scripts (after_lines l.history no_lines setup) in
-    sum_by-append (λ x. cond (is_fault x) 1 0) (part_warnings l no_lines 0 setup)
-    (part_warnings l known (length setup) scripts)
-    ∙ omega (arith, part_none l no_lines 0 setup, part_none l known (length setup) scripts)
+both_made : (parts : Option LayoutParts) (texts : Option (List (List ℕ))) (form : Form)
+    → option_and_then (λ p. option_and_then (λ ts. Some (form_made p ts)) texts) parts ≡ Some form
+    → (parts ≡ Some form.parts) × (texts ≡ Some form.calls)
+both_made None texts form h = absurd cc
+both_made (Some p) None form h = absurd cc
+both_made (Some p) (Some ts) form h =
+    let same : form_made p ts ≡ form = same_Some (form_made p ts) form h in
+    (ap (λ (f : Form). Some f.parts) same, ap (λ (f : Form). Some f.calls) same)
 
-warnings_none : (l : LayoutParts) (setup : ℕ) (lines : List Line)
-    → count_by is_fault (warnings_of l setup lines) ≡ 0
-unfolding warnings_of
-warnings_none l setup lines = both_none l (take setup lines) (drop setup lines)
+made_of : (d : Data) (layout : Option Data) (form : Form) → get (codes "layout") d ≡ layout
+    → option_and_then (λ l. option_and_then (λ p. option_and_then (λ ts. Some (form_made p ts))
+    (texts_at (codes "calls") d)) (parts_of l)) layout ≡ Some form
+    → IsMade d form
+unfolding parts_in
+made_of d None form e h = absurd cc
+made_of d (Some l) form e h =
+    let two = both_made (parts_of l) (texts_at (codes "calls") d) form h in record {
+      parts =
+          ap (option_and_then (λ layout. option_and_then (λ boot. parts_with boot layout)
+          (boots_at (codes "boot") layout))) e ∙ parts_read l form.parts two.0;
+      calls = two.1;
+    }
 
-repeat_none : (b : Bool) (p : Place) (k : Key)
-    → count_by is_fault (cond b (finding.Repeat p k ∷ []) []) ≡ 0
-repeat_none true p k = refl
-repeat_none false p k = refl
+form_is_made : (d : Data) (form : Form) → form_of d ≡ Some form → IsMade d form
+unfolding form_of
+form_is_made d form h = made_of d (get (codes "layout") d) form refl (if_some (has_keys 2 d) _ form h)
 
-keys_none : (input : List ℕ) (p : Place) (ks : List Key)
-    → count_by is_fault (flat_map (repeat_of input p) ks) ≡ 0
-keys_none input p [] = refl
-keys_none input p (k ∷ ks) =
-    sum_by-append (λ x. cond (is_fault x) 1 0) (repeat_of input p k) (flat_map (repeat_of input p) ks)
-    ∙ omega (
+-- ---- the first fault of a value
+
+abbrev pub with_script : LayoutParts → Result Script ScenarioFault → Result ScenarioValue ScenarioFault
+with_script layout r =
+    r >>= λ script. Ok (record { layout = layout; names = script.names; lines = script.lines })
+
+script_fault : (layout : LayoutParts) (r : Result Script ScenarioFault)
+    → fault_in r ≡ fault_in (with_script layout r)
+script_fault layout (Ok script) = refl
+script_fault layout (Err fault) = refl
+
+abbrev pub after_layout : Form → Option LayoutFault → Result ScenarioValue ScenarioFault
+after_layout form o =
+    layout_or form.parts o >>= λ layout. with_script layout (lines_from 1 nothing form.calls)
+
+form_fault : (form : Form) → scenario_with form ≡ after_layout form (layout_fault form.parts)
+unfolding scenario_with
+form_fault form = refl
+
+layout_then_lines : (form : Form) (lines : Option ScenarioFault) (o : Option LayoutFault)
+    → lines ≡ fault_in (lines_from 1 nothing form.calls)
+    → option_or (option_map Layout o) lines ≡ fault_in (after_layout form o)
+layout_then_lines form lines (Some fault) e = refl
+layout_then_lines form lines None e = e ∙ script_fault form.parts (lines_from 1 nothing form.calls)
+
+abbrev pub all_faults : Data → Bool → Option LayoutParts → Option ScenarioFault
+all_faults d fine parts =
+    option_or (option_or (lacks fine) (limit_fault_of parts)) (first_at entry_fault 1 (entries_in d))
+
+value_fault_of : (d : Data) (o : Option Form) → form_of d ≡ o
+    → all_faults d (is_some o) (parts_in d) ≡ fault_in (or_fault BadShape o >>= scenario_with)
+value_fault_of d None e = refl
+value_fault_of d (Some form) e =
+    let m = form_is_made d form e in
+    ap (all_faults d true) m.parts
+    ∙ layout_then_lines form (first_at entry_fault 1 (entries_in d)) (layout_fault form.parts)
+    (calls_stop d nothing form.calls m.calls)
+    ∙ ap fault_in (sym (form_fault form))
+
+value_fault : (d : Data) → all_faults d (is_some (form_of d)) (parts_in d) ≡ fault_in (scenario_of d)
+unfolding scenario_of
+value_fault d = value_fault_of d (form_of d) refl
+
+-- ---- causes
+
+-- where findings were added there is a fault
+by_fault : {P Q : Finding → Type 0} (fault : Option ScenarioFault) {old new : List Finding}
+    → (is_some fault ≡ true → (f : Finding) → P f → Q f) → Adds P fault old new → Adds Q fault old new
+by_fault {P} {Q} None why h = record {
+  added = h.added;
+  is = h.is;
+  each = subst (All Q) (sym h.first) (All-nil Q);
+  first = h.first;
+}
+by_fault (Some fault) why h = by_cause (why refl) h
+
+formless : (d : Data) (o : Option Form) → form_of d ≡ o → is_some (lacks (is_some o)) ≡ true
+    → form_of d ≡ None
+formless d None e h = e
+formless d (Some form) e h = absurd cc
+
+shape_cause : (d : Data) → is_some (lacks (is_some (form_of d))) ≡ true
+    → (f : Finding) → IsShape f → ValueCause d f
+shape_cause d h (finding.Shape s) is = formless d (form_of d) refl h
+shape_cause d h (finding.NotJson hint line column) is = is
+shape_cause d h (finding.Layout out) is = absurd is
+shape_cause d h (finding.BadCall number text) is = absurd is
+shape_cause d h (finding.Repeat place k) is = is
+shape_cause d h (finding.Warning number w) is = is
+
+past_limits : (d : Data) (parts : Option LayoutParts) → parts_in d ≡ parts
+    → is_some (limit_fault_of parts) ≡ true → IsPastLimits d
+past_limits d None e h = absurd cc
+past_limits d (Some l) e h = (l, e, some_fault_of (layout_fault l) h)
+  where
+    some_fault_of : (o : Option LayoutFault) → is_some (option_map Layout o) ≡ true → is_some o ≡ true
+    some_fault_of None h = absurd cc
+    some_fault_of (Some fault) h = refl
+
+layout_cause : (d : Data) → is_some (limit_fault_of (parts_in d)) ≡ true
+    → (f : Finding) → IsLayout f → ValueCause d f
+layout_cause d h (finding.Layout out) is = past_limits d (parts_in d) refl h
+layout_cause d h (finding.NotJson hint line column) is = is
+layout_cause d h (finding.Shape s) is = absurd is
+layout_cause d h (finding.BadCall number text) is = absurd is
+layout_cause d h (finding.Repeat place k) is = is
+layout_cause d h (finding.Warning number w) is = is
+
+call_cause : (d : Data) (f : Finding) → IsBadCall (entries_in d) f → ValueCause d f
+call_cause d (finding.BadCall number text) is = is
+call_cause d (finding.NotJson hint line column) is = is
+call_cause d (finding.Shape s) is = absurd is
+call_cause d (finding.Layout out) is = absurd is
+call_cause d (finding.Repeat place k) is = is
+call_cause d (finding.Warning number w) is = is
+
+-- all that is wrong with a value: its shape, its layout, its lines
+pub value_found : (d : Data) (old shape limits new : List Finding)
+    → Adds IsShape (lacks (is_some (form_of d))) old shape
+    → Adds IsLayout (limit_fault_of (parts_in d)) shape limits
+    → Adds (IsBadCall (entries_in d)) (first_at entry_fault 1 (entries_in d)) limits new
+    → Adds (ValueCause d) (fault_in (scenario_of d)) old new
+value_found d old shape limits new one two three =
+    of_fault (value_fault d)
+    (both_added
+    (both_added (by_fault (lacks (is_some (form_of d))) (shape_cause d) one)
+    (by_fault (limit_fault_of (parts_in d)) (layout_cause d) two))
+    (by_cause (call_cause d) three))
+
+text_cause : (input : List ℕ) (d : Data) → json_of input ≡ Some d → (f : Finding) → ValueCause d f
+    → HasCause input f
+text_cause input d e (finding.Shape s) h = (d, e, h)
+text_cause input d e (finding.Layout out) h = (d, e, h)
+text_cause input d e (finding.BadCall number text) h = (d, e, h)
+text_cause input d e (finding.NotJson hint line column) h = absurd h
+text_cause input d e (finding.Repeat place k) h = absurd h
+text_cause input d e (finding.Warning number w) h = absurd h
+
+json_cause : (input : List ℕ) → json_of input ≡ None → (f : Finding) → IsNotJson f → HasCause input f
+json_cause input e (finding.NotJson hint line column) h = e
+json_cause input e (finding.Shape s) h = absurd h
+json_cause input e (finding.Layout out) h = absurd h
+json_cause input e (finding.BadCall number text) h = absurd h
+json_cause input e (finding.Repeat place k) h = absurd h
+json_cause input e (finding.Warning number w) h = absurd h
+
+-- the faults of a text that is JSON, and of one that is none
+pub text_found : (input : List ℕ) (d : Data) (found : List Finding) → json_of input ≡ Some d
+    → Adds (ValueCause d) (fault_in (scenario_of d)) [] found
+    → Adds (HasCause input) (fault_in (scenario_in input)) [] found
+unfolding scenario_in
+text_found input d found e h =
+    of_fault (ap (λ (o : Option Data). fault_in (or_fault NotJson o >>= scenario_of)) (sym e))
+    (by_cause (text_cause input d e) h)
+
+pub no_json_found : (input : List ℕ) (found : List Finding) → json_of input ≡ None
+    → Adds IsNotJson (Some NotJson) [] found
+    → Adds (HasCause input) (fault_in (scenario_in input)) [] found
+unfolding scenario_in
+no_json_found input found e h =
+    of_fault (ap (λ (o : Option Data). fault_in (or_fault NotJson o >>= scenario_of)) (sym e))
+    (by_cause (json_cause input e) h)
+
+-- ---- what is promised
+
+warning_cause : (input : List ℕ) (s : ScenarioValue) → scenario_in input ≡ Ok s
+    → (f : Finding) → IsWarning (length s.lines) f → HasCause input f
+warning_cause input s e (finding.Repeat place k) h = (s, e, tt)
+warning_cause input s e (finding.Warning number w) h = (s, e, h)
+warning_cause input s e (finding.NotJson hint line column) h = absurd h
+warning_cause input s e (finding.Shape x) h = absurd h
+warning_cause input s e (finding.Layout out) h = absurd h
+warning_cause input s e (finding.BadCall number text) h = absurd h
+
+a_repeat_is_warning : (lines : ℕ) (f : Finding) → IsRepeat f → IsWarning lines f
+a_repeat_is_warning lines (finding.Repeat place k) h = tt
+a_repeat_is_warning lines (finding.Warning number w) h = absurd h
+a_repeat_is_warning lines (finding.NotJson hint line column) h = absurd h
+a_repeat_is_warning lines (finding.Shape s) h = absurd h
+a_repeat_is_warning lines (finding.Layout out) h = absurd h
+a_repeat_is_warning lines (finding.BadCall number text) h = absurd h
+
+pub repeats_are_warnings : (lines : ℕ) (found : List Finding) → All IsRepeat found
+    → All (IsWarning lines) found
+repeats_are_warnings lines found all =
+    All-weaker IsRepeat (IsWarning lines) (a_repeat_is_warning lines) found all
+
+pub warnings_have_causes : (input : List ℕ) (s : ScenarioValue) (found : List Finding)
+    → scenario_in input ≡ Ok s → All (IsWarning (length s.lines)) found → HaveCauses input found
+warnings_have_causes input s found e all =
+    All-weaker (IsWarning (length s.lines)) (HasCause input) (warning_cause input s e) found all
+
+no_fault : (lines : ℕ) (f : Finding) → IsWarning lines f → is_fault f ≡ false
+no_fault lines (finding.Repeat place k) h = refl
+no_fault lines (finding.Warning number w) h = refl
+no_fault lines (finding.NotJson hint line column) h = absurd h
+no_fault lines (finding.Shape s) h = absurd h
+no_fault lines (finding.Layout out) h = absurd h
+no_fault lines (finding.BadCall number text) h = absurd h
+
+counted : (b : Bool) (f : Finding) (fs : List Finding) → is_fault f ≡ b
+    → count_by is_fault (f ∷ fs) ≡ cond b 1 0 + count_by is_fault fs
+counted b f fs h =
+    sum_by-append (λ x. cond (is_fault x) 1 0) (f ∷ []) fs
+    ∙ ap (λ (n : ℕ). n + count_by is_fault fs) (ap (λ (x : Bool). 0 + cond x 1 0) h ∙ one_more b)
+  where
+    one_more : (x : Bool) → 0 + cond x 1 0 ≡ cond x 1 0
+    one_more true = refl
+    one_more false = refl
+
+none_counted : (lines : ℕ) (found : List Finding) → All (IsWarning lines) found → count_by is_fault found ≡ 0
+none_counted lines [] all = refl
+none_counted lines (f ∷ fs) all =
+    omega (
       arith,
-      repeat_none (nat_lt 1 (keys_at (depth_of p) (key_quoted k) input)) p k,
-      keys_none input p ks,
+      counted false f fs (no_fault lines f (All-head (IsWarning lines) f fs all)),
+      none_counted lines fs (All-tail (IsWarning lines) f fs all),
     )
 
-others_none : (first others : List Finding) → count_by is_fault first ≡ 0 → count_by is_fault others ≡ 0
-    → count_by is_fault (or_others first others) ≡ 0
-others_none [] others first none = none
-others_none (one ∷ more) others first none = first
-
-repeats_none : (input : List ℕ) → count_by is_fault (repeats_in input) ≡ 0
-unfolding repeats_in
-repeats_none input =
-    others_none (flat_map (repeat_of input place.Whole) (keys_of place.Whole))
-    (flat_map (repeat_of input place.Layout) (keys_of place.Layout))
-    (keys_none input place.Whole (keys_of place.Whole))
-    (keys_none input place.Layout (keys_of place.Layout))
-
-all_none : (input : List ℕ) (l : LayoutParts) (setup : ℕ) (lines : List Line)
-    → count_by is_fault (repeats_in input ++ warnings_of l setup lines) ≡ 0
-all_none input l setup lines =
-    sum_by-append (λ x. cond (is_fault x) 1 0) (repeats_in input) (warnings_of l setup lines)
-    ∙ omega (arith, repeats_none input, warnings_none l setup lines)
-
--- ---- what is none begins with its fault
+pub warnings_agree : (input : List ℕ) (s : ScenarioValue) (found : List Finding) → scenario_in input ≡ Ok s
+    → All (IsWarning (length s.lines)) found → Agrees (scenario_in input) found
+warnings_agree input s found e all =
+    subst (λ (r : Result ScenarioValue ScenarioFault). Agrees r found) (sym e)
+    (none_counted (length s.lines) found all)
 
 not_a_warning : (fault : ScenarioFault) (number : ℕ) (w : Warning)
     → IsFindingOf fault (finding.Warning number w) → ⊥
@@ -122,8 +288,7 @@ not_a_warning (BadLine n) number w h = h
 not_a_warning (NotForRun n) number w h = h
 not_a_warning OutOfMemory number w h = h
 
-not_a_repeat : (fault : ScenarioFault) (p : Place) (k : Key)
-    → IsFindingOf fault (finding.Repeat p k) → ⊥
+not_a_repeat : (fault : ScenarioFault) (p : Place) (k : Key) → IsFindingOf fault (finding.Repeat p k) → ⊥
 not_a_repeat NotJson p k h = h
 not_a_repeat BadShape p k h = h
 not_a_repeat (Layout f) p k h = h
@@ -131,96 +296,33 @@ not_a_repeat (BadLine n) p k h = h
 not_a_repeat (NotForRun n) p k h = h
 not_a_repeat OutOfMemory p k h = h
 
-counted : (f : Finding) (fs : List Finding) → is_fault f ≡ true → 1 ≤ count_by is_fault (f ∷ fs)
-counted f fs h =
-    let more = sum_by-append (λ x. cond (is_fault x) 1 0) (f ∷ []) fs in
-    let one : count_by is_fault (f ∷ []) ≡ 1 = ap (λ (b : Bool). 0 + cond b 1 0) h in
-    omega (arith, more, one)
+first_is_fault : (fault : ScenarioFault) (f : Finding) → IsFindingOf fault f → is_fault f ≡ true
+first_is_fault fault (finding.NotJson hint line column) h = refl
+first_is_fault fault (finding.Shape s) h = refl
+first_is_fault fault (finding.Layout out) h = refl
+first_is_fault fault (finding.BadCall number text) h = refl
+first_is_fault fault (finding.Repeat p k) h = absurd (not_a_repeat fault p k h)
+first_is_fault fault (finding.Warning number w) h = absurd (not_a_warning fault number w h)
 
 some_fault : (fault : ScenarioFault) (found : List Finding) → Begins fault found → 1 ≤ count_by is_fault found
 some_fault fault [] h = absurd h
-some_fault fault (finding.NotJson hint line column ∷ fs) h =
-    counted (finding.NotJson hint line column) fs refl
-some_fault fault (finding.Shape s ∷ fs) h = counted (finding.Shape s) fs refl
-some_fault fault (finding.Layout out ∷ fs) h = counted (finding.Layout out) fs refl
-some_fault fault (finding.BadCall number text ∷ fs) h = counted (finding.BadCall number text) fs refl
-some_fault fault (finding.Repeat p k ∷ fs) h = absurd (not_a_repeat fault p k h)
-some_fault fault (finding.Warning number w ∷ fs) h = absurd (not_a_warning fault number w h)
+some_fault fault (f ∷ fs) h = omega (arith, counted true f fs (first_is_fault fault f h))
 
-same_fault : (a b : ScenarioFault) (r : Result ScenarioValue ScenarioFault) → r ≡ Err a → r ≡ Err b → a ≡ b
-same_fault a b r h k = cc
-
-abbrev pub with_script : LayoutParts → Result Script ScenarioFault → Result ScenarioValue ScenarioFault
-with_script layout r =
-    r >>= λ script. Ok (record { layout = layout; names = script.names; lines = script.lines })
-
-lines_fail : (layout : LayoutParts) (r : Result Script ScenarioFault) (fault : ScenarioFault)
-    → with_script layout r ≡ Err fault → r ≡ Err fault
-lines_fail layout (Ok script) fault h = absurd cc
-lines_fail layout (Err e) fault h = ap Err (same_fault e fault (with_script layout (Err e)) refl h)
-
-abbrev pub after_layout : Form → Option LayoutFault → Result ScenarioValue ScenarioFault
-after_layout form o =
-    layout_or form.parts o >>= λ layout. with_script layout (lines_from 1 nothing form.calls)
-
-form_fails : (form : Form) → scenario_with form ≡ after_layout form (layout_fault form.parts)
-unfolding scenario_with
-form_fails form = refl
-
-form_agrees : (d : Data) (form : Form) (fault : ScenarioFault) (o : Option LayoutFault)
-    → IsMade d (get (codes "layout") d) form → layout_fault form.parts ≡ o → after_layout form o ≡ Err fault
-    → Begins fault (range_faults_of (parts_in d) ++ call_faults_in d)
-form_agrees d form fault (Some f) m e h =
-    subst (λ (p : Option LayoutParts). Begins fault (range_faults_of p ++ call_faults_in d))
-    (sym (parts_are d form m))
-    (begins_left fault (range_faults form.parts) (call_faults_in d)
-    (subst (λ (x : ScenarioFault). Begins x (range_faults form.parts))
-    (same_fault (Layout f) fault (after_layout form (Some f)) refl h) (range_begins form.parts f e)))
-form_agrees d form fault None m e h =
-    subst (λ (p : Option LayoutParts). Begins fault (range_faults_of p ++ call_faults_in d))
-    (sym (parts_are d form m))
-    (begins_after fault (range_faults form.parts) (call_faults_in d) (range_fine form.parts e)
-    (calls_begin d nothing fault form.calls m.calls
-    (lines_fail form.parts (lines_from 1 nothing form.calls) fault h)))
-
-value_agrees_of : (d : Data) (fault : ScenarioFault) (o : Option Form) → form_of d ≡ o
-    → (or_fault BadShape o >>= scenario_with) ≡ Err fault
-    → Begins fault (shape_faults d ++ (range_faults_of (parts_in d) ++ call_faults_in d))
-value_agrees_of d fault None e h =
-    begins_left fault (shape_faults d) (range_faults_of (parts_in d) ++ call_faults_in d)
-    (subst (λ (x : ScenarioFault). Begins x (shape_faults d))
-    (same_fault BadShape fault (or_fault BadShape None >>= scenario_with) refl h) (shape_lacks d e))
-value_agrees_of d fault (Some form) e h =
-    let fine = shape_fine d form e in
-    begins_after fault (shape_faults d) (range_faults_of (parts_in d) ++ call_faults_in d) fine.0
-    (form_agrees d form fault (layout_fault form.parts) fine.1 refl (sym (form_fails form) ∙ h))
-
-value_agrees : (d : Data) (fault : ScenarioFault) → scenario_of d ≡ Err fault → Begins fault (faults_in d)
-unfolding scenario_of faults_in
-value_agrees d fault h =
-    begins_of_three fault (shape_faults d) (range_faults_of (parts_in d)) (call_faults_in d)
-    (value_agrees_of d fault (form_of d) refl h)
-
--- ---- both
-
-text_agrees : (input : List ℕ) (found : List Finding) (fault : ScenarioFault) (o : Option Data)
-    → (or_fault NotJson o >>= scenario_of) ≡ Err fault → AreFaults input o found → Begins fault found
-text_agrees input found fault None h are =
-    subst (λ (x : ScenarioFault). Begins x found) (same_fault NotJson fault
-    (or_fault NotJson None >>= scenario_of) refl h) (subst (Begins NotJson) (sym are.2) tt)
-text_agrees input found fault (Some d) h are = subst (Begins fault) (sym are) (value_agrees d fault h)
-
-agrees_of : (input : List ℕ) (setup : ℕ) (found : List Finding) (r : Result ScenarioValue ScenarioFault)
-    → (or_fault NotJson (json_of input) >>= scenario_of) ≡ r → AreFindingsOf r input setup found
+agrees_of : (r : Result ScenarioValue ScenarioFault) (found : List Finding) → IsFirst (fault_in r) found
     → Agrees r found
-agrees_of input setup found (Ok s) e are =
-    subst (λ (fs : List Finding). count_by is_fault fs ≡ 0) (sym are) (all_none input s.layout setup s.lines)
-agrees_of input setup found (Err fault) e are =
-    let first = text_agrees input found fault (json_of input) e are in (first, some_fault fault found first)
+agrees_of (Ok s) found h = ap (count_by is_fault) h
+agrees_of (Err fault) found h = (h, some_fault fault found h)
 
-scenario_is : (input : List ℕ) → (or_fault NotJson (json_of input) >>= scenario_of) ≡ scenario_in input
-unfolding scenario_in
-scenario_is input = refl
+-- what was added to nothing is all
+all_added : {P : Finding → Type 0} {fault : Option ScenarioFault} {found : List Finding}
+    → Adds P fault [] found → IsFirst fault found × All P found
+all_added {P} {fault} h =
+    (subst (IsFirst fault) (sym h.is) h.first, subst (All P) (sym h.is) h.each)
 
-pub agreement : FirstFindingsAgree
-agreement input setup found are = agrees_of input setup found (scenario_in input) (scenario_is input) are
+pub faults_agree : (input : List ℕ) (found : List Finding)
+    → Adds (HasCause input) (fault_in (scenario_in input)) [] found → Agrees (scenario_in input) found
+faults_agree input found h = agrees_of (scenario_in input) found (all_added h).0
+
+pub faults_have_causes : (input : List ℕ) (found : List Finding)
+    → Adds (HasCause input) (fault_in (scenario_in input)) [] found → HaveCauses input found
+faults_have_causes input found h = (all_added h).1

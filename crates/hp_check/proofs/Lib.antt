@@ -1,16 +1,6 @@
-mod Agreement
-mod CallsAgree
-mod Each
-mod Found
-mod Fronts
-mod Json
-mod Pieces
-mod RangesAgree
-mod Regrouped
-mod Reported
-mod ShapeParts
-mod Shapes
-mod Slipped
-mod Spaces
-mod Values
-mod Warned
+pub mod Added
+pub mod Agreement
+pub mod Entries
+pub mod Forms
+pub mod Json
+pub mod Limits

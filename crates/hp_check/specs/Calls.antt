@@ -1,37 +1,49 @@
--- Which texts of `calls` are no lines (own rule).
-use Rattle.std.specs.Prelude.{ℕ, ◌+◌, List, [], codes, length, Option, Some, None, is_some, slice_get}
-use Rattle.serde_json.specs.Data.{Data, Items}
+-- The entries of `calls`, and which of them are no lines.
+use Rattle.std.specs.Prelude.{◌≡◌, ℕ, ◌+◌, List, [], ◌∷◌, codes, Option, Some, None, is_some, slice_get, option_and_then, if◌then◌else◌}
+use Rattle.serde_json.specs.Data.{Data, Items, no_items, item}
 use Rattle.serde_json.specs.Find.{get, as_array, as_str}
 use Rattle.hp_scenario.specs.Lines.{line_says}
-use Rattle.hp_check.specs.Each.{each_below}
-use Rattle.hp_check.specs.Shape.{data_of, unless}
+use Rattle.hp_scenario.specs.declared.fault.ScenarioFault.{ScenarioFault}
+use Rattle.hp_scenario.specs.declared.fault.ScenarioFault.TheVariants.{BadLine}
 use Rattle.hp_check.specs.declared.finding.Finding.{Finding}
-use Rattle.hp_check.specs.declared.finding.Finding.TheVariants.{BadCall}
+use Rattle.hp_check.specs.declared.finding.Finding.TheVariants as finding
 
--- a text is a line, or it is the fault of its number, counted from 1
-abbrev pub call_fault : (number : ℕ) → (text : List ℕ) → List Finding
-call_fault number text = unless (is_some (line_says text)) (BadCall number text)
+abbrev pub data_of : Items → List Data
+data_of no_items = []
+data_of (item d ds) = d ∷ data_of ds
 
--- an entry that is no text is another fault
-abbrev pub text_call_fault : (number : ℕ) → Option (List ℕ) → List Finding
-text_call_fault number None = []
-text_call_fault number (Some text) = call_fault number text
+abbrev pub items_or_none : Option Items → List Data
+items_or_none None = []
+items_or_none (Some ds) = data_of ds
 
-abbrev pub entry_fault : (number : ℕ) → Option Data → List Finding
-entry_fault number None = []
-entry_fault number (Some d) = text_call_fault number (as_str d)
+-- the items of the list at `calls`
+unfoldable pub entries_in : Data → List Data
+entries_in d = items_or_none (option_and_then as_array (get (codes "calls") d))
 
--- each entry that is a text and no line, in order
-abbrev pub call_faults : List Data → List Finding
-call_faults ds = each_below (λ place. entry_fault (place + 1) (slice_get ds place)) (length ds)
+-- the entry of this number, counted from 1, is this text, which is no line
+pub record IsBadEntry (entries : List Data) (number : ℕ) (text : List ℕ) : Type 0 where
+  pub at : ℕ
+  pub entry : Data
+  pub counted : number ≡ at + 1
+  pub here : slice_get entries at ≡ Some entry
+  pub is_text : as_str entry ≡ Some text
+  pub no_line : line_says text ≡ None
 
-abbrev pub items_call_faults : Option Items → List Finding
-items_call_faults None = []
-items_call_faults (Some ds) = call_faults (data_of ds)
+-- the same of a finding
+abbrev pub IsBadCall : (entries : List Data) → Finding → Type 0
+IsBadCall entries (finding.BadCall number text) = IsBadEntry entries number text
+IsBadCall entries f = ⊥
 
-abbrev pub value_call_faults : Option Data → List Finding
-value_call_faults None = []
-value_call_faults (Some d) = items_call_faults (as_array d)
+-- and of one entry
+abbrev pub IsBadText : (number : ℕ) → Data → Finding → Type 0
+IsBadText number d (finding.BadCall n text) =
+    (n ≡ number) × (as_str d ≡ Some text) × (line_says text ≡ None)
+IsBadText number d f = ⊥
 
-unfoldable pub call_faults_in : Data → List Finding
-call_faults_in d = value_call_faults (get (codes "calls") d)
+-- the fault that reading has at a text, or at an entry that may be one
+abbrev pub text_fault : (number : ℕ) → Option (List ℕ) → Option ScenarioFault
+text_fault number None = None
+text_fault number (Some text) = if is_some (line_says text) then None else Some (BadLine number)
+
+abbrev pub entry_fault : (number : ℕ) → Data → Option ScenarioFault
+entry_fault number d = text_fault number (as_str d)

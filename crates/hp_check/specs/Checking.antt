@@ -1,36 +1,81 @@
--- What is promised of a check.
-use Rattle.std.specs.Prelude.{◌≡◌, ℕ, List, [], ◌∷◌, ◌++◌, Option, Some, None, Result, Ok, Err}
+-- What is promised of a check: the first fault is that of reading, and each finding has a cause.
+use Rattle.std.specs.Prelude.{◌≡◌, ℕ, ◌≤◌, true, List, [], ◌∷◌, count_by, length, Option, Some, None, Result, Ok, Err, is_some}
+use Rattle.std.specs.List.{All}
 use Rattle.serde_json.specs.Data.{Data}
+use Rattle.hp_units.specs.LayoutParts.{LayoutParts, layout_fault}
+use Rattle.hp_units.specs.declared.layouts.LayoutFault.{LayoutFault}
+use Rattle.hp_units.specs.declared.layouts.LayoutFault.TheVariants.{BadOrder, BadPageblocks, BadBlocks, TooManyFrames, BadCpus, BadMarks, BadOwners, BadPages, BadWords, BadLimit, BadBoot}
+use Rattle.hp_scenario.specs.Form.{form_of}
 use Rattle.hp_scenario.specs.Scenario.{ScenarioValue, json_of, scenario_in}
 use Rattle.hp_scenario.specs.declared.fault.ScenarioFault.{ScenarioFault}
-use Rattle.hp_check.specs.Calls.{call_faults_in}
-use Rattle.hp_check.specs.Hints.{hint_of}
-use Rattle.hp_check.specs.Ranges.{parts_in, range_faults_of}
-use Rattle.hp_check.specs.Repeats.{repeats_in}
-use Rattle.hp_check.specs.Shape.{shape_faults}
-use Rattle.hp_check.specs.Warnings.{warnings_of}
+use Rattle.hp_scenario.specs.declared.fault.ScenarioFault.TheVariants.{NotJson, BadShape, Layout, BadLine}
+use Rattle.hp_check.specs.Calls.{IsBadEntry, entries_in}
+use Rattle.hp_check.specs.Findings.{is_fault}
+use Rattle.hp_check.specs.Ranges.{parts_in}
 use Rattle.hp_check.specs.declared.finding.Finding.{Finding}
 use Rattle.hp_check.specs.declared.finding.Finding.TheVariants as finding
-use Rattle.hp_check.specs.declared.finding.Hint.{Hint}
+use Rattle.hp_check.specs.declared.finding.OutOfRange.{OutOfRange}
+use Rattle.hp_check.specs.declared.finding.OutOfRange.TheVariants as range
 
--- all that is wrong with a value: its shape, its layout, its lines
-unfoldable pub faults_in : Data → List Finding
-faults_in d = shape_faults d ++ range_faults_of (parts_in d) ++ call_faults_in d
+-- ---- the first fault
 
--- a text that is no JSON has one fault, with what is likely to be the reason, at the place where its
--- reader stopped
-abbrev pub IsNoValue : Hint → List Finding → Type 0
-IsNoValue hint found = (line : ℕ) × (column : ℕ) × (found ≡ finding.NotJson hint line column ∷ [])
+-- the fault that a layout has for a part that is out of its range
+abbrev pub fault_of : OutOfRange → LayoutFault
+fault_of (range.Order n) = BadOrder
+fault_of (range.Pageblocks n) = BadPageblocks
+fault_of (range.Blocks n) = BadBlocks
+fault_of (range.Frames n) = TooManyFrames
+fault_of (range.Cpus n) = BadCpus
+fault_of (range.Batch batch high) = BadMarks
+fault_of (range.High n) = BadMarks
+fault_of (range.Owners n) = BadOwners
+fault_of (range.Pages n) = BadPages
+fault_of (range.Words n) = BadWords
+fault_of (range.History n) = BadLimit
+fault_of (range.Boot words blocks) = BadBoot
 
-abbrev pub AreFaults : (input : List ℕ) → Option Data → List Finding → Type 0
-AreFaults input None found = IsNoValue (hint_of input) found
-AreFaults input (Some d) found = found ≡ faults_in d
+-- the finding says what this fault of reading says
+abbrev pub IsFindingOf : ScenarioFault → Finding → Type 0
+IsFindingOf NotJson (finding.NotJson hint line column) = Unit {0}
+IsFindingOf BadShape (finding.Shape s) = Unit {0}
+IsFindingOf (Layout fault) (finding.Layout out) = fault ≡ fault_of out
+IsFindingOf (BadLine line) (finding.BadCall number text) = line ≡ number
+IsFindingOf fault f = ⊥
 
--- a scenario, of whose lines so many are the setup, has warnings alone; what is none has faults alone
-abbrev pub AreFindingsOf : Result ScenarioValue ScenarioFault → (input : List ℕ) → (setup : ℕ) → List Finding
-    → Type 0
-AreFindingsOf (Ok s) input setup found = found ≡ repeats_in input ++ warnings_of s.layout setup s.lines
-AreFindingsOf (Err fault) input setup found = AreFaults input (json_of input) found
+abbrev pub Begins : ScenarioFault → List Finding → Type 0
+Begins fault [] = ⊥
+Begins fault (f ∷ fs) = IsFindingOf fault f
 
-abbrev pub AreFindings : (input : List ℕ) → (setup : ℕ) → List Finding → Type 0
-AreFindings input setup found = AreFindingsOf (scenario_in input) input setup found
+-- a scenario has no fault; where reading has a fault, that is the first finding
+abbrev pub Agrees : Result ScenarioValue ScenarioFault → List Finding → Type 0
+Agrees (Ok scenario) found = count_by is_fault found ≡ 0
+Agrees (Err fault) found = Begins fault found × (1 ≤ count_by is_fault found)
+
+-- ---- causes
+
+-- the text is JSON, and this holds of its value
+abbrev pub IsJsonWith : (P : Data → Type 0) → (input : List ℕ) → Type 0
+IsJsonWith P input = (d : Data) × (json_of input ≡ Some d) × P d
+
+-- the layout's parts can be read, and one is out of its range
+abbrev pub IsPastLimits : Data → Type 0
+IsPastLimits d = (l : LayoutParts) × (parts_in d ≡ Some l) × (is_some (layout_fault l) ≡ true)
+
+-- the text is a scenario, and this holds of its number of lines
+abbrev pub IsScenarioWith : (P : ℕ → Type 0) → (input : List ℕ) → Type 0
+IsScenarioWith P input = (s : ScenarioValue) × (scenario_in input ≡ Ok s) × P (length s.lines)
+
+-- why there is a finding: a text that is no JSON; a value of another form; a layout past its limits; an
+-- entry of `calls`, of this number and text, that is no line. Only a scenario has warnings, and the
+-- number of one is that of a line
+abbrev pub HasCause : (input : List ℕ) → Finding → Type 0
+HasCause input (finding.NotJson hint line column) = json_of input ≡ None
+HasCause input (finding.Shape s) = IsJsonWith (λ d. form_of d ≡ None) input
+HasCause input (finding.Layout out) = IsJsonWith IsPastLimits input
+HasCause input (finding.BadCall number text) = IsJsonWith (λ d. IsBadEntry (entries_in d) number text) input
+HasCause input (finding.Repeat place k) = IsScenarioWith (λ lines. Unit {0}) input
+HasCause input (finding.Warning number w) =
+    IsScenarioWith (λ lines. (1 ≤ number) × (number ≤ lines)) input
+
+abbrev pub HaveCauses : (input : List ℕ) → List Finding → Type 0
+HaveCauses input found = All (HasCause input) found

@@ -32,22 +32,6 @@ key_name key.Words = codes "words"
 key_name key.History = codes "history"
 key_name key.Boot = codes "boot"
 
--- between quotation marks
-abbrev pub key_quoted : Key → List ℕ
-key_quoted key.Layout = codes "\"layout\""
-key_quoted key.Calls = codes "\"calls\""
-key_quoted key.Order = codes "\"order\""
-key_quoted key.Pageblocks = codes "\"pageblocks\""
-key_quoted key.Blocks = codes "\"blocks\""
-key_quoted key.Cpus = codes "\"cpus\""
-key_quoted key.Batch = codes "\"batch\""
-key_quoted key.High = codes "\"high\""
-key_quoted key.Owners = codes "\"owners\""
-key_quoted key.Pages = codes "\"pages\""
-key_quoted key.Words = codes "\"words\""
-key_quoted key.History = codes "\"history\""
-key_quoted key.Boot = codes "\"boot\""
-
 -- the keys of a layout whose values are numbers
 abbrev pub number_keys : List Key
 number_keys =

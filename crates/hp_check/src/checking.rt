@@ -1,15 +1,15 @@
-//! A scenario checked.
-ghost use Rattle.std.specs.Prelude.{◌≡◌, ◌++◌, IfOk, count_by};
+//! All that is wrong with a scenario.
+ghost use Rattle.std.specs.Prelude.{◌≡◌, [], IfOk, Some, count_by, length};
+ghost use Rattle.std.specs.List.{All};
 ghost use Rattle.serde_json.specs.Errors.{IsMemory};
 ghost use Rattle.serde_json.specs.View.{view};
-ghost use Rattle.hp_scenario.specs.Scenario.{json_of};
-ghost use Rattle.hp_check.specs.Checking.{AreFaults, AreFindings, IsNoValue, faults_in};
+ghost use Rattle.hp_scenario.specs.Scenario.{scenario_in, scenario_of};
+ghost use Rattle.hp_check.specs.Adds.{Adds, IsNotJson, IsWarning, ValueCause, fault_in};
+ghost use Rattle.hp_check.specs.Checking.{Agrees, HasCause, HaveCauses};
 ghost use Rattle.hp_check.specs.Findings.{is_fault};
-ghost use Rattle.hp_check.specs.Repeats.{repeats_in};
-ghost use Rattle.hp_check.specs.Warnings.{warnings_of};
 
 use crate::calls::push_calls;
-use crate::finding::{Finding, Hint};
+use crate::finding::Finding;
 use crate::hints::hint_of;
 use crate::ranges::push_ranges;
 use crate::repeats::push_repeats;
@@ -19,32 +19,46 @@ use hp_scenario::{Scenario, ScenarioFault};
 use serde_json::{Error, Value};
 use std::alloc::{AllocError, Global};
 
-/// All that is wrong with the scenario that the bytes are to be: faults where they are none, and
-/// else warnings. Faults come in the order of those of `Scenario::read`, so that the first is its
-/// fault; but all of them are found: of the keys and kinds of values, of the layout's ranges where
-/// its parts can be read, and of each text of `calls` that is no line. Warnings are of keys that the
-/// text has more than once, and then of lines; a line has at most one. So many lines are the setup,
-/// which runs in order; the later ones stand in the scripts of their processors. An error is out of
-/// memory.
+/// Finds all that is wrong with a scenario: its faults, or the warnings of a text without faults.
+///
+/// Faults come in the order of those of `Scenario::read`, which stops at the first: of the keys and
+/// kinds of values, of the layout's ranges if its parts can be read, and of each text of `calls` that
+/// is no line. Warnings are of keys that the text has more than once, and then of lines; a line has
+/// at most one. The first `setup` lines run in order, before the scripts of the processors.
 pub fn check(alloc: Global, input: &[u8], setup: u64) -> Result<Vec<Finding>, AllocError>
-    ensures { IfOk result (λ found. AreFindings input.now setup found.items) }
+    ensures agrees { IfOk result (λ found. Agrees (scenario_in input.now) found.items) }
+    ensures causes { IfOk result (λ found. HaveCauses input.now found.items) }
 {
     match Scenario::read(alloc, input) {
         Ok(scenario) => warnings_in(alloc, input, &scenario, setup),
-        Err(ScenarioFault::OutOfMemory) => Err(AllocError),
-        Err(_fault) => faults_of(alloc, input),
+        Err(fault) => unless_memory(alloc, input, &fault),
     }
 }
 
-/// The warnings of a scenario, whose text the bytes are. An error is out of memory.
+/// Returns all that is wrong with bytes that `Scenario::read` refused with this fault.
+fn unless_memory(
+    alloc: Global,
+    input: &[u8],
+    fault: &ScenarioFault,
+) -> Result<Vec<Finding>, AllocError>
+    ensures { IfOk result (λ found.
+        Adds (HasCause input.now) (fault_in (scenario_in input.now)) [] found.items) }
+{
+    match fault {
+        ScenarioFault::OutOfMemory => Err(AllocError),
+        _ => faults_of(alloc, input),
+    }
+}
+
+/// Returns the warnings of a scenario and of its text.
+#[tactic(auto, using(crate::proofs::Agreement::repeats_are_warnings))]
 fn warnings_in(
     alloc: Global,
     input: &[u8],
     scenario: &Scenario,
     setup: u64,
 ) -> Result<Vec<Finding>, AllocError>
-    ensures { IfOk result (λ found. found.items
-        ≡ repeats_in input.now ++ warnings_of scenario.now.layout setup scenario.now.lines) }
+    ensures { IfOk result (λ found. All (IsWarning (length scenario.now.lines)) found.items) }
 {
     let mut found = Vec::new(alloc);
     push_repeats(&mut found, input)?;
@@ -53,21 +67,21 @@ fn warnings_in(
     Ok(found)
 }
 
-/// All that is wrong with bytes that are no scenario. An error is out of memory.
-#[tactic(auto, unfolding(hp_scenario::specs::Scenario::json_of))]
+/// Returns all that is wrong with bytes that are no scenario.
 fn faults_of(alloc: Global, input: &[u8]) -> Result<Vec<Finding>, AllocError>
-    ensures { IfOk result (λ found. AreFaults input.now (json_of input.now) found.items) }
+    ensures { IfOk result (λ found.
+        Adds (HasCause input.now) (fault_in (scenario_in input.now)) [] found.items) }
 {
     match Value::from_slice(alloc, input) {
         Ok(value) => value_faults(alloc, &value),
-        Err(error) => no_value(alloc, hint_of(input), &error),
+        Err(error) => no_value(alloc, input, &error),
     }
 }
 
-/// All that is wrong with a value that is no scenario. An error is out of memory.
-#[tactic(auto, unfolding(crate::specs::Checking::faults_in))]
+/// Returns all that is wrong with a value that is no scenario.
 fn value_faults(alloc: Global, value: &Value) -> Result<Vec<Finding>, AllocError>
-    ensures { IfOk result (λ found. found.items ≡ faults_in (view value.now)) }
+    ensures { IfOk result (λ found.
+        Adds (ValueCause (view value.now)) (fault_in (scenario_of (view value.now))) [] found.items) }
 {
     let mut found = Vec::new(alloc);
     push_shape(&mut found, alloc, value)?;
@@ -76,21 +90,23 @@ fn value_faults(alloc: Global, value: &Value) -> Result<Vec<Finding>, AllocError
     Ok(found)
 }
 
-/// The fault of a text that is no JSON, which is likely for this reason. An error is out of memory.
-fn no_value(alloc: Global, hint: Hint, error: &Error) -> Result<Vec<Finding>, AllocError>
-    ensures { IfOk result (λ found. IsNoValue hint found.items × (¬ IsMemory error.now)) }
+/// Returns the fault of a text that is no JSON.
+fn no_value(alloc: Global, input: &[u8], error: &Error) -> Result<Vec<Finding>, AllocError>
+    ensures { IfOk result (λ found.
+        Adds IsNotJson (Some ScenarioFault.NotJson) [] found.items × (¬ IsMemory error.now)) }
 {
     if error.is_memory() {
         return Err(AllocError);
     }
     let line = error.line() as u64;
     let column = error.column() as u64;
+    let hint = hint_of(input, line, column);
     let mut found = Vec::new(alloc);
     found.push(Finding::NotJson { hint, line, column })?;
     Ok(found)
 }
 
-/// How many of the findings are faults.
+/// Returns how many of the findings are faults.
 pub fn fault_count(findings: &[Finding]) -> usize
     ensures { result ≡ count_by is_fault findings.now }
 {

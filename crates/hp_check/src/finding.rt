@@ -1,32 +1,33 @@
 //! What may be wrong with a scenario.
 ghost use Rattle.std.specs.Prelude.{◌≡◌};
-ghost use Rattle.hp_check.specs.Findings.{is_fault, key_name, key_quoted};
+ghost use Rattle.hp_check.specs.Findings.{is_fault, key_name};
 
 use hp_requests::ControlFault;
 use hp_scenario::Unfit;
 use hp_units::{Serial, Text};
 
-/// One thing that is wrong with a scenario, or that is likely to be. Texts of `calls` are counted from 1.
+/// One thing that is wrong with a scenario, or that is likely to be. Texts of `calls` are counted
+/// from 1.
 #[derive(Drop)]
 pub enum Finding {
-    /// The text is no JSON; the place is the reader's: lines are counted from 1, and the column may
+    /// The text is no JSON. The reader stopped at this line, counted from 1, and column, which may
     /// be 0.
     NotJson { hint: Hint, line: u64, column: u64 },
-    /// Keys, or the kinds of their values, differ from a scenario's.
+    /// A key or the kind of a value is not a scenario's.
     Shape(Shape),
     /// A part of the layout is out of its range.
     Layout(OutOfRange),
     /// A text of `calls` is no line.
     BadCall { number: u64, text: Text },
-    /// A key that stands more than once in an object of the text: the last counts. It is a warning;
-    /// those of a layout are told only where no key of the whole comes twice.
+    /// A warning: an object of the text has a key more than once, and the last counts. Those of a
+    /// layout are reported only if no key of the whole comes twice.
     Repeat { place: Place, key: Key },
-    /// A line that hardly does what is wanted.
+    /// A warning: a line hardly does what is wanted.
     Warning { number: u64, warning: Warning },
 }
 
 impl Finding {
-    /// Whether it is a fault: else it is a warning.
+    /// Returns whether it is a fault, and not a warning.
     pub fn is_fault(&self) -> bool
         ensures { result ≡ is_fault self.now }
     {
@@ -34,18 +35,22 @@ impl Finding {
     }
 }
 
-/// Why a text is likely to be no JSON.
+/// Why a text is likely to be no JSON: the first of these that applies.
 #[derive(Clone, Copy)]
 pub enum Hint {
     /// It has nothing but white space.
     NoText,
     /// It begins with the byte order mark of UTF-8.
     ByteOrderMark,
+    /// The reader stopped at a bracket or a comma that comes right after a comma.
+    Comma,
+    /// The reader stopped at this character: a control character, or one beyond ASCII.
+    Unexpected(char),
     /// It has more objects and lists in one another than the reader takes.
     TooDeep,
-    /// A comment, as other languages have it, stands in it.
+    /// It has a comment, as other languages have it.
     Comment,
-    /// Nothing of the above.
+    /// None of the above.
     Nothing,
 }
 
@@ -90,7 +95,7 @@ pub enum Key {
 }
 
 impl Key {
-    /// The key as it is written.
+    /// Returns the key as it is written.
     pub fn name(self) -> &'static str
         ensures { result.now ≡ key_name self }
     {
@@ -108,27 +113,6 @@ impl Key {
             Key::Words => "words",
             Key::History => "history",
             Key::Boot => "boot",
-        }
-    }
-
-    /// The key between quotation marks.
-    pub(crate) fn quoted(self) -> &'static [u8]
-        ensures { result.now ≡ key_quoted self }
-    {
-        match self {
-            Key::Layout => b"\"layout\"",
-            Key::Calls => b"\"calls\"",
-            Key::Order => b"\"order\"",
-            Key::Pageblocks => b"\"pageblocks\"",
-            Key::Blocks => b"\"blocks\"",
-            Key::Cpus => b"\"cpus\"",
-            Key::Batch => b"\"batch\"",
-            Key::High => b"\"high\"",
-            Key::Owners => b"\"owners\"",
-            Key::Pages => b"\"pages\"",
-            Key::Words => b"\"words\"",
-            Key::History => b"\"history\"",
-            Key::Boot => b"\"boot\"",
         }
     }
 }
@@ -163,7 +147,7 @@ pub enum OutOfRange {
     Pageblocks(u64),
     /// Memory blocks: not 1 to 256.
     Blocks(u64),
-    /// Frames in all, above 2^20, where the three above are in their ranges.
+    /// Frames in all, above 2^20, if the three above are in their ranges.
     Frames(u64),
     /// Processors: not 1 to 64.
     Cpus(u64),
@@ -183,7 +167,7 @@ pub enum OutOfRange {
     Boot { words: u64, blocks: u64 },
 }
 
-/// What a layout has a number of.
+/// What a layout counts.
 #[derive(Clone, Copy)]
 pub enum What {
     /// Processors.
@@ -205,17 +189,19 @@ pub enum What {
 /// Why a line hardly does what is wanted.
 #[derive(Clone, Copy)]
 pub enum Warning {
-    /// A number past the layout, which has so many, counted from 0: the call is refused.
+    /// A number past the layout, which has `count`, counted from 0: the call is refused.
     Past { what: What, number: u64, count: u64 },
     /// A number of an operation that no line before it begins.
     NoBegin { op: Serial },
-    /// More turns of a plan than the history, of so many records, has room for.
+    /// More turns of a plan than a history of this many records has room for.
     Turns { turns: u32, history: u64 },
-    /// The lines before it since the last seal fill the history, of so many records.
+    /// The lines before it since the last seal fill a history of this many records.
     Full { history: u64 },
+    /// An `echo` or a `cat` with this character, which no word of a control file has.
+    Unexpected(char),
     /// An `echo` that its control file does not take.
     Echo(ControlFault),
-    /// A `cat` that has this fault in every state: of no control file, of the one that is only
+    /// A `cat` that has this fault in every state: of no control file, of one that can only be
     /// written, or of a memory block past the layout.
     Cat(ControlFault),
     /// A line after the setup that cannot stand in a script.

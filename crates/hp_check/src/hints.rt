@@ -1,9 +1,7 @@
 //! Why a text is likely to be no JSON.
-ghost use Rattle.std.specs.Prelude.{◌≡◌};
-ghost use Rattle.hp_check.specs.Hints as means;
-
 use crate::finding::Hint;
-use hp_call_lines::{has_comment, is_blank, nests_deeper};
+use crate::quotes::is_odd;
+use hp_call_lines::{halves_at, has_comment, is_blank, nests_deeper};
 
 /// The byte order mark of UTF-8.
 const MARK: &[u8] = &[0xEF, 0xBB, 0xBF];
@@ -11,15 +9,47 @@ const MARK: &[u8] = &[0xEF, 0xBB, 0xBF];
 /// The greatest number of objects and lists that the reader of JSON takes in one another.
 const DEEPEST: u64 = 127;
 
-/// Why a text that is no JSON is likely to be none: the first of these that applies.
-pub(crate) fn hint_of(input: &[u8]) -> Hint
-    ensures { result ≡ means.hint_of input.now }
-{
+/// Returns why a text is likely to be no JSON, if its reader stopped at this line and column.
+pub(crate) fn hint_of(input: &[u8], line: u64, column: u64) -> Hint {
     if is_blank(input) {
         Hint::NoText
     } else if input.starts_with(MARK) {
         Hint::ByteOrderMark
-    } else if nests_deeper(input, DEEPEST) {
+    } else {
+        match halves_at(input, line, column) {
+            Some((before, rest)) => hint_at(input, before, rest),
+            None => hint_in(input),
+        }
+    }
+}
+
+/// Returns the reason at the place where the reader stopped, or else one from the whole text.
+fn hint_at(input: &[u8], before: &[u8], rest: &[u8]) -> Hint {
+    if is_comma_too_many(before, rest) {
+        return Hint::Comma;
+    }
+    match odd_start(rest) {
+        Some(c) => Hint::Unexpected(c),
+        None => hint_in(input),
+    }
+}
+
+/// Returns whether `before` ends with a comma, and `rest` begins with a closing bracket or with
+/// another comma.
+fn is_comma_too_many(before: &[u8], rest: &[u8]) -> bool {
+    before.trim_ascii_end().ends_with(b",") && matches!(rest, [b']' | b'}' | b',', ..])
+}
+
+/// Returns the first character of a text, if it is an odd one.
+fn odd_start(text: &[u8]) -> Option<char> {
+    let text = std::str::from_utf8(text).ok()?;
+    let c = text.chars().next()?;
+    if is_odd(c) { Some(c) } else { None }
+}
+
+/// Returns a reason that can be seen anywhere in the text.
+fn hint_in(input: &[u8]) -> Hint {
+    if nests_deeper(input, DEEPEST) {
         Hint::TooDeep
     } else if has_comment(input) {
         Hint::Comment

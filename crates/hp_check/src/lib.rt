@@ -4,17 +4,14 @@
 //! scenario hardly does what its writer wants. It runs no machine and opens no file or stream. What
 //! a scenario is, hp_scenario says.
 //!
-//! Read specs/Checking first: what `check` promises. Then specs/Hints, Shape, Ranges and Calls for
-//! faults, specs/Repeats and Warnings for warnings, and last specs/Texts, Expected and Slips.
+//! Read specs/Checking first: what `check` promises. The texts of findings are tested (lab_tests).
 #![tactic(auto)]
 
 mod calls;
 mod checking;
-mod cuts;
 mod expected;
 mod finding;
 mod hints;
-mod laws;
 mod quotes;
 mod ranges;
 mod repeats;
@@ -27,5 +24,4 @@ mod warnings;
 
 pub use checking::{check, fault_count};
 pub use finding::{Finding, Hint, Key, OutOfRange, Place, Shape, Warning, What};
-pub use laws::first_findings_agree;
 pub use report::write_report;

@@ -1,18 +1,37 @@
 //! Texts of a scenario as findings quote them.
-ghost use Rattle.std.specs.Prelude.{◌≡◌, ◌++◌, OnOk, string_bytes};
-ghost use Rattle.hp_check.specs.Quotes.{quoted};
-
 use hp_escapes::{Brackets, write_start};
 use std::alloc::AllocError;
 
 /// The most characters of a text that are shown.
 const MOST: usize = 60;
 
-/// Writes the start of a text between backquotes, with its control characters as JSON has them.
-pub(crate) fn write_quoted(out: &mut String, text: &str) -> Result<(), AllocError>
-    ensures { OnOk result (string_bytes out.new ≡ string_bytes out.old ++ quoted text.now) }
-{
+/// Writes the start of a text between backquotes, with its control characters and those that cannot
+/// be seen as JSON has them.
+pub(crate) fn write_quoted(out: &mut String, text: &str) -> Result<(), AllocError> {
     out.push_str("`")?;
     write_start(out, text, Brackets::Kept, MOST)?;
     out.push_str("`")
+}
+
+/// Writes that a character was not expected.
+pub(crate) fn write_unexpected(out: &mut String, c: char) -> Result<(), AllocError> {
+    let mut buffer = [0; 4];
+    out.push_str("unexpected ")?;
+    write_quoted(out, c.encode_utf8(&mut buffer))
+}
+
+/// Returns whether a character is odd: a control character, or one beyond ASCII. No sign of JSON and
+/// no word of a line has one.
+pub(crate) fn is_odd(c: char) -> bool {
+    !c.is_ascii() || c.is_ascii_control()
+}
+
+/// Returns the first odd character of a text.
+pub(crate) fn first_odd(text: &str) -> Option<char> {
+    for c in text.chars() {
+        if is_odd(c) {
+            return Some(c);
+        }
+    }
+    None
 }

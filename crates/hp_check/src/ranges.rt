@@ -1,10 +1,11 @@
 //! The parts of a layout that are out of their ranges.
-ghost use Rattle.std.specs.Prelude.{◌≡◌, ◌++◌, OnOk};
-ghost use Rattle.std.specs.List.{flat_map};
+ghost use Rattle.std.specs.Prelude.{◌≡◌, not, OnOk};
+ghost use Rattle.std.specs.Bool.{then_some};
 ghost use Rattle.serde_json.specs.View.{view};
-ghost use Rattle.hp_units.specs.LayoutParts.{is_pageblock_count, is_within};
+ghost use Rattle.hp_units.specs.LayoutParts.{is_pageblock_count as is_count, is_within as lies_within};
 ghost use Rattle.hp_units.specs.PartsSeen.{parts_seen};
-ghost use Rattle.hp_check.specs.Ranges as means;
+ghost use Rattle.hp_check.specs.Adds.{Adds, IsLayout, first_at, limit_fault, limit_fault_of, out_fault};
+ghost use Rattle.hp_check.specs.Ranges.{frames_out, parts_in};
 
 use crate::finding::{Finding, OutOfRange};
 use hp_scenario::{ScenarioFault, boots_at, parts_with};
@@ -12,8 +13,7 @@ use hp_units::{Parts, is_pageblock_count, is_within};
 use serde_json::Value;
 use std::alloc::{AllocError, Global};
 
-/// Adds the parts of a scenario's layout that are out of their ranges, where all its parts can be
-/// read. An error is out of memory.
+/// Adds the parts of a scenario's layout that are out of their ranges, if all its parts can be read.
 #[tactic(auto, unfolding(crate::specs::Ranges::parts_in))]
 pub(crate) fn push_ranges(
     found: &mut Vec<Finding>,
@@ -21,7 +21,7 @@ pub(crate) fn push_ranges(
     value: &Value,
 ) -> Result<(), AllocError>
     ensures { OnOk result
-        (found.new.items ≡ found.old.items ++ means.range_faults_of (means.parts_in (view value.now))) }
+        (Adds IsLayout (limit_fault_of (parts_in (view value.now))) found.old.items found.new.items) }
 {
     let Some(layout) = value.get("layout") else {
         return Ok(());
@@ -36,10 +36,10 @@ pub(crate) fn push_ranges(
     }
 }
 
-/// Adds each part that is out of its range. An error is out of memory.
-#[tactic(auto, unfolding(crate::specs::Ranges::range_faults))]
+/// Adds each part that is out of its range, in the order of a layout's faults.
 fn push_parts(found: &mut Vec<Finding>, parts: &Parts<'_>) -> Result<(), AllocError>
-    ensures { OnOk result (found.new.items ≡ found.old.items ++ means.range_faults (parts_seen parts.now)) }
+    ensures { OnOk result
+        (Adds IsLayout (limit_fault (parts_seen parts.now)) found.old.items found.new.items) }
 {
     let words = parts.boot.len() as u64;
     let outs = [
@@ -81,9 +81,10 @@ fn push_parts(found: &mut Vec<Finding>, parts: &Parts<'_>) -> Result<(), AllocEr
     push_each(found, &outs)
 }
 
-/// Adds those that are there. An error is out of memory.
+/// Adds those that there are.
 fn push_each(found: &mut Vec<Finding>, outs: &[Option<OutOfRange>]) -> Result<(), AllocError>
-    ensures { OnOk result (found.new.items ≡ found.old.items ++ flat_map means.part_fault outs.now) }
+    ensures { OnOk result
+        (Adds IsLayout (first_at out_fault 1 outs.now) found.old.items found.new.items) }
 {
     for out in outs {
         let Some(out) = *out else {
@@ -94,23 +95,23 @@ fn push_each(found: &mut Vec<Finding>, outs: &[Option<OutOfRange>]) -> Result<()
     Ok(())
 }
 
-/// A part that is out of its range, unless something holds.
+/// Returns a part that is out of its range unless this holds.
 fn unless(holds: bool, out: OutOfRange) -> Option<OutOfRange>
-    ensures { result ≡ means.unless holds out }
+    ensures { result ≡ then_some (not holds) out }
 {
     if holds { None } else { Some(out) }
 }
 
-/// A number that is not within a range.
+/// Returns a number that is not within a range.
 fn outside(low: u64, high: u64, n: u64, out: OutOfRange) -> Option<OutOfRange>
-    ensures { result ≡ means.outside low high n out }
+    ensures { result ≡ then_some (not (lies_within low high n)) out }
 {
     unless(is_within(low, high, n), out)
 }
 
-/// More frames than there may be, where what they come of is in its range.
+/// Returns the number of frames if it is too large, and what it comes of is in its range.
 fn frames_out(parts: &Parts<'_>) -> Option<OutOfRange>
-    ensures { result ≡ means.frames_out (parts_seen parts.now) }
+    ensures { result ≡ frames_out (parts_seen parts.now) }
 {
     let has_sizes = is_within(0, 10, parts.order)
         && is_pageblock_count(parts.pageblocks)

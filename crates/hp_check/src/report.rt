@@ -1,68 +1,51 @@
-//! How findings are written.
-ghost use Rattle.std.specs.Prelude.{◌≡◌, ◌++◌, OnOk, string_bytes};
-ghost use Rattle.std.specs.List.{flat_map};
-ghost use Rattle.hp_check.specs.Hints.{hint_text};
-ghost use Rattle.hp_check.specs.Reports.{IsReport};
-ghost use Rattle.hp_check.specs.Texts as says;
-
+//! The text of findings.
 use crate::checking::fault_count;
 use crate::expected::write_expected;
-use crate::finding::{Finding, Hint, Key, OutOfRange, Place, Shape, Warning, What};
-use crate::quotes::write_quoted;
+use crate::finding::{Finding, Hint, OutOfRange, Place, Shape, Warning};
+use crate::quotes::{write_quoted, write_unexpected};
 use crate::shape::keys_of;
 use hp_call_lines::call_lines;
 use std::alloc::{AllocError, Global};
 
-/// Writes findings on a scenario, one a line, and how many faults and warnings there are (own
-/// rule). A finding on a text of `calls` has its number, and where it is found the line of the
-/// scenario's text. An error is out of memory.
+/// Writes findings on a scenario, one per line, and how many faults and warnings there are. A
+/// finding on a text of `calls` has its number, and the line of the input in which it begins, if
+/// that is known.
 pub fn write_report(
     out: &mut String,
     alloc: Global,
     input: &[u8],
     findings: &[Finding],
-) -> Result<(), AllocError>
-    ensures { OnOk result (IsReport input.now findings.now (string_bytes out.old) (string_bytes out.new)) }
-{
+) -> Result<(), AllocError> {
     let lines = call_lines(alloc, input)?;
-    write_findings(out, &lines, findings)?;
-    write_counts(out, findings)
-}
-
-/// Writes findings, one a line.
-fn write_findings(out: &mut String, lines: &[u64], findings: &[Finding]) -> Result<(), AllocError>
-    ensures { OnOk result
-        (string_bytes out.new ≡ string_bytes out.old ++ flat_map (says.finding_text lines.now) findings.now) }
-{
     for finding in findings {
-        write_finding(out, lines, finding)?;
+        write_finding(out, &lines, finding)?;
     }
-    Ok(())
-}
-
-/// Writes how many faults and warnings there are.
-fn write_counts(out: &mut String, findings: &[Finding]) -> Result<(), AllocError>
-    ensures { OnOk result (string_bytes out.new ≡ string_bytes out.old ++ says.counts_text findings.now) }
-{
     let faults = fault_count(findings);
     let warnings = findings.len() - faults;
     writeln!(out, "faults: {faults}, warnings: {warnings}")
 }
 
 /// Writes a finding.
-fn write_finding(out: &mut String, lines: &[u64], finding: &Finding) -> Result<(), AllocError>
-    ensures { OnOk result
-        (string_bytes out.new ≡ string_bytes out.old ++ says.finding_text lines.now finding.now) }
-{
+fn write_finding(out: &mut String, lines: &[u64], finding: &Finding) -> Result<(), AllocError> {
     match finding {
-        Finding::NotJson { hint, line, column } => write_no_json(out, *hint, *line, *column),
+        Finding::NotJson { hint, line, column } => {
+            write!(out, "line {line}, column {column}: not JSON")?;
+            write_hint(out, *hint)?;
+            out.push_str("\n")
+        }
         Finding::Shape(shape) => write_shape(out, lines, shape),
         Finding::Layout(part) => write_range(out, *part),
         Finding::BadCall { number, text } => {
             write_head(out, lines, *number)?;
             write_call(out, text.as_str())
         }
-        Finding::Repeat { place, key } => write_repeat(out, *place, *key),
+        Finding::Repeat { place, key } => {
+            let name = key.name();
+            writeln!(
+                out,
+                "{place}: warning: `{name}` stands more than once, and the last counts"
+            )
+        }
         Finding::Warning { number, warning } => {
             write_head(out, lines, *number)?;
             write_warning(out, *warning)
@@ -70,85 +53,71 @@ fn write_finding(out: &mut String, lines: &[u64], finding: &Finding) -> Result<(
     }
 }
 
-/// Writes that a text is no JSON, and what is likely to be the reason.
-fn write_no_json(out: &mut String, hint: Hint, line: u64, column: u64) -> Result<(), AllocError>
-    ensures { OnOk result
-        (string_bytes out.new ≡ string_bytes out.old ++ says.no_json_text hint line column) }
-{
-    let reason = hint_text(hint);
-    writeln!(out, "line {line}, column {column}: not JSON{reason}")
-}
-
-/// Why a text is likely to be no JSON, in words.
-fn hint_text(hint: Hint) -> &'static str
-    ensures { result.now ≡ hint_text hint }
-{
+/// Writes why a text is likely to be no JSON.
+fn write_hint(out: &mut String, hint: Hint) -> Result<(), AllocError> {
     match hint {
-        Hint::NoText => ": there is no text",
-        Hint::ByteOrderMark => ": it begins with a byte order mark, which JSON has not",
-        Hint::TooDeep => ": more than 127 objects and lists in one another",
-        Hint::Comment => ": it has a comment, and JSON has none",
-        Hint::Nothing => "",
+        Hint::NoText => out.push_str(": there is no text"),
+        Hint::ByteOrderMark => {
+            out.push_str(": it begins with a byte order mark, which JSON has not")
+        }
+        Hint::Comma => out.push_str(": a comma too many before it"),
+        Hint::Unexpected(c) => {
+            out.push_str(": ")?;
+            write_unexpected(out, c)
+        }
+        Hint::TooDeep => out.push_str(": more than 127 objects and lists in one another"),
+        Hint::Comment => out.push_str(": it has a comment, and JSON has none"),
+        Hint::Nothing => Ok(()),
     }
 }
 
 /// Writes a text that is no line, and what was expected.
-fn write_call(out: &mut String, text: &str) -> Result<(), AllocError>
-    ensures { OnOk result (string_bytes out.new ≡ string_bytes out.old ++ says.call_text text.now) }
-{
+fn write_call(out: &mut String, text: &str) -> Result<(), AllocError> {
     write_quoted(out, text)?;
     out.push_str(": ")?;
     write_expected(out, text)?;
     out.push_str("\n")
 }
 
-/// Writes the number of a text of `calls`, and in which line it stands, where that is known.
-fn write_head(out: &mut String, lines: &[u64], number: u64) -> Result<(), AllocError>
-    ensures { OnOk result (string_bytes out.new ≡ string_bytes out.old ++ says.head_text lines.now number) }
-{
+/// Writes the number of a text of `calls`, and the line in which it begins, if that is known.
+fn write_head(out: &mut String, lines: &[u64], number: u64) -> Result<(), AllocError> {
     match line_of(lines, number) {
         Some(line) => write!(out, "calls {number} (line {line}): "),
         None => write!(out, "calls {number}: "),
     }
 }
 
-/// The line in which a text of `calls` stands, by its number.
-fn line_of(lines: &[u64], number: u64) -> Option<u64>
-    ensures { result ≡ says.line_of lines.now number }
-{
-    if number == 0 {
-        return None;
-    }
-    lines.get((number - 1) as usize).copied()
+/// Returns the line in which a text of `calls` begins, by its number.
+fn line_of(lines: &[u64], number: u64) -> Option<u64> {
+    let place = number.checked_sub(1)?;
+    lines.get(place as usize).copied()
 }
 
 /// Writes what is wrong with a key or a value.
-fn write_shape(out: &mut String, lines: &[u64], shape: &Shape) -> Result<(), AllocError>
-    ensures { OnOk result
-        (string_bytes out.new ≡ string_bytes out.old ++ says.shape_text lines.now shape.now) }
-{
+fn write_shape(out: &mut String, lines: &[u64], shape: &Shape) -> Result<(), AllocError> {
     match shape {
         Shape::NotObject(place) => writeln!(out, "{place}: no object"),
-        Shape::KeyCount { place, count } => write_key_count(out, *place, *count),
-        Shape::UnknownKey { place, key } => {
-            write_key(out, *place, key.as_str(), " is no key of it")
+        Shape::KeyCount { place, count } => {
+            let wanted = keys_of(*place).len();
+            writeln!(out, "{place}: keys: {count}, wanted: {wanted}")
         }
-        Shape::MissingKey { place, key } => write_key(out, *place, key.name(), " is missing"),
+        Shape::UnknownKey { place, key } => {
+            write_key(out, *place, key.as_str(), "is no key of it")
+        }
+        Shape::MissingKey { place, key } => write_key(out, *place, key.name(), "is missing"),
         Shape::NotNumber(key) => write_key(
             out,
             Place::Layout,
             key.name(),
-            " is no integer from 0 to 2^64-1",
+            "is no integer from 0 to 2^64-1",
         ),
         Shape::NotList(key) => {
             let name = key.name();
             writeln!(out, "`{name}` is no list")
         }
-        Shape::NotBoot { number } => write_number(
+        Shape::NotBoot { number } => writeln!(
             out,
-            "layout: word ",
-            *number,
-            " of `boot` is none of normal, movable, offline, absent",
+            "layout: word {number} of `boot` is none of normal, movable, offline, absent"
         ),
         Shape::NotText { number } => {
             write_head(out, lines, *number)?;
@@ -157,156 +126,77 @@ fn write_shape(out: &mut String, lines: &[u64], shape: &Shape) -> Result<(), All
     }
 }
 
-/// Writes how many keys an object has, and how many it must have.
-fn write_key_count(out: &mut String, place: Place, count: u64) -> Result<(), AllocError>
-    ensures { OnOk result (string_bytes out.new ≡ string_bytes out.old ++ says.key_count_text place count) }
-{
-    let wanted = keys_of(place).len();
-    writeln!(out, "{place}: keys: {count}, wanted: {wanted}")
-}
-
-/// Writes a key of an object, and what is to be said of it.
-fn write_key(out: &mut String, place: Place, name: &str, what: &str) -> Result<(), AllocError>
-    ensures { OnOk result
-        (string_bytes out.new ≡ string_bytes out.old ++ says.key_text place name.now what.now) }
-{
+/// Writes a key of an object, and what is wrong with it.
+fn write_key(out: &mut String, place: Place, name: &str, what: &str) -> Result<(), AllocError> {
     write!(out, "{place}: ")?;
     write_quoted(out, name)?;
-    writeln!(out, "{what}")
-}
-
-/// Writes that a key stands more than once in an object.
-fn write_repeat(out: &mut String, place: Place, key: Key) -> Result<(), AllocError>
-    ensures { OnOk result (string_bytes out.new ≡ string_bytes out.old ++ says.repeat_text place key) }
-{
-    let name = key.name();
-    writeln!(
-        out,
-        "{place}: warning: `{name}` stands more than once, and the last counts"
-    )
+    writeln!(out, " {what}")
 }
 
 /// Writes a part of the layout that is out of its range.
-fn write_range(out: &mut String, part: OutOfRange) -> Result<(), AllocError>
-    ensures { OnOk result (string_bytes out.new ≡ string_bytes out.old ++ says.range_text part) }
-{
-    let (before, first, after, second) = words_of(part);
-    match second {
-        Some(second) => write_numbers(out, before, first, after, second, ""),
-        None => write_number(out, before, first, after),
-    }
-}
-
-/// What is said of a part of the layout before a number and after it, and perhaps a second number.
-fn words_of(part: OutOfRange) -> (&'static str, u64, &'static str, Option<u64>)
-    ensures { says.range_text part ≡ says.words_text result.0.now result.1 result.2.now result.3 }
-{
+fn write_range(out: &mut String, part: OutOfRange) -> Result<(), AllocError> {
+    out.push_str("layout: ")?;
     match part {
-        OutOfRange::Order(n) => ("layout: `order` is ", n, ", and may be 0 to 10", None),
-        OutOfRange::Pageblocks(n) => (
-            "layout: `pageblocks` is ",
-            n,
-            ", and may be 1, 2, 4, 8, 16, 32 or 64",
-            None,
+        OutOfRange::Order(n) => write_limit(out, "order", n, "0 to 10"),
+        OutOfRange::Pageblocks(n) => {
+            write_limit(out, "pageblocks", n, "1, 2, 4, 8, 16, 32 or 64")
+        }
+        OutOfRange::Blocks(n) => write_limit(out, "blocks", n, "1 to 256"),
+        OutOfRange::Frames(n) => writeln!(
+            out,
+            "blocks * pageblocks * 2^order is {n} frames, and may be at most 1048576"
         ),
-        OutOfRange::Blocks(n) => ("layout: `blocks` is ", n, ", and may be 1 to 256", None),
-        OutOfRange::Frames(n) => (
-            "layout: blocks * pageblocks * 2^order is ",
-            n,
-            " frames, and may be at most 1048576",
-            None,
+        OutOfRange::Cpus(n) => write_limit(out, "cpus", n, "1 to 64"),
+        OutOfRange::Batch { batch, high } => writeln!(
+            out,
+            "`batch` is {batch}, and may be 1 to `high`, which is {high}"
         ),
-        OutOfRange::Cpus(n) => ("layout: `cpus` is ", n, ", and may be 1 to 64", None),
-        OutOfRange::Batch { batch, high } => (
-            "layout: `batch` is ",
-            batch,
-            ", and may be 1 to `high`, which is ",
-            Some(high),
-        ),
-        OutOfRange::High(n) => ("layout: `high` is ", n, ", and may be 1 to 1024", None),
-        OutOfRange::Owners(n) => ("layout: `owners` is ", n, ", and may be 1 to 64", None),
-        OutOfRange::Pages(n) => ("layout: `pages` is ", n, ", and may be 1 to 65536", None),
-        OutOfRange::Words(n) => ("layout: `words` is ", n, ", and may be 1 to 512", None),
-        OutOfRange::History(n) => (
-            "layout: `history` is ",
-            n,
-            ", and may be 1 to 16777216",
-            None,
-        ),
-        OutOfRange::Boot { words, blocks } => (
-            "layout: `boot` has ",
-            words,
-            " words, and `blocks` is ",
-            Some(blocks),
-        ),
+        OutOfRange::High(n) => write_limit(out, "high", n, "1 to 1024"),
+        OutOfRange::Owners(n) => write_limit(out, "owners", n, "1 to 64"),
+        OutOfRange::Pages(n) => write_limit(out, "pages", n, "1 to 65536"),
+        OutOfRange::Words(n) => write_limit(out, "words", n, "1 to 512"),
+        OutOfRange::History(n) => write_limit(out, "history", n, "1 to 16777216"),
+        OutOfRange::Boot { words, blocks } => {
+            writeln!(out, "`boot` has {words} words, and `blocks` is {blocks}")
+        }
     }
 }
 
-/// Writes a number in a text.
-fn write_number(out: &mut String, before: &str, n: u64, after: &str) -> Result<(), AllocError>
-    ensures { OnOk result
-        (string_bytes out.new ≡ string_bytes out.old ++ says.number_text before.now n after.now) }
-{
-    writeln!(out, "{before}{n}{after}")
-}
-
-/// Writes two numbers in a text.
-fn write_numbers(
-    out: &mut String,
-    before: &str,
-    n: u64,
-    between: &str,
-    m: u64,
-    after: &str,
-) -> Result<(), AllocError>
-    ensures { OnOk result (string_bytes out.new
-        ≡ string_bytes out.old ++ says.numbers_text before.now n between.now m after.now) }
-{
-    writeln!(out, "{before}{n}{between}{m}{after}")
+/// Writes a number of the layout, and the numbers that it may be.
+fn write_limit(out: &mut String, key: &str, n: u64, limits: &str) -> Result<(), AllocError> {
+    writeln!(out, "`{key}` is {n}, and may be {limits}")
 }
 
 /// Writes a warning.
-fn write_warning(out: &mut String, warning: Warning) -> Result<(), AllocError>
-    ensures { OnOk result (string_bytes out.new ≡ string_bytes out.old ++ says.warning_text warning) }
-{
+fn write_warning(out: &mut String, warning: Warning) -> Result<(), AllocError> {
+    out.push_str("warning: ")?;
     match warning {
         Warning::Past {
             what,
             number,
             count,
-        } => write_past(out, what, number, count),
-        Warning::NoBegin { op } => write_number(
+        } => writeln!(
             out,
-            "warning: no line before begins operation ",
-            op.0,
-            "",
+            "{what} {number} is past the layout, which has {count}, counted from 0"
         ),
-        Warning::Turns { turns, history } => write_numbers(
+        Warning::NoBegin { op } => {
+            let op = op.0;
+            writeln!(out, "no line before begins operation {op}")
+        }
+        Warning::Turns { turns, history } => writeln!(
             out,
-            "warning: a history of ",
-            history,
-            " records has no room for ",
-            u64::from(turns),
-            " turns",
+            "a history of {history} records has no room for {turns} turns"
         ),
-        Warning::Full { history } => write_number(
+        Warning::Full { history } => writeln!(
             out,
-            "warning: the lines before fill the history of ",
-            history,
-            " records",
+            "the lines before fill the history of {history} records"
         ),
-        Warning::Echo(fault) => writeln!(out, "warning: echo: fault {fault}"),
-        Warning::Cat(fault) => writeln!(out, "warning: cat: fault {fault}"),
-        Warning::NotForScript(why) => writeln!(out, "warning: not for a script: {why}"),
+        Warning::Unexpected(c) => {
+            write_unexpected(out, c)?;
+            out.push_str("\n")
+        }
+        Warning::Echo(fault) => writeln!(out, "echo: fault {fault}"),
+        Warning::Cat(fault) => writeln!(out, "cat: fault {fault}"),
+        Warning::NotForScript(why) => writeln!(out, "not for a script: {why}"),
     }
-}
-
-/// Writes that a number is past the layout.
-fn write_past(out: &mut String, what: What, number: u64, count: u64) -> Result<(), AllocError>
-    ensures { OnOk result (string_bytes out.new ≡ string_bytes out.old ++ says.past_text what number count) }
-{
-    writeln!(
-        out,
-        "warning: {what} {number} is past the layout, which has {count}, counted from 0"
-    )
 }

@@ -1,10 +1,11 @@
 //! The keys of a scenario, and the kinds of their values.
-ghost use Rattle.std.specs.Prelude.{◌≡◌, ◌∷◌, ◌++◌, [], OnOk, Some, map, option_map};
-ghost use Rattle.std.specs.List.{flat_map, list_all, list_any};
-ghost use Rattle.std.specs.Str.{bytes_eq};
-ghost use Rattle.serde_json.specs.Events.{members_len};
+ghost use Rattle.std.specs.Prelude.{◌≡◌, ◌==◌, ◌&&◌, Bool, false, OnOk, is_some, length, option_map};
+ghost use Rattle.std.specs.List.{list_all};
+ghost use Rattle.serde_json.specs.Find.{as_str};
 ghost use Rattle.serde_json.specs.View.{view, members_view};
-ghost use Rattle.hp_check.specs.Findings.{key_name, keys_of, number_keys};
+ghost use Rattle.hp_scenario.specs.Form.{boot_at as boot_in, form_of};
+ghost use Rattle.hp_check.specs.Adds.{Adds, IsShape, lacks};
+ghost use Rattle.hp_check.specs.Findings.{keys_of, number_keys};
 ghost use Rattle.hp_check.specs.Shape as means;
 
 use crate::finding::{Finding, Key, Place, Shape};
@@ -13,15 +14,14 @@ use hp_units::Text;
 use serde_json::{Map, Value};
 use std::alloc::{AllocError, Global};
 
-/// Adds all that is wrong with the keys of a scenario and with the kinds of their values. An error
-/// is out of memory.
-#[tactic(auto, unfolding(crate::specs::Shape::shape_faults))]
+/// Adds all that is wrong with the keys of a scenario and with the kinds of their values.
 pub(crate) fn push_shape(
     found: &mut Vec<Finding>,
     alloc: Global,
     value: &Value,
 ) -> Result<(), AllocError>
-    ensures { OnOk result (found.new.items ≡ found.old.items ++ means.shape_faults (view value.now)) }
+    ensures { OnOk result
+        (Adds IsShape (lacks (is_some (form_of (view value.now)))) found.old.items found.new.items) }
 {
     let Some(members) = value.as_object() else {
         return push(found, Shape::NotObject(Place::Whole));
@@ -31,16 +31,15 @@ pub(crate) fn push_shape(
     push_calls(found, value.get("calls"))
 }
 
-/// Adds a fault of the shape. An error is out of memory.
+/// Adds a fault of the shape.
 fn push(found: &mut Vec<Finding>, shape: Shape) -> Result<(), AllocError>
-    ensures { OnOk result (found.new.items ≡ found.old.items ++ Finding.Shape shape ∷ []) }
+    ensures { OnOk result (Adds IsShape (lacks false) found.old.items found.new.items) }
 {
     found.push(Finding::Shape(shape))?;
     Ok(())
 }
 
-/// Adds what is wrong with the keys of an object. An error is out of memory.
-#[tactic(auto, unfolding(crate::specs::Shape::key_faults, crate::specs::Shape::wrong_keys))]
+/// Adds what is wrong with the keys of an object.
 fn push_keys(
     found: &mut Vec<Finding>,
     alloc: Global,
@@ -48,18 +47,20 @@ fn push_keys(
     value: &Value,
     members: &Map<String, Value>,
 ) -> Result<(), AllocError>
-    ensures { OnOk result (found.new.items
-        ≡ found.old.items ++ means.key_faults place (view value.now) (members_view members.now.entries)) }
+    ensures { OnOk result (Adds IsShape
+        (lacks (means.has_its_keys place (view value.now) (members_view members.now.entries)))
+        found.old.items found.new.items) }
 {
-    if has_its_keys(place, value, members) {
+    let count = members.len();
+    if has_its_keys(place, value, count) {
         return Ok(());
     }
-    push_count(found, place, count_of(members))?;
+    push_count(found, place, count)?;
     push_unknown(found, alloc, place, members)?;
     push_missing(found, place, value)
 }
 
-/// The keys that an object must have.
+/// Returns the keys that an object must have.
 pub(crate) fn keys_of(place: Place) -> &'static [Key]
     ensures { result.now ≡ keys_of place }
 {
@@ -81,123 +82,98 @@ pub(crate) fn keys_of(place: Place) -> &'static [Key]
     }
 }
 
-/// Whether the object has its keys, and no more members than these.
-#[tactic(auto, unfolding(crate::specs::Shape::has_its_keys))]
-fn has_its_keys(place: Place, value: &Value, members: &Map<String, Value>) -> bool
-    ensures { result ≡ means.has_its_keys place (view value.now) (members_view members.now.entries) }
+/// Returns whether an object of this many members has its keys and no others.
+fn has_its_keys(place: Place, value: &Value, count: usize) -> bool
+    ensures { result ≡ ((count == length (keys_of place))
+        && list_all (means.is_there (view value.now)) (keys_of place)) }
 {
-    count_of(members) == keys_of(place).len() && has_all(place, value)
+    has_count(place, count) && has_all(place, value)
 }
 
-/// How many members there are.
-fn count_of(members: &Map<String, Value>) -> usize
-    ensures { result ≡ members_len (members_view members.now.entries) }
-{
-    members.len()
-}
-
-/// Whether the object has each of its keys.
+/// Returns whether an object has each of its keys.
 fn has_all(place: Place, value: &Value) -> bool
     ensures { result ≡ list_all (means.is_there (view value.now)) (keys_of place) }
 {
     keys_of(place).iter().all(|key| is_there(value, *key))
 }
 
-/// Whether the object has a key.
+/// Returns whether an object must have this many keys.
+fn has_count(place: Place, count: usize) -> bool
+    ensures { result ≡ (count == length (keys_of place)) }
+{
+    count == keys_of(place).len()
+}
+
+/// Returns whether the object has a key.
 fn is_there(value: &Value, key: Key) -> bool
     ensures { result ≡ means.is_there (view value.now) key }
 {
     value.get(key.name()).is_some()
 }
 
-/// Adds that the object has another number of keys. An error is out of memory.
+/// Adds the number of the object's keys, if it must have another.
 fn push_count(found: &mut Vec<Finding>, place: Place, count: usize) -> Result<(), AllocError>
-    ensures { OnOk result (found.new.items ≡ found.old.items ++ means.count_fault place count) }
+    ensures { OnOk result
+        (Adds IsShape (lacks (count == length (keys_of place))) found.old.items found.new.items) }
 {
-    if count == keys_of(place).len() {
+    if has_count(place, count) {
         return Ok(());
     }
     let count = count as u64;
     push(found, Shape::KeyCount { place, count })
 }
 
-/// Adds the keys that the object may not have. An error is out of memory.
-#[tactic(auto, using(crate::proofs::Values::names_seen))]
+/// Adds the keys that the object may not have.
 fn push_unknown(
     found: &mut Vec<Finding>,
     alloc: Global,
     place: Place,
     members: &Map<String, Value>,
 ) -> Result<(), AllocError>
-    ensures { OnOk result (found.new.items ≡ found.old.items
-        ++ flat_map (means.unknown_fault place) (means.names_of (members_view members.now.entries))) }
+    ensures { OnOk result ((fine : Bool) × Adds IsShape (lacks fine) found.old.items found.new.items) }
 {
     let names = members.keys();
     for name in names {
-        push_if_unknown(found, alloc, place, name.as_str())?;
+        let name = name.as_str();
+        if is_key_of(place, name) {
+            continue;
+        }
+        let key = Text::new(String::from_str(alloc, name)?);
+        push(found, Shape::UnknownKey { place, key })?;
     }
     Ok(())
 }
 
-/// Adds a key if the object may not have it. An error is out of memory.
-fn push_if_unknown(
-    found: &mut Vec<Finding>,
-    alloc: Global,
-    place: Place,
-    name: &str,
-) -> Result<(), AllocError>
-    ensures { OnOk result (found.new.items ≡ found.old.items ++ means.unknown_fault place name.now) }
-{
-    if is_key_of(place, name) {
-        return Ok(());
-    }
-    let key = Text::new(String::from_str(alloc, name)?);
-    push(found, Shape::UnknownKey { place, key })
-}
-
-/// Whether the object may have a key.
-fn is_key_of(place: Place, name: &str) -> bool
-    ensures { result ≡ list_any (λ k. bytes_eq name.now (key_name k)) (keys_of place) }
-{
+/// Returns whether the object may have a key.
+fn is_key_of(place: Place, name: &str) -> bool {
     keys_of(place).iter().any(|key| name == key.name())
 }
 
-/// Adds the keys that the object lacks. An error is out of memory.
+/// Adds the keys that the object lacks.
 fn push_missing(found: &mut Vec<Finding>, place: Place, value: &Value) -> Result<(), AllocError>
-    ensures { OnOk result (found.new.items
-        ≡ found.old.items ++ flat_map (means.missing_fault place (view value.now)) (keys_of place)) }
+    ensures { OnOk result (Adds IsShape (lacks (list_all (means.is_there (view value.now)) (keys_of place)))
+        found.old.items found.new.items) }
 {
     let keys = keys_of(place);
     for key in keys {
-        push_if_missing(found, place, value, *key)?;
+        let key = *key;
+        if is_there(value, key) {
+            continue;
+        }
+        push(found, Shape::MissingKey { place, key })?;
     }
     Ok(())
 }
 
-/// Adds a key if the object lacks it. An error is out of memory.
-fn push_if_missing(
-    found: &mut Vec<Finding>,
-    place: Place,
-    value: &Value,
-    key: Key,
-) -> Result<(), AllocError>
-    ensures { OnOk result
-        (found.new.items ≡ found.old.items ++ means.missing_fault place (view value.now) key) }
-{
-    if is_there(value, key) {
-        return Ok(());
-    }
-    push(found, Shape::MissingKey { place, key })
-}
-
-/// Adds what is wrong with the object at `layout`, where there is something. An error is out of memory.
+/// Adds what is wrong with the object at `layout`, if there is one.
 fn push_layout(
     found: &mut Vec<Finding>,
     alloc: Global,
     layout: Option<&Value>,
 ) -> Result<(), AllocError>
-    ensures { OnOk result (found.new.items
-        ≡ found.old.items ++ means.layout_faults (option_map (λ v. view v.now) layout.entry)) }
+    ensures { OnOk result (Adds IsShape
+        (lacks (means.if_there means.are_parts (option_map (λ v. view v.now) layout.entry)))
+        found.old.items found.new.items) }
 {
     let Some(layout) = layout else {
         return Ok(());
@@ -210,7 +186,7 @@ fn push_layout(
     push_boot(found, layout.get("boot"))
 }
 
-/// The keys of a layout whose values are numbers.
+/// Returns the keys of a layout whose values are numbers.
 fn number_keys() -> &'static [Key]
     ensures { result.now ≡ number_keys }
 {
@@ -228,107 +204,95 @@ fn number_keys() -> &'static [Key]
     ]
 }
 
-/// Adds the keys of a layout whose values are to be numbers and are none. An error is out of memory.
+/// Adds the keys of a layout whose values must be numbers and are none.
 fn push_numbers(found: &mut Vec<Finding>, layout: &Value) -> Result<(), AllocError>
-    ensures { OnOk result
-        (found.new.items ≡ found.old.items ++ flat_map (means.number_fault (view layout.now)) number_keys) }
+    ensures { OnOk result (Adds IsShape (lacks (list_all (means.is_number_at (view layout.now)) number_keys))
+        found.old.items found.new.items) }
 {
     let keys = number_keys();
     for key in keys {
-        push_unless_number(found, *key, layout.get(key.name()))?;
+        let key = *key;
+        if may_be_number(layout.get(key.name())) {
+            continue;
+        }
+        push(found, Shape::NotNumber(key))?;
     }
     Ok(())
 }
 
-/// Adds a key if its value, where it has one, is no number. An error is out of memory.
-fn push_unless_number(
-    found: &mut Vec<Finding>,
-    key: Key,
-    value: Option<&Value>,
-) -> Result<(), AllocError>
-    ensures { OnOk result (found.new.items
-        ≡ found.old.items ++ means.number_fault_of key (option_map (λ v. view v.now) value.entry)) }
+/// Returns whether a value is a number or is missing, which is another fault.
+fn may_be_number(value: Option<&Value>) -> bool
+    ensures { result ≡ means.if_there means.is_number (option_map (λ v. view v.now) value.entry) }
 {
     match value {
-        Some(value) => {
-            if value.as_u64().is_some() {
-                Ok(())
-            } else {
-                push(found, Shape::NotNumber(key))
-            }
-        }
-        None => Ok(()),
+        Some(value) => value.as_u64().is_some(),
+        None => true,
     }
 }
 
-/// Adds what is wrong with the value at `boot`, where there is one. An error is out of memory.
-#[tactic(auto, using(crate::proofs::Values::items_seen))]
+/// Adds what is wrong with the value at `boot`, if there is one.
 fn push_boot(found: &mut Vec<Finding>, boot: Option<&Value>) -> Result<(), AllocError>
-    ensures { OnOk result (found.new.items ≡ found.old.items
-        ++ means.list_faults Key.Boot means.boot_faults (option_map (λ v. view v.now) boot.entry)) }
+    ensures { OnOk result (Adds IsShape
+        (lacks (means.if_there means.are_boots (option_map (λ v. view v.now) boot.entry)))
+        found.old.items found.new.items) }
 {
-    match boot {
-        Some(boot) => match boot.as_array() {
-            Some(words) => push_boots(found, words),
-            None => push(found, Shape::NotList(Key::Boot)),
-        },
-        None => Ok(()),
-    }
+    let Some(boot) = boot else {
+        return Ok(());
+    };
+    let Some(words) = boot.as_array() else {
+        return push(found, Shape::NotList(Key::Boot));
+    };
+    push_boots(found, words)
 }
 
-/// Adds the entries of `boot` that are none of its words. An error is out of memory.
+/// Adds the entries of `boot` that are none of its words.
 fn push_boots(found: &mut Vec<Finding>, words: &[Value]) -> Result<(), AllocError>
-    ensures { OnOk result (found.new.items ≡ found.old.items ++ means.boot_faults (map view words.now)) }
+    ensures { OnOk result (Adds IsShape (lacks (list_all (λ v. is_some (boot_in (view v))) words.now))
+        found.old.items found.new.items) }
 {
     for index in 0..words.len() {
-        push_unless_boot(found, index as u64 + 1, &words[index])?;
+        if is_boot(&words[index]) {
+            continue;
+        }
+        let number = index as u64 + 1;
+        push(found, Shape::NotBoot { number })?;
     }
     Ok(())
 }
 
-/// Adds an entry of `boot` if it is none of its words. An error is out of memory.
-fn push_unless_boot(found: &mut Vec<Finding>, number: u64, word: &Value) -> Result<(), AllocError>
-    ensures { OnOk result
-        (found.new.items ≡ found.old.items ++ means.boot_fault number (Some (view word.now))) }
+/// Returns whether a value is one of the words of `boot`.
+fn is_boot(value: &Value) -> bool
+    ensures { result ≡ is_some (boot_in (view value.now)) }
 {
-    if boot_at(word).is_some() {
-        return Ok(());
-    }
-    push(found, Shape::NotBoot { number })
+    boot_at(value).is_some()
 }
 
-/// Adds what is wrong with the value at `calls`, where there is one. An error is out of memory.
-#[tactic(auto, using(crate::proofs::Values::items_seen))]
+/// Adds what is wrong with the value at `calls`, if there is one.
 fn push_calls(found: &mut Vec<Finding>, calls: Option<&Value>) -> Result<(), AllocError>
-    ensures { OnOk result (found.new.items ≡ found.old.items
-        ++ means.list_faults Key.Calls means.text_faults (option_map (λ v. view v.now) calls.entry)) }
+    ensures { OnOk result (Adds IsShape
+        (lacks (means.if_there means.are_texts (option_map (λ v. view v.now) calls.entry)))
+        found.old.items found.new.items) }
 {
-    match calls {
-        Some(calls) => match calls.as_array() {
-            Some(texts) => push_texts(found, texts),
-            None => push(found, Shape::NotList(Key::Calls)),
-        },
-        None => Ok(()),
-    }
+    let Some(calls) = calls else {
+        return Ok(());
+    };
+    let Some(texts) = calls.as_array() else {
+        return push(found, Shape::NotList(Key::Calls));
+    };
+    push_texts(found, texts)
 }
 
-/// Adds the entries of `calls` that are no texts. An error is out of memory.
+/// Adds the entries of `calls` that are no texts.
 fn push_texts(found: &mut Vec<Finding>, texts: &[Value]) -> Result<(), AllocError>
-    ensures { OnOk result (found.new.items ≡ found.old.items ++ means.text_faults (map view texts.now)) }
+    ensures { OnOk result (Adds IsShape (lacks (list_all (λ v. is_some (as_str (view v))) texts.now))
+        found.old.items found.new.items) }
 {
     for index in 0..texts.len() {
-        push_unless_text(found, index as u64 + 1, &texts[index])?;
+        if texts[index].is_string() {
+            continue;
+        }
+        let number = index as u64 + 1;
+        push(found, Shape::NotText { number })?;
     }
     Ok(())
-}
-
-/// Adds an entry of `calls` if it is no text. An error is out of memory.
-fn push_unless_text(found: &mut Vec<Finding>, number: u64, text: &Value) -> Result<(), AllocError>
-    ensures { OnOk result
-        (found.new.items ≡ found.old.items ++ means.text_fault number (Some (view text.now))) }
-{
-    if text.is_string() {
-        return Ok(());
-    }
-    push(found, Shape::NotText { number })
 }

@@ -1,18 +1,18 @@
 //! Lines that hardly do what is wanted.
-ghost use Rattle.std.specs.Prelude.{◌≡◌, ◌+◌, ◌++◌, ◌^◌, ◌<◌, OnOk, Some, length};
-ghost use Rattle.hp_scenario.specs.Asked.{asked_by};
-ghost use Rattle.hp_check.specs.Tally.{after_lines};
-ghost use Rattle.hp_check.specs.Warnings as means;
+ghost use Rattle.std.specs.Prelude.{OnOk, length};
+ghost use Rattle.std.specs.List.{All};
+ghost use Rattle.hp_check.specs.Adds.{IsWarning};
 
 use crate::finding::{Finding, Warning, What};
+use crate::quotes::first_odd;
 use crate::tally::Tally;
 use hp_requests::{ControlFault, File, file_at};
 use hp_scenario::{Asked, Line, Work};
 use hp_units::{Cpu, Event, Layout, Owner, Page, Plan, Serial};
 use std::alloc::{AllocError, Global};
 
-/// Adds the warnings of lines on a layout, of which so many are the setup; the others stand in the
-/// scripts of their processors. An error is out of memory.
+/// Adds the warnings of lines on a layout. The first `setup` lines are the setup, the others are in
+/// the scripts of their processors.
 pub(crate) fn push_warnings(
     found: &mut Vec<Finding>,
     alloc: Global,
@@ -20,70 +20,68 @@ pub(crate) fn push_warnings(
     setup: u64,
     lines: &[Line],
 ) -> Result<(), AllocError>
-    ensures { OnOk result
-        (found.new.items ≡ found.old.items ++ means.warnings_of layout.now setup lines.now) }
-{
-    if lines.len() as u64 <= setup {
-        return push_both(found, alloc, layout, lines, &[]);
-    }
-    let (first, later) = lines.split_at(setup as usize);
-    push_both(found, alloc, layout, first, later)
-}
-
-/// Adds the warnings of the setup and of lines that stand in scripts. An error is out of memory.
-fn push_both(
-    found: &mut Vec<Finding>,
-    alloc: Global,
-    layout: &Layout,
-    setup: &[Line],
-    scripts: &[Line],
-) -> Result<(), AllocError>
-    requires { length setup.now + length scripts.now < 2 ^ 64 }
-    ensures { OnOk result (found.new.items
-        ≡ found.old.items ++ means.both_warnings layout.now setup.now scripts.now) }
+    requires { All (IsWarning (length lines.now)) found.old.items }
+    ensures { OnOk result (All (IsWarning (length lines.now)) found.new.items) }
 {
     let mut tally = Tally::new(alloc);
-    push_part(found, layout, &mut tally, 0, setup)?;
-    tally.end_setup(scripts);
-    push_part(found, layout, &mut tally, setup.len() as u64, scripts)
+    push_each(found, layout, &mut tally, setup, lines)
 }
 
-/// Adds the warnings of lines that come after so many others. An error is out of memory.
-fn push_part(
+/// Adds the warnings of lines; the tally is that of the lines before them.
+fn push_each(
     found: &mut Vec<Finding>,
     layout: &Layout,
     tally: &mut Tally,
-    before: u64,
+    setup: u64,
     lines: &[Line],
 ) -> Result<(), AllocError>
-    requires { before + length lines.now < 2 ^ 64 }
-    ensures found { OnOk result (found.new.items
-        ≡ found.old.items ++ means.part_warnings layout.now tally.old before lines.now) }
-    ensures tally { OnOk result (tally.new ≡ after_lines layout.now.history tally.old lines.now) }
+    requires { All (IsWarning (length lines.now)) found.old.items }
+    ensures { OnOk result (All (IsWarning (length lines.now)) found.new.items) }
 {
     for index in 0..lines.len() {
+        if index as u64 == setup {
+            tally.end_setup(&lines[index..]);
+        }
         let line = &lines[index];
         let warning = line_warning(layout, tally, line);
-        push_warning(found, before + index as u64 + 1, warning)?;
         tally.add(layout, &line.work)?;
+        let Some(warning) = warning else {
+            continue;
+        };
+        let number = index as u64 + 1;
+        found.push(Finding::Warning { number, warning })?;
     }
     Ok(())
 }
 
-/// The warning of a line, if there is one.
-fn line_warning(layout: &Layout, tally: &Tally, line: &Line) -> Option<Warning>
-    ensures { result ≡ means.line_warning layout.now tally.now line.now }
-{
+/// Returns the warning of a line: the first that applies.
+fn line_warning(layout: &Layout, tally: &Tally, line: &Line) -> Option<Warning> {
     let work = asked_warning(layout, tally, line.cpu, &line.work);
-    unfit_warning(layout.cpus(), tally.in_scripts(), line)
+    odd_warning(&line.work)
+        .or(unfit_warning(layout.cpus(), tally.in_scripts(), line))
         .or(work)
         .or(turns_warning(layout, &line.work))
 }
 
-/// The warning that a line in a script cannot stand there, with so many processors.
-fn unfit_warning(cpus: u32, in_scripts: bool, line: &Line) -> Option<Warning>
-    ensures { result ≡ means.unfit_warning cpus in_scripts line.now }
-{
+/// Returns a warning if an `echo` or a `cat` has a character that no word of a control file has.
+fn odd_warning(work: &Work) -> Option<Warning> {
+    match work {
+        Work::Echo(echo) => unexpected(first_odd(echo.word()).or(first_odd(echo.path()))),
+        Work::Cat { path } => unexpected(first_odd(path.as_str())),
+        _ => None,
+    }
+}
+
+/// Returns the warning of a character, if there is one.
+fn unexpected(odd: Option<char>) -> Option<Warning> {
+    match odd {
+        Some(c) => Some(Warning::Unexpected(c)),
+        None => None,
+    }
+}
+
+/// Returns a warning if a line in a script cannot be there, with this many processors.
+fn unfit_warning(cpus: u32, in_scripts: bool, line: &Line) -> Option<Warning> {
     if !in_scripts {
         return None;
     }
@@ -93,24 +91,8 @@ fn unfit_warning(cpus: u32, in_scripts: bool, line: &Line) -> Option<Warning>
     }
 }
 
-/// Adds a warning of a line, if there is one. An error is out of memory.
-fn push_warning(
-    found: &mut Vec<Finding>,
-    number: u64,
-    warning: Option<Warning>,
-) -> Result<(), AllocError>
-    ensures { OnOk result (found.new.items ≡ found.old.items ++ means.warned number warning) }
-{
-    if let Some(warning) = warning {
-        found.push(Finding::Warning { number, warning })?;
-    }
-    Ok(())
-}
-
-/// The warning of what a line asks for, if there is one.
-fn asked_warning(layout: &Layout, tally: &Tally, cpu: Cpu, work: &Work) -> Option<Warning>
-    ensures { result ≡ means.asked_warning layout.now tally.now cpu (asked_by work.now) }
-{
+/// Returns the warning of what a line asks for.
+fn asked_warning(layout: &Layout, tally: &Tally, cpu: Cpu, work: &Work) -> Option<Warning> {
     match work.asked() {
         Asked::Event(event) => {
             caller_warning(layout, tally, cpu).or(event_warning(layout, tally, event))
@@ -124,10 +106,8 @@ fn asked_warning(layout: &Layout, tally: &Tally, cpu: Cpu, work: &Work) -> Optio
     }
 }
 
-/// The fault of reading the file at a path, if it has one in every state.
-fn cat_warning(layout: &Layout, path: &str) -> Option<Warning>
-    ensures { result ≡ means.cat_warning layout.now path.now }
-{
+/// Returns the fault of reading the file at a path, if it has one in every state.
+fn cat_warning(layout: &Layout, path: &str) -> Option<Warning> {
     let Some(file) = file_at(path) else {
         return Some(Warning::Cat(ControlFault::NoFile));
     };
@@ -144,27 +124,28 @@ fn cat_warning(layout: &Layout, path: &str) -> Option<Warning>
     }
 }
 
-/// The turns that a line names for its plan, if the history has no room for them.
-fn turns_warning(layout: &Layout, work: &Work) -> Option<Warning>
-    ensures { result ≡ means.turns_warning layout.now work.now }
-{
-    let Work::Plan { plan: _, turns } = work else {
-        return None;
-    };
-    let history = layout.history();
-    if u64::from(*turns) + u64::from(layout.cpus()) + 2 <= history {
-        return None;
+/// Returns a warning if the history has no room for all turns of a plan: that of a `plan` line, or
+/// that which an `echo` asks for.
+fn turns_warning(layout: &Layout, work: &Work) -> Option<Warning> {
+    match work.asked() {
+        Asked::Plan { plan: _, turns } => turns_past(layout, turns),
+        _ => None,
     }
-    Some(Warning::Turns {
-        turns: *turns,
-        history,
-    })
 }
 
-/// The warning that any call of a processor has here, if there is one.
-fn caller_warning(layout: &Layout, tally: &Tally, cpu: Cpu) -> Option<Warning>
-    ensures { result ≡ means.caller_warning layout.now tally.now cpu }
-{
+/// Returns a warning if the history has no room for a plan's begin, a round of drains, this many
+/// turns, and a commit.
+fn turns_past(layout: &Layout, turns: u32) -> Option<Warning> {
+    let history = layout.history();
+    if u64::from(turns) + u64::from(layout.cpus()) + 2 <= history {
+        None
+    } else {
+        Some(Warning::Turns { turns, history })
+    }
+}
+
+/// Returns the warning that any call of a processor has here.
+fn caller_warning(layout: &Layout, tally: &Tally, cpu: Cpu) -> Option<Warning> {
     let history = layout.history();
     if tally.is_full(history) {
         return Some(Warning::Full { history });
@@ -172,10 +153,8 @@ fn caller_warning(layout: &Layout, tally: &Tally, cpu: Cpu) -> Option<Warning>
     past(What::Processor, cpu.0, layout.cpus())
 }
 
-/// A number, if it is past so many.
-fn past(what: What, number: u32, count: u32) -> Option<Warning>
-    ensures { result ≡ means.past what number count }
-{
+/// Returns a number if it is past this many.
+fn past(what: What, number: u32, count: u32) -> Option<Warning> {
     if number < count {
         return None;
     }
@@ -188,25 +167,19 @@ fn past(what: What, number: u32, count: u32) -> Option<Warning>
     })
 }
 
-/// An owner or else a page, if it is past the layout.
-fn page_past(layout: &Layout, owner: Owner, page: Page) -> Option<Warning>
-    ensures { result ≡ means.page_past layout.now owner page }
-{
+/// Returns an owner or else a page that is past the layout.
+fn page_past(layout: &Layout, owner: Owner, page: Page) -> Option<Warning> {
     let owner = past(What::Owner, owner.0, layout.owners());
     owner.or(past(What::Page, page.0, layout.pages()))
 }
 
-/// An owner, a page or else a word, if it is past the layout.
-fn word_past(layout: &Layout, owner: Owner, page: Page, index: u32) -> Option<Warning>
-    ensures { result ≡ means.word_past layout.now owner page index }
-{
+/// Returns an owner, a page or else a word that is past the layout.
+fn word_past(layout: &Layout, owner: Owner, page: Page, index: u32) -> Option<Warning> {
     page_past(layout, owner, page).or(past(What::Word, index, layout.words()))
 }
 
-/// The first memory block of a plan that is past the layout.
-fn plan_past(layout: &Layout, plan: &Plan) -> Option<Warning>
-    ensures { result ≡ means.plan_past layout.now plan.now }
-{
+/// Returns the first memory block of a plan that is past the layout.
+fn plan_past(layout: &Layout, plan: &Plan) -> Option<Warning> {
     let blocks = layout.blocks();
     let item = plan
         .as_slice()
@@ -219,10 +192,8 @@ fn plan_past(layout: &Layout, plan: &Plan) -> Option<Warning>
     })
 }
 
-/// The memory block that begins at an address, if it is past the layout.
-fn address_past(layout: &Layout, address: u64) -> Option<Warning>
-    ensures { result ≡ means.address_past layout.now address }
-{
+/// Returns the memory block that begins at an address, if it is past the layout.
+fn address_past(layout: &Layout, address: u64) -> Option<Warning> {
     let bytes = layout.block_bytes();
     if address % bytes != 0 {
         return None;
@@ -239,10 +210,8 @@ fn address_past(layout: &Layout, address: u64) -> Option<Warning>
     })
 }
 
-/// The number of an operation, if no line before begins it.
-fn no_begin(tally: &Tally, op: Serial) -> Option<Warning>
-    ensures { result ≡ means.no_begin tally.now op }
-{
+/// Returns the number of an operation if no line before begins it.
+fn no_begin(tally: &Tally, op: Serial) -> Option<Warning> {
     if tally.may_begin(op) {
         None
     } else {
@@ -250,10 +219,8 @@ fn no_begin(tally: &Tally, op: Serial) -> Option<Warning>
     }
 }
 
-/// The first thing that an event names and that is not there.
-fn event_warning(layout: &Layout, tally: &Tally, event: &Event) -> Option<Warning>
-    ensures { result ≡ means.event_warning layout.now tally.now event.now }
-{
+/// Returns the first thing that an event names and that is not there.
+fn event_warning(layout: &Layout, tally: &Tally, event: &Event) -> Option<Warning> {
     match event {
         Event::KernelAlloc { order } => past(What::Order, order.0, layout.order() + 1),
         Event::KernelFree { frame } => past(What::Frame, frame.0, layout.frames()),

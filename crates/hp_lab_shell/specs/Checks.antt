@@ -1,19 +1,15 @@
 -- What a check writes, and its exit status.
-use Rattle.std.specs.Prelude.{◌≡◌, ℕ, ◌-◌, ◌^◌, ◌==◌, Bool, true, false, List, [], ◌++◌, Result, Ok, Err, count_by, if◌then◌else◌}
-use Rattle.hp_check.specs.Checking.{AreFindings}
-use Rattle.hp_check.specs.Findings.{is_fault}
-use Rattle.hp_check.specs.Reports.{IsReport}
-use Rattle.hp_check.specs.declared.finding.Finding.{Finding}
+use Rattle.std.specs.Prelude.{◌≡◌, ℕ, ◌-◌, ◌^◌, ◌==◌, Bool, true, false, List, [], ◌++◌, Result, Ok, Err}
 use Rattle.hp_scenario.specs.Scenario.{ScenarioValue, scenario_in}
 use Rattle.hp_scenario.specs.declared.fault.ScenarioFault.{ScenarioFault}
 use Rattle.hp_scripts.specs.Counting.{IsCountTold}
 
--- the interleavings that are counted where no limit is given, the most
+-- the most interleavings that are counted if no limit is given
 abbrev pub usual_limit : ℕ
 usual_limit = 10000000
 
--- how many the scripts after the setup have: nothing is said where the bytes are no scenario, and
--- where all lines are the setup
+-- how many the scripts after the setup have: nothing is said if the bytes are no scenario, or if all
+-- lines are the setup
 abbrev pub IsCountIn : (setup : ℕ) → Result ScenarioValue ScenarioFault → (text : List ℕ) → Type 0
 IsCountIn setup (Ok s) text = IsCountTold s.layout.cpus setup s.lines usual_limit text
 IsCountIn setup (Err fault) text = text ≡ []
@@ -22,14 +18,15 @@ abbrev pub IsCountOf : (all : Bool) → (setup : ℕ) → (input text : List ℕ
 IsCountOf true setup input text = text ≡ []
 IsCountOf false setup input text = IsCountIn setup (scenario_in input) text
 
--- the report of all findings, and how many interleavings the scripts have; the status is 0 where no
--- finding is a fault
+-- the status is 0 exactly if reading takes the text
+abbrev pub status_of : Result ScenarioValue ScenarioFault → ℕ
+status_of (Ok s) = 0
+status_of (Err fault) = 1
+
+-- the report, and how many interleavings the scripts have
 pub record IsCheckOf (setup : ℕ) (input text : List ℕ) (status : ℕ) : Type 0 where
-  pub found : List Finding
   pub reported : List ℕ
   pub counted : List ℕ
-  pub are : AreFindings input setup found
-  pub report : IsReport input found [] reported
   pub count : IsCountOf (setup == 2 ^ 64 - 1) setup input counted
   pub is : text ≡ reported ++ counted
-  pub judged : status ≡ (if count_by is_fault found == 0 then 0 else 1)
+  pub judged : status ≡ status_of (scenario_in input)

@@ -1,5 +1,5 @@
 //! What is wrong with a scenario, and how many interleavings it has.
-ghost use Rattle.std.specs.Prelude.{◌≡◌, ◌≢◌, ◌-◌, ◌^◌, ◌==◌, [], IfErr, IfOk, OnOk, string_bytes};
+ghost use Rattle.std.specs.Prelude.{◌≡◌, ◌≢◌, ◌-◌, ◌^◌, ◌==◌, [], IfErr, IfOk, OnOk, if◌then◌else◌, string_bytes};
 ghost use Rattle.hp_scenario.specs.Scenario.{scenario_in};
 ghost use Rattle.hp_lab_faults.specs.declared.fault.LabFault.TheVariants.{OutOfMemory};
 ghost use Rattle.hp_lab_faults.specs.declared.program_fault.ProgramFault.TheVariants.{Lab};
@@ -12,15 +12,15 @@ use hp_scenario::{Scenario, ScenarioFault};
 use hp_scripts::interleavings_line;
 use std::alloc::{AllocError, Global};
 
-/// The most interleavings that are counted where no limit is given.
+/// The most interleavings that are counted if no limit is given.
 pub(crate) const LIMIT: u64 = 10_000_000;
 
-/// The lines of a setup that is all of a scenario.
+/// The number of setup lines that means all of a scenario.
 pub(crate) const ALL: u64 = u64::MAX;
 
-/// What is wrong with the scenario that the bytes are to be, of whose lines so many are the setup, and
-/// how many interleavings the scripts after it have. The status is 0 where nothing is wrong but
-/// warnings, and else 1. An error is out of memory.
+/// Reports what is wrong with a scenario whose first `setup` lines are the setup, and how many
+/// interleavings the scripts after it have. The status is 0 if nothing is wrong but warnings, else 1.
+#[tactic(auto, using(crate::proofs::Judged::status_is))]
 pub fn checked(alloc: Global, input: &[u8], setup: u64) -> Result<Answer, ProgramFault>
     ensures ok { IfOk result (λ answer. IsCheckOf setup input.now (string_bytes answer.text) answer.status) }
     ensures err { IfErr result (λ fault. fault ≡ Lab OutOfMemory) }
@@ -30,12 +30,19 @@ pub fn checked(alloc: Global, input: &[u8], setup: u64) -> Result<Answer, Progra
     write_report(&mut text, alloc, input, &found)?;
     let counted = count_line(alloc, input, setup)?;
     text.push_str(&counted)?;
-    let status = if fault_count(&found) == 0 { 0 } else { 1 };
+    let status = status_of(fault_count(&found));
     Ok(Answer { text, status })
 }
 
-/// The line that says how many interleavings the scripts after so many lines of setup have; none
-/// where all lines are the setup, and where the bytes are no scenario. An error is out of memory.
+/// Returns the exit status of a check that found this many faults.
+fn status_of(faults: usize) -> u8
+    ensures { result ≡ (if faults == 0 then 0 else 1) }
+{
+    if faults == 0 { 0 } else { 1 }
+}
+
+/// Returns the line that says how many interleavings the scripts after the setup have. There is none
+/// if all lines are the setup, or if the bytes are no scenario.
 #[tactic(auto, using(crate::proofs::Counted::none_asked, crate::proofs::Counted::some_asked))]
 fn count_line(alloc: Global, input: &[u8], setup: u64) -> Result<String, AllocError>
     ensures { IfOk result (λ text. IsCountOf (setup == 2 ^ 64 - 1) setup input.now (string_bytes text)) }
@@ -46,7 +53,7 @@ fn count_line(alloc: Global, input: &[u8], setup: u64) -> Result<String, AllocEr
     count_in(alloc, input, setup)
 }
 
-/// The same, where not all lines are the setup.
+/// Does the same if not all lines are the setup.
 fn count_in(alloc: Global, input: &[u8], setup: u64) -> Result<String, AllocError>
     ensures { IfOk result (λ text. IsCountIn setup (scenario_in input.now) (string_bytes text)) }
 {
@@ -59,7 +66,7 @@ fn count_in(alloc: Global, input: &[u8], setup: u64) -> Result<String, AllocErro
     }
 }
 
-/// No line, where the bytes are no scenario. An error is out of memory.
+/// Returns no line, since the bytes are no scenario.
 fn no_count(alloc: Global, fault: ScenarioFault) -> Result<String, AllocError>
     ensures none { IfOk result (λ text. string_bytes text ≡ []) }
     ensures read { OnOk result (fault ≢ ScenarioFault.OutOfMemory) }

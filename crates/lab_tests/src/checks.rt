@@ -1,11 +1,11 @@
-//! Scenarios that are checked, and the report on each.
-use hp_call_lines::{call_lines, has_comment, is_blank, keys_at, nests_deeper};
+//! Scenarios, and the report of a check on each.
+use hp_call_lines::{call_lines, halves_at, has_comment, is_blank, keys_at, nests_deeper};
 use hp_check::{Finding, Key, check, fault_count, write_report};
 use std::alloc::{AllocError, Global};
 use std::test::Fail;
 
 /// A scenario, and the report on it.
-type Checked = (&'static str, &'static str);
+pub(crate) type Checked = (&'static str, &'static str);
 
 const CHECKED: &[Checked] = &[
     (
@@ -142,7 +142,7 @@ const SLIPPED: Checked = (
      calls 12 (line 6): `0 \\u001b[31m\\nwalk`: its second word is no verb\nfaults: 12, warnings: 0\n",
 );
 
-/// Lines of scripts after the first, and the report on them: the begin may have any later serial.
+/// Lines of scripts after the first, and the report on them. The begin may have any later serial.
 const SCRIPTED: Checked = (
     "{\"layout\":{\"order\":1,\"pageblocks\":1,\"blocks\":2,\"cpus\":2,\"batch\":1,\"high\":1,\
      \"owners\":2,\"pages\":2,\"words\":1,\"history\":40,\"boot\":[\"normal\",\"movable\"]},\n\
@@ -155,7 +155,7 @@ const SCRIPTED: Checked = (
      calls 8 (line 3): warning: no line before begins operation 1\nfaults: 0, warnings: 5\n",
 );
 
-/// Keys of the whole and of the layout that stand twice: only the first are told.
+/// Keys of the whole and of the layout that come twice. Only those of the whole are reported.
 const REPEATED: Checked = (
     "{\"layout\":{\"order\":2,\"order\":1,\"pageblocks\":1,\"blocks\":2,\"cpus\":2,\"batch\":1,\"high\":1,\
          \"owners\":2,\"pages\":2,\"words\":1,\"history\":40,\"boot\":[\"normal\",\"movable\"]},\n\
@@ -163,7 +163,7 @@ const REPEATED: Checked = (
     "scenario: warning: `calls` stands more than once, and the last counts\nfaults: 0, warnings: 1\n",
 );
 
-/// A key of the layout that stands twice.
+/// A key of the layout that comes twice.
 const REPEATED_BELOW: Checked = (
     "{\"layout\":{\"order\":2,\"order\":1,\"pageblocks\":1,\"blocks\":2,\"cpus\":2,\"batch\":1,\"high\":1,\
          \"owners\":2,\"pages\":2,\"words\":1,\"history\":40,\"boot\":[\"normal\",\"movable\"]},\n\
@@ -171,7 +171,7 @@ const REPEATED_BELOW: Checked = (
     "layout: warning: `order` stands more than once, and the last counts\nfaults: 0, warnings: 1\n",
 );
 
-/// The report on a text, of whose lines so many are the setup.
+/// Returns the report on a text whose first `setup` lines are the setup.
 fn report_after(alloc: Global, setup: u64, text: &str) -> Result<String, AllocError> {
     let mut out = String::new(alloc);
     let found = check(alloc, text.as_bytes(), setup)?;
@@ -179,14 +179,14 @@ fn report_after(alloc: Global, setup: u64, text: &str) -> Result<String, AllocEr
     Ok(out)
 }
 
-/// Whether this is the report on a text.
-fn has_report(alloc: Global, text: &str, expected: &str) -> Result<bool, AllocError> {
+/// Returns whether this is the report on a text.
+pub(crate) fn has_report(alloc: Global, text: &str, expected: &str) -> Result<bool, AllocError> {
     let report = report_after(alloc, u64::MAX, text)?;
     Ok(report.as_str() == expected)
 }
 
-/// The place of the first text on which there is another report.
-fn first_other(alloc: Global, rows: &[Checked]) -> Result<Option<usize>, AllocError> {
+/// Returns the place of the first text on which there is another report.
+pub(crate) fn first_other(alloc: Global, rows: &[Checked]) -> Result<Option<usize>, AllocError> {
     for (place, (text, expected)) in rows.iter().enumerate() {
         if !has_report(alloc, text, expected)? {
             return Ok(Some(place));
@@ -195,7 +195,7 @@ fn first_other(alloc: Global, rows: &[Checked]) -> Result<Option<usize>, AllocEr
     Ok(None)
 }
 
-/// Those texts. Each function that names the table pays for it in its proof, so one alone does.
+/// Returns those texts. Each function that names the table pays for it in its proof.
 fn checked() -> &'static [Checked] {
     CHECKED
 }
@@ -208,26 +208,26 @@ fn each_text_has_its_report(rt: HostRuntime) -> Result<(), Fail> {
     Ok(())
 }
 
-/// Whether the lines of scripts have their report.
-fn are_scripts_checked(alloc: Global) -> Result<bool, AllocError> {
-    let (text, expected) = SCRIPTED;
+/// Returns whether the lines of scripts have their report.
+pub(crate) fn are_scripts_checked(alloc: Global, checked: Checked) -> Result<bool, AllocError> {
+    let (text, expected) = checked;
     let after_one = report_after(alloc, 1, text)?;
     Ok(after_one.as_str() == expected)
 }
 
 #[test]
 fn scripts_have_their_report(rt: HostRuntime) -> Result<(), Fail> {
-    assert!(rt; are_scripts_checked(rt.alloc())?);
+    assert!(rt; are_scripts_checked(rt.alloc(), SCRIPTED)?);
     Ok(())
 }
 
-/// Whether this is the report on so many lists in one another.
+/// Returns whether this is the report on this many lists in one another.
 fn is_said(alloc: Global, count: usize, expected: &str) -> Result<bool, AllocError> {
     let text = "[".repeat(alloc, count)?;
     has_report(alloc, &text, expected)
 }
 
-/// Whether the depth of lists in one another is said where the reader does not take it.
+/// Returns whether the report names the depth of lists in one another that the reader does not take.
 fn is_depth_said(alloc: Global) -> Result<bool, AllocError> {
     let deep = "line 1, column 128: not JSON: more than 127 objects and lists in one another\n\
                 faults: 1, warnings: 0\n";
@@ -241,13 +241,15 @@ fn depth_is_said(rt: HostRuntime) -> Result<(), Fail> {
     Ok(())
 }
 
-/// Whether what a walk over a text sees is so.
+/// Returns whether a walk over a text sees what it should.
 fn is_seen() -> bool {
     is_blank(b" \t\r\n")
         && has_comment(b"{} # x")
         && nests_deeper(b"[[], {\"[\": [1]}]", 2)
         && !nests_deeper(b"[[], {\"[\": [1]}]", 3)
-        && keys_at(b"{\"a\": \"a\", \"b\": [\"a\"], \"a\" :1}", 1, b"\"a\"") == 2
+        && keys_at(b"{\"a\": \"a\", \"b\": [{\"a\": 0}], \"a\" :1}", 1, b"a") == 2
+        && halves_at(b"ab\ncd", 2, 2).is_some_and(|halves| halves.1 == b"d")
+        && halves_at(b"ab\ncd", 1, 4).is_none()
 }
 
 #[test]
@@ -256,7 +258,7 @@ fn texts_are_seen(rt: HostRuntime) -> Result<(), Fail> {
     Ok(())
 }
 
-/// Whether no finding is a fault.
+/// Returns whether no finding is a fault.
 fn are_warnings(findings: &[Finding]) -> bool {
     for finding in findings {
         if finding.is_fault() {
@@ -266,7 +268,7 @@ fn are_warnings(findings: &[Finding]) -> bool {
     true
 }
 
-/// Whether one of the texts has so many faults, and whether it has warnings alone is so.
+/// Returns whether one of the texts has this many faults, and is or is not without faults.
 fn counts(alloc: Global, place: usize, faults: usize, is_whole: bool) -> Result<bool, AllocError> {
     let Some((text, _report)) = checked().get(place) else {
         return Ok(false);
@@ -275,7 +277,7 @@ fn counts(alloc: Global, place: usize, faults: usize, is_whole: bool) -> Result<
     Ok(fault_count(&found) == faults && are_warnings(&found) == is_whole)
 }
 
-/// Whether faults are counted and told from warnings, in a text of faults and in one of warnings.
+/// Returns whether faults are counted, in a text of faults and in one of warnings.
 fn are_counted(alloc: Global) -> Result<bool, AllocError> {
     Ok(counts(alloc, 5, 6, false)? && counts(alloc, 7, 0, true)?)
 }
@@ -294,7 +296,7 @@ const TWICE: &[u8] = b"{\"calls\": [1],\n\"calls\": [\"a\", {},\n\n[2,\n3]]}";
 /// The lines of its entries.
 const LINES_OF_TWICE: &[u64] = &[2, 2, 4];
 
-/// Whether they are found.
+/// Returns whether they are found.
 fn are_lines_of_twice(alloc: Global) -> Result<bool, AllocError> {
     let lines = call_lines(alloc, TWICE)?;
     Ok(lines.as_slice() == LINES_OF_TWICE)

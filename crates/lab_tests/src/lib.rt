@@ -14,6 +14,8 @@ mod counts;
 #[cfg(test)]
 mod explorations;
 #[cfg(test)]
+mod findings;
+#[cfg(test)]
 mod parts;
 #[cfg(test)]
 mod picture_parts;

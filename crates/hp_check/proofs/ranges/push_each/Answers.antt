@@ -1,18 +1,23 @@
-use Rattle.std.proofs.Common.{◌++◌, Option, refl, sym, ap, ◌∙◌}
-use Rattle.hp_check.specs.Ranges.{part_fault}
-use Rattle.hp_check.specs.declared.finding.OutOfRange.{OutOfRange}
-use Rattle.hp_check.proofs.Pieces.{all_of, one_more}
+use Rattle.std.proofs.Common.{◌+◌, Option, Some, refl, sym, ap}
+use Rattle.hp_scenario.specs.declared.fault.ScenarioFault.TheVariants.{Layout}
+use Rattle.hp_check.specs.Adds.{IsLayout, out_fault}
+use Rattle.hp_check.specs.Checking.{fault_of}
+use Rattle.hp_check.specs.declared.finding.Finding.TheVariants as finding
+use Rattle.hp_check.proofs.Added.{item_added, items_added, none_added, of_fault, one_added}
 use Rattle.hp_check.proofs.ranges.push_each.Goals as goal
+
+pub loop-out-preserved-in_default : goal.loop-out-preserved-in_default
+loop-out-preserved-in_default c =
+    item_added out_fault c.args.outs.now c.loop-out.out-index _ c.loop-out-test.true c.loop-out.invariant
+    (of_fault (ap (out_fault (c.loop-out.out-index + 1)) (sym c.in_default.is)) (none_added IsLayout _))
 
 pub loop-out-preserved : goal.loop-out-preserved
 loop-out-preserved c =
-    one_more (part_fault) c.args.outs.now c.loop-out.out-index _
-    c.args.found.now.items c.loop-out.found.items c.push.new.self.items c.loop-out-test.true
-    c.loop-out.invariant (c.in_ok-push.ensures.items
-    ∙ ap (λ (out : Option OutOfRange). c.loop-out.found.items ++ part_fault out) (sym c.in-Some.is))
+    item_added out_fault c.args.outs.now c.loop-out.out-index _ c.loop-out-test.true c.loop-out.invariant
+    (of_fault (ap (out_fault (c.loop-out.out-index + 1)) (sym c.in-Some.is))
+    (one_added IsLayout (Some (Layout (fault_of c.in-Some.out))) (finding.Layout c.in-Some.out) _ _
+    c.in_ok-push.ensures.items tt refl))
 
 pub returns : goal.returns
 returns c =
-    all_of (part_fault) c.args.outs.now c.args.outs.now c.loop-out.out-index
-    c.args.found.now.items c.loop-out.found.items c.loop-out-test.false refl
-    c.loop-out.invariant
+    items_added out_fault c.args.outs.now c.loop-out.out-index c.loop-out-test.false c.loop-out.invariant

@@ -1,7 +1,7 @@
-use Rattle.std.proofs.Common.{◌≡◌, ◌++◌, take}
-use Rattle.std.specs.List.{flat_map}
-use Rattle.hp_check.specs.Ranges.{part_fault}
+use Rattle.std.proofs.Common.{take}
+use Rattle.hp_check.specs.Adds.{Adds, IsLayout, first_at, out_fault}
 use Rattle.hp_check.proofs.ranges.push_each.Given as goal
 
 abbrev pub invariant-loop-out : goal.invariant-loop-out
-invariant-loop-out l = l.found.items ≡ l.fn.found.items ++ flat_map part_fault (take l.out-index l.outs)
+invariant-loop-out l =
+    Adds IsLayout (first_at out_fault 1 (take l.out-index l.outs)) l.fn.found.items l.found.items

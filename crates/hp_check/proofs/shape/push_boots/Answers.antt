@@ -1,19 +1,26 @@
-use Rattle.std.proofs.Common.{◌+◌, map, slice_get, sym, ap}
+use Rattle.std.proofs.Common.{is_some, sym, ap, ◌∙◌}
 use Rattle.serde_json.specs.View.{view}
-use Rattle.hp_check.specs.Shape.{boot_fault}
-use Rattle.hp_check.proofs.Each.{each_none, each_more}
-use Rattle.hp_check.proofs.Values.{item_there}
+use Rattle.serde_json.specs.declared.value.Value.{Value}
+use Rattle.hp_scenario.specs.Form.{boot_at}
+use Rattle.hp_check.specs.Adds.{IsShape}
+use Rattle.hp_check.proofs.Added.{none_added, of_test, test_added, tests_added}
 use Rattle.hp_check.proofs.shape.push_boots.Goals as goal
 
-pub loop-index-init : goal.loop-index-init
-loop-index-init c =
-    each_none (λ place. boot_fault (place + 1) (slice_get (map view c.args.words.now) place)) _
+pub loop-index-preserved-then-is_boot : goal.loop-index-preserved-then-is_boot
+loop-index-preserved-then-is_boot c =
+    test_added (λ (v : Value). is_some (boot_at (view v))) c.args.words.now c.loop-index.index
+    c.index-words-index.result c.loop-index-test.true c.loop-index.invariant
+    (of_test (sym c.if-is_boot.true ∙ c.is_boot.ensures
+    ∙ ap (λ (v : Value). is_some (boot_at (view v))) c.index-words-index.is) (none_added IsShape _))
 
 pub loop-index-preserved : goal.loop-index-preserved
 loop-index-preserved c =
-    let here =
-    item_there c.args.words.now c.loop-index.index c.index-words-index.result c.loop-index-test.true
-    c.index-words-index.is in
-    each_more (λ place. boot_fault (place + 1) (slice_get (map view c.args.words.now) place))
-    c.loop-index.index _ _ _ _ c.loop-index.invariant c.in_ok-push_unless_boot.ensures
-    (ap (boot_fault (c.loop-index.index + 1)) (sym here))
+    test_added (λ (v : Value). is_some (boot_at (view v))) c.args.words.now c.loop-index.index
+    c.index-words-index.result c.loop-index-test.true c.loop-index.invariant
+    (of_test (sym c.if-is_boot.false ∙ c.is_boot.ensures
+    ∙ ap (λ (v : Value). is_some (boot_at (view v))) c.index-words-index.is) c.in_ok-push.ensures)
+
+pub returns : goal.returns
+returns c =
+    tests_added (λ (v : Value). is_some (boot_at (view v))) c.args.words.now c.loop-index.index
+    c.loop-index-test.false c.loop-index.invariant

@@ -1,19 +1,26 @@
+use Rattle.std.proofs.Common.{List, sym, ap, ◌∙◌}
+use Rattle.std.specs.List.{list_all}
 use Rattle.serde_json.specs.View.{view}
-use Rattle.hp_check.specs.Findings.{keys_of}
-use Rattle.hp_check.specs.Shape.{missing_fault}
-use Rattle.hp_check.proofs.Pieces.{all_of, one_more}
+use Rattle.hp_check.specs.Adds.{IsShape}
+use Rattle.hp_check.specs.Shape.{is_there}
+use Rattle.hp_check.specs.declared.finding.Key.{Key}
+use Rattle.hp_check.proofs.Added.{none_added, of_test, test_added, tests_added}
 use Rattle.hp_check.proofs.shape.push_missing.Goals as goal
+
+pub loop-key-preserved-then-is_there : goal.loop-key-preserved-then-is_there
+loop-key-preserved-then-is_there c =
+    test_added (is_there (view c.args.value.now)) c.keys_of-keys.result.now c.loop-key.key-index _
+    c.loop-key-test.true c.loop-key.invariant
+    (of_test (sym c.if-is_there.true ∙ c.is_there.ensures) (none_added IsShape _))
 
 pub loop-key-preserved : goal.loop-key-preserved
 loop-key-preserved c =
-    one_more (missing_fault c.args.place (view c.args.value.now)) c.keys_of-keys.result.now
-    c.loop-key.key-index _
-    c.args.found.now.items c.loop-key.found.items c.push_if_missing.new.found.items c.loop-key-test.true
-    c.loop-key.invariant c.in_ok-push_if_missing.ensures
+    test_added (is_there (view c.args.value.now)) c.keys_of-keys.result.now c.loop-key.key-index _
+    c.loop-key-test.true c.loop-key.invariant
+    (of_test (sym c.if-is_there.false ∙ c.is_there.ensures) c.in_ok-push.ensures)
 
 pub returns : goal.returns
 returns c =
-    all_of (missing_fault c.args.place (view c.args.value.now)) c.keys_of-keys.result.now
-    (keys_of c.args.place) c.loop-key.key-index
-    c.args.found.now.items c.loop-key.found.items c.loop-key-test.false c.keys_of-keys.ensures
-    c.loop-key.invariant
+    of_test (ap (λ (ks : List Key). list_all (is_there (view c.args.value.now)) ks) c.keys_of-keys.ensures)
+    (tests_added (is_there (view c.args.value.now)) c.keys_of-keys.result.now c.loop-key.key-index
+    c.loop-key-test.false c.loop-key.invariant)

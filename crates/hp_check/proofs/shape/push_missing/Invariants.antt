@@ -1,10 +1,11 @@
-use Rattle.std.proofs.Common.{◌≡◌, ◌++◌, take}
-use Rattle.std.specs.List.{flat_map}
+use Rattle.std.proofs.Common.{take}
+use Rattle.std.specs.List.{list_all}
 use Rattle.serde_json.specs.View.{view}
-use Rattle.hp_check.specs.Shape.{missing_fault}
+use Rattle.hp_check.specs.Adds.{Adds, IsShape, lacks}
+use Rattle.hp_check.specs.Shape.{is_there}
 use Rattle.hp_check.proofs.shape.push_missing.Given as goal
 
 abbrev pub invariant-loop-key : goal.invariant-loop-key
 invariant-loop-key l =
+    Adds IsShape (lacks (list_all (is_there (view l.value)) (take l.key-index l.keys))) l.fn.found.items
     l.found.items
-    ≡ l.fn.found.items ++ flat_map (missing_fault l.place (view l.value)) (take l.key-index l.keys)

@@ -1,27 +1,34 @@
-use Rattle.std.proofs.Common.{ℕ, List, ◌++◌, Option, get_or, ap, ◌∙◌}
-use Rattle.serde_json.specs.Data.{Data}
+use Rattle.std.proofs.Common.{ℕ, List, get_or, sym, ap, ◌∙◌}
+use Rattle.std.specs.List.{list_all}
 use Rattle.serde_json.specs.Find.{get}
 use Rattle.serde_json.specs.View.{view}
-use Rattle.hp_check.specs.Findings.{number_keys}
-use Rattle.hp_check.specs.Shape.{number_fault, number_fault_of}
-use Rattle.hp_check.specs.declared.finding.Key.TheVariants as key
-use Rattle.hp_check.proofs.Pieces.{all_of, one_more}
+use Rattle.hp_check.specs.Adds.{IsShape}
+use Rattle.hp_check.specs.Shape.{if_there, is_number, is_number_at}
+use Rattle.hp_check.specs.declared.finding.Key.{Key}
+use Rattle.hp_check.proofs.Added.{none_added, of_test, test_added, tests_added}
 use Rattle.hp_check.proofs.shape.push_numbers.Goals as goal
+
+pub loop-key-preserved-then-may_be_number : goal.loop-key-preserved-then-may_be_number
+loop-key-preserved-then-may_be_number c =
+    let value = view c.args.layout.now in
+    test_added (is_number_at value) c.number_keys-keys.result.now c.loop-key.key-index _
+    c.loop-key-test.true c.loop-key.invariant
+    (of_test (sym c.if-may_be_number.true ∙ c.may_be_number.ensures
+    ∙ ap (if_there is_number) (c.get.ensures ∙ ap (λ (n : List ℕ). get n value) c.name.ensures))
+    (none_added IsShape _))
 
 pub loop-key-preserved : goal.loop-key-preserved
 loop-key-preserved c =
-    let name = get_or c.number_keys-keys.result.now c.loop-key.key-index key.Layout in
     let value = view c.args.layout.now in
-    one_more (number_fault value) c.number_keys-keys.result.now c.loop-key.key-index key.Layout
-    c.args.found.now.items c.loop-key.found.items c.push_unless_number.new.found.items c.loop-key-test.true
-    c.loop-key.invariant
-    (c.in_ok-push_unless_number.ensures
-    ∙ ap (λ (o : Option Data). c.loop-key.found.items ++ number_fault_of name o)
-    (c.get.ensures ∙ ap (λ (n : List ℕ). get n value) c.name.ensures))
+    test_added (is_number_at value) c.number_keys-keys.result.now c.loop-key.key-index _
+    c.loop-key-test.true c.loop-key.invariant
+    (of_test (sym c.if-may_be_number.false ∙ c.may_be_number.ensures
+    ∙ ap (if_there is_number) (c.get.ensures ∙ ap (λ (n : List ℕ). get n value) c.name.ensures))
+    c.in_ok-push.ensures)
 
 pub returns : goal.returns
 returns c =
-    all_of (number_fault (view c.args.layout.now)) c.number_keys-keys.result.now number_keys
-    c.loop-key.key-index
-    c.args.found.now.items c.loop-key.found.items c.loop-key-test.false c.number_keys-keys.ensures
-    c.loop-key.invariant
+    of_test (ap (λ (ks : List Key). list_all (is_number_at (view c.args.layout.now)) ks)
+    c.number_keys-keys.ensures)
+    (tests_added (is_number_at (view c.args.layout.now)) c.number_keys-keys.result.now c.loop-key.key-index
+    c.loop-key-test.false c.loop-key.invariant)

@@ -1,19 +1,26 @@
-use Rattle.std.proofs.Common.{◌+◌, map, slice_get, sym, ap}
+use Rattle.std.proofs.Common.{is_some, sym, ap, ◌∙◌}
 use Rattle.serde_json.specs.View.{view}
-use Rattle.hp_check.specs.Shape.{text_fault}
-use Rattle.hp_check.proofs.Each.{each_none, each_more}
-use Rattle.hp_check.proofs.Values.{item_there}
+use Rattle.serde_json.specs.declared.value.Value.{Value}
+use Rattle.serde_json.specs.Find.{as_str}
+use Rattle.hp_check.specs.Adds.{IsShape}
+use Rattle.hp_check.proofs.Added.{none_added, of_test, test_added, tests_added}
 use Rattle.hp_check.proofs.shape.push_texts.Goals as goal
 
-pub loop-index-init : goal.loop-index-init
-loop-index-init c =
-    each_none (λ place. text_fault (place + 1) (slice_get (map view c.args.texts.now) place)) _
+pub loop-index-preserved-then-is_string : goal.loop-index-preserved-then-is_string
+loop-index-preserved-then-is_string c =
+    test_added (λ (v : Value). is_some (as_str (view v))) c.args.texts.now c.loop-index.index
+    c.index-texts-index.result c.loop-index-test.true c.loop-index.invariant
+    (of_test (sym c.if-is_string.true ∙ c.is_string.ensures
+    ∙ ap (λ (v : Value). is_some (as_str (view v))) c.index-texts-index.is) (none_added IsShape _))
 
 pub loop-index-preserved : goal.loop-index-preserved
 loop-index-preserved c =
-    let here =
-    item_there c.args.texts.now c.loop-index.index c.index-texts-index.result c.loop-index-test.true
-    c.index-texts-index.is in
-    each_more (λ place. text_fault (place + 1) (slice_get (map view c.args.texts.now) place))
-    c.loop-index.index _ _ _ _ c.loop-index.invariant c.in_ok-push_unless_text.ensures
-    (ap (text_fault (c.loop-index.index + 1)) (sym here))
+    test_added (λ (v : Value). is_some (as_str (view v))) c.args.texts.now c.loop-index.index
+    c.index-texts-index.result c.loop-index-test.true c.loop-index.invariant
+    (of_test (sym c.if-is_string.false ∙ c.is_string.ensures
+    ∙ ap (λ (v : Value). is_some (as_str (view v))) c.index-texts-index.is) c.in_ok-push.ensures)
+
+pub returns : goal.returns
+returns c =
+    tests_added (λ (v : Value). is_some (as_str (view v))) c.args.texts.now c.loop-index.index
+    c.loop-index-test.false c.loop-index.invariant

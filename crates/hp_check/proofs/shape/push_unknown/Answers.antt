@@ -1,15 +1,12 @@
-use Rattle.std.proofs.Common.{List, ℕ, String, ◌++◌, map, string_bytes, sym, ap, ◌∙◌, append-nil}
-use Rattle.std.specs.List.{flat_map}
-use Rattle.std.specs.declared.alloc.Global.{Global}
-use Rattle.hp_check.specs.Shape.{unknown_fault}
-use Rattle.hp_check.proofs.Values.{names_seen}
+use Rattle.std.proofs.Common.{false, true, ◌&&◌}
+use Rattle.hp_check.specs.Adds.{IsShape}
+use Rattle.hp_check.proofs.Added.{both_lack, none_added}
 use Rattle.hp_check.proofs.shape.push_unknown.Goals as goal
 
-pub returns : goal.returns
-returns c =
-    sym (append-nil c.loop-name.found.items)
-    ∙ ap (λ (ks : List (String Global)). c.loop-name.found.items
-    ++ flat_map (unknown_fault c.args.place) (map string_bytes ks)) (sym c.in-None.ensures.steps.0)
-    ∙ c.loop-name.invariant
-    ∙ ap (λ (ns : List (List ℕ)). c.args.found.now.items ++ flat_map (unknown_fault c.args.place) ns)
-    (sym (names_seen c.args.members.now.entries))
+pub loop-name-init : goal.loop-name-init
+loop-name-init c = (true, none_added IsShape _)
+
+pub loop-name-preserved : goal.loop-name-preserved
+loop-name-preserved c =
+    let fine = c.loop-name.invariant.0 in
+    (fine && false, both_lack fine false c.loop-name.invariant.1 c.in_ok-push.ensures)

@@ -1,0 +1,113 @@
+-- Findings that are added by one step after another.
+use Rattle.std.proofs.Common.{◌≡◌, ℕ, ◌+◌, ◌<◌, ◌≤◌, Bool, true, false, ◌&&◌, List, [], ◌∷◌, ◌++◌, length, get_or, take, Option, Some, None, refl, sym, ap, subst, ◌∙◌, append_assoc, append-nil, arith}
+use Rattle.std.specs.List.{All, list_all}
+use Rattle.std.specs.Option.{option_or}
+use Rattle.std.proofs.lemmas.List.{length-take, take_all, take_more}
+use Rattle.std.proofs.lemmas.List.Elements.{All-append, All-cons, All-nil, All-weaker}
+use Rattle.std.proofs.lemmas.List.Folds.{list_all_more}
+use Rattle.hp_scenario.specs.declared.fault.ScenarioFault.{ScenarioFault}
+use Rattle.hp_check.specs.Adds.{Adds, IsFirst, first_at, lacks}
+use Rattle.hp_check.specs.Checking.{Begins}
+use Rattle.hp_check.specs.declared.finding.Finding.{Finding}
+
+-- ---- one step
+
+pub none_added : (P : Finding → Type 0) (old : List Finding) → Adds P None old old
+none_added P old = record { added = []; is = sym (append-nil old); each = All-nil P; first = refl }
+
+pub one_added : (P : Finding → Type 0) (fault : Option ScenarioFault) (f : Finding) (old new : List Finding)
+    → new ≡ old ++ f ∷ [] → P f → IsFirst fault (f ∷ []) → Adds P fault old new
+one_added P fault f old new is cause first =
+    record { added = f ∷ []; is = is; each = All-cons P f [] cause (All-nil P); first = first }
+
+pub of_fault : {P : Finding → Type 0} {a b : Option ScenarioFault} {old new : List Finding} → a ≡ b
+    → Adds P a old new → Adds P b old new
+of_fault {P} {a} {b} {old} {new} e h = subst (λ (fault : Option ScenarioFault). Adds P fault old new) e h
+
+pub by_cause : {P Q : Finding → Type 0} {fault : Option ScenarioFault} {old new : List Finding}
+    → ((f : Finding) → P f → Q f) → Adds P fault old new → Adds Q fault old new
+by_cause {P} {Q} weaker h =
+    record { added = h.added; is = h.is; each = All-weaker P Q weaker h.added h.each; first = h.first }
+
+-- what is added to no findings
+pub from_none : {P : Finding → Type 0} {fault : Option ScenarioFault} {old new : List Finding} → old ≡ []
+    → Adds P fault old new → Adds P fault [] new
+from_none {P} {fault} {old} {new} e h = subst (λ (l : List Finding). Adds P fault l new) e h
+
+-- ---- two steps
+
+first_of_two : (a b : Option ScenarioFault) (xs ys : List Finding) → IsFirst a xs → IsFirst b ys
+    → IsFirst (option_or a b) (xs ++ ys)
+first_of_two None b xs ys none h = subst (λ (l : List Finding). IsFirst b (l ++ ys)) (sym none) h
+first_of_two (Some fault) b [] ys first h = absurd first
+first_of_two (Some fault) b (x ∷ xs) ys first h = first
+
+pub both_added : {P : Finding → Type 0} {a b : Option ScenarioFault} {old mid new : List Finding}
+    → Adds P a old mid → Adds P b mid new → Adds P (option_or a b) old new
+both_added {P} {a} {b} {old} {mid} {new} one two = record {
+  added = one.added ++ two.added;
+  is =
+      two.is ∙ ap (λ (l : List Finding). l ++ two.added) one.is ∙ append_assoc old one.added two.added;
+  each = All-append P one.added two.added one.each two.each;
+  first = first_of_two a b one.added two.added one.first two.first;
+}
+
+lacks_either : (a b : Bool) → option_or (lacks a) (lacks b) ≡ lacks (a && b)
+lacks_either true b = refl
+lacks_either false b = refl
+
+pub both_lack : (a b : Bool) {P : Finding → Type 0} {old mid new : List Finding}
+    → Adds P (lacks a) old mid → Adds P (lacks b) mid new → Adds P (lacks (a && b)) old new
+both_lack a b one two = of_fault (lacks_either a b) (both_added one two)
+
+pub of_test : {P : Finding → Type 0} {a b : Bool} {old new : List Finding} → a ≡ b
+    → Adds P (lacks a) old new → Adds P (lacks b) old new
+of_test e h = of_fault (ap lacks e) h
+
+-- ---- a loop
+
+or_assoc : (a b c : Option ScenarioFault) → option_or (option_or a b) c ≡ option_or a (option_or b c)
+or_assoc None b c = refl
+or_assoc (Some x) b c = refl
+
+or_none : (a : Option ScenarioFault) → option_or a None ≡ a
+or_none None = refl
+or_none (Some x) = refl
+
+last_at : {X : Type 0} (f : ℕ → X → Option ScenarioFault) (number : ℕ) (xs : List X) (x : X)
+    → first_at f number (xs ++ x ∷ []) ≡ option_or (first_at f number xs) (f (number + length xs) x)
+last_at f number [] x = or_none (f number x) ∙ ap (λ (n : ℕ). f n x) (omega arith)
+last_at f number (y ∷ ys) x =
+    ap (option_or (f number y)) (last_at f (number + 1) ys x)
+    ∙ sym (or_assoc (f number y) (first_at f (number + 1) ys) (f (number + 1 + length ys) x))
+    ∙ ap (λ (n : ℕ). option_or (option_or (f number y) (first_at f (number + 1) ys)) (f n x)) (omega arith)
+
+-- one item more
+pub item_added : {X : Type 0} {P : Finding → Type 0} (f : ℕ → X → Option ScenarioFault) (xs : List X) (i : ℕ)
+    (d : X) {old now next : List Finding}
+    → i < length xs → Adds P (first_at f 1 (take i xs)) old now → Adds P (f (i + 1) (get_or xs i d)) now next
+    → Adds P (first_at f 1 (take (i + 1) xs)) old next
+item_added {X} f xs i d lt so_far more =
+    let counted : 1 + length (take i xs) ≡ i + 1 = omega (arith, length-take i xs) in
+    of_fault (sym (ap (first_at f 1) (take_more xs i d lt) ∙ last_at f 1 (take i xs) (get_or xs i d)
+    ∙ ap (λ (n : ℕ). option_or (first_at f 1 (take i xs)) (f n (get_or xs i d))) counted))
+    (both_added so_far more)
+
+-- all items
+pub items_added : {X : Type 0} {P : Finding → Type 0} (f : ℕ → X → Option ScenarioFault) (xs : List X) (i : ℕ)
+    {old now : List Finding}
+    → length xs ≤ i → Adds P (first_at f 1 (take i xs)) old now → Adds P (first_at f 1 xs) old now
+items_added {X} f xs i over so_far = of_fault (ap (first_at f 1) (take_all i xs over)) so_far
+
+-- the same for a test of each item
+pub test_added : {X : Type 0} {P : Finding → Type 0} (p : X → Bool) (xs : List X) (i : ℕ) (d : X)
+    {old now next : List Finding}
+    → i < length xs → Adds P (lacks (list_all p (take i xs))) old now
+    → Adds P (lacks (p (get_or xs i d))) now next
+    → Adds P (lacks (list_all p (take (i + 1) xs))) old next
+test_added p xs i d lt so_far more = of_test (sym (list_all_more p xs i d lt)) (both_lack _ _ so_far more)
+
+pub tests_added : {X : Type 0} {P : Finding → Type 0} (p : X → Bool) (xs : List X) (i : ℕ)
+    {old now : List Finding}
+    → length xs ≤ i → Adds P (lacks (list_all p (take i xs))) old now → Adds P (lacks (list_all p xs)) old now
+tests_added {X} p xs i over so_far = of_test (ap (list_all p) (take_all i xs over)) so_far

@@ -1,6 +1,0 @@
-use Rattle.serde_json.proofs.Views.{members_len-members_view}
-use Rattle.std.proofs.Common.{sym, ◌∙◌}
-use Rattle.hp_check.proofs.shape.count_of.Goals as goal
-
-pub returns : goal.returns
-returns c = c.len.ensures.len ∙ sym (members_len-members_view c.args.members.now.entries)

@@ -1,0 +1,84 @@
+-- Findings that are added to others, and what the first of them says.
+use Rattle.std.specs.Prelude.{◌≡◌, ℕ, ◌+◌, ◌≤◌, Bool, true, false, List, [], ◌∷◌, ◌++◌, Option, Some, None, Result, Ok, Err}
+use Rattle.std.specs.List.{All}
+use Rattle.std.specs.Option.{option_map, option_or}
+use Rattle.serde_json.specs.Data.{Data}
+use Rattle.hp_units.specs.LayoutParts.{LayoutParts, layout_fault}
+use Rattle.hp_scenario.specs.Form.{form_of}
+use Rattle.hp_scenario.specs.declared.fault.ScenarioFault.{ScenarioFault}
+use Rattle.hp_scenario.specs.declared.fault.ScenarioFault.TheVariants.{BadShape, Layout}
+use Rattle.hp_check.specs.Calls.{IsBadEntry, entries_in}
+use Rattle.hp_check.specs.Checking.{Begins, IsPastLimits, fault_of}
+use Rattle.hp_check.specs.declared.finding.Finding.{Finding}
+use Rattle.hp_check.specs.declared.finding.Finding.TheVariants as finding
+use Rattle.hp_check.specs.declared.finding.OutOfRange.{OutOfRange}
+
+-- the first says what the fault says; where there is no fault there is none
+abbrev pub IsFirst : Option ScenarioFault → List Finding → Type 0
+IsFirst None added = added ≡ []
+IsFirst (Some fault) added = Begins fault added
+
+pub record Adds (P : Finding → Type 0) (fault : Option ScenarioFault) (old new : List Finding) : Type 0 where
+  pub added : List Finding
+  pub is : new ≡ old ++ added
+  pub each : All P added
+  pub first : IsFirst fault added
+
+-- the first fault of a list, whose items are numbered from here
+abbrev pub first_at : {X : Type 0} → (ℕ → X → Option ScenarioFault) → ℕ → List X → Option ScenarioFault
+first_at f number [] = None
+first_at f number (x ∷ xs) = option_or (f number x) (first_at f (number + 1) xs)
+
+-- the fault of a shape where a condition does not hold
+abbrev pub lacks : Bool → Option ScenarioFault
+lacks true = None
+lacks false = Some BadShape
+
+-- the fault of a layout at a part that is out of its range, if it is
+abbrev pub out_fault : (number : ℕ) → Option OutOfRange → Option ScenarioFault
+out_fault number None = None
+out_fault number (Some out) = Some (Layout (fault_of out))
+
+-- that at all its parts, where they can be read
+abbrev pub limit_fault : LayoutParts → Option ScenarioFault
+limit_fault l = option_map Layout (layout_fault l)
+
+abbrev pub limit_fault_of : Option LayoutParts → Option ScenarioFault
+limit_fault_of None = None
+limit_fault_of (Some l) = limit_fault l
+
+-- the fault of reading, if it has one
+abbrev pub fault_in : {A : Type 0} → Result A ScenarioFault → Option ScenarioFault
+fault_in (Ok x) = None
+fault_in (Err fault) = Some fault
+
+-- ---- kinds of findings
+
+abbrev pub IsNotJson : Finding → Type 0
+IsNotJson (finding.NotJson hint line column) = Unit {0}
+IsNotJson f = ⊥
+
+abbrev pub IsShape : Finding → Type 0
+IsShape (finding.Shape s) = Unit {0}
+IsShape f = ⊥
+
+abbrev pub IsLayout : Finding → Type 0
+IsLayout (finding.Layout out) = Unit {0}
+IsLayout f = ⊥
+
+abbrev pub IsRepeat : Finding → Type 0
+IsRepeat (finding.Repeat place k) = Unit {0}
+IsRepeat f = ⊥
+
+-- a warning, of one of this many lines or of a key
+abbrev pub IsWarning : (lines : ℕ) → Finding → Type 0
+IsWarning lines (finding.Repeat place k) = Unit {0}
+IsWarning lines (finding.Warning number w) = (1 ≤ number) × (number ≤ lines)
+IsWarning lines f = ⊥
+
+-- why a value has a finding
+abbrev pub ValueCause : Data → Finding → Type 0
+ValueCause d (finding.Shape s) = form_of d ≡ None
+ValueCause d (finding.Layout out) = IsPastLimits d
+ValueCause d (finding.BadCall number text) = IsBadEntry (entries_in d) number text
+ValueCause d f = ⊥
