@@ -25,12 +25,7 @@ pub(crate) fn write_row(
 
 /// Returns what comes after a text in its columns: spaces, or if it takes more, a line end and as
 /// many spaces as the next text is to have before it.
-fn gap_after(
-    alloc: Global,
-    text: &str,
-    columns: usize,
-    next: usize,
-) -> Result<String, AllocError> {
+fn gap_after(alloc: Global, text: &str, columns: usize, next: usize) -> Result<String, AllocError> {
     let mut gap = String::new(alloc);
     if text.len() > columns {
         gap.push_str("\n")?;

@@ -1,5 +1,6 @@
 //! Rows drawn as a picture.
 use hp_pictures::{BlockPicture, FreeBlock, Move, RowPicture};
+use hp_scenario::Scenario;
 use hp_svg::picture_of;
 use hp_trace::{View, trace_rows};
 use hp_units::{Frame, Text};
@@ -238,7 +239,8 @@ const ALL: View = View {
 
 /// The picture of a scenario.
 fn scenario_picture(alloc: Global, scenario: &[u8]) -> Option<String> {
-    let rows = trace_rows(alloc, scenario, ALL).ok()?;
+    let scenario = Scenario::read(alloc, scenario).ok()?;
+    let rows = trace_rows(alloc, &scenario, ALL).ok()?;
     picture_of(alloc, &IndexSet::new(alloc), 8, &rows).ok()
 }
 

@@ -39,7 +39,8 @@ echo: fault BadText
 ";
 
 /// The same memory as in `SCENARIO`, with a line that changes nothing of what is drawn.
-const NARROW: &[u8] = br#"{"layout":{"order":2,"pageblocks":1,"blocks":3,"cpus":1,"batch":2,"high":2,
+const NARROW: &[u8] =
+    br#"{"layout":{"order":2,"pageblocks":1,"blocks":3,"cpus":1,"batch":2,"high":2,
 "owners":1,"pages":4,"words":1,"history":9,"boot":["normal","movable","offline"]},
 "calls":["0 map db 0","0 write db 0 0 7","0 plan 4 off 1","0 seal"]}"#;
 
@@ -98,7 +99,14 @@ const LONG: &[u8] = br#"{"layout":{"order":10,"pageblocks":4,"blocks":4,"cpus":1
 "owners":1,"pages":4,"words":1,"history":9,"boot":["offline","offline","absent","normal"]},
 "calls":["0 kalloc 3","0 begin off 3"]}"#;
 
-LONGTEXT
+const LONG_ANSWER: &str =
+    "   0 boot                                               0:off[4096: -*4096] 1:off[4096: -*4096]
+                                                        2:absent[4096:  *4096] 3:N[4096: .*4096]
+   1 0 kalloc 3               1: frame 12288            3:N[4096: .*4088 K*8]
+   2 0 begin off 3            2: refused Unmovable 12288
+                                                        =
+";
+
 /// Returns whether the trace of a scenario is this text.
 fn is_traced(alloc: Global, scenario: &[u8], view: View, text: &str) -> bool {
     match Scenario::read(alloc, scenario) {
