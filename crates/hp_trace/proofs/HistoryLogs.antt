@@ -108,7 +108,8 @@ called_turn m n cpu event r reached called = record {
   whole = λ rows asked answer moved ih.
       sym (append_assoc (own_log m) (step_log m.layout m.state n.state) (rows_log n rows))
       ∙ (ap (λ (xs : List LogEvent). xs ++ rows_log n rows) (sym (more_own m n cpu event r reached called))
-      ∙ (ih ∙ (ap₂ (λ (l : LayoutParts) (b : Memory). log_of_all l b (histories n rows)) called.layout called.base
+      ∙ (ih
+      ∙ (ap₂ (λ (l : LayoutParts) (b : Memory). log_of_all l b (histories n rows)) called.layout called.base
       ∙ ap (λ (hs : List (List Record)). log_of_all m.layout m.base hs)
       (sym (goes_on m n rows called.before)))));
 }
@@ -131,13 +132,15 @@ sealed_turn m reached = record {
         let none : m.history ≡ [] = empty m.history (omega (arith, eqb-true (sealed m).before m.before is)) in
         let state : m.state ≡ m.base =
         reached ∙ (ap (λ (h : List Record). value_of m.layout m.base h) none ∙ of_nothing m.layout m.base) in
-        ap (λ (xs : List LogEvent). own_log m ++ (xs ++ rows_log (sealed m) rows)) (step_none m.layout m.state)
+        ap (λ (xs : List LogEvent). own_log m ++ (xs ++ rows_log (sealed m) rows))
+        (step_none m.layout m.state)
         ∙ (ap (λ (h : List Record). log_of m.layout m.base h ++ rows_log (sealed m) rows) none
         ∙ (ih ∙ (ap (λ (s : Memory). log_of_all m.layout s later) state
         ∙ ap (λ (b : Bool). log_of_all m.layout m.base (if b then later else m.history ∷ later)) (sym is))))
     by_number rows ih false is =
         let later = histories (sealed m) rows in
-        ap (λ (xs : List LogEvent). own_log m ++ (xs ++ rows_log (sealed m) rows)) (step_none m.layout m.state)
+        ap (λ (xs : List LogEvent). own_log m ++ (xs ++ rows_log (sealed m) rows))
+        (step_none m.layout m.state)
         ∙ (ap (λ (xs : List LogEvent). own_log m ++ xs)
         (ih ∙ ap (λ (s : Memory). log_of_all m.layout s later) reached)
         ∙ ap (λ (b : Bool). log_of_all m.layout m.base (if b then later else m.history ∷ later)) (sym is))
@@ -145,7 +148,8 @@ sealed_turn m reached = record {
 -- ---- all turns
 
 pub turn_taken : (m n : MachineValue) → IsReached m → IsTurn m n → TakesTurn m n
-turn_taken m n reached (inl same) = subst (λ (k : MachineValue). TakesTurn m k) (sym same) (same_turn m reached)
+turn_taken m n reached (inl same) =
+    subst (λ (k : MachineValue). TakesTurn m k) (sym same) (same_turn m reached)
 turn_taken m n reached (inr (inl called)) = called_turn m n called.0 called.1 called.2 reached called.3
 turn_taken m n reached (inr (inr same)) =
     subst (λ (k : MachineValue). TakesTurn m k) (sym same) (sealed_turn m reached)

@@ -1,7 +1,7 @@
-mod Folded
 mod HistoryLogs
 mod LinesTraced
 mod PlansTraced
+mod RowTexts
 mod RunsLogged
 mod SnapshotsTaken
 mod WorkAdded

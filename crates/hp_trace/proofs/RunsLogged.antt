@@ -182,19 +182,12 @@ run_from_boot : (l : LayoutParts) (v : View) (lines : List Line) (old new : Rows
     → IsStart Logged v (booted l) old → (d : AreLinesDrawn (booted l) lines old new after)
     → new.log.events ≡ log_of_all l (boot_memory l) (histories (booted l) d.rows)
 run_from_boot l v lines old new after begun d =
-    let first = first_seen (booted l) (no_rows Logged v) begun.first refl refl begun.drawn in
-    let log : old.log ≡ begun.first.log = ap (λ (r : RowsValue). r.log) begun.is in
-    let has : HasSeen (booted l) old = record {
-      form = ap (λ (r : RowsValue). r.form) begun.is ∙ first.0.form;
-      shows = first.0.shows;
-      seen = ap (λ (g : LogValue). g.seen) log ∙ first.0.seen;
-    } in
+    let first = first_seen (booted l) (no_rows Logged v) old refl refl begun in
     let turns = lines_turns (booted l) lines d.rows after d.run in
     let whole : rows_log (booted l) d.rows ≡ whole_log (booted l) d.rows =
     whole_rows (booted l) after d.rows (boot_reached l) turns in
-    rows_logged (booted l) after d.rows old new (boot_reached l) turns has d.drawn
-    ∙ (ap (λ (es : List LogEvent). es ++ rows_log (booted l) d.rows)
-    (ap (λ (g : LogValue). g.events) log ∙ first.1) ∙ whole)
+    rows_logged (booted l) after d.rows old new (boot_reached l) turns first.0 d.drawn
+    ∙ (ap (λ (es : List LogEvent). es ++ rows_log (booted l) d.rows) first.1 ∙ whole)
 
 pub run_logged : (s : ScenarioValue) (v : View) (lines : List Line) (old new : RowsValue)
     (start after : MachineValue) (block_frames : ℕ) (events : List LogEvent)

@@ -1,4 +1,4 @@
--- The rows that a line makes, and the machine after it (own rule).
+-- The rows that a line makes, and the machine after it.
 use Rattle.std.specs.Prelude.{ℕ, ◌≡◌, ◌⊎◌, true, false, List, [], ◌∷◌, ◌++◌, codes, length, Option, Some, None, Result, Ok, Err, ⊤}
 use Rattle.std.specs.Fmt.{decimal}
 use Rattle.hp_units.specs.Driver.{IsDriverRun}

@@ -1,6 +1,4 @@
 pub mod Calls
-pub mod Columns
-pub mod Folds
 pub mod Logs
 pub mod Ports
 pub mod Rows

@@ -1,5 +1,5 @@
 -- The log of a scenario: that of the histories that its run makes, from boot on. A seal ends a history.
-use Rattle.std.specs.Prelude.{ℕ, ◌≡◌, ◌==◌, List, [], ◌∷◌, ◌++◌, Ok, if◌then◌else◌}
+use Rattle.std.specs.Prelude.{ℕ, ◌≡◌, ◌==◌, List, [], ◌∷◌, ◌++◌, if◌then◌else◌}
 use Rattle.hp_units.specs.Arithmetic.{block_size}
 use Rattle.hp_units.specs.Boot.{boot_memory}
 use Rattle.hp_units.specs.declared.replies.Record.{Record}
@@ -7,7 +7,7 @@ use Rattle.hp_judge.specs.declared.events.LogEvent.{LogEvent}
 use Rattle.hp_lawful.specs.Logs.{log_of_all}
 use Rattle.hp_machine.specs.Machine.{MachineValue, booted}
 use Rattle.hp_scenario.specs.Asked.{asked_by}
-use Rattle.hp_scenario.specs.Scenario.{ScenarioValue, scenario_in}
+use Rattle.hp_scenario.specs.Scenario.{ScenarioValue}
 use Rattle.hp_scenario.specs.declared.lines.Line.{Line}
 use Rattle.hp_trace.specs.Calls.{MakesWork}
 use Rattle.hp_trace.specs.Rows.{AreDrawn, Row, RowsValue, drawing, words}
@@ -36,12 +36,6 @@ pub record IsLogOfScenario (s : ScenarioValue) (block_frames : ℕ) (events : Li
   pub run : RunsLines (booted s.layout) s.lines rows machine
   pub size : block_frames ≡ block_size s.layout
   pub is : events ≡ log_of_all s.layout (boot_memory s.layout) (histories (booted s.layout) rows)
-
--- of the scenario that the bytes are
-pub record IsLogOf (input : List ℕ) (block_frames : ℕ) (events : List LogEvent) : Type 0 where
-  pub scenario : ScenarioValue
-  pub read : scenario_in input ≡ Ok scenario
-  pub logged : IsLogOfScenario scenario block_frames events
 
 -- lines were done, and their rows drawn
 pub record AreLinesDrawn (m : MachineValue) (lines : List Line) (old new : RowsValue) (after : MachineValue)

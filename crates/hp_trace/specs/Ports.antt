@@ -1,4 +1,4 @@
--- What calls of a port that draws them make of it (own rule).
+-- What calls of a port that draws them make of it.
 use Rattle.std.specs.Prelude.{ℕ, ◌≡◌, Bool, true, false, List, [], ◌∷◌, ◌++◌, Some, refl}
 use Rattle.std.proofs.Common.{ap, subst, sym}
 use Rattle.hp_units.specs.declared.replies.CallFault.{CallFault}

@@ -1,5 +1,5 @@
--- The rows of a trace: what was asked, what was answered, and the memory after it (own rule).
-use Rattle.std.specs.Prelude.{ℕ, ◌≡◌, List, [], ◌∷◌, ◌++◌, map, Option, None}
+-- The rows of a trace: what was asked, what was answered, and the memory after it.
+use Rattle.std.specs.Prelude.{ℕ, ◌≡◌, Bool, List, [], ◌∷◌, ◌++◌, map, Option, None}
 use Rattle.std.proofs.Common.{subst}
 use Rattle.std.specs.Str.Lines.{lines}
 use Rattle.hp_machine.specs.Machine.{MachineValue}
@@ -8,37 +8,22 @@ use Rattle.hp_pictures.specs.Blocks.{BlockValue}
 use Rattle.hp_pictures.specs.Rows.{RowValue, row_with}
 use Rattle.hp_pictures.specs.declared.row_picture.Move.{Move}
 use Rattle.hp_text.specs.State.{newline}
-use Rattle.hp_trace.specs.Columns.{label_text}
-use Rattle.hp_trace.specs.Folds.{is_past, memory_text, paper_of, widened}
 use Rattle.hp_trace.specs.StateLogs.{IsLogged, LogValue, no_log}
-use Rattle.hp_trace.specs.declared.folds.Paper.{Paper}
 use Rattle.hp_trace.specs.declared.rows.Form.{Form}
 use Rattle.hp_trace.specs.declared.rows.Form.TheVariants.{Kept, Logged, Unseen, Written}
 use Rattle.hp_trace.specs.declared.view.View.{View}
 
--- what becomes of rows; the text so far, the memory blocks as its last row shows them, and how rows are
--- written; the rows that are kept; and the log
+-- what becomes of rows, and whether they show free frames by orders; the text so far, the rows that are
+-- kept, and the log
 pub record RowsValue : Type 0 where
   pub form : Form
+  pub orders : Bool
   pub text : List ℕ
-  pub shown : List BlockValue
-  pub paper : Paper
   pub kept : List RowValue
   pub log : LogValue
 
 abbrev pub no_rows : Form → View → RowsValue
-no_rows form v = record {
-  form = form;
-  text = [];
-  shown = [];
-  paper = paper_of v;
-  kept = [];
-  log = no_log;
-}
-
--- from now on in part, where the memory blocks that the last row shows have no room in one line
-abbrev pub fitted : RowsValue → RowsValue
-fitted r = record r { paper = widened (is_past r.paper r.shown) r.paper }
+no_rows form v = record { form = form; orders = v.orders; text = []; kept = []; log = no_log }
 
 -- lines as rows without memory blocks
 abbrev pub line_rows : (texts : List (List ℕ)) → List RowValue
@@ -56,25 +41,32 @@ said r text = said_as r.form r text
 
 -- ---- a row
 
--- what was asked and answered in their columns, and the memory
-abbrev pub row_text : (asked answer memory : List ℕ) → List ℕ
-row_text asked answer memory = label_text asked answer ++ memory ++ newline
+-- a row more in a text: what was asked, what was answered, and the memory, up to the end of a line. The
+-- layout and the memory as text are tested, and not said here.
+pub record IsRowIn (asked answer old new : List ℕ) : Type 0 where
+  pub gap : List ℕ
+  pub memory : List ℕ
+  pub is : new ≡ old ++ asked ++ gap ++ answer ++ memory ++ newline
 
--- a row more in the text, with a picture of the machine's memory
-pub record IsRow (m : MachineValue) (asked answer : List ℕ) (old new : RowsValue) : Type 0 where
-  pub blocks : List BlockValue
-  pub picture : IsPicture m.layout m.state old.paper.orders blocks
-  pub is : new ≡ record old {
-    text = old.text ++ row_text asked answer (memory_text old.paper old.shown blocks);
-    shown = blocks;
-  }
+-- a row more in the text; of the rows those stay that the next one is written by
+pub record IsWritten (row : RowValue) (old new : RowsValue) : Type 0 where
+  pub text : List ℕ
+  pub kept : List RowValue
+  pub written : IsRowIn row.asked row.answer old.text text
+  pub is : new ≡ record old { text = text; kept = kept }
 
--- a row more that is kept, with the page that moved and all memory blocks
-pub record IsKept (m : MachineValue) (asked answer : List ℕ) (moved : Option Move) (old new : RowsValue)
-    : Type 0 where
+abbrev pub AddsRow : Form → RowValue → (old new : RowsValue) → Type 0
+AddsRow Unseen row old new = new ≡ old
+AddsRow Written row old new = IsWritten row old new
+AddsRow Kept row old new = new ≡ record old { kept = old.kept ++ row ∷ [] }
+AddsRow Logged row old new = new ≡ old
+
+-- a row more, with the page that moved and a picture of the machine's memory
+pub record IsRow (form : Form) (m : MachineValue) (asked answer : List ℕ) (moved : Option Move)
+    (old new : RowsValue) : Type 0 where
   pub blocks : List BlockValue
-  pub picture : IsPicture m.layout m.state old.paper.orders blocks
-  pub is : new ≡ record old { kept = old.kept ++ row_with asked answer moved blocks ∷ [] }
+  pub picture : IsPicture m.layout m.state old.orders blocks
+  pub added : AddsRow form (row_with asked answer moved blocks) old new
 
 -- the events to the machine's state more
 pub record IsRowLogged (m : MachineValue) (old new : RowsValue) : Type 0 where
@@ -86,8 +78,8 @@ pub record IsRowLogged (m : MachineValue) (old new : RowsValue) : Type 0 where
 abbrev pub DrawsIf : Form → MachineValue → (asked answer : List ℕ) → (moved : Option Move)
     → (old new : RowsValue) → Type 0
 DrawsIf Unseen m asked answer moved old new = new ≡ old
-DrawsIf Written m asked answer moved old new = IsRow m asked answer old new
-DrawsIf Kept m asked answer moved old new = IsKept m asked answer moved old new
+DrawsIf Written m asked answer moved old new = IsRow Written m asked answer moved old new
+DrawsIf Kept m asked answer moved old new = IsRow Kept m asked answer moved old new
 DrawsIf Logged m asked answer moved old new = IsRowLogged m old new
 
 -- ---- rows one under another

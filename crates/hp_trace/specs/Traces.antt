@@ -1,14 +1,14 @@
--- A scenario traced (own rule).
-use Rattle.std.specs.Prelude.{ℕ, ◌≡◌, ◌+◌, ◌-◌, ◌^◌, Bool, List, [], ◌∷◌, ◌++◌, codes, None, Ok, if◌then◌else◌}
+-- A scenario traced.
+use Rattle.std.specs.Prelude.{ℕ, ◌≡◌, ◌+◌, ◌-◌, ◌^◌, Bool, List, [], ◌∷◌, ◌++◌, codes, None, if◌then◌else◌}
 use Rattle.std.specs.Fmt.{format_spec, styled_decimal}
 use Rattle.hp_escapes.specs.declared.escapes.Brackets.TheVariants.{Escaped}
 use Rattle.hp_machine.specs.Machine.{MachineValue, booted}
-use Rattle.hp_scenario.specs.Scenario.{ScenarioValue, scenario_in}
+use Rattle.hp_scenario.specs.Scenario.{ScenarioValue}
 use Rattle.hp_scenario.specs.Asked.{asked_by}
 use Rattle.hp_scenario.specs.declared.lines.Line.{Line}
 use Rattle.hp_pictures.specs.Rows.{RowValue}
 use Rattle.hp_trace.specs.Calls.{MakesWork}
-use Rattle.hp_trace.specs.Rows.{AreDrawn, DrawsIf, Row, RowsValue, fitted, no_rows}
+use Rattle.hp_trace.specs.Rows.{AreDrawn, DrawsIf, Row, RowsValue, no_rows}
 use Rattle.hp_spelling.specs.Lines.{shown_line}
 use Rattle.hp_trace.specs.Views.{shows}
 use Rattle.hp_trace.specs.declared.rows.Form.{Form}
@@ -39,12 +39,9 @@ abbrev pub shown_rows : View → (number : ℕ) → (lists : List (List Row)) �
 shown_rows v number [] = []
 shown_rows v number (rows ∷ rest) = rows_if (shows v number) rows ++ shown_rows v (number + 1) rest
 
--- the row of the memory at boot; as text it decides whether later rows have only the memory blocks that
--- changed
-pub record IsStart (form : Form) (v : View) (m : MachineValue) (rows : RowsValue) : Type 0 where
-  pub first : RowsValue
-  pub drawn : DrawsIf form m (codes "   0 boot") [] None (no_rows form v) first
-  pub is : rows ≡ fitted first
+-- the row of the memory at boot
+abbrev pub IsStart : (form : Form) → View → MachineValue → (rows : RowsValue) → Type 0
+IsStart form v m rows = DrawsIf form m (codes "   0 boot") [] None (no_rows form v) rows
 
 -- a line was done, and its rows drawn where it is shown
 pub record TracesLine (v : View) (names : List (List ℕ)) (number : ℕ) (m : MachineValue) (line : Line)
@@ -67,20 +64,14 @@ pub record IsScenarioTraced (form : Form) (v : View) (s : ScenarioValue) (rows :
   pub machine : MachineValue
   pub traced : TracesLines v s.names (booted s.layout) s.lines start rows machine
 
--- the rows of the scenario that the bytes are, in a form
-pub record IsTraced (form : Form) (v : View) (input : List ℕ) (rows : RowsValue) : Type 0 where
-  pub scenario : ScenarioValue
-  pub read : scenario_in input ≡ Ok scenario
-  pub traced : IsScenarioTraced form v scenario rows
-
--- the trace of the scenario that the bytes are
-pub record IsTraceOf (v : View) (input text : List ℕ) : Type 0 where
+-- the text of a scenario's trace: its rows were written
+pub record IsTraceOf (v : View) (s : ScenarioValue) (text : List ℕ) : Type 0 where
   pub rows : RowsValue
-  pub traced : IsTraced Written v input rows
+  pub traced : IsScenarioTraced Written v s rows
   pub written : text ≡ rows.text
 
 -- its rows as values
-pub record AreRowsOf (v : View) (input : List ℕ) (list : List RowValue) : Type 0 where
+pub record AreRowsOf (v : View) (s : ScenarioValue) (list : List RowValue) : Type 0 where
   pub rows : RowsValue
-  pub traced : IsTraced Kept v input rows
+  pub traced : IsScenarioTraced Kept v s rows
   pub kept : list ≡ rows.kept

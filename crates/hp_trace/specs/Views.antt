@@ -1,4 +1,4 @@
--- Which lines of a trace are shown (own rule).
+-- Which lines of a trace are shown.
 use Rattle.std.specs.Prelude.{ℕ, ◌-◌, ◌%◌, ◌==◌, ◌&&◌, ◌||◌, nat_le, Bool}
 use Rattle.hp_trace.specs.declared.view.View.{View}
 

@@ -1,38 +1,45 @@
-//! What was asked and what was answered, in their columns.
+//! A row as text: what was asked and what was answered in their columns, and the memory.
 ghost use Rattle.std.specs.Prelude.{◌≡◌, ◌++◌, OnOk, string_bytes};
-ghost use Rattle.hp_trace.specs.Columns.{answer_text, asked_text, label_text};
+ghost use Rattle.hp_trace.specs.Rows.{IsRowIn};
 
-use std::alloc::AllocError;
+use hp_pictures::RowPicture;
+use std::alloc::{AllocError, Global};
 
-/// Writes what was asked and what was answered, in their columns: a text that takes more stands in a
-/// line of its own, and what comes after it in the next line.
-pub(crate) fn write_label(out: &mut String, asked: &str, answer: &str) -> Result<(), AllocError>
-    ensures { OnOk result
-        (string_bytes out.new ≡ string_bytes out.old ++ label_text asked.now answer.now) }
+/// Writes a row with its memory as text. A text that is too long for its columns has a line of its
+/// own, and the row goes on in the next.
+pub(crate) fn write_row(
+    out: &mut String,
+    alloc: Global,
+    row: &RowPicture,
+    memory: &str,
+) -> Result<(), AllocError>
+    ensures { OnOk result (IsRowIn row.now.asked row.now.answer (string_bytes out.old)
+        (string_bytes out.new)) }
 {
-    write_asked(out, asked)?;
-    out.push_str(" ")?;
-    write_answer(out, answer)
+    let asked = row.asked();
+    let answer = row.answer();
+    let below = gap_after(alloc, asked, 29, 29)?;
+    let beside = gap_after(alloc, answer, 25, 55)?;
+    writeln!(out, "{asked}{below} {answer}{beside}{memory}")
 }
 
-/// Writes what was asked, in 29 columns or in a line of its own.
-fn write_asked(out: &mut String, asked: &str) -> Result<(), AllocError>
-    ensures { OnOk result (string_bytes out.new ≡ string_bytes out.old ++ asked_text asked.now) }
-{
-    if asked.len() > 29 {
-        let nothing = "";
-        return write!(out, "{asked}\n{nothing:<29}");
+/// Returns what comes after a text in its columns: spaces, or if it takes more, a line end and as
+/// many spaces as the next text is to have before it.
+fn gap_after(alloc: Global, text: &str, columns: usize, next: usize) -> Result<String, AllocError> {
+    let mut gap = String::new(alloc);
+    if text.len() > columns {
+        gap.push_str("\n")?;
+        push_spaces(&mut gap, next)?;
+    } else {
+        push_spaces(&mut gap, columns.saturating_sub(text.chars().count()))?;
     }
-    write!(out, "{asked:<29}")
+    Ok(gap)
 }
 
-/// Writes what was answered, in 25 columns, or up to the end of its line.
-fn write_answer(out: &mut String, answer: &str) -> Result<(), AllocError>
-    ensures { OnOk result (string_bytes out.new ≡ string_bytes out.old ++ answer_text answer.now) }
-{
-    if answer.len() > 25 {
-        let nothing = "";
-        return write!(out, "{answer}\n{nothing:<55}");
+/// Adds n spaces to a text.
+fn push_spaces(out: &mut String, n: usize) -> Result<(), AllocError> {
+    for _ in 0..n {
+        out.push_str(" ")?;
     }
-    write!(out, "{answer:<25}")
+    Ok(())
 }

@@ -1,10 +1,8 @@
 //! A scenario traced line by line.
-ghost use Rattle.std.specs.Prelude.{◌≡◌, IfErr, IfOk, OnOk, string_bytes};
-ghost use Rattle.hp_scenario.specs.Gives.{Fails};
-ghost use Rattle.hp_scenario.specs.Scenario.{scenario_in};
+ghost use Rattle.std.specs.Prelude.{◌≡◌, IfOk, OnOk, string_bytes};
 ghost use Rattle.hp_scenario.specs.Seen.{scenario_seen};
 ghost use Rattle.hp_trace.specs.declared.rows.Form.TheVariants.{Kept, Written};
-ghost use Rattle.hp_trace.specs.Traces.{AreRowsOf, IsScenarioTraced, IsStart, IsTraceOf, IsTraced, TracesLine, TracesLines, numbered_text};
+ghost use Rattle.hp_trace.specs.Traces.{AreRowsOf, IsScenarioTraced, IsStart, IsTraceOf, TracesLine, TracesLines, numbered_text};
 
 use crate::calls::trace_work;
 use crate::rows::{Form, Rows};
@@ -12,56 +10,47 @@ use crate::view::View;
 use hp_escapes::Brackets;
 use hp_machine::Machine;
 use hp_pictures::RowPicture;
-use hp_scenario::{Line, Scenario, ScenarioFault};
+use hp_scenario::{Line, Scenario};
 use hp_spelling::write_shown_line;
 use hp_units::Text;
 use indexmap::IndexSet;
 use std::alloc::{AllocError, Global};
 
-/// The trace of the scenario that the bytes are: a row of the memory at boot, and for each line
-/// that is shown its number, the line, what it answers, and the memory after each of its calls (own
-/// rule). A line that makes no record has a row of the memory, and below it the text that `hotplug
-/// serial` writes for it; so has a plan at its begin, and below the rows of its calls its end.
+/// Returns the trace of a scenario as text: a row of the memory at boot, and for each line that is
+/// shown its number, the line, what it answers, and the memory after each of its calls. A line that
+/// makes no record has a row of the memory, and below it the text that `hotplug serial` writes for it.
+/// So has a plan when it begins, and below the rows of its calls its end.
 ///
-/// An error is the first fault of the scenario, or out of memory, wherever that was; then there is no text.
-pub fn trace(alloc: Global, input: &[u8], view: View) -> Result<String, ScenarioFault>
-    ensures ok { IfOk result (λ text. IsTraceOf view input.now (string_bytes text)) }
-    ensures err { IfErr result (λ fault. Fails fault (scenario_in input.now)) }
+/// The contract fixes what each row asks and answers, and in which order they come. How they are laid
+/// out is tested.
+pub fn trace(alloc: Global, scenario: &Scenario, view: View) -> Result<String, AllocError>
+    ensures { IfOk result (λ text. IsTraceOf view (scenario_seen scenario.now) (string_bytes text)) }
 {
-    let rows = rows_of(alloc, input, view, Form::Written)?;
+    let rows = trace_scenario(alloc, scenario, view, Form::Written)?;
     Ok(rows.into_text())
 }
 
-/// The rows of that trace as values, each with all memory blocks, whatever the width of the view. A
-/// text below a row is a row for each of its lines, without memory blocks.
-///
-/// An error is the first fault of the scenario, or out of memory, wherever that was.
-pub fn trace_rows(alloc: Global, input: &[u8], view: View) -> Result<Vec<RowPicture>, ScenarioFault>
-    ensures ok { IfOk result (λ rows. AreRowsOf view input.now rows.items) }
-    ensures err { IfErr result (λ fault. Fails fault (scenario_in input.now)) }
+/// Returns the rows of that trace as values, each with all memory blocks, whatever the width of the
+/// view. A text below a row is a row for each of its lines, without memory blocks.
+pub fn trace_rows(
+    alloc: Global,
+    scenario: &Scenario,
+    view: View,
+) -> Result<Vec<RowPicture>, AllocError>
+    ensures { IfOk result (λ rows. AreRowsOf view (scenario_seen scenario.now) rows.items) }
 {
-    let rows = rows_of(alloc, input, view, Form::Kept)?;
+    let rows = trace_scenario(alloc, scenario, view, Form::Kept)?;
     Ok(rows.into_kept())
 }
 
-/// The rows of the scenario that the bytes are, in a form.
-fn rows_of(alloc: Global, input: &[u8], view: View, form: Form) -> Result<Rows, ScenarioFault>
-    ensures ok { IfOk result (λ rows. IsTraced form view input.now rows) }
-    ensures err { IfErr result (λ fault. Fails fault (scenario_in input.now)) }
-{
-    let scenario = Scenario::read(alloc, input)?;
-    trace_scenario(alloc, &scenario, view, form)
-}
-
-/// The rows of a scenario, in a form. An error is out of memory.
+/// Returns the rows of a scenario, in a form.
 fn trace_scenario(
     alloc: Global,
     scenario: &Scenario,
     view: View,
     form: Form,
-) -> Result<Rows, ScenarioFault>
-    ensures ok { IfOk result (λ rows. IsScenarioTraced form view (scenario_seen scenario.now) rows) }
-    ensures err { IfErr result (λ fault. fault ≡ ScenarioFault.OutOfMemory) }
+) -> Result<Rows, AllocError>
+    ensures { IfOk result (λ rows. IsScenarioTraced form view (scenario_seen scenario.now) rows) }
 {
     let mut machine = Machine::boot(alloc, &scenario.layout)?;
     let mut rows = start(alloc, &machine, view, form)?;
@@ -69,7 +58,7 @@ fn trace_scenario(
     Ok(rows)
 }
 
-/// The row of the memory at boot, in a form.
+/// Returns the row of the memory at boot, in a form.
 pub(crate) fn start(
     alloc: Global,
     machine: &Machine,
@@ -80,11 +69,10 @@ pub(crate) fn start(
 {
     let mut rows = Rows::new(alloc, form, view);
     rows.draw(alloc, machine, "   0 boot", "", None)?;
-    rows.fit(alloc)?;
     Ok(rows)
 }
 
-/// Does lines one after another, and draws the rows of those that are shown.
+/// Does all lines, and draws the rows of those that are shown.
 fn trace_lines(
     rows: &mut Rows,
     alloc: Global,
@@ -103,7 +91,7 @@ fn trace_lines(
     Ok(())
 }
 
-/// Does a line, and draws its rows where it is shown.
+/// Does a line, and draws its rows if it is shown.
 fn trace_line(
     rows: &mut Rows,
     alloc: Global,
@@ -132,7 +120,7 @@ fn trace_line(
     }
 }
 
-/// A line's number and the line.
+/// Returns a line's number and the line.
 fn numbered_text(
     alloc: Global,
     names: &IndexSet<Text>,

@@ -1,9 +1,7 @@
 //! The log of a scenario.
-ghost use Rattle.std.specs.Prelude.{IfErr, IfOk, ◌≡◌, OnOk};
-ghost use Rattle.hp_scenario.specs.Gives.{Fails};
-ghost use Rattle.hp_scenario.specs.Scenario.{scenario_in};
+ghost use Rattle.std.specs.Prelude.{IfOk, OnOk};
 ghost use Rattle.hp_scenario.specs.Seen.{scenario_seen};
-ghost use Rattle.hp_trace.specs.Logs.{AreLinesDrawn, IsLogOf, IsLogOfScenario};
+ghost use Rattle.hp_trace.specs.Logs.{AreLinesDrawn, IsLogOfScenario};
 
 use crate::calls::trace_work;
 use crate::lines::start;
@@ -11,7 +9,7 @@ use crate::rows::{Form, Rows};
 use crate::view::View;
 use hp_judge::LogEvent;
 use hp_machine::Machine;
-use hp_scenario::{Line, Scenario, ScenarioFault};
+use hp_scenario::{Line, Scenario};
 use std::alloc::{AllocError, Global};
 
 /// The log of a scenario's run, as the judge of logs reads it.
@@ -23,23 +21,11 @@ pub struct ScenarioLog {
     pub events: Vec<LogEvent>,
 }
 
-/// Returns the log of the run of the scenario that the bytes are: what happened to frames and
-/// memory blocks, call by call. A seal changes no state, so it has no events.
-///
-/// An error is the first fault of the scenario, or out of memory, wherever that was.
-pub fn trace_log(alloc: Global, input: &[u8]) -> Result<ScenarioLog, ScenarioFault>
-    ensures ok { IfOk result (λ log. IsLogOf input.now log.block_frames log.events.items) }
-    ensures err { IfErr result (λ fault. Fails fault (scenario_in input.now)) }
-{
-    let scenario = Scenario::read(alloc, input)?;
-    log_scenario(alloc, &scenario)
-}
-
-/// Returns the log of a scenario's run. An error is out of memory.
-fn log_scenario(alloc: Global, scenario: &Scenario) -> Result<ScenarioLog, ScenarioFault>
-    ensures ok { IfOk result
+/// Returns the log of a scenario's run: what happened to frames and memory blocks, call by call. A
+/// seal changes no state, so it has no events.
+pub fn trace_log(alloc: Global, scenario: &Scenario) -> Result<ScenarioLog, AllocError>
+    ensures { IfOk result
         (λ log. IsLogOfScenario (scenario_seen scenario.now) log.block_frames log.events.items) }
-    ensures err { IfErr result (λ fault. fault ≡ ScenarioFault.OutOfMemory) }
 {
     let mut machine = Machine::boot(alloc, &scenario.layout)?;
     let mut rows = start(alloc, &machine, whole_view(), Form::Logged)?;
@@ -50,7 +36,7 @@ fn log_scenario(alloc: Global, scenario: &Scenario) -> Result<ScenarioLog, Scena
     })
 }
 
-/// A view of all lines. A log has no columns.
+/// Returns a view of all lines. A log has no columns.
 fn whole_view() -> View {
     View {
         from: 0,
@@ -61,7 +47,7 @@ fn whole_view() -> View {
     }
 }
 
-/// Does lines one after another, and draws all their rows.
+/// Does all lines, and draws all their rows.
 fn draw_lines(
     rows: &mut Rows,
     alloc: Global,

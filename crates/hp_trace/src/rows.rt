@@ -1,11 +1,11 @@
 //! The rows of a trace.
 ghost use Rattle.std.specs.Prelude.{◌≡◌, ◌++◌, IfOk, OnOk, string_bytes};
 ghost use Rattle.std.specs.Str.Lines.{lines};
-ghost use Rattle.hp_trace.specs.Rows.{AreDrawn, DrawsIf, IsKept, IsRow, IsRowLogged, fitted, line_rows, no_rows, noted, row_text, said};
+ghost use Rattle.hp_trace.specs.Rows.{AddsRow, AreDrawn, DrawsIf, IsRow, IsRowLogged, IsWritten, line_rows, no_rows, noted, said};
 ghost use Rattle.hp_pictures.specs.Rows.{row_with};
 
-use crate::columns::write_label;
-use crate::folds::{Paper, is_past, memory_text};
+use crate::columns::write_row;
+use crate::folds::{Paper, memory_text};
 use crate::state_logs::StateLog;
 use crate::view::View;
 use hp_judge::LogEvent;
@@ -29,14 +29,13 @@ pub(crate) enum Form {
     Logged,
 }
 
-/// The rows so far, in one form: as text, with the memory blocks as the last row shows them; as
-/// values; or as the events of a log.
+/// The rows so far, in one form: as text, as values, or as the events of a log.
 #[derive(Drop)]
 pub(crate) struct Rows {
     form: Form,
-    text: String,
-    shown: Vec<BlockPicture>,
     paper: Paper,
+    text: String,
+    /// All rows as values, or for a text the last one.
     kept: Vec<RowPicture>,
     log: StateLog,
 }
@@ -49,39 +48,28 @@ impl Model for Rows {
 
     ghost view = { λ r. record {
       form = r.form;
+      orders = r.paper.orders;
       text = string_bytes r.text;
-      shown = r.shown.items;
-      paper = r.paper;
       kept = r.kept.items;
       log = r.log;
     } };
 }
 
 impl Rows {
-    /// No rows yet.
+    /// Makes an empty list of rows.
     pub(crate) fn new(alloc: Global, form: Form, view: View) -> Rows
         ensures { result ≡ no_rows form view }
     {
         Rows {
             form,
-            text: String::new(alloc),
-            shown: Vec::new(alloc),
             paper: Paper::new(view),
+            text: String::new(alloc),
             kept: Vec::new(alloc),
             log: StateLog::new(alloc),
         }
     }
 
-    /// From now on with only the memory blocks that changed, where those that the last row shows
-    /// have no room in one line. An error is out of memory.
-    pub(crate) fn fit(&mut self, alloc: Global) -> Result<(), AllocError>
-        ensures { OnOk result (self.new ≡ fitted self.old) }
-    {
-        self.paper.is_wide = is_past(alloc, self.paper, self.shown.as_slice())?;
-        Ok(())
-    }
-
-    /// Adds a text of lines. An error is out of memory.
+    /// Adds a text of lines.
     pub(crate) fn say(&mut self, alloc: Global, text: &str) -> Result<(), AllocError>
         ensures { OnOk result (self.new ≡ said self.old text.now) }
     {
@@ -93,8 +81,8 @@ impl Rows {
         }
     }
 
-    /// Adds a row: what was asked, what was answered, which page moved by it, and the machine's
-    /// memory. An error is out of memory.
+    /// Adds a row with the machine's memory: what was asked, what was answered, and which page
+    /// moved by it.
     pub(crate) fn draw(
         &mut self,
         alloc: Global,
@@ -108,32 +96,14 @@ impl Rows {
     {
         match self.form {
             Form::Unseen => Ok(()),
-            Form::Written => self.draw_row(alloc, machine, asked, answer),
-            Form::Kept => self.keep_row(alloc, machine, asked, answer, moved),
+            Form::Written => self.draw_row(alloc, machine, asked, answer, moved),
+            Form::Kept => self.draw_row(alloc, machine, asked, answer, moved),
             Form::Logged => self.log_row(alloc, machine),
         }
     }
 
-    /// Writes a row.
+    /// Draws a row, and adds it.
     fn draw_row(
-        &mut self,
-        alloc: Global,
-        machine: &Machine,
-        asked: &str,
-        answer: &str,
-    ) -> Result<(), AllocError>
-        ensures { OnOk result (IsRow machine.now asked.now answer.now self.old self.new) }
-    {
-        let blocks = picture_of(alloc, machine, self.paper.orders)?;
-        let before = self.shown.as_slice();
-        let memory = memory_text(alloc, self.paper, before, blocks.as_slice())?;
-        write_row(&mut self.text, asked, answer, memory.as_str())?;
-        self.shown = blocks;
-        Ok(())
-    }
-
-    /// Keeps a row.
-    fn keep_row(
         &mut self,
         alloc: Global,
         machine: &Machine,
@@ -141,12 +111,48 @@ impl Rows {
         answer: &str,
         moved: Option<Move>,
     ) -> Result<(), AllocError>
-        ensures { OnOk result (IsKept machine.now asked.now answer.now moved self.old self.new) }
+        ensures { OnOk result
+            (IsRow self.old.form machine.now asked.now answer.now moved self.old self.new) }
     {
         let blocks = picture_of(alloc, machine, self.paper.orders)?;
-        let row = kept_row(alloc, asked, answer, moved, blocks)?;
+        let row = row_with(alloc, asked, answer, moved, blocks)?;
+        self.add(alloc, row)
+    }
+
+    /// Writes a row, or keeps it.
+    fn add(&mut self, alloc: Global, row: RowPicture) -> Result<(), AllocError>
+        ensures { OnOk result (AddsRow self.old.form row self.old self.new) }
+    {
+        match self.form {
+            Form::Unseen | Form::Logged => Ok(()),
+            Form::Written => self.write(alloc, row),
+            Form::Kept => {
+                self.kept.push(row)?;
+                Ok(())
+            }
+        }
+    }
+
+    /// Writes a row.
+    fn write(&mut self, alloc: Global, row: RowPicture) -> Result<(), AllocError>
+        ensures { OnOk result (IsWritten row self.old self.new) }
+    {
+        let memory = memory_text(alloc, self.paper, self.blocks_before(), row.blocks())?;
+        let is_first = self.text.is_empty();
+        let paper = self.paper.after(alloc, is_first, row.blocks())?;
+        self.paper = paper;
+        write_row(&mut self.text, alloc, &row, memory.as_str())?;
+        self.kept.clear();
         self.kept.push(row)?;
         Ok(())
+    }
+
+    /// Returns the memory blocks of the last row, or none before the first.
+    fn blocks_before(&self) -> &[BlockPicture] {
+        match self.kept.last() {
+            Some(row) => row.blocks(),
+            None => &[],
+        }
     }
 
     /// Adds the events to the memory of a row.
@@ -157,7 +163,7 @@ impl Rows {
         Ok(())
     }
 
-    /// Adds a row without an answer, and below it a text of lines. An error is out of memory.
+    /// Adds a row without an answer, and below it a text of lines.
     pub(crate) fn note(
         &mut self,
         alloc: Global,
@@ -171,45 +177,42 @@ impl Rows {
         self.say(alloc, text)
     }
 
-    /// The text of the rows.
+    /// Returns the text of the rows.
     pub(crate) fn into_text(self) -> String
         ensures { string_bytes result ≡ self.text }
     {
         let Rows {
             form: _,
-            text: all,
-            shown: _,
             paper: _,
+            text: all,
             kept: _,
             log: _,
         } = self;
         all
     }
 
-    /// The rows as values.
+    /// Returns the rows as values.
     pub(crate) fn into_kept(self) -> Vec<RowPicture>
         ensures { result.items ≡ self.kept }
     {
         let Rows {
             form: _,
-            text: _,
-            shown: _,
             paper: _,
+            text: _,
             kept: all,
             log: _,
         } = self;
         all
     }
 
-    /// The events of the log.
+    /// Returns the events of the log.
     pub(crate) fn into_events(self) -> Vec<LogEvent>
         ensures { result.items ≡ self.log.events }
     {
         let Rows {
             form: _,
-            text: _,
-            shown: _,
             paper: _,
+            text: _,
             kept: _,
             log,
         } = self;
@@ -222,13 +225,13 @@ fn keep_lines(kept: &mut Vec<RowPicture>, alloc: Global, text: &str) -> Result<(
     ensures { OnOk result (kept.new.items ≡ kept.old.items ++ line_rows (lines text.now)) }
 {
     for line in text.lines() {
-        kept.push(kept_row(alloc, line, "", None, Vec::new(alloc))?)?;
+        kept.push(row_with(alloc, line, "", None, Vec::new(alloc))?)?;
     }
     Ok(())
 }
 
-/// A row of these texts, this move and these memory blocks.
-fn kept_row(
+/// Returns a row of these texts, this move and these memory blocks.
+fn row_with(
     alloc: Global,
     asked: &str,
     answer: &str,
@@ -242,13 +245,4 @@ fn kept_row(
     let asked = Text::new(asked);
     let answer = Text::new(answer);
     Ok(RowPicture::new(asked, answer, moved, blocks))
-}
-
-/// Writes what was asked and answered, and the memory.
-fn write_row(out: &mut String, asked: &str, answer: &str, memory: &str) -> Result<(), AllocError>
-    ensures { OnOk result
-        (string_bytes out.new ≡ string_bytes out.old ++ row_text asked.now answer.now memory.now) }
-{
-    write_label(out, asked, answer)?;
-    writeln!(out, "{memory}")
 }

@@ -1,7 +1,8 @@
-//! Scenarios traced: all of one, and a hostile text. Narrow rows and orders are compared by
-//! docs/lab_traces.py.
+//! Scenarios traced as text: a plan, a hostile text, narrow rows, free blocks by their orders, and
+//! long texts. docs/lab_traces.py compares traces with what `hotplug serial` prints.
+use hp_scenario::Scenario;
 use hp_trace::{View, trace};
-use std::alloc::Global;
+use std::alloc::{AllocError, Global};
 use std::test::Fail;
 
 /// A page, a plan that moves it, and a control file.
@@ -37,11 +38,88 @@ const ESCAPED: &str =
 echo: fault BadText
 ";
 
-/// Whether the trace of a scenario is this text.
+/// The same memory as in `SCENARIO`, with a line that changes nothing of what is drawn.
+const NARROW: &[u8] =
+    br#"{"layout":{"order":2,"pageblocks":1,"blocks":3,"cpus":1,"batch":2,"high":2,
+"owners":1,"pages":4,"words":1,"history":9,"boot":["normal","movable","offline"]},
+"calls":["0 map db 0","0 write db 0 0 7","0 plan 4 off 1","0 seal"]}"#;
+
+/// In 80 columns the memory blocks take two lines, so the other rows have only those that changed.
+const FOLDED: &str = "   0 boot                                               0:N[....] 1:M[....]
+                                                        2:off[----]
+   1 0 map db 0               1: done                   1:M[a0..]
+   2 0 write db 0 0 7         2: done                   =
+   3 0 plan 4 off 1                                     =
+     begin off 1              3: opened 3               1:M>off[a0::]
+     drainfor 3 0             4: done                   1:M>off[a:::]
+     migrate 3                5: moved 4 0              0:N[a...] 1:M>off[::::]
+     migrate 3                6: refused NothingToMove  =
+     commit 3                 7: done                   1:off[----]
+plan: done
+   4 0 seal                                             =
+sealed 7
+";
+
+/// The same with free frames by the orders of their blocks.
+const ORDERED: &str = "   0 boot                                               0:N[(2.)] 1:M[(2.)]
+                                                        2:off[----]
+   1 0 map db 0               1: done                   1:M[a0()]
+   2 0 write db 0 0 7         2: done                   =
+   3 0 plan 4 off 1                                     =
+     begin off 1              3: opened 3               1:M>off[a0{}]
+     drainfor 3 0             4: done                   1:M>off[a:{}]
+     migrate 3                5: moved 4 0              0:N[a.()] 1:M>off[{2:}]
+     migrate 3                6: refused NothingToMove  =
+     commit 3                 7: done                   1:off[----]
+plan: done
+   4 0 seal                                             =
+sealed 7
+";
+
+/// In 64 columns no memory block has room, so each is counted.
+const COUNTED: &str = "   0 boot                                               0:N[4: .*4]
+                                                        1:M[4: .*4]
+                                                        2:off[4: -*4]
+   1 0 map db 0               1: done                   1:M[4: .*2 0*1 a*1]
+   2 0 write db 0 0 7         2: done                   =
+   3 0 plan 4 off 1                                     =
+     begin off 1              3: opened 3               1:M>off[4: :*2 0*1 a*1]
+     drainfor 3 0             4: done                   1:M>off[4: :*3 a*1]
+     migrate 3                5: moved 4 0              0:N[4: .*3 a*1]
+                                                        1:M>off[4: :*4]
+     migrate 3                6: refused NothingToMove  =
+     commit 3                 7: done                   1:off[4: -*4]
+plan: done
+   4 0 seal                                             =
+sealed 7
+";
+
+/// A frame whose number makes an answer of 26 characters, one more than its columns have.
+const LONG: &[u8] = br#"{"layout":{"order":10,"pageblocks":4,"blocks":4,"cpus":1,"batch":2,"high":2,
+"owners":1,"pages":4,"words":1,"history":9,"boot":["offline","offline","absent","normal"]},
+"calls":["0 kalloc 3","0 begin off 3"]}"#;
+
+const LONG_ANSWER: &str =
+    "   0 boot                                               0:off[4096: -*4096] 1:off[4096: -*4096]
+                                                        2:absent[4096:  *4096] 3:N[4096: .*4096]
+   1 0 kalloc 3               1: frame 12288            3:N[4096: .*4088 K*8]
+   2 0 begin off 3            2: refused Unmovable 12288
+                                                        =
+";
+
+/// Returns whether the trace of a scenario is this text.
 fn is_traced(alloc: Global, scenario: &[u8], view: View, text: &str) -> bool {
+    match Scenario::read(alloc, scenario) {
+        Ok(scenario) => is_traced_as(alloc, &scenario, view, text),
+        Err(_fault) => false,
+    }
+}
+
+/// Returns whether the trace of a scenario is this text.
+fn is_traced_as(alloc: Global, scenario: &Scenario, view: View, text: &str) -> bool {
     match trace(alloc, scenario, view) {
         Ok(traced) => traced.as_str() == text,
-        Err(_fault) => false,
+        Err(AllocError) => false,
     }
 }
 
@@ -63,5 +141,31 @@ fn lines_are_traced(rt: HostRuntime) -> Result<(), Fail> {
 #[test]
 fn texts_are_escaped(rt: HostRuntime) -> Result<(), Fail> {
     assert!(rt; is_traced(rt.alloc(), HOSTILE, ALL, ESCAPED));
+    Ok(())
+}
+
+/// All lines, in rows of this many columns.
+fn in_columns(width: u64, orders: bool) -> View {
+    View {
+        from: 1,
+        to: 9,
+        every: 1,
+        width,
+        orders,
+    }
+}
+
+#[test]
+fn wide_rows_are_folded(rt: HostRuntime) -> Result<(), Fail> {
+    let alloc = rt.alloc();
+    assert!(rt; is_traced(alloc, NARROW, in_columns(80, false), FOLDED));
+    assert!(rt; is_traced(alloc, NARROW, in_columns(80, true), ORDERED));
+    assert!(rt; is_traced(alloc, NARROW, in_columns(64, false), COUNTED));
+    Ok(())
+}
+
+#[test]
+fn long_answers_have_their_own_line(rt: HostRuntime) -> Result<(), Fail> {
+    assert!(rt; is_traced(rt.alloc(), LONG, in_columns(100, false), LONG_ANSWER));
     Ok(())
 }
