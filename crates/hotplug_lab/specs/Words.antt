@@ -1,10 +1,5 @@
-<<<<<<< HEAD
 -- The text and the exit status of each word, and when each fault comes.
 use Rattle.std.specs.Prelude.{◌≡◌, ◌⊎◌, ℕ, ◌<◌, ◌≤◌, Bool, List, length, Option, IfSome, if◌then◌else◌}
-=======
--- What a word writes of the bytes of a scenario, the exit status, and when each fault comes.
-use Rattle.std.specs.Prelude.{◌≡◌, ◌⊎◌, ℕ, ◌<◌, ◌≤◌, Bool, List, length, Option, IfSome, IsOk, if◌then◌else◌}
->>>>>>> 5c195d598769a47dbce841ad214976aeb4af8193
 use Rattle.std.specs.Io.KnownBytes.{Appends}
 use Rattle.hp_wanted.specs.declared.wanted.Wanted.{Wanted}
 use Rattle.hp_search.specs.Explorations.{IsExplorationOf, IsFaultWithin}
@@ -21,12 +16,7 @@ use Rattle.hp_part_files.specs.Faults.{IsSumFault}
 use Rattle.hp_part_files.specs.Parts.{IsFullPart, IsPartOf}
 use Rattle.hp_part_files.specs.Sums.{IsSumOf}
 use Rattle.hp_lab_shell.specs.Checks.{IsCheckOf}
-<<<<<<< ours
-use Rattle.hp_lab_shell.specs.Logs.{HasLog}
-use Rattle.hp_lab_shell.specs.Pictures.{IsPictureOf}
-=======
->>>>>>> theirs
-use Rattle.hp_trace.specs.Traces.{IsTraceOf}
+use Rattle.hp_lab_shell.specs.Shown.{HasLog, HasRows, HasTrace}
 use Rattle.hp_lab_faults.specs.declared.fault.LabFault.{LabFault}
 use Rattle.hp_lab_faults.specs.declared.fault.LabFault.TheVariants.{OutOfMemory}
 use Rattle.hp_lab_faults.specs.declared.part_fault.PartFault.{PartFault}
@@ -68,14 +58,9 @@ IsAnswerOf (Sum form) input text status = IsAddedOf form input text status
 IsAnswerOf (Find asked wanted form) input text status = IsSearchOf asked wanted.now form 0 3 input text status
 IsAnswerOf (Never asked wanted form) input text status =
     IsSearchOf asked wanted.now form 3 0 input text status
-IsAnswerOf (Trace view) input text status = IsTraceOf view input text × (status ≡ 0)
-<<<<<<< ours
-IsAnswerOf (Picture drawing) input text status =
-    IsPictureOf drawing.view drawing.cell input text × (status ≡ 0)
+IsAnswerOf (Trace view) input text status = HasTrace view input text × (status ≡ 0)
+IsAnswerOf (Picture drawing) input text status = HasRows drawing.view input × (status ≡ 0)
 IsAnswerOf Log input text status = HasLog input × (status ≡ 0)
-=======
-IsAnswerOf (Picture drawing) input text status = IsOk (scenario_in input) × (status ≡ 0)
->>>>>>> theirs
 
 -- the text and the status of a word, for a scenario that has the lines that the word names
 abbrev pub Answers : Word → (input text : List ℕ) → (status : ℕ) → Type 0

@@ -45,7 +45,7 @@ pub(crate) fn answer_to<W: Watch>(
             form,
         } => never(alloc, input, asked, wanted, form, watch),
         Word::Trace(view) => traced(alloc, input, view),
-        Word::Picture(drawing) => drawn(alloc, input, drawing.view, drawing.cell),
+        Word::Picture(drawing) => drawn(alloc, input, drawing),
         Word::Log => logged(alloc, input),
     }
 }

@@ -214,6 +214,12 @@ const TRACE: [Argument; 9] = [
         against: &[],
     },
     Argument {
+        name: "scale",
+        takes: Takes::Number,
+        help: "Scales the picture by so many per cent, 25 to 400 (100)",
+        against: &[],
+    },
+    Argument {
         name: "orders",
         takes: Takes::Nothing,
         help: "Shows free frames by the orders of their blocks, as (3.....)",
@@ -229,7 +235,7 @@ const TRACE: [Argument; 9] = [
         name: LOG,
         takes: Takes::Nothing,
         help: "Writes what happens to frames and memory blocks, as a log that judge reads",
-        against: &["from", "to", "every", "width", "cell", "orders", "svg"],
+        against: &["from", "to", "every", "width", "cell", "scale", "orders", "svg"],
     },
     SCENARIO_FILE,
 ];

@@ -1,5 +1,5 @@
 pub mod Checks
 pub mod Faults
-pub mod Logs
 pub mod Needs
 pub mod Scripts
+pub mod Shown

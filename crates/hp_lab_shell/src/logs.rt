@@ -1,21 +1,24 @@
 //! The log of a scenario, as the word `judge` reads it.
 ghost use Rattle.std.specs.Prelude.{◌≡◌, IfErr, IfOk};
 ghost use Rattle.hp_lab_shell.specs.Faults.{IsUnread};
-ghost use Rattle.hp_lab_shell.specs.Logs.{HasLog};
+ghost use Rattle.hp_lab_shell.specs.Shown.{HasLog};
 
 use crate::answer::Answer;
 use hp_lab_faults::ProgramFault;
+use hp_scenario::Scenario;
 use hp_step_logs::{write_event, write_size};
 use hp_trace::{ScenarioLog, trace_log};
 use std::alloc::{AllocError, Global};
 
-/// Writes the log of the run of the scenario that the bytes are. The status is 0. An error is the
-/// first fault of the scenario, or out of memory.
+/// Returns the log of the run of the scenario that the bytes are. The status is 0.
+///
+/// Fails with the scenario's first fault.
 pub fn logged(alloc: Global, input: &[u8]) -> Result<Answer, ProgramFault>
     ensures ok { IfOk result (λ answer. HasLog input.now × (answer.status ≡ 0)) }
     ensures err { IfErr result (IsUnread input.now) }
 {
-    let log = trace_log(alloc, input)?;
+    let scenario = Scenario::read(alloc, input)?;
+    let log = trace_log(alloc, &scenario)?;
     let text = log_text(alloc, &log)?;
     Ok(Answer { text, status: 0 })
 }

@@ -1,36 +1,40 @@
-//! The trace of a scenario, as a text and as a picture.
-ghost use Rattle.std.specs.Prelude.{◌≡◌, IfErr, IfOk, IsOk, string_bytes};
-ghost use Rattle.hp_scenario.specs.Scenario.{scenario_in};
-ghost use Rattle.hp_trace.specs.Traces.{IsTraceOf};
+//! The trace of a scenario, as text and as a picture.
+ghost use Rattle.std.specs.Prelude.{◌≡◌, IfErr, IfOk, string_bytes};
 ghost use Rattle.hp_lab_shell.specs.Faults.{IsUnread};
+ghost use Rattle.hp_lab_shell.specs.Shown.{HasRows, HasTrace};
 
 use crate::answer::Answer;
+use crate::words::Drawing;
 use hp_lab_faults::ProgramFault;
 use hp_scenario::Scenario;
 use hp_svg::picture_of;
 use hp_trace::{View, trace, trace_rows};
 use std::alloc::Global;
 
-/// What each line of the scenario that the bytes are answers, with the memory after each call. The
-/// status is 0. An error is the first fault of the scenario, or out of memory.
+/// Returns the trace of the scenario that the bytes are. The status is 0.
+///
+/// Fails with the scenario's first fault.
 pub fn traced(alloc: Global, input: &[u8], view: View) -> Result<Answer, ProgramFault>
     ensures ok { IfOk result
-        (λ answer. IsTraceOf view input.now (string_bytes answer.text) × (answer.status ≡ 0)) }
-    ensures err { IfErr result (IsUnread input.now) }
-{
-    let text = trace(alloc, input, view)?;
-    Ok(Answer { text, status: 0 })
-}
-
-/// Draws the rows of the scenario that the bytes are as a picture, with all memory blocks in each
-/// row, cells of this width in pixels, and the owners' names in the legend. The status is 0. An
-/// error is the first fault of the scenario, or out of memory.
-pub fn drawn(alloc: Global, input: &[u8], view: View, cell: u8) -> Result<Answer, ProgramFault>
-    ensures ok { IfOk result (λ answer. IsOk (scenario_in input.now) × (answer.status ≡ 0)) }
+        (λ answer. HasTrace view input.now (string_bytes answer.text) × (answer.status ≡ 0)) }
     ensures err { IfErr result (IsUnread input.now) }
 {
     let scenario = Scenario::read(alloc, input)?;
-    let rows = trace_rows(alloc, input, view)?;
-    let text = picture_of(alloc, &scenario.names, cell, 100, &rows)?;
+    let text = trace(alloc, &scenario, view)?;
+    Ok(Answer { text, status: 0 })
+}
+
+/// Draws the rows of that trace as a picture, with all memory blocks in each row and the owners'
+/// names in the legend. The status is 0.
+///
+/// Fails with the scenario's first fault.
+pub fn drawn(alloc: Global, input: &[u8], drawing: Drawing) -> Result<Answer, ProgramFault>
+    ensures ok { IfOk result (λ answer. HasRows drawing.view input.now × (answer.status ≡ 0)) }
+    ensures err { IfErr result (IsUnread input.now) }
+{
+    let scenario = Scenario::read(alloc, input)?;
+    let rows = trace_rows(alloc, &scenario, drawing.view)?;
+    let names = &scenario.names;
+    let text = picture_of(alloc, names, drawing.cell, drawing.scale, &rows)?;
     Ok(Answer { text, status: 0 })
 }

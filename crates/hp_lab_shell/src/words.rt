@@ -14,6 +14,13 @@ const CELL: u64 = 8;
 
 const WIDEST_CELL: u64 = 32;
 
+/// The scale of a picture in per cent if no number is given, and the least and the most it may be.
+const SCALE: u64 = 100;
+
+const LEAST_SCALE: u64 = 25;
+
+const MOST_SCALE: u64 = 400;
+
 /// The columns of a trace's row where no width is given.
 const WIDTH: u64 = 200;
 
@@ -37,8 +44,10 @@ pub struct Exploration {
 pub struct Drawing {
     /// What it shows.
     pub view: View,
-    /// How many pixels wide the cell of a frame is.
+    /// How many pixels wide the cell of a frame is, before it is scaled.
     pub cell: u8,
+    /// The scale of the whole picture, in per cent.
+    pub scale: u16,
 }
 
 /// What is to be made of a scenario.
@@ -211,23 +220,36 @@ fn tracing_word<'a>(words: &ArgMatches<'_>) -> Result<Word<'a>, &'static str> {
         return Ok(Word::Log);
     }
     let view = view_from(words);
-    let cell = words.get_one::<u64>("cell");
-    let is_picture = words.get_flag("svg");
-    if !is_picture && cell.is_some() {
-        return Err("--cell is for --svg alone");
-    }
-    let cell = cell.unwrap_or(CELL);
-    if cell == 0 || cell > WIDEST_CELL {
-        return Err("--cell may be 1 to 32");
-    }
     if view.from > view.to {
         return Err("--from is past --to");
     }
-    if is_picture {
-        let cell = cell as u8;
-        return Ok(Word::Picture(Drawing { view, cell }));
+    if words.get_flag("svg") {
+        return Ok(Word::Picture(drawing_from(words, view)?));
+    }
+    if words.get_one::<u64>("cell").is_some() {
+        return Err("--cell is for --svg alone");
+    }
+    if words.get_one::<u64>("scale").is_some() {
+        return Err("--scale is for --svg alone");
     }
     Ok(Word::Trace(view))
+}
+
+/// Returns how the words of `trace` ask for a picture, or why they may not.
+fn drawing_from(words: &ArgMatches<'_>, view: View) -> Result<Drawing, &'static str> {
+    let cell = words.get_one::<u64>("cell").unwrap_or(CELL);
+    if cell == 0 || cell > WIDEST_CELL {
+        return Err("--cell may be 1 to 32");
+    }
+    let scale = words.get_one::<u64>("scale").unwrap_or(SCALE);
+    if scale < LEAST_SCALE || scale > MOST_SCALE {
+        return Err("--scale may be 25 to 400");
+    }
+    Ok(Drawing {
+        view,
+        cell: cell as u8,
+        scale: scale as u16,
+    })
 }
 
 /// What is asked of an exploration.

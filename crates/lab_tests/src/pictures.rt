@@ -1,11 +1,7 @@
 //! Rows drawn as a picture.
-<<<<<<< HEAD
 use crate::picture_parts::PARTS;
 use hp_pictures::{BlockPicture, FreeBlock, KernelBlock, Move, RowPicture};
-=======
-use hp_pictures::{BlockPicture, FreeBlock, Move, RowPicture};
 use hp_scenario::Scenario;
->>>>>>> c30fb500defd17394676e4e134b7c830dd837754
 use hp_svg::picture_of;
 use hp_trace::{View, trace_rows};
 use hp_units::{Frame, Text};
@@ -288,14 +284,9 @@ const ALL: View = View {
 
 /// The picture of a scenario.
 fn scenario_picture(alloc: Global, scenario: &[u8]) -> Option<String> {
-<<<<<<< HEAD
-    let rows = trace_rows(alloc, scenario, ALL).ok()?;
-    picture_of(alloc, &IndexSet::new(alloc), 8, 100, &rows).ok()
-=======
     let scenario = Scenario::read(alloc, scenario).ok()?;
     let rows = trace_rows(alloc, &scenario, ALL).ok()?;
-    picture_of(alloc, &IndexSet::new(alloc), 8, &rows).ok()
->>>>>>> c30fb500defd17394676e4e134b7c830dd837754
+    picture_of(alloc, &IndexSet::new(alloc), 8, 100, &rows).ok()
 }
 
 /// How many rectangles a picture has.
