@@ -41,8 +41,8 @@ pub fn serial(alloc: Global, input: Vec<u8>) -> Result<String, ProgramFault>
     }
 }
 
-/// Returns the text of a scenario in its usual form without a fault. If it returns `None`, the
-/// bytes may still be a scenario.
+/// Returns the output of a scenario that has the usual form and no fault. After `None`, the bytes
+/// may still be a scenario.
 fn usual_text(alloc: Global, input: &[u8]) -> Result<Option<String>, AllocError>
     ensures { IfOk result (λ out. IfSome out (λ out. IsTextOf input.now (string_bytes out))) }
 {
@@ -52,9 +52,9 @@ fn usual_text(alloc: Global, input: &[u8]) -> Result<Option<String>, AllocError>
     calls_text(alloc, &mut calls, input.len() / 16)
 }
 
-/// Returns the text of a scenario of which no line was taken yet, without a fault. Runs its lines
-/// as they are read, on a machine with room for `count` of them. If it returns `None`, there may
-/// still be such a text.
+/// Runs the lines of `calls`, none of which was taken yet, as they are read, on a machine with room
+/// for `count` lines. Returns the output if there is no fault; `None` does not mean that there is
+/// one.
 fn calls_text(
     alloc: Global,
     calls: &mut Calls<'_>,
@@ -125,7 +125,7 @@ fn write_taken(
     write_line(out, alloc, machine, &line)
 }
 
-/// Returns the text of any scenario. Drops the input once it is read.
+/// Returns the output of any scenario. Frees the input once it is read.
 fn any_text(alloc: Global, input: Vec<u8>) -> Result<String, ProgramFault>
     ensures ok { IfOk result (λ out. IsTextOf input.items (string_bytes out)) }
     ensures err { IfErr result (IsFaultOf Serial (Some input.items) ⊥ ⊥) }
@@ -134,7 +134,8 @@ fn any_text(alloc: Global, input: Vec<u8>) -> Result<String, ProgramFault>
     Ok(scenario_text(alloc, scenario)?)
 }
 
-/// Returns the text of a scenario that was read. Drops its lines once they are run.
+/// Runs a scenario and returns its output: each line's text, then the final state. Frees the lines
+/// before it copies the state.
 fn scenario_text(alloc: Global, scenario: Scenario) -> Result<String, AllocError>
     ensures { IfOk result (λ out. (input : List ℕ) → scenario_in input ≡ Ok (scenario_seen scenario)
         → IsTextOf input (string_bytes out)) }
@@ -144,7 +145,7 @@ fn scenario_text(alloc: Global, scenario: Scenario) -> Result<String, AllocError
     Ok(out)
 }
 
-/// Writes the text of a scenario that was read, into a text that is empty.
+/// Runs a scenario and writes its output to `out`, which must be empty.
 fn write_scenario(out: &mut String, alloc: Global, scenario: Scenario) -> Result<(), AllocError>
     ensures { OnOk result (string_bytes out.old ≡ [] → (input : List ℕ)
         → scenario_in input ≡ Ok (scenario_seen scenario) → IsTextOf input (string_bytes out.new)) }
@@ -174,9 +175,8 @@ fn run_lines(
     machine.image(alloc)
 }
 
-/// Boots a machine that keeps no records, since no line shows one, with room for two steps per
-/// line, if it can be had; without it, steps get their room as they come. (A plan makes several
-/// steps.)
+/// Boots a machine that keeps no records, since no line shows one. Reserves room for two steps per
+/// line if there is memory; otherwise steps allocate as they come. (A plan makes several steps.)
 fn boot(alloc: Global, layout: &Layout, lines: usize) -> Result<UnrecordedMachine, AllocError>
     ensures { IfOk result (λ machine. machine ≡ booted layout.now) }
 {
@@ -230,7 +230,7 @@ fn write_line(
     write_asked(out, alloc, machine, line.cpu, line.work.asked())
 }
 
-/// Does a line's work, and writes what comes of it, or why a control file does not take it.
+/// Does a line's work, and writes the result, or why a control file refuses it.
 #[inline(always)]
 fn write_asked(
     out: &mut String,

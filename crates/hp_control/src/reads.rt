@@ -34,7 +34,7 @@ pub fn read_file(alloc: Global, machine: &Machine, path: &str) -> Result<Vec<u8>
     }
 }
 
-/// Returns the text of the control file at a path like [`read_file`], as a string. Same errors.
+/// Reads a control file like [`read_file`], but returns a string. Fails in the same cases.
 pub fn read_text(alloc: Global, machine: &Machine, path: &str) -> Result<String, ControlFault>
     ensures { Gives (λ text. string_bytes text) result
         (means.file_text machine.now.layout machine.now.state path.now) }
@@ -42,8 +42,8 @@ pub fn read_text(alloc: Global, machine: &Machine, path: &str) -> Result<String,
     text_in(alloc, machine.memory(), path)
 }
 
-/// Returns the text of the control file at a path like [`read_text`], from a memory that need not
-/// be a machine's. Same errors.
+/// Reads a control file like [`read_text`], from a memory that need not be a machine's. Fails in
+/// the same cases.
 #[tactic(auto, unfolding(crate::specs::Reads::file_text))]
 pub fn text_in(alloc: Global, memory: &Memory, path: &str) -> Result<String, ControlFault>
     ensures { Gives (λ text. string_bytes text) result

@@ -107,7 +107,7 @@ impl<'a> Walk<'a> {
         }
     }
 
-    /// Makes one turn.
+    /// Makes one turn of the walk.
     fn step<W: Watch>(&mut self, alloc: Global, watch: &mut W) -> Result<Turned, ExploreFault>
         requires { IsWalking self.old (frames_of self.old) }
         ensures same { OnOk result (IsSameWalk self.old self.new) }
@@ -142,7 +142,7 @@ impl<'a> Walk<'a> {
         self.part.is_of(self.processors, self.path.records())
     }
 
-    /// Returns whether another schedule ends here although the limit is reached.
+    /// Returns whether a schedule ends here that the limit leaves no room to count.
     fn is_full(&self, is_end: bool) -> bool
         requires walked { IsPartWalkedBefore self.now.path.setting self.now.part
             (schedule_of self.now.path.news ++ self.now.processors ∷ []) self.now.tally.ends }
@@ -220,8 +220,8 @@ impl<'a> Walk<'a> {
         Ok(())
     }
 
-    /// Leaves a place at which all processors have been tried, and takes back the
-    /// call that led to it.
+    /// Leaves a place at which all processors have been tried, and takes back the call that led to
+    /// it.
     fn go_back<W: Watch>(
         &mut self,
         alloc: Global,

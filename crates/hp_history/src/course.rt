@@ -21,7 +21,7 @@ use std::marker::Model;
 use std::mem::replace;
 
 /// A memory with its history and its journal. The history is always legal, the state is that of the
-/// history, and there is a way back over each step that is not undone. It has room for as many
+/// history, and the journal leads back over each step that is not undone. It has room for as many
 /// records and deltas as its `Journal`.
 pub struct Course {
     journal: Journal,
@@ -82,7 +82,7 @@ impl Course {
         })
     }
 
-    /// Returns an equal course.
+    /// Returns a copy of the course.
     pub fn copy(&self, alloc: Global) -> Result<Course, AllocError>
         ensures { IfOk result (λ course. course ≡ self.now) }
     {
@@ -98,8 +98,9 @@ impl Course {
 
     /// Replies to a processor's event and records it. Returns the record's serial and the reply.
     ///
-    /// An undo goes back, and so does a Cancel if nothing but its operation's own work comes after
-    /// its Begin; any other event makes a step. On an error, nothing changes.
+    /// An undo drops steps, and so does a Cancel if only its operation's own work follows its
+    /// Begin. Any other event is carried out, and leaves a step unless it is a Read or is refused.
+    /// On an error, nothing changes.
     #[inline(always)]
     pub fn answer(
         &mut self,
@@ -198,8 +199,7 @@ impl Course {
         self.history.as_slice()
     }
 
-    /// Reserves room for `records` more records and steps, so that they need not be moved as more
-    /// come.
+    /// Reserves room for `records` more records and steps, so that making them does not reallocate.
     pub fn reserve(&mut self, records: usize) -> Result<(), AllocError>
         ensures { self.new ≡ self.old }
     {
@@ -214,8 +214,8 @@ impl Course {
         self.journal.journal_len()
     }
 
-    /// Returns the deltas of step `at` of those that are not undone, counted from 0; `None` past
-    /// the last. Latest first, they lead back from the state after the step to the state before it.
+    /// Returns the deltas of step `at`, counting from 0 the steps not undone; `None` past the last.
+    /// Latest first, they lead back from the state after the step to the state before it.
     pub fn entry(&self, at: u64) -> Option<&[Delta]>
         ensures { MatchOption result (length (net_of self.now.history) ≤ at)
             (λ deltas. IsEntry self.now at deltas.now) }

@@ -25,7 +25,7 @@ mod steps;
 /// state and the records exist only in its proofs and take no bytes.
 ///
 /// It has no room after 2^30 records since the base, or 2^32 deltas on its tape: then every event
-/// is out of memory, except an undo and a Cancel that restores.
+/// fails as if memory ran out, except an undo and a Cancel that restores.
 pub struct Journal {
     before: u64,
     count: u64,
@@ -100,7 +100,7 @@ impl Journal {
         })
     }
 
-    /// Returns an equal journal.
+    /// Returns a copy of the journal.
     pub(crate) fn copy(&self, alloc: Global) -> Result<Journal, AllocError>
         ensures { IfOk result (λ journal. journal ≡ self.now) }
     {
@@ -119,9 +119,9 @@ impl Journal {
 
     /// Replies to a processor's event. Returns the serial of the event's record and the reply.
     ///
-    /// An undo goes back, and so does a Cancel if nothing but its operation's own work comes after
-    /// its Begin; any other event makes a step. Only a step can run out of memory; then nothing
-    /// changes.
+    /// An undo drops steps, and so does a Cancel if only its operation's own work follows its
+    /// Begin. Any other event is carried out, and leaves a step unless it is a Read or is refused.
+    /// Only these events can run out of memory; then nothing changes.
     #[inline(always)]
     pub fn answer(
         &mut self,
@@ -241,16 +241,16 @@ impl Journal {
         }
     }
 
-    /// Returns whether an undo to `serial` is refused: it is above the last serial, or below the
-    /// last one that was sealed.
+    /// Returns whether an undo to `serial` is refused: `serial` is above the last serial, or below
+    /// the last one that was sealed.
     fn is_gone(&self, serial: Serial) -> bool
         ensures { result ≡ is_gone self.now serial }
     {
         serial.0 > self.last_serial() || serial.0 < self.before
     }
 
-    /// Returns how many steps a Cancel keeps if it goes back to before its operation's Begin;
-    /// `None` if it makes a step.
+    /// Returns how many steps a Cancel keeps if it drops its operation's Begin and all later steps;
+    /// `None` if it is carried out like other events.
     fn cancel_cut(&self, cpu: Cpu, op: Serial) -> Option<usize>
         ensures back { IfSome result (λ keep. IsCut self.now cpu (Cancel op) keep Restored) }
         ensures step { IfNone result (IsStep self.now cpu (Cancel op)) }
@@ -263,7 +263,7 @@ impl Journal {
         }
     }
 
-    /// Returns whether a Cancel is not refused: the layout has its processor, and its operation is
+    /// Returns whether `cpu` may cancel `op`: the layout has the processor and the operation is
     /// live.
     fn may_cancel(&self, cpu: Cpu, op: Serial) -> bool
         ensures { result ≡ may_cancel self.now.layout self.now.state cpu op }
@@ -271,7 +271,7 @@ impl Journal {
         cpu.0 < self.memory.layout().cpus() && self.memory.is_live(op)
     }
 
-    /// Goes back to the first `keep` steps, in reply to an event. Allocates nothing.
+    /// Drops all steps after the first `keep`, in reply to an event. Allocates nothing.
     #[inline(always)]
     fn go_back(&mut self, cpu: Cpu, event: &Event, keep: usize, reply: &Reply) -> (Serial, Reply)
         requires free { is_spent self.old ≡ false }
@@ -290,7 +290,7 @@ impl Journal {
         (serial, *reply)
     }
 
-    /// Makes a step of the event. Allocates before it changes anything.
+    /// Carries out the event. Allocates before it changes anything.
     #[inline(always)]
     fn act(&mut self, alloc: Global, cpu: Cpu, event: &Event) -> Result<(Serial, Reply), AllocError>
         requires free { is_spent self.old ≡ false }

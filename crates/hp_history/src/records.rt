@@ -48,7 +48,7 @@ impl Records {
     }
 }
 
-/// Returns equal records.
+/// Returns a copy of the records.
 pub(crate) fn copy_records(alloc: Global, records: &[Record]) -> Result<Vec<Record>, AllocError>
     ensures { IfOk result (λ copy. copy.items ≡ records.now) }
 {
@@ -59,7 +59,7 @@ pub(crate) fn copy_records(alloc: Global, records: &[Record]) -> Result<Vec<Reco
     Ok(copy)
 }
 
-/// Returns an equal record.
+/// Returns a copy of a record.
 fn copy_record(alloc: Global, original: &Record) -> Result<Record, AllocError>
     ensures { IfOk result (λ copy. copy ≡ original.now) }
 {

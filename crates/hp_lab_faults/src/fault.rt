@@ -15,7 +15,7 @@ use std::fmt;
 pub enum LabFault {
     /// The input is not JSON.
     NotJson,
-    /// The input is not a scenario: keys, types or words differ.
+    /// The input is JSON but not a scenario: a key, a type or a word is wrong.
     BadShape,
     /// The scenario's layout is out of its limits.
     Layout(LayoutFault),

@@ -14,8 +14,8 @@ use std::alloc::AllocError;
 use std::error::Error;
 use std::fmt;
 
-/// Why the program failed. Nothing was written, except for `WriteFailed`: then some of the text may
-/// be out.
+/// Why the program failed. Nothing was written, except that `WriteFailed` may leave part of the
+/// text.
 #[derive(Clone, Copy, Debug, Drop)]
 pub enum ProgramFault {
     /// The file could not be opened.
@@ -24,8 +24,7 @@ pub enum ProgramFault {
     ReadFailed,
     /// The input is longer than 16,777,216 bytes.
     TooLong,
-    /// The exploration or the search failed; or memory ran out, whatever the command, also while
-    /// reading.
+    /// The exploration or the search failed, or memory ran out: in any command, also while reading.
     Lab(LabFault),
     /// The parts cannot be added up.
     Parts(PartFault),
@@ -48,7 +47,7 @@ impl ProgramFault {
         )
     }
 
-    /// Returns whether the input is not a scenario; `check` then tells more.
+    /// Returns whether the input is not a scenario; `check` then reports more.
     pub fn is_of_scenario(&self) -> bool
         ensures { result ≡ is_of_scenario self.now }
     {

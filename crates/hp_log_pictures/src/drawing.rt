@@ -18,7 +18,7 @@ const PITCH: u64 = 24;
 /// The width of the picture.
 const WIDTH: u64 = 1216;
 
-/// There are at most this many steps between ticks.
+/// The axis has at most this many gaps between ticks.
 const TICKS: u64 = 10;
 
 /// Judges the log in `source`, and writes a picture of it as SVG to `sink`. Returns whether the log

@@ -9,8 +9,8 @@ ghost use Rattle.hp_history.specs.declared.volumes.Volume.{Volume};
 ghost use Rattle.hp_machine.specs.Machine.{IsCalled, IsHistory, MachineValue, booted, sealed};
 ghost use Rattle.hp_machine.specs.Volumes.{GoesOnFrom};
 
-/// A machine goes on from the volumes that it sealed. At boot there are none, a call leaves them as
-/// they are, and a seal adds the volume that it hands out.
+/// The sealed volumes lead from boot to the machine's base: none at boot, the same after a call,
+/// one more after a seal.
 pub fn machines_go_on_from_their_volumes()
     ensures boot { (l : LayoutParts) → GoesOnFrom [] (booted l) }
     ensures call { (volumes : List Volume) (old new : MachineValue) (cpu : ℕ) (event : Event) (r : Receipt)

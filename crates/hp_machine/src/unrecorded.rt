@@ -77,7 +77,7 @@ impl UnrecordedMachine {
         carry_out(alloc, self, cpu, plan, turns)
     }
 
-    /// Reserves room for `steps` more steps, so that they need not be moved as more come.
+    /// Reserves room for `steps` more steps, so that making them does not reallocate.
     pub fn reserve(&mut self, steps: usize) -> Result<(), AllocError>
         ensures { self.new ≡ self.old }
     {

@@ -21,7 +21,7 @@ use hp_search::Prepared;
 use hp_units::Cpu;
 use std::alloc::{AllocError, Global};
 
-/// Reads all parts of `input`. The first head takes `start` bytes.
+/// Reads all parts of `input`, whose first head is already read and is `start` bytes long.
 pub(crate) fn gather(
     alloc: Global,
     input: &[u8],
@@ -58,7 +58,7 @@ pub(crate) fn gather(
     Ok(parts)
 }
 
-/// Takes a line after the lines before it.
+/// Adds the next line of the input to the parts gathered so far.
 fn take_line(
     alloc: Global,
     prepared: &Prepared,

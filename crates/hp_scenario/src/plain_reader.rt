@@ -1,5 +1,5 @@
-//! Reads plain JSON texts: strings without escapes, and whole numbers above 0 of digits only. Takes
-//! tokens off the front of the text, and allocates nothing.
+//! Reads plain JSON texts: their strings have no escapes, and their numbers are above 0 and have
+//! only digits. Takes tokens off the front of the text, and allocates nothing.
 ghost use Rattle.std.specs.Prelude.{◌≡◌, ◌≢◌, ◌∷◌, ◌<◌, ◌⊎◌, [], drop, length, true, IfSome, IsTrue};
 ghost use Rattle.std.specs.Bool.{MatchBool};
 ghost use Rattle.json.specs.Lex.{between, lex, may_begin, may_close, token, tokens};
@@ -15,11 +15,11 @@ use std::marker::Model;
 /// Where a reader is among the values of an array or the members of an object.
 #[derive(Clone, Copy, Drop)]
 pub(crate) enum Place {
-    /// Before the first, or after a key.
+    /// Before the first value or member, or after a key.
     Fresh,
-    /// After one.
+    /// After a value or member.
     AfterValue,
-    /// After one and its comma.
+    /// After a value or member and its comma.
     AfterComma,
 }
 
@@ -82,8 +82,8 @@ impl<'a> PlainReader<'a> {
         }
     }
 
-    /// Returns the next token. If it returns `None`, the text may have ended, or go on with a fault
-    /// or in a form that is not plain.
+    /// Returns the next token. `None` means that the text has ended, has a fault, or goes on with a
+    /// token that is not plain.
     #[inline(always)]
     pub(crate) fn next(&mut self) -> Option<Token<'a>>
         ensures value { IfSome result (λ t. self.old ≡ token_of t ∷ self.new) }
@@ -112,7 +112,7 @@ impl<'a> PlainReader<'a> {
         true
     }
 
-    /// Returns whether no token is left. It may return `false` although none is left.
+    /// Returns `true` only if no token is left; `false` does not mean that one is.
     pub(crate) fn is_at_end(&self) -> bool
         ensures { IsTrue result → self.now ≡ [] }
     {
@@ -169,7 +169,7 @@ fn comes_after_value(byte: u8) -> bool
     byte == b',' || byte == b']' || byte == b'}'
 }
 
-/// Skips the comma that may follow a value. Returns the place and the text before the next token.
+/// Skips the comma that may follow a value. Returns the place, and the text from the next token on.
 #[inline(always)]
 fn past_comma<'a>(place: Place, text: &'a str) -> (Place, &'a str)
     ensures { tokens_at result.0 result.1.now ≡ tokens_at place text.now }
@@ -181,8 +181,7 @@ fn past_comma<'a>(place: Place, text: &'a str) -> (Place, &'a str)
     (Place::AfterComma, after_blanks(rest_of(text)))
 }
 
-/// Returns the token that a text begins with, at a place. If it returns `None`, there may still be
-/// one that is not plain.
+/// Returns the plain token at the front of `text`. `None` may also mean a token that is not plain.
 #[inline(always)]
 fn token_at<'a>(place: Place, text: &'a str) -> Option<Found<'a>>
     ensures { IfSome result (λ f. IsFound (tokens_at place text.now) f) }
@@ -198,7 +197,7 @@ fn token_at<'a>(place: Place, text: &'a str) -> Option<Found<'a>>
     None
 }
 
-/// Returns the token of the value or the key that a text begins with.
+/// Returns the first token of the value or the key at the front of `text`.
 #[inline(always)]
 fn value_at<'a>(place: Place, text: &'a str) -> Option<Found<'a>>
     requires { may_begin (place_of place) ≡ true }
@@ -212,7 +211,7 @@ fn value_at<'a>(place: Place, text: &'a str) -> Option<Found<'a>>
     }
 }
 
-/// Returns the token of the end of an array or an object that a text begins with.
+/// Returns the closing bracket of an array or an object at the front of `text`.
 #[inline(always)]
 fn end_at<'a>(place: Place, text: &'a str) -> Option<Found<'a>>
     requires { may_close (place_of place) ≡ true }
@@ -225,7 +224,7 @@ fn end_at<'a>(place: Place, text: &'a str) -> Option<Found<'a>>
     }
 }
 
-/// Returns a token of one byte that a text begins with, and the place after it.
+/// Returns `token`, the one byte at the front of `text`, with the `place` after it.
 #[inline(always)]
 fn bracket<'a>(token: Token<'a>, place: Place, text: &'a str) -> Found<'a>
     requires some { 0 < length text.now }
@@ -237,7 +236,7 @@ fn bracket<'a>(token: Token<'a>, place: Place, text: &'a str) -> Found<'a>
     Found { token, place, rest }
 }
 
-/// Returns the key or the string that a text begins with.
+/// Returns the key or the string at the front of `text`.
 #[inline(always)]
 #[tactic(auto, using(crate::proofs::PlainTokens::as_key))]
 fn string_at<'a>(place: Place, text: &'a str) -> Option<Found<'a>>
@@ -266,8 +265,8 @@ fn string_at<'a>(place: Place, text: &'a str) -> Option<Found<'a>>
     })
 }
 
-/// Cuts the string that a text begins with. Returns it without its quotes, and what comes after it
-/// and blanks.
+/// Returns the string at the front of `text`, without its quotes, and what comes after the string
+/// and any blanks.
 #[inline(always)]
 fn cut_string<'a>(text: &'a str) -> Option<(&'a str, &'a str)>
     requires { head text.now ≡ 34 }
@@ -282,8 +281,8 @@ fn cut_string<'a>(text: &'a str) -> Option<(&'a str, &'a str)>
     Some((&text[1..end], after_blanks(&text[end + 1..])))
 }
 
-/// Returns the number that a text begins with, if it has only digits, the first of which is not 0,
-/// and a comma comes after it.
+/// Returns the number at the front of `text`, if it has only digits, does not begin with 0, and a
+/// comma follows.
 fn number_at<'a>(place: Place, text: &'a str) -> Option<Found<'a>>
     requires { may_begin (place_of place) ≡ true }
     ensures { IfSome result (λ f. IsFound (tokens_at place text.now) f) }

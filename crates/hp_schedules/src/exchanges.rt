@@ -1,5 +1,5 @@
-//! Each processor's requests and replies so far, as a number. Equal transcripts share a number in
-//! nearly all cases, so that places are compared by numbers.
+//! Numbers each processor's requests and replies so far. Equal transcripts nearly always share a
+//! number, so that places are compared by numbers.
 ghost use Rattle.std.specs.Prelude.{◌≡◌, ◌++◌, ◌∷◌, ◌<◌, ◌≤◌, [], IfNone, IfOk, IfSome, IsTrue, OnOk, List, Some, length, replicate, slice_get};
 ghost use Rattle.hp_units.specs.declared.replies.Receipt.{Receipt};
 ghost use Rattle.hp_units.specs.declared.replies.Record.{Record as NewRecord};
@@ -52,7 +52,7 @@ impl Drop for Chains {
     }
 }
 
-/// The number of each processor's chain at the place where a walk is.
+/// The number of each processor's chain at a walk's current place.
 pub struct Exchanges {
     chains: Chains,
     here: Vec<usize>,
@@ -112,7 +112,8 @@ impl Chains {
         Ok(number)
     }
 
-    /// Returns the number of that chain if it is the newest with its hash.
+    /// Returns the number of the chain `below` with the record's exchange at its end, if it is the
+    /// newest with the hash `digest`.
     fn found(&self, digest: u64, below: usize, latest: &Record) -> Option<usize>
         ensures { IfSome result (IsChained self.now self.now (exchange_in latest.now) below) }
     {
@@ -141,8 +142,8 @@ impl Chains {
         }
     }
 
-    /// Returns the entry that made a chain, or `None` if the chain is empty or there
-    /// is no such number.
+    /// Returns the entry that made chain `number`, or `None` if the chain is empty or does not
+    /// exist.
     fn entry(&self, number: usize) -> Option<&Exchange>
         ensures some { IfSome result (λ entry. IsMadeOf exchange_below at_end self.now number entry.now) }
         ensures none { IfNone result ((xs : List Receipt) → slice_get self.now number ≡ Some xs → xs ≡ []) }
@@ -156,7 +157,7 @@ impl Chains {
 }
 
 impl Exchange {
-    /// Returns whether it is the exchange of this record.
+    /// Returns whether this is the exchange of the record `latest`.
     fn is_of(&self, latest: &Record) -> bool
         ensures { IsTrue result → exchange_of self.now ≡ exchange_in latest.now }
     {
@@ -176,7 +177,7 @@ impl Exchanges {
         })
     }
 
-    /// Returns the number of each processor's chain.
+    /// Returns the number that identifies each processor's current chain.
     pub fn numbers(&self) -> &[usize]
         ensures { result.now ≡ self.now.here }
     {

@@ -14,7 +14,7 @@ pub struct Share {
     pub count: u64,
 }
 
-/// Rows of shares by index, from 0 on. A contract sees them as the list of rows.
+/// Rows of shares, stored in one buffer. The model is the list of rows.
 pub struct Rows {
     shares: Vec<Share>,
     ends: Vec<usize>,

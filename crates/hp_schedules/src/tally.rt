@@ -17,9 +17,9 @@ use std::marker::Model;
 /// One end of schedules, with the number of schedules that lead to it.
 #[derive(Drop)]
 pub struct Ending {
-    /// How they end.
+    /// How these schedules end.
     pub outcome: Outcome,
-    /// How many schedules end so.
+    /// How many schedules end in this way.
     pub count: u64,
     /// The first of these schedules: the processors in the order of their calls.
     pub first: Vec<Cpu>,
@@ -174,7 +174,7 @@ impl Tally {
         self.total
     }
 
-    /// Returns how many more may be counted.
+    /// Returns how many more schedules the limit allows.
     pub fn room(&self) -> u64
         ensures { sum_by (λ e. e.count) self.now.ends + result ≡ self.now.limit }
     {
@@ -200,8 +200,8 @@ impl Tally {
         Ok(counts)
     }
 
-    /// Replaces `shares` by what each end counts more than in `earlier`. An end that is new since
-    /// then counted 0.
+    /// Replaces `shares` by how much each end's count has grown since `earlier`. An end that is new
+    /// since then had a count of 0.
     pub fn since(&self, earlier: &[u64], shares: &mut Vec<Share>) -> Result<(), AllocError>
         requires { AreNoMore earlier.now self.now.ends }
         ensures { OnOk result (AreSince earlier.now self.now.ends shares.new.items) }

@@ -9,8 +9,7 @@ use hp_scenario::{Asked, Line, Work};
 use hp_units::Cpu;
 use std::alloc::{AllocError, Global};
 
-/// A script line that names operation 0, with no line of its processor before it that begins an
-/// operation.
+/// A script line that names operation 0 before its processor has begun an operation.
 #[derive(Clone, Copy, Drop)]
 pub struct Unbegun {
     /// The processor.
@@ -19,10 +18,10 @@ pub struct Unbegun {
     pub line: u64,
 }
 
-/// Returns the first such line of each processor, in the order of the processors. The first `setup`
-/// lines are the setup; the later ones are in scripts.
+/// Returns, per processor, the first script line that names operation 0 before the processor's
+/// first Begin. The first `setup` lines are the setup; the later ones are in scripts.
 ///
-/// Meant for warnings: such a line works on no operation.
+/// Meant for warnings: these lines work on no operation.
 pub fn unbegun_lines(
     alloc: Global,
     cpus: u32,
@@ -38,7 +37,7 @@ pub fn unbegun_lines(
     Ok(found)
 }
 
-/// Appends the first such line of a processor, if there is one.
+/// Appends the first unbegun line of `cpu`, if there is one.
 fn push_unbegun(
     found: &mut Vec<Unbegun>,
     cpu: Cpu,
@@ -53,7 +52,7 @@ fn push_unbegun(
     Ok(())
 }
 
-/// Returns the number of the first such line of a processor, if there is one.
+/// Returns the number of the first unbegun line of `cpu`, if there is one.
 fn unbegun_line(cpu: Cpu, setup: u64, lines: &[Line]) -> Option<u64>
     ensures { result ≡ unbegun_at cpu setup 0 lines.now }
 {

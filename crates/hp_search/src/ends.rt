@@ -35,12 +35,10 @@ impl Prepared {
         self.ends_told(alloc, &explored.ends, more, form)
     }
 
-    /// Returns the text of ends, as `explore_text` writes them. If they are not the ends of all
-    /// interleavings, `more` is what is known of the number of these.
+    /// Returns `ends` as `explore_text` prints them. `more` is `None` if they are all the ends, and
+    /// otherwise what is known of the number of interleavings.
     ///
-    /// Plays the first interleaving of each end that it writes once more. So the error is
-    /// `HistoryFull` if the history has no room for a call of such an interleaving, or
-    /// `OutOfMemory`.
+    /// Replays the first interleaving of each end it prints: `HistoryFull` if a replay has no room.
     pub fn ends_told(
         &self,
         alloc: Global,
@@ -141,7 +139,7 @@ impl Prepared {
 
     /// Writes the object of an end without its closing bracket: its number, how many interleavings
     /// lead to it, the processors' replies, the states of the memory blocks, and the calls of the
-    /// first interleaving. Plays that interleaving once more, and fails like `played`.
+    /// first interleaving. Replays that interleaving, and fails like `played`.
     pub fn write_end_keys(
         &self,
         out: &mut String,
@@ -161,7 +159,7 @@ impl Prepared {
         Ok(())
     }
 
-    /// Returns a schedule of the scripts as a scenario. Plays it once more, and fails like
+    /// Returns a schedule of the scripts as a scenario. Replays the schedule, and fails like
     /// `played`.
     fn replay_told(&self, alloc: Global, schedule: &[Cpu]) -> Result<String, ExploreFault>
         ensures ok { IfOk result (λ text. string_bytes text

@@ -56,7 +56,7 @@ pub fn find_text<W: Watch>(
     }
 }
 
-/// Searches a prepared scenario, and writes the result in a form.
+/// Searches a prepared scenario and returns the result as text in `form`.
 fn found<W: Watch>(
     alloc: Global,
     prepared: &Prepared,
@@ -89,7 +89,7 @@ fn told_fault(alloc: Global, prepared: &Prepared, limit: u64, fault: FindFault) 
     }
 }
 
-/// Writes what a search found in a form. Plays the schedule once more.
+/// Returns what a search found, as text in `form`. Replays the schedule.
 fn found_told(
     alloc: Global,
     prepared: &Prepared,
@@ -117,7 +117,7 @@ fn found_told(
     }
 }
 
-/// Writes a schedule of the scripts in a form. Plays it once more.
+/// Returns a schedule of the scripts and its calls as text in `form`. Replays the schedule.
 fn schedule_told(
     alloc: Global,
     prepared: &Prepared,
@@ -135,7 +135,7 @@ fn schedule_told(
     Ok(text)
 }
 
-/// Writes a schedule with its calls in a form.
+/// Returns a schedule and its calls as text in `form`.
 fn text_of(
     alloc: Global,
     prepared: &Prepared,
@@ -155,7 +155,7 @@ fn text_of(
     }
 }
 
-/// Writes in a form that none of `schedules` interleavings ends as wanted.
+/// Returns, as text in `form`, that none of the `schedules` interleavings ends as wanted.
 fn absent_told(alloc: Global, schedules: u128, form: ScheduleForm) -> Result<String, AllocError>
     ensures { IfOk result (λ text. string_bytes text ≡ absent_told form schedules) }
 {

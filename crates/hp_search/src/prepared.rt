@@ -23,7 +23,7 @@ use std::alloc::{AllocError, Global};
 pub struct Prepared {
     /// The scenario.
     pub scenario: Scenario,
-    /// How many of its first lines are the setup.
+    /// How many of the scenario's first lines are the setup.
     pub setup: u64,
     /// The machine after the setup, and the scripts of the later lines.
     pub start: Start,

@@ -37,7 +37,7 @@ pub fn explore_text_with_jobs<W: Watch>(
     }
 }
 
-/// Explores a prepared scenario in threads, and writes the result in a form.
+/// Explores a prepared scenario in `jobs` threads and returns the result as text in `form`.
 fn explored<W: Watch>(
     rt: &(impl Threads + Sync),
     alloc: Global,

@@ -1,4 +1,4 @@
-//! The end of a shared machine.
+//! Closes a shared machine once its records agree with the seats' receipts.
 ghost use Rattle.std.specs.Prelude.{◌≡◌, IfErr, IfOk, length};
 ghost use Rattle.hp_shared.specs.Closing.{AreCounted, HasCause, HasFault, IsChecked, IsClosed};
 ghost use Rattle.hp_shared.specs.Shared.{IsShared};
@@ -23,8 +23,8 @@ pub enum CloseFault {
     /// volumes before it; or the number of volumes, if together they do not hold all sealed
     /// records.
     WrongVolume { at: u64 },
-    /// The lowest serial at which a seat's receipts differ from its processor's records, or whose
-    /// record belongs to no seat.
+    /// The lowest serial at which a seat's receipts differ from its processor's records, or of a
+    /// record that belongs to no seat.
     Mismatch { serial: Serial },
     /// Out of memory.
     OutOfMemory,
@@ -121,8 +121,8 @@ impl<L: Job> NotClosed<L> {
 impl<L: Job> Locked<L> {
     /// Closes the machine, if each seat's receipts are exactly its processor's records, in order,
     /// and there are no other records: those of the volumes, which must be all that the machine
-    /// sealed, then the machine's own. As many seats as processors have as many receipts as this
-    /// machine has records.
+    /// sealed, then the machine's own. If there are as many seats as processors, they have as many
+    /// receipts as this machine has records.
     ///
     /// Errors are those of `check`; each hands back this very machine, all seats and all volumes.
     pub fn close(
@@ -165,10 +165,11 @@ impl<L: Job> Locked<L> {
     /// Checks that the machine may be closed: there is exactly one seat per processor, the volumes
     /// are all that the machine sealed, and each seat's receipts are exactly its processor's
     /// records, in the volumes and then in the machine. Returns how many records there are in all.
-    /// Time is linear in the records and receipts; memory is one mark per seat.
+    /// Takes linear time in the records and receipts if the seats are in processor order, and
+    /// quadratic time in the seats; memory is one mark per seat.
     ///
-    /// Errors, in this order: `SeatMissing`, `WrongVolume`, `Mismatch`, each only for its own cause
-    /// and if no earlier one applies; `OutOfMemory` may come in place of `Mismatch` or of `Ok`.
+    /// Errors, checked in this order: `SeatMissing`, `WrongVolume`, `Mismatch`. `OutOfMemory` may
+    /// replace `Mismatch` or `Ok`.
     pub fn check(
         &self,
         alloc: Global,

@@ -45,7 +45,8 @@ fn has_twin<L: Job>(seats: &Vec<Seat<L>>, place: usize) -> bool
     false
 }
 
-/// Returns the place of a processor's seat. Tries the processor's number first: mostly it is there.
+/// Returns the index of a processor's seat. Tries the processor's number first: it is usually
+/// there.
 fn place_of<L: Job>(seats: &Vec<Seat<L>>, cpu: Cpu) -> Option<usize>
     ensures found { IfSome result (λ place. IsSeatAt seats.now.items cpu place) }
     ensures none { IfNone result (IsUnseated seats.now.items cpu) }

@@ -73,14 +73,12 @@ impl<L: Job> Seat<L> {
         }
     }
 
-    /// Makes one call for the seat's processor. Returns the reply, and keeps the receipt. Takes the
-    /// lock once, for which it may wait; room for the receipt and its copy of the event is made
-    /// before.
+    /// Makes one call for the seat's processor. Returns the reply, and keeps the receipt. Reserves
+    /// room for the receipt and copies the event; then takes the lock once, and may wait for it.
     ///
-    /// Errors: `HistoryFull` as from `Locked::turn`; on a machine with one processor, only if the
-    /// seat has as many receipts since its last seal as the history may hold records. `OutOfMemory`
-    /// before the lock or under it. Both leave the seat and the machine as they were, except that
-    /// the seat counts how often the history was full.
+    /// Errors: `HistoryFull` as from `Locked::turn` (on a machine with one processor, only once the
+    /// seat's unsealed receipts reach the limit), and `OutOfMemory`. On an error, only the seat's
+    /// count of full histories changes.
     pub fn call(
         &mut self,
         rt: &impl Wait,
@@ -119,7 +117,7 @@ impl<L: Job> Seat<L> {
         }
     }
 
-    /// Reserves room for `receipts` more receipts, so that they need not be moved as more come.
+    /// Reserves room for `receipts` more receipts, so that keeping them does not reallocate.
     pub fn reserve(&mut self, receipts: usize) -> Result<(), AllocError>
         ensures { self.new ≡ self.old }
     {
@@ -127,7 +125,7 @@ impl<L: Job> Seat<L> {
     }
 
     /// Hands out the shared machine's records since its last seal, with the state before them.
-    /// Takes the lock once, for which it may wait. Makes no record and no receipt. On an error, the
+    /// Takes the lock once, and may wait for it. Makes no record and no receipt. On an error, the
     /// machine stays as it was.
     pub fn seal(
         &mut self,

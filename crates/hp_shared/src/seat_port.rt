@@ -1,4 +1,4 @@
-//! A port on a seat.
+//! A port that makes a seat's calls.
 ghost use Rattle.std.specs.Prelude.{◌≡◌, None};
 
 use crate::job::Job;
@@ -9,8 +9,8 @@ use hp_units::{CallFault, Event, Reply};
 use std::alloc::Global;
 use std::sync::Wait;
 
-/// A seat and the machine that it calls, as a port for the driver of a plan. It shows the seat's
-/// receipts. Each of its calls takes the lock anew, for which it may wait.
+/// A port that lets a plan's driver make a seat's calls on the shared machine. Each call takes the
+/// lock, and may wait for it.
 #[derive(Drop)]
 pub struct SeatPort<'a, L: Job, R> {
     /// The capability to wait.
@@ -24,7 +24,7 @@ pub struct SeatPort<'a, L: Job, R> {
 }
 
 impl<'a, L: Job, R> SeatPort<'a, L, R> {
-    /// Returns a seat's port, before its first call.
+    /// Creates a port for a seat, with no fault yet.
     pub fn new(rt: &'a R, seat: &'a mut Seat<L>, shared: &'a Shared<L>) -> SeatPort<'a, L, R>
         ensures same_reference { result.seat.ghost_name ≡ seat.entry.ghost_name }
         ensures seat { result.seat.now ≡ seat.old }

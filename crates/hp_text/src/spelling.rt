@@ -9,9 +9,8 @@ use hp_units::{Cpu, Event, Item, Owner, Page, Plan, Text, Wish};
 use indexmap::IndexSet;
 use std::alloc::AllocError;
 
-/// Writes the line of a scenario that makes a processor's call, as `0 map db 3`, without a newline.
-/// An event that only a control file can ask for is written as an `echo` (Linux guide: probe,
-/// auto_online_blocks).
+/// Writes a call as a scenario line, such as `0 map db 3`, without the newline. An event that only
+/// a control file can ask for is written as an `echo` (Linux guide: probe, auto_online_blocks).
 pub fn write_call(
     out: &mut String,
     names: &IndexSet<Text>,
@@ -25,8 +24,7 @@ pub fn write_call(
     write_event(out, names, event)
 }
 
-/// Writes the work of a line that makes a call with this event, as `map db 3`: the words after its
-/// processor.
+/// Writes an event as the words after the processor in a scenario line, such as `map db 3`.
 pub fn write_event(
     out: &mut String,
     names: &IndexSet<Text>,
@@ -91,8 +89,8 @@ fn write_begin(out: &mut String, plan: &Plan) -> Result<(), AllocError>
     write_items(out, plan.as_slice())
 }
 
-/// Writes the work of a line that carries out a plan with at most `turns` migrations, as `plan 8
-/// off 2`: the words after its processor.
+/// Writes the words after the processor in a scenario line that carries out a plan with at most
+/// `turns` migrations, such as `plan 8 off 2`.
 pub fn write_plan(out: &mut String, plan: &Plan, turns: u32) -> Result<(), AllocError>
     ensures { OnOk result (string_bytes out.new ≡ string_bytes out.old ++ plan_text plan.now turns) }
 {

@@ -1,4 +1,4 @@
-//! A state, part by part.
+//! Writes a state as text: blocks, free lists, processors' lists, kernel blocks and pages.
 ghost use Rattle.std.specs.Prelude.{◌≡◌, ◌++◌, Some, OnOk, string_bytes};
 ghost use Rattle.std.specs.List.{flat_map};
 ghost use Rattle.hp_text.specs.State.{auto_line, block_line, blocks_text, cached_line, class_lists_text, frames_text, free_lists_text, free_line, has_mark, kernel_line, kernel_text, mark_text, marked_line, marked_word, marked_words, newline, number_word, processor_lists_text, processors_lists_text, row_line, rows_text, state_text, state_words};
@@ -79,7 +79,7 @@ fn write_block(out: &mut String, block: Block, row: Option<Row>) -> Result<(), A
 }
 
 /// Writes the line of a memory block: its state, its zone if it is online or going offline, and the
-/// operation that holds it, as `block 2 going movable op 3`.
+/// operation that holds it, such as `block 2 going movable op 3`.
 #[tactic(auto, unfolding(crate::specs::State::row_line))]
 pub fn write_row(out: &mut String, block: Block, row: Row) -> Result<(), AllocError>
     ensures { OnOk result (string_bytes out.new ≡ string_bytes out.old ++ row_line block row) }
@@ -151,7 +151,7 @@ fn name_of_mark(mark: Mark) -> &'static str
     }
 }
 
-/// Writes the numbers of the pageblocks with a mark.
+/// Writes the number of each pageblock that has `mark`.
 #[tactic(auto, unfolding(crate::specs::State::marked_words))]
 fn write_marked_words(out: &mut String, image: &Image, mark: Mark) -> Result<(), AllocError>
     ensures { OnOk result (string_bytes out.new
@@ -205,7 +205,7 @@ fn write_free_lists(out: &mut String, image: &Image) -> Result<(), AllocError>
     write_class(out, image, Class::IsoM)
 }
 
-/// Writes a class's lists in increasing order.
+/// Writes a class's free lists, lowest order first.
 #[tactic(auto, unfolding(crate::specs::State::class_lists_text))]
 fn write_class(out: &mut String, image: &Image, class: Class) -> Result<(), AllocError>
     ensures { OnOk result (string_bytes out.new

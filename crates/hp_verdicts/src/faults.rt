@@ -8,7 +8,7 @@ use hp_judge::NumberedFault;
 use std::alloc::{AllocError, Global};
 use std::marker::Model;
 
-/// Counts the faults of a log by whether they are allowed, and keeps the first that are not.
+/// Counts a log's allowed and other faults, and keeps the first `most` of the others.
 #[derive(Drop)]
 pub struct FaultReport {
     allowed: AllowedKinds,

@@ -67,7 +67,8 @@ impl JudgeOptions {
         }
     }
 
-    /// Returns how many frames a memory block has.
+    /// Returns the frames per block from the options or the log. Fails if they differ or neither
+    /// has it.
     fn frames_with(&self, told: Option<u32>) -> Result<u64, SizeFault> {
         match (self.block_frames, told) {
             (Some(frames), Some(told)) if frames != told as u64 => Err(SizeFault::Different),
@@ -93,7 +94,8 @@ impl JudgeOptions {
     }
 }
 
-/// Returns the size of a machine with 2^26 frames, or with all blocks of the range if that is more.
+/// Returns the size of a machine with 2^26 frames, or with all blocks up to the range's end if
+/// these are more.
 fn machine_size(block_frames: u64, range: Option<BlockRange>) -> Option<MachineSize>
     ensures order { IfSome result (λ size. size.block_order < 32) }
     ensures small { IfSome result (λ size. frame_count size < 2 ^ 32) }
@@ -121,8 +123,7 @@ fn order_of(count: u64) -> Option<u32>
     None
 }
 
-/// Returns the number of memory blocks in 2^26 frames, or of those before the range's end if that
-/// is more.
+/// Returns the number of memory blocks in 2^26 frames, or the range's end if that is greater.
 fn most_blocks(order: u32, range: Option<BlockRange>) -> u32
     requires { order ≤ 26 }
 {

@@ -11,9 +11,9 @@ use std::alloc::{AllocError, Global};
 
 /// Parses a line as `explore` prints it, or returns `None` if no end can have the text as a line.
 ///
-/// A line is a reply to any processor, as `refused NotFree 3`; a reply to one processor, as
-/// `0: done`; or a memory block, as `block 1 offline`. A refusal without its frame or block, as
-/// `refused NotFree`, matches every refusal of its kind.
+/// A line is a reply to any processor, such as `refused NotFree 3`; a reply to one processor, such
+/// as `0: done`; or a memory block, such as `block 1 offline`. A refusal without its frame or
+/// block, such as `refused NotFree`, matches every refusal of its kind.
 #[tactic(auto, unfolding(crate::specs::WantedLines::wanted_line))]
 pub fn wanted_line(alloc: Global, text: &str) -> Result<Option<Wanted>, AllocError>
     ensures { IfOk result (λ line. line ≡ says.wanted_line text.now) }
@@ -83,7 +83,7 @@ fn line_from(words: &[&str]) -> Option<Wanted>
     line_by(word, args)
 }
 
-/// Parses the same from its first word and the other words.
+/// Parses a reply to any processor, or a memory block, from its first word and the other words.
 #[tactic(auto, unfolding(crate::specs::WantedLines::line_by))]
 fn line_by(word: &str, args: &[&str]) -> Option<Wanted>
     ensures { result ≡ says.line_by word.now (map (λ w. w.now) args.now) }
@@ -248,7 +248,7 @@ fn numbered_refusal(name: &str, number: u32) -> Option<Refusal>
     }
 }
 
-/// Parses a memory block: its number, and what became of it.
+/// Parses a wanted memory block: its number and its final row.
 #[tactic(auto, unfolding(crate::specs::WantedLines::block_of))]
 fn block_from(args: &[&str]) -> Option<Wanted>
     ensures { result ≡ says.block_of (map (λ w. w.now) args.now) }

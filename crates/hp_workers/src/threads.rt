@@ -56,10 +56,11 @@ impl<L: Job> Task<L> {
 pub struct RunEnd<L: Job> {
     /// All seats, in the order in which they were given, each after the lines that it ran.
     pub seats: Vec<Seat<L>>,
-    /// What all seals handed out, ordered by the number of earlier records, then by the number of
-    /// their own.
+    /// The volumes of all seals, ordered by the number of records before them, then by how many
+    /// they hold.
     pub volumes: Vec<Volume>,
-    /// For each seat the ends of the lines that it ran; empty if memory ran out before any line.
+    /// Per seat, how each line that it ran ended. No entries if memory ran out before any worker
+    /// started.
     pub ends: Vec<Ends>,
     /// `None` if all lines were run.
     pub fault: Option<RunFault>,
@@ -150,7 +151,7 @@ fn unstarted<L: Job>(alloc: Global, seats: Vec<Seat<L>>) -> RunEnd<L>
     }
 }
 
-/// Runs a worker for each seat, each beside those of the seats before it. There is room for all.
+/// Runs a worker for each seat, beside the workers of the seats before it. There is room for all.
 #[cycle(workers)]
 fn run_rest<L: Job + Send + Sync, G: Gate + Sync, R: Threads + Wait + Sync>(
     rt: &R,
@@ -255,8 +256,7 @@ fn run_beside<L: Job + Send + Sync, G: Gate + Sync, R: Threads + Wait + Sync>(
     )
 }
 
-/// Adds one more worker's results to the end of a run, which has room for them. The first fault
-/// counts.
+/// Adds a worker's results to a run's end, which has room for them. The first fault counts.
 fn gather<L: Job>(worked: Worked<L>, done: RunEnd<L>) -> RunEnd<L>
     requires seats { vec_len done.seats < vec_capacity done.seats }
     requires ends { vec_len done.ends < vec_capacity done.ends }

@@ -21,13 +21,13 @@ pub struct Worked<L: Job> {
     pub seat: Seat<L>,
     /// An end for each line that was run.
     pub ends: Ends,
-    /// What its seals handed out, in order.
+    /// The volumes that its seals handed out, in order.
     pub volumes: Vec<Volume>,
     /// `None` if all lines were run.
     pub fault: Option<RunFault>,
 }
 
-/// Runs a script by a seat, unless its thread could not be started.
+/// Runs a script like [`run_script`], unless the seat's thread could not be started.
 pub(crate) fn run_if_started<L: Job, G: Gate, R: Wait>(
     rt: &R,
     alloc: Global,
@@ -48,7 +48,7 @@ pub(crate) fn run_if_started<L: Job, G: Gate, R: Wait>(
     }
 }
 
-/// Runs a script by a seat, line by line.
+/// Runs a script's lines in order; `seat` makes the calls.
 pub(crate) fn run_script<L: Job, G: Gate, R: Wait>(
     rt: &R,
     alloc: Global,

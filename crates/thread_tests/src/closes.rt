@@ -146,7 +146,7 @@ fn closed_at_last<L: Job, R: Wait>(
     }
 }
 
-/// Plays this on a machine.
+/// Runs `closed_at_last` on a shared machine made from `machine`.
 fn plays_on<L: Job, R: Wait>(
     rt: &R,
     alloc: Global,
@@ -167,7 +167,7 @@ fn plays_on<L: Job, R: Wait>(
     closed_at_last(rt, alloc, shared, seats, lack)
 }
 
-/// Plays this on a machine at its start.
+/// Boots a machine and runs `closed_at_last` on it.
 fn plays<R: Wait>(rt: &R, alloc: Global, lack: Lack) -> Result<Option<(CloseFault, u64)>, Fail> {
     let layout = layout(alloc)?;
     let machine = Machine::boot(alloc, &layout)?;

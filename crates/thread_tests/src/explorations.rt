@@ -16,8 +16,7 @@ use std::alloc::{AllocError, Global};
 use std::test::Fail;
 use std::thread::Threads;
 
-/// Returns a machine of three blocks of four frames, of which the last two are movable, and two
-/// processors.
+/// Boots two processors and three blocks of four frames; the last two blocks are in zone Movable.
 fn booted(alloc: Global) -> Result<Machine, Fail> {
     let parts = Parts {
         order: 2,
@@ -58,7 +57,7 @@ fn scripts(alloc: Global, order: u32, count: u32) -> Result<Vec<CallScript>, All
     Ok(scripts)
 }
 
-/// Returns whether a processor had this reply, and no other.
+/// Returns whether a processor got just this reply.
 fn is_sole(answers: &Replies, reply: &Reply) -> bool {
     match answers.as_slice() {
         [sole] => sole.same(reply),
@@ -66,8 +65,8 @@ fn is_sole(answers: &Replies, reply: &Reply) -> bool {
     }
 }
 
-/// Returns whether one schedule, which processor `first` starts, leads to an end, with one reply
-/// per processor, and these.
+/// Returns whether exactly one schedule, started by `first`, leads to this end, and each processor
+/// got just its reply in `replies`.
 fn is_sole_end(end: &Ending, replies: (&Reply, &Reply), first: u32) -> bool {
     let answered = match end.outcome.replies() {
         [zero, one] => is_sole(zero, replies.0) && is_sole(one, replies.1),
@@ -145,7 +144,7 @@ fn same_end(end: &Ending, other: &Ending) -> bool {
         && same_schedules(end.first.as_slice(), other.first.as_slice())
 }
 
-/// Returns whether two lists have the same ends, of the 20 orders of three calls and three.
+/// Returns whether two lists have the same ends of all 20 interleavings of three calls and three.
 fn same_ends(ends: &[Ending], others: &[Ending]) -> bool {
     total_of(ends) == 20
         && ends.len() == others.len()
@@ -191,7 +190,7 @@ fn jobs_and_parts_find_the_same<R: Threads + Sync>(
     }
 }
 
-/// Returns whether that holds of two scripts of three calls.
+/// Runs `jobs_and_parts_find_the_same` on two scripts of three calls each.
 fn all_find_the_same<R: Threads + Sync>(
     rt: &R,
     alloc: Global,
