@@ -289,6 +289,13 @@ def check_picture(checks, lab):
         checks.same(f"trace --svg --cell {cell}", (expected, expected == 0), (status, text != ""))
     checks.same("trace --cell 8", (2, "", "hotplug_lab: --cell is for --svg alone\n"),
                 lab.call("trace", "--cell", "8", scenario=whole))
+    checks.same("trace --svg --scale 100", out,
+                lab.call("trace", "--svg", "--to", "4", "--scale", "100", scenario=whole)[1])
+    for scale, expected in (("0", 2), ("24", 2), ("25", 0), ("400", 0), ("401", 2), ("65636", 2)):
+        status, text, _ = lab.call("trace", "--svg", "--scale", scale, scenario=whole)
+        checks.same(f"trace --svg --scale {scale}", (expected, expected == 0), (status, text != ""))
+    checks.same("trace --scale 50", (2, "", "hotplug_lab: --scale is for --svg alone\n"),
+                lab.call("trace", "--scale", "50", scenario=whole))
     for number, call in enumerate(CALLS, 1):
         shown = f"{number} {call}" in out
         checks.holds("trace --svg --to 4", shown == (number <= 4), f"line {number}: {shown}")

@@ -182,7 +182,7 @@ const SUM: [Argument; 3] = [
 ];
 
 /// The arguments of `trace`.
-const TRACE: [Argument; 9] = [
+const TRACE: [Argument; 10] = [
     Argument {
         name: "from",
         takes: Takes::Number,
