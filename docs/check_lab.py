@@ -26,8 +26,9 @@ order, as many cells of each meaning in the legend as the trace has characters o
 outlines of free blocks of each width as the trace has brackets, and outlines of the kernel's blocks
 around all of its frames; each number of a frame above its cell; a line for each page that moved,
 from its cell in a row above to its cell, also where blocks are folded; layouts wider than a screen
-are folded, with all cells within the picture. Of `hotplug_lab check`: it finds no fault in any file of examples/, and
-one where a text that is no line comes last; with a setup it says how many interleavings there are.
+are folded, with all cells within the picture. Of `hotplug_lab check`: it finds no fault in any file
+of examples/, and one where a text that is no line comes last; with a setup it says how many
+interleavings there are.
 None of them writes a control character.
 The last line is 'lab: N passed, M failed'; the exit status is 0 where nothing failed, else 1.
 """

@@ -198,7 +198,7 @@ def check_kernel(checks, where, svg, outlines, kernel):
     checks.holds(where, powers, f"kernel blocks of {sorted(sizes)} frames")
     frames = sum(size * count for size, count in sizes.items())
     checks.holds(where, frames == kernel, f"{frames} frames in kernel blocks, not {kernel}")
-    checks.holds(where, ("kernel block, order" in svg) == (kernel > 0), "no such sign in the legend")
+    checks.holds(where, ("kernel block, order" in svg) == (kernel > 0), "the legend is wrong")
 
 
 def numbers_in(layout, cell):

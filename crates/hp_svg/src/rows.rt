@@ -92,8 +92,8 @@ fn write_head(
     write_fitted_text(out, left, top + 10, 7, text.as_str())
 }
 
-/// Draws the cells of a block, the mobility of its pageblocks, lines between cells, and the outlines
-/// of blocks of frames.
+/// Draws the cells of a block, the mobility of its pageblocks, lines between cells, and outlines of
+/// blocks of frames.
 fn write_frames(
     out: &mut String,
     alloc: Global,

@@ -250,8 +250,8 @@ const FOLDED_ROWS: &str =
 /// The size of a picture without rows.
 const EMPTY: &str = "width='820' height='76' viewBox='0 0 820 76'";
 
-/// A line of text alone above a row; outlines of the kernel's blocks, and an order beside the letter
-/// of its cells.
+/// A line of text alone above a row; outlines of the kernel's blocks, and orders beside the letter of
+/// its cells.
 const KERNEL_ROWS: &str = "<text x='188' y='10'>the 2 calls above 1021 times more</text>\n\
      <text x='8' y='24'>kernel</text><text x='336' y='24'> 0:N</text><rect x='384' y='14' \
      width='24' height='12' fill='#3d3d3d'/><text x='386' y='23' font-size='8' \
