@@ -47,5 +47,6 @@ cells_bars l places block = each (range_with_len 0 (block_size l))
         let rest = flat_map (frame_text l places block) ns in
         let place = place_at places (block * block_size l + n) in
         map-append is_bar (frame_text l places block n) rest
-        ∙ (ap (λ (bs : List Bool). bs ++ bars_in rest) (one_cell (starts_later l n) (place_sign place) (no_bar place))
+        ∙ (ap (λ (bs : List Bool). bs ++ bars_in rest)
+        (one_cell (starts_later l n) (place_sign place) (no_bar place))
         ∙ ap (λ (bs : List Bool). cell_bars l n ++ bs) (each ns))

@@ -1,4 +1,4 @@
--- Marks: what each turn of a walk over a state makes of the places of frames.
+-- What each turn of a walk over a state makes of the places of frames.
 use Rattle.std.specs.Prelude.{ℕ, zero, suc, ◌≡◌, ◌+◌, ◌*◌, ◌^◌, ◌==◌, List, Option, Some, None, option_map, slice_get, if◌then◌else◌}
 use Rattle.hp_units.specs.Arithmetic.{block_of, pageblock_of, pageblock_size}
 use Rattle.hp_units.specs.FreeAreas.{is_on}
@@ -45,7 +45,7 @@ on_page ps owner page = on_entry owner (frame_at ps owner page)
 abbrev pub on_owner : LayoutParts → Pages → (owner : ℕ) → Mark
 on_owner l ps owner = marks_below (on_page ps owner) l.pages
 
--- so many frames from one on
+-- `count` frames from one on
 abbrev pub on_frames : (first count : ℕ) → Place → Mark
 on_frames first count place = marks_below (λ offset. at_frame (first + offset) place) count
 

@@ -1,4 +1,4 @@
-//! One mark after another: the places of frames, set by a walk over a state.
+//! The places of frames, marked one after another by a walk over a state.
 ghost use Rattle.std.specs.Prelude.{◌≡◌, ◌+◌, ◌^◌, ◌<◌, ◌≤◌, IfSome, OnOk};
 ghost use Rattle.hp_units.specs.Arithmetic.{frame_count, pageblock_count};
 ghost use Rattle.hp_units.specs.LayoutParts.{IsLayout};
@@ -14,7 +14,7 @@ use hp_units::{
 };
 use std::alloc::{AllocError, Global};
 
-/// Sets the place of a frame. For a number past the last nothing is set.
+/// Sets the place of a frame, unless its number is past the last.
 #[tactic(auto, using(crate::proofs::MarkLemmas::set_marks))]
 fn set_place(places: &mut Vec<Place>, frame: Frame, place: &Place)
     ensures { AreMarked (at_frame frame place.now) places.old.items places.new.items }
@@ -34,7 +34,7 @@ fn mark_list(places: &mut Vec<Place>, frames: &[Frame], place: &Place)
     }
 }
 
-/// Marks the frames on a processor's list of a pool. An error is out of memory.
+/// Marks the frames on a processor's list of a pool.
 fn mark_pool(
     places: &mut Vec<Place>,
     alloc: Global,
@@ -51,7 +51,7 @@ fn mark_pool(
     Ok(())
 }
 
-/// Marks the frames on a processor's lists. An error is out of memory.
+/// Marks the frames on a processor's lists.
 fn mark_cpu(
     places: &mut Vec<Place>,
     alloc: Global,
@@ -66,7 +66,7 @@ fn mark_cpu(
     mark_pool(places, alloc, machine, cpu, Pool::Mm)
 }
 
-/// Marks the frames on all processors' lists. An error is out of memory.
+/// Marks the frames on all processors' lists.
 pub(crate) fn mark_cpus(
     places: &mut Vec<Place>,
     alloc: Global,
@@ -81,7 +81,7 @@ pub(crate) fn mark_cpus(
     Ok(())
 }
 
-/// Marks the frame that holds a page of an owner, where the page is mapped.
+/// Marks the frame that holds a page of an owner, if the page is mapped.
 fn mark_page(places: &mut Vec<Place>, owner: Owner, frame: Option<Frame>)
     ensures { AreMarked (on_entry owner frame) places.old.items places.new.items }
 {
@@ -111,7 +111,7 @@ pub(crate) fn mark_owners(places: &mut Vec<Place>, machine: &Machine)
     }
 }
 
-/// Marks so many frames from one on.
+/// Marks `count` frames from `first` on.
 fn mark_frames(places: &mut Vec<Place>, first: u32, count: u32, place: &Place)
     requires { first + count ≤ 2 ^ 20 }
     ensures { AreMarked (on_frames first count place.now) places.old.items places.new.items }
@@ -121,7 +121,7 @@ fn mark_frames(places: &mut Vec<Place>, first: u32, count: u32, place: &Place)
     }
 }
 
-/// How many frames a block of an order has.
+/// Returns the number of frames in a block of an order.
 pub(crate) fn size_of(order: Order) -> u32
     requires { order ≤ 10 }
     ensures { result ≡ 2 ^ order }
@@ -129,7 +129,7 @@ pub(crate) fn size_of(order: Order) -> u32
     1 << order.0
 }
 
-/// Marks the frames of the kernel's block that starts at a frame's number, where one does.
+/// Marks the frames of the kernel's block that starts at a frame, if one does.
 fn mark_block(places: &mut Vec<Place>, first: u32, order: Option<Order>)
     requires { IfSome order (λ order. (order ≤ 10) × (first + 2 ^ order ≤ 2 ^ 20)) }
     ensures { AreMarked (on_block first order) places.old.items places.new.items }
@@ -151,7 +151,8 @@ pub(crate) fn mark_kernel(places: &mut Vec<Place>, machine: &Machine)
     }
 }
 
-/// The place of a frame that is not in use, in a memory block with this row and a pageblock of this kind.
+/// Returns the place of a frame that is not in use, by the row of its memory block and the kind of
+/// its pageblock.
 fn unused_in(row: Option<Row>, kind: Option<Kind>) -> Place
     ensures { result ≡ unused_in row kind }
 {

@@ -7,6 +7,11 @@ pub loop-number-preserved : goal.loop-number-preserved
 loop-number-preserved c =
     let piece : cell_text c.starts_later.result c.sign.result
     ≡ frame_text c.args.layout.now c.args.places.now.items c.args.block c.loop-number.number =
-    rw (c.starts_later.ensures, c.sign.ensures.is, c.place_at-place.ensures, c.first_of-first.ensures.is) refl in
+    rw (
+      c.starts_later.ensures,
+      c.sign.ensures.is,
+      c.place_at-place.ensures,
+      c.first_of-first.ensures.is,
+    ) refl in
     items_more (frame_text c.args.layout.now c.args.places.now.items c.args.block)
     c.loop-number.number [] _ _ _ c.loop-number.invariant c.in_ok-write_cell.ensures piece
