@@ -65,19 +65,12 @@ fn line_warning(layout: &Layout, tally: &Tally, line: &Line) -> Option<Warning> 
 
 /// Returns a warning if an `echo` or a `cat` has a character that no word of a control file has.
 fn odd_warning(work: &Work) -> Option<Warning> {
-    match work {
-        Work::Echo(echo) => unexpected(first_odd(echo.word()).or(first_odd(echo.path()))),
-        Work::Cat { path } => unexpected(first_odd(path.as_str())),
+    let odd = match work {
+        Work::Echo(echo) => first_odd(echo.word()).or(first_odd(echo.path())),
+        Work::Cat { path } => first_odd(path.as_str()),
         _ => None,
-    }
-}
-
-/// Returns the warning of a character, if there is one.
-fn unexpected(odd: Option<char>) -> Option<Warning> {
-    match odd {
-        Some(c) => Some(Warning::Unexpected(c)),
-        None => None,
-    }
+    };
+    Some(Warning::Unexpected(odd?))
 }
 
 /// Returns a warning if a line in a script cannot be there, with this many processors.
@@ -124,18 +117,12 @@ fn cat_warning(layout: &Layout, path: &str) -> Option<Warning> {
     }
 }
 
-/// Returns a warning if the history has no room for all turns of a plan: that of a `plan` line, or
-/// that which an `echo` asks for.
+/// Returns a warning if the history has no room for the begin of a plan, a round of drains, all its
+/// turns, and a commit: of a `plan` line, or of a plan that an `echo` asks for.
 fn turns_warning(layout: &Layout, work: &Work) -> Option<Warning> {
-    match work.asked() {
-        Asked::Plan { plan: _, turns } => turns_past(layout, turns),
-        _ => None,
-    }
-}
-
-/// Returns a warning if the history has no room for a plan's begin, a round of drains, this many
-/// turns, and a commit.
-fn turns_past(layout: &Layout, turns: u32) -> Option<Warning> {
+    let Asked::Plan { plan: _, turns } = work.asked() else {
+        return None;
+    };
     let history = layout.history();
     if u64::from(turns) + u64::from(layout.cpus()) + 2 <= history {
         None

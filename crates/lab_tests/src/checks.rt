@@ -248,7 +248,7 @@ fn is_seen() -> bool {
         && nests_deeper(b"[[], {\"[\": [1]}]", 2)
         && !nests_deeper(b"[[], {\"[\": [1]}]", 3)
         && keys_at(b"{\"a\": \"a\", \"b\": [{\"a\": 0}], \"a\" :1}", 1, b"a") == 2
-        && halves_at(b"ab\ncd", 2, 2).is_some_and(|halves| halves.1 == b"d")
+        && halves_at(b"ab\ncd", 2, 2).is_some_and(|halves| halves.1 == b"d".as_slice())
         && halves_at(b"ab\ncd", 1, 4).is_none()
 }
 
