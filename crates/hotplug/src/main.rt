@@ -31,7 +31,7 @@ fn command(rt: &HostRuntime) -> Result<Option<Command>, AllocError> {
 }
 
 /// Runs a command on an input and an output.
-fn run<T: Threads + Wait + Sync, R: Read + Drop, W: Write + Drop>(
+fn run_here<T: Threads + Wait + Sync, R: Read + Drop, W: Write + Drop>(
     rt: &T,
     command: Command,
     alloc: Global,
@@ -46,25 +46,28 @@ fn run<T: Threads + Wait + Sync, R: Read + Drop, W: Write + Drop>(
     }
 }
 
-/// Runs a command on standard input and output.
-fn run_here(rt: &HostRuntime, command: Command) -> ProgramEnd {
-    run(rt, command, rt.alloc(), rt.stdin(), rt.stdout())
-}
-
-/// Runs a command that starts threads on a thread of its own, whose stack is mapped at once.
+/// Runs a command on an input and an output, on a thread of its own if it starts threads.
 ///
 /// The kernel grows the main thread's stack as it is used, and ends the process if the address
-/// space is full by then, as it may be once there are many threads. If no thread can be made, the
-/// command runs on this one.
-fn run_beside(rt: &HostRuntime, command: Command) -> ProgramEnd {
-    let (outcome, ()) = thread::join(rt, || run_here(rt, command), || ());
-    outcome
+/// space is full by then, as it may be once there are many threads. The stack of another thread is
+/// mapped at once. If none can be made, the command runs on this one.
+fn run<T: Threads + Wait + Sync, R: Read + Drop + Send, W: Write + Drop + Send>(
+    rt: &T,
+    command: Command,
+    alloc: Global,
+    input: R,
+    output: W,
+) -> ProgramEnd {
+    if command == Command::Serial {
+        return run_here(rt, command, alloc, input, output);
+    }
+    let (end, ()) = thread::join(rt, || run_here(rt, command, alloc, input, output), || ());
+    end
 }
 
 fn main(rt: HostRuntime) -> ExitCode {
     let outcome = match command(&rt) {
-        Ok(Some(Command::Serial)) => run_here(&rt, Command::Serial),
-        Ok(Some(command)) => run_beside(&rt, command),
+        Ok(Some(command)) => run(&rt, command, rt.alloc(), rt.stdin(), rt.stdout()),
         Ok(None) => ProgramEnd::NoCommand,
         Err(AllocError) => ProgramEnd::Failed(ProgramFault::OutOfMemory),
     };

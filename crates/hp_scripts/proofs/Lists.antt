@@ -42,14 +42,14 @@ lines_more xs i line m mid next before so_far after lt ran is_at sealed one =
     (one_more (take i xs) line m mid next before so_far after ran one sealed)
 
 -- one more script
-pub scripts_more : (all : List (List step.Line)) (script : List step.Line) (begins : List Begin)
+pub scripts_more : (all : List (List step.Step)) (script : List step.Step) (begins : List Begin)
     (lines : List Line)
     (cpu : ℕ)
     → all ≡ scripts_of cpu begins lines → script ≡ script_of begins lines cpu
     → all ++ script ∷ [] ≡ scripts_of (cpu + 1) begins lines
 scripts_more all script begins lines cpu so_far is =
-    ap (λ (xs : List (List step.Line)). xs ++ script ∷ []) so_far
-    ∙ (ap (λ (x : List step.Line). scripts_of cpu begins lines ++ x ∷ []) is
+    ap (λ (xs : List (List step.Step)). xs ++ script ∷ []) so_far
+    ∙ (ap (λ (x : List step.Step). scripts_of cpu begins lines ++ x ∷ []) is
     ∙ sym (map-range_with_len_more (script_of begins lines) 0 cpu cpu (omega arith)))
 
 -- one more line can stand in a script

@@ -29,14 +29,14 @@ shape steps = map is_one_call steps
 
 -- ---- one line
 
-own_one : (op : ℕ) (begun : Bool) (w : own.Work) → is_one_call (own_step op begun w) ≡ true
+own_one : (op : ℕ) (begun : Bool) (w : own.StepWork) → is_one_call (own_step op begun w) ≡ true
 own_one op true w = refl
 own_one op false w = refl
 
 called_one : (op : ℕ) (begun : Bool) (e : Event) → is_one_call (called op begun e) ≡ true
 called_one op begun e = by_work (own_work e)
   where
-    by_work : (o : Option own.Work) → is_one_call (option_map_or (own_step op begun) o (Ask e)) ≡ true
+    by_work : (o : Option own.StepWork) → is_one_call (option_map_or (own_step op begun) o (Ask e)) ≡ true
     by_work None = refl
     by_work (Some w) = own_one op begun w
 

@@ -15,10 +15,10 @@ use Rattle.hp_scripts.specs.Begins.{last_begun, line_begins}
 use Rattle.hp_scripts.specs.declared.begins.Begin.{Begin}
 
 -- an event's work on operation 0; `None` if it names another operation
-abbrev pub own_if_last : (op : ℕ) → own.Work → Option own.Work
+abbrev pub own_if_last : (op : ℕ) → own.StepWork → Option own.StepWork
 own_if_last op w = if op == 0 then Some w else None
 
-abbrev pub own_work : Event → Option own.Work
+abbrev pub own_work : Event → Option own.StepWork
 own_work (event.DrainFor op cpu) = own_if_last op (DrainFor cpu)
 own_work (event.Migrate op) = own_if_last op Migrate
 own_work (event.Commit op) = own_if_last op Commit
@@ -26,15 +26,15 @@ own_work (event.Cancel op) = own_if_last op Cancel
 own_work e = None
 
 -- work on the operation that the processor began last: `op`, unless its script has begun one
-abbrev pub own_step : (op : ℕ) → (begun : Bool) → own.Work → step.Line
+abbrev pub own_step : (op : ℕ) → (begun : Bool) → own.StepWork → step.Step
 own_step op begun w = if begun then Own w else Ask (work_of op w)
 
 -- an event as a step of a script
-abbrev pub called : (op : ℕ) → (begun : Bool) → Event → step.Line
+abbrev pub called : (op : ℕ) → (begun : Bool) → Event → step.Step
 called op begun e = option_map_or (own_step op begun) (own_work e) (Ask e)
 
 -- a line's work as a step; reading a file, a seal and a text that a file refuses make no call
-abbrev pub explored : (op : ℕ) → (begun : Bool) → asks.Meaning → Option step.Line
+abbrev pub explored : (op : ℕ) → (begun : Bool) → asks.Meaning → Option step.Step
 explored op begun (asks.event e) = Some (called op begun e)
 explored op begun (asks.plan items turns) = Some (Carry items turns)
 explored op begun (asks.not_taken fault) = None
@@ -42,24 +42,24 @@ explored op begun (asks.cat path) = None
 explored op begun asks.seal = None
 
 -- the steps that a line adds to a processor's script: one or none
-abbrev pub steps_of : Option step.Line → List step.Line
+abbrev pub steps_of : Option step.Step → List step.Step
 steps_of None = []
 steps_of (Some s) = s ∷ []
 
-abbrev pub line_for : (cpu : ℕ) → (op : ℕ) → (begun : Bool) → Line → List step.Line
+abbrev pub line_for : (cpu : ℕ) → (op : ℕ) → (begun : Bool) → Line → List step.Step
 line_for cpu op begun line =
     if line.cpu == cpu then steps_of (explored op begun (asks.asked_by line.work)) else []
 
 -- the steps that lines add to a processor's script
-abbrev pub steps_in : (cpu : ℕ) → (op : ℕ) → (begun : Bool) → List Line → List step.Line
+abbrev pub steps_in : (cpu : ℕ) → (op : ℕ) → (begun : Bool) → List Line → List step.Step
 steps_in cpu op begun [] = []
 steps_in cpu op begun (line ∷ lines) =
     line_for cpu op begun line ++ steps_in cpu op (begun || line_begins cpu line) lines
 
 -- a processor's script, after these Begins
-abbrev pub script_of : List Begin → List Line → (cpu : ℕ) → List step.Line
+abbrev pub script_of : List Begin → List Line → (cpu : ℕ) → List step.Step
 script_of begins lines cpu = steps_in cpu (last_begun cpu begins) false lines
 
 -- the script of each processor, from processor 0
-abbrev pub scripts_of : (cpus : ℕ) → List Begin → List Line → List (List step.Line)
+abbrev pub scripts_of : (cpus : ℕ) → List Begin → List Line → List (List step.Step)
 scripts_of cpus begins lines = map (script_of begins lines) (range_with_len 0 cpus)

@@ -9,17 +9,17 @@ use Rattle.hp_scripts.proofs.scripts.script_of.Goals.{then-has_begun, else-has_b
 
 -- one more line of a processor is a step
 one_more : (lines : List Line) (i : ℕ) (line : Line) (cpu op : ℕ) (begun : Bool)
-    (steps more whole : List step.Line)
+    (steps more whole : List step.Step)
     → i < length lines → line ≡ get_or lines i line → more ≡ steps ++ line_for cpu op begun line
     → steps ++ steps_in cpu op begun (drop i lines) ≡ whole
     → more ++ steps_in cpu op (begun || line_begins cpu line) (drop (i + 1) lines) ≡ whole
 one_more lines i line cpu op begun steps more whole within at pushed so_far =
-    let rest : List step.Line = steps_in cpu op (begun || line_begins cpu line) (drop (i + 1) lines) in
+    let rest : List step.Step = steps_in cpu op (begun || line_begins cpu line) (drop (i + 1) lines) in
     let next : drop i lines ≡ line ∷ drop (i + 1) lines =
     drop-cons lines i line within
     ∙ (ap (λ (l : Line). l ∷ drop (suc i) lines) (sym at)
     ∙ ap (λ (n : ℕ). line ∷ drop n lines) (sym (add-one i))) in
-    ap (λ (s : List step.Line). s ++ rest) pushed
+    ap (λ (s : List step.Step). s ++ rest) pushed
     ∙ (append_assoc steps (line_for cpu op begun line) rest
     ∙ (ap (λ (ls : List Line). steps ++ steps_in cpu op begun ls) (sym next) ∙ so_far))
 
