@@ -1,5 +1,5 @@
 -- The first finding is the fault that reading gives, and each has its cause.
-use Rattle.std.proofs.Common.{◌≡◌, ℕ, ◌+◌, ◌≤◌, Bool, true, false, cond, List, [], ◌∷◌, ◌++◌, codes, count_by, length, Option, Some, None, Result, Ok, Err, is_some, option_and_then, refl, sym, ap, subst, ◌∙◌, arith}
+use Rattle.std.proofs.Common.{◌≡◌, ℕ, ◌+◌, ◌≤◌, Bool, true, false, cond, List, [], ◌∷◌, codes, count_by, length, Option, Some, None, Result, Ok, Err, is_some, option_and_then, refl, sym, ap, subst, ◌∙◌, arith}
 use Rattle.std.specs.List.{All}
 use Rattle.std.specs.Option.{option_map, option_or}
 use Rattle.std.proofs.lemmas.List.Elements.{All-head, All-nil, All-tail, All-weaker}
@@ -14,7 +14,7 @@ use Rattle.hp_scenario.specs.Gives.{◌>>=◌, or_fault}
 use Rattle.hp_scenario.specs.Scenario.{ScenarioValue, Script, json_of, layout_or, lines_from, nothing, scenario_in, scenario_of, scenario_with}
 use Rattle.hp_scenario.specs.declared.fault.ScenarioFault.{ScenarioFault}
 use Rattle.hp_scenario.specs.declared.fault.ScenarioFault.TheVariants.{NotJson, BadShape, Layout, BadLine, NotForRun, OutOfMemory}
-use Rattle.hp_check.specs.Adds.{Adds, IsFirst, IsLayout, IsNotJson, IsRepeat, IsShape, IsWarning, ValueCause, fault_in, first_at, lacks, limit_fault, limit_fault_of}
+use Rattle.hp_check.specs.Adds.{Adds, IsFirst, IsLayout, IsNotJson, IsRepeat, IsShape, IsWarning, ValueCause, fault_in, first_at, lacks, limit_fault_of}
 use Rattle.hp_check.specs.Calls.{IsBadCall, entries_in, entry_fault}
 use Rattle.hp_check.specs.Checking.{Agrees, Begins, HasCause, HaveCauses, IsFindingOf, IsPastLimits}
 use Rattle.hp_check.specs.Findings.{is_fault}

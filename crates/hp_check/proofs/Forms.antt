@@ -1,5 +1,5 @@
 -- The tests of the keys and the values, and the form of a scenario.
-use Rattle.std.proofs.Common.{◌≡◌, ℕ, String, Bor, Bool, true, false, cond, ◌&&◌, ◌==◌, List, [], ◌∷◌, codes, length, map, Option, Some, None, is_some, option_and_then, refl, sym, ap, ◌∙◌}
+use Rattle.std.proofs.Common.{◌≡◌, ℕ, String, Bor, Bool, true, false, cond, ◌&&◌, ◌==◌, List, [], ◌∷◌, codes, length, Option, Some, None, is_some, option_and_then, refl, sym, ap, ◌∙◌}
 use Rattle.std.specs.List.{list_all}
 use Rattle.std.specs.Option.{option_map}
 use Rattle.std.proofs.lemmas.List.Folds.{list_all-append}

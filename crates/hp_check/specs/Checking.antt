@@ -1,5 +1,5 @@
 -- What is promised of a check: the first fault is that of reading, and each finding has a cause.
-use Rattle.std.specs.Prelude.{◌≡◌, ℕ, ◌≤◌, true, List, [], ◌∷◌, count_by, length, Option, Some, None, Result, Ok, Err, is_some}
+use Rattle.std.specs.Prelude.{◌≡◌, ℕ, ◌≤◌, true, List, [], ◌∷◌, count_by, length, Some, None, Result, Ok, Err, is_some}
 use Rattle.std.specs.List.{All}
 use Rattle.serde_json.specs.Data.{Data}
 use Rattle.hp_units.specs.LayoutParts.{LayoutParts, layout_fault}

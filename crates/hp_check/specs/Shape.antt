@@ -1,5 +1,5 @@
 -- When the keys and the values of an object are those of a scenario.
-use Rattle.std.specs.Prelude.{ℕ, ◌==◌, ◌&&◌, Bool, true, List, length, Option, Some, None, is_some, option_and_then}
+use Rattle.std.specs.Prelude.{◌==◌, ◌&&◌, Bool, true, length, Option, Some, None, is_some, option_and_then}
 use Rattle.std.specs.List.{list_all}
 use Rattle.serde_json.specs.Data.{Data, Members}
 use Rattle.serde_json.specs.Events.{members_len}

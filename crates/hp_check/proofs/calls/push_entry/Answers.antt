@@ -1,4 +1,4 @@
-use Rattle.std.proofs.Common.{sym, ap, ◌∙◌}
+use Rattle.std.proofs.Common.{sym, ◌∙◌}
 use Rattle.serde_json.specs.View.{view}
 use Rattle.hp_check.proofs.Entries.{bad_added, line_added, no_text_added}
 use Rattle.hp_check.proofs.calls.push_entry.Goals as goal

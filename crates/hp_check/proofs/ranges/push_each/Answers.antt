@@ -1,4 +1,4 @@
-use Rattle.std.proofs.Common.{◌+◌, Option, Some, refl, sym, ap}
+use Rattle.std.proofs.Common.{◌+◌, Some, refl, sym, ap}
 use Rattle.hp_scenario.specs.declared.fault.ScenarioFault.TheVariants.{Layout}
 use Rattle.hp_check.specs.Adds.{IsLayout, out_fault}
 use Rattle.hp_check.specs.Checking.{fault_of}

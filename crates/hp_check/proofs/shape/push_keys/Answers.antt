@@ -1,11 +1,7 @@
-use Rattle.std.proofs.Common.{Bool, false, ◌&&◌, ◌==◌, length, sym, ap, ◌∙◌}
-use Rattle.std.specs.List.{list_all}
+use Rattle.std.proofs.Common.{sym, ◌∙◌}
 use Rattle.std.proofs.lemmas.Result.{on_ok_weaker}
-use Rattle.serde_json.proofs.Views.{members_len-members_view}
-use Rattle.serde_json.specs.View.{view, members_view}
+use Rattle.serde_json.specs.View.{view}
 use Rattle.hp_check.specs.Adds.{IsShape}
-use Rattle.hp_check.specs.Findings.{keys_of}
-use Rattle.hp_check.specs.Shape.{is_there}
 use Rattle.hp_check.proofs.Added.{both_lack, none_added, of_test}
 use Rattle.hp_check.proofs.Forms.{counted_keys, wrong_keys}
 use Rattle.hp_check.proofs.shape.push_keys.Goals as goal
