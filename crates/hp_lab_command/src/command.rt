@@ -235,7 +235,9 @@ const TRACE: [Argument; 10] = [
         name: LOG,
         takes: Takes::Nothing,
         help: "Writes what happens to frames and memory blocks, as a log that judge reads",
-        against: &["from", "to", "every", "width", "cell", "scale", "orders", "svg"],
+        against: &[
+            "from", "to", "every", "width", "cell", "scale", "orders", "svg",
+        ],
     },
     SCENARIO_FILE,
 ];
