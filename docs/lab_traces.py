@@ -252,9 +252,11 @@ def check_wide(checks, programs):
 
 
 def check_narrow(checks, programs, where, scenario):
-    """No line is longer than its width, unless it has a single word of the memory."""
+    """No row is longer than its width, unless it has a single word of the memory."""
+    calls = [call for call in scenario["calls"] if " cat " not in call]
     for width in (70, 100):
-        for line in programs.trace(scenario, "--orders", "--width", str(width)).splitlines():
+        text = programs.trace({**scenario, "calls": calls}, "--orders", "--width", str(width))
+        for line in text.splitlines():
             is_word = " " not in line[COLUMNS:].strip()
             checks.holds(f"{where}, --width {width}", len(line) <= width or is_word,
                          f"too long: {line!r}")
