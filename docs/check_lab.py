@@ -19,7 +19,8 @@ What is compared, of `hotplug_lab explore`:
 Of `hotplug_lab trace`, on each file of examples/ and on a scenario with hostile texts: it has all
 lines in their order, and what they answer is what `hotplug serial` prints before the state; in
 lines of 100 columns each memory block begins after the columns of what was asked and answered, and
-no line is longer. Of `--orders`: it is the trace, but for the brackets of free blocks; these have
+no line is longer, unless it has a single word of the memory; from a line on it is the whole trace
+from there, below the memory before it. Of `--orders`: it is the trace, but for the brackets of free blocks; these have
 2^order frames; and after each line there are as many of each order as `cat buddyinfo` says. Of
 `hotplug_lab trace --svg`: it is well-formed XML, its rows have the texts of the trace in their
 order, as many cells of each meaning in the legend as the trace has characters of it, as many

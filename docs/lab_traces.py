@@ -283,6 +283,7 @@ def check_wide(checks, programs):
         scenario = {"layout": layout, "calls": WIDE_CALLS}
         trace = programs.trace(scenario)
         frames = pageblocks << order
+        check_narrow(checks, programs, f"trace of {blocks} blocks of {frames} frames", scenario)
         for cell in (1, 3, 8, 32):
             where = f"picture of {blocks} blocks of {frames} frames, --cell {cell}"
             svg = programs.trace(scenario, "--svg", "--cell", str(cell))
@@ -292,6 +293,30 @@ def check_wide(checks, programs):
             check_lines(checks, where, trace, svg)
             check_numbers(checks, where, svg, layout, cell)
             check_frame(checks, where, svg, 384 + 48 + cell * (frames + pageblocks - 1))
+
+
+def check_narrow(checks, programs, where, scenario):
+    """No row is longer than its width, unless it has a single word of the memory."""
+    calls = [call for call in scenario["calls"] if " cat " not in call]
+    for width in (70, 100):
+        text = programs.trace({**scenario, "calls": calls}, "--orders", "--width", str(width))
+        for line in text.splitlines():
+            is_word = " " not in line[COLUMNS:].strip()
+            checks.holds(f"{where}, --width {width}", len(line) <= width or is_word,
+                         f"too long: {line!r}")
+
+
+def check_from(checks, programs, name, scenario):
+    """From a line on, a trace is the whole one from there, below the memory before it."""
+    whole = programs.trace(scenario, "--width", "1000000").splitlines()
+    for number, call in list(enumerate(scenario["calls"], 1))[1:]:
+        head = f"{number:>4} {shown(call)}"
+        at = next((at for at, line in enumerate(whole) if line.startswith(head)), 0)
+        rows = programs.trace(scenario, "--width", "1000000", "--from", str(number)).splitlines()
+        drawn = [row for row in whole[:at] if BLOCK.search(row)][-1]
+        first = f"     before line {number}".ljust(COLUMNS) + drawn[BLOCK.search(drawn).start():]
+        checks.holds(f"trace --from {number} of {name}", rows == [first] + whole[at:],
+                     f"begins with {rows[:1]}, ends with {rows[-1:]}")
 
 
 def check_frame(checks, where, svg, block):
@@ -324,6 +349,7 @@ def check_drawn(checks, programs, name, scenario):
     check_trace(checks, programs, name, scenario)
     check_columns(checks, programs, name, scenario)
     check_orders(checks, programs, name, scenario)
+    check_from(checks, programs, name, scenario)
     check_picture(checks, programs, name, scenario)
     text = programs.check({**scenario, "calls": scenario["calls"] + [f"0 {HOSTILE}"]})
     checks.holds(f"check of {name}", is_harmless(text), "has a control character")

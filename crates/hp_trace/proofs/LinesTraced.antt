@@ -1,13 +1,15 @@
 -- Lines that are traced one after another.
-use Rattle.std.proofs.Common.{◌≡◌, ℕ, ◌+◌, ◌<◌, List, [], ◌∷◌, ◌++◌, length, get_or, take, refl, sym, ap, subst, ◌∙◌, append_assoc, append-nil, arith}
+use Rattle.std.proofs.Common.{◌≡◌, ℕ, ◌+◌, ◌<◌, List, [], ◌∷◌, ◌++◌, length, get_or, drop, take, refl, sym, ap, ap₂, subst, ◌∙◌, append_assoc, append-nil, arith}
 use Rattle.std.proofs.lemmas.List.{length-take-le, take_more}
-use Rattle.hp_machine.specs.Machine.{MachineValue}
+use Rattle.hp_machine.specs.Machine.{MachineValue, booted}
 use Rattle.hp_scenario.specs.Asked.{asked_by}
+use Rattle.hp_scenario.specs.Scenario.{ScenarioValue}
 use Rattle.hp_scenario.specs.declared.lines.Line.{Line}
 use Rattle.hp_trace.specs.Calls.{MakesWork}
 use Rattle.hp_trace.specs.Rows.{AreDrawn, Row, RowsValue, drawn_joined}
-use Rattle.hp_trace.specs.Traces.{MakesLines, TracesLine, TracesLines, numbered_text, rows_if, shown_rows}
+use Rattle.hp_trace.specs.Traces.{IsScenarioTraced, IsStart, MakesLines, TracesLine, TracesLines, numbered_text, rows_if, shown_rows, skipped}
 use Rattle.hp_trace.specs.Views.{shows}
+use Rattle.hp_trace.specs.declared.rows.Form.{Form}
 use Rattle.hp_trace.specs.declared.view.View.{View}
 
 made_length : (names : List (List ℕ)) (first : ℕ) (xs : List Line) (m after : MachineValue)
@@ -55,29 +57,56 @@ shown_more v first last (l ∷ ls) rows at =
     (append_assoc (rows_if (shows v first) l) (shown_rows v (first + 1) ls) (rows_if (shows v last) rows))
 
 -- one more line of a loop over lines
-pub lines_more : (v : View) (names : List (List ℕ)) (xs lines : List Line) (i : ℕ) (line : Line)
+pub lines_more : (v : View) (names : List (List ℕ)) (before : ℕ) (lines : List Line) (i : ℕ) (line : Line)
     (m mid after : MachineValue) (old between new : RowsValue)
-    → xs ≡ lines → i < length xs → line ≡ get_or xs i line
-    → TracesLines v names m (take i lines) old between mid
-    → TracesLine v names (i + 1) mid line between new after
-    → TracesLines v names m (take (i + 1) lines) old new after
-lines_more v names xs lines i line m mid after old between new same lt at traced one =
-    let within : i < length lines = subst (λ (l : List Line). i < length l) same lt in
-    let is_at : line ≡ get_or lines i line = subst (λ (l : List Line). line ≡ get_or l i line) same at in
+    → i < length lines → line ≡ get_or lines i line
+    → TracesLines v names before m (take i lines) old between mid
+    → TracesLine v names (before + i + 1) mid line between new after
+    → TracesLines v names before m (take (i + 1) lines) old new after
+lines_more v names before lines i line m mid after old between new within at traced one =
     let count : length (take i lines) ≡ i = length-take-le i lines (omega (arith, within)) in
     let made : length traced.lists ≡ length (take i lines) =
-    made_length names 1 (take i lines) m mid traced.lists traced.made in
-    subst (λ (l : List Line). TracesLines v names m l old new after)
-    (sym (take_more lines i line within ∙ ap (λ (x : Line). take i lines ++ x ∷ []) (sym is_at)))
+    made_length names (before + 1) (take i lines) m mid traced.lists traced.made in
+    subst (λ (l : List Line). TracesLines v names before m l old new after)
+    (sym (take_more lines i line within ∙ ap (λ (x : Line). take i lines ++ x ∷ []) (sym at)))
     record {
       lists = traced.lists ++ one.rows ∷ [];
       made =
-          made_more names 1 (i + 1) (take i lines) line m mid after traced.lists one.rows
-          (omega (arith, count))
-          traced.made one.made;
+          made_more names (before + 1) (before + i + 1) (take i lines) line m mid after traced.lists
+          one.rows (omega (arith, count)) traced.made one.made;
       drawn =
           subst (λ (rows : List Row). AreDrawn rows old new)
-          (sym (shown_more v 1 (i + 1) traced.lists one.rows (omega (arith, count, made))))
-          (drawn_joined (shown_rows v 1 traced.lists) (rows_if (shows v (i + 1)) one.rows) old between new
-          traced.drawn one.drawn);
+          (sym (shown_more v (before + 1) (before + i + 1) traced.lists one.rows
+          (omega (arith, count, made))))
+          (drawn_joined (shown_rows v (before + 1) traced.lists) (rows_if (shows v (before + i + 1)) one.rows)
+          old between new traced.drawn one.drawn);
+    }
+
+-- the lines before those that may be shown, and the others
+pub scenario_traced : (form : Form) (v : View) (s : ScenarioValue) (lines front back : List Line) (n : ℕ)
+    (unseen later start rows : RowsValue) (boot mid after : MachineValue)
+    → lines ≡ s.lines → n ≡ skipped v (length lines) → front ≡ take n lines → back ≡ drop n lines
+    → boot ≡ booted s.layout → TracesLines v s.names 0 boot front unseen later mid
+    → IsStart form v mid start → TracesLines v s.names n mid back start rows after
+    → IsScenarioTraced form v s rows
+scenario_traced form v s lines front back n unseen later start rows boot mid after same count at_front at_back
+    at first begun traced =
+    let counted : n ≡ skipped v (length s.lines) =
+    count ∙ ap (λ (ls : List Line). skipped v (length ls)) same in
+    let fronts : front ≡ take (skipped v (length s.lines)) s.lines =
+    at_front ∙ ap₂ (λ (k : ℕ) (ls : List Line). take k ls) counted same in
+    let backs : back ≡ drop (skipped v (length s.lines)) s.lines =
+    at_back ∙ ap₂ (λ (k : ℕ) (ls : List Line). drop k ls) counted same in
+    record {
+      unseen = first.lists;
+      first = mid;
+      begins =
+          subst (λ (ls : List Line). MakesLines s.names 1 (booted s.layout) ls first.lists mid) fronts
+          (subst (λ (k : MachineValue). MakesLines s.names 1 k front first.lists mid) at first.made);
+      start = start;
+      begun = begun;
+      machine = after;
+      traced =
+          subst (λ (ls : List Line). TracesLines v s.names (skipped v (length s.lines)) mid ls start rows after)
+          backs (subst (λ (k : ℕ). TracesLines v s.names k mid back start rows after) counted traced);
     }

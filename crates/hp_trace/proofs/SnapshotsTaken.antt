@@ -1,5 +1,5 @@
 -- What is looked at of a machine's memory for a snapshot.
-use Rattle.std.proofs.Common.{◌≡◌, ℕ, zero, suc, ◌+◌, ◌<◌, ◌≤◌, List, [], ◌∷◌, ◌++◌, length, map, take, slice_get, Option, Some, None, refl, sym, ap, ap₂, subst, ◌∙◌, add-one, arith}
+use Rattle.std.proofs.Common.{◌≡◌, ℕ, zero, suc, ◌+◌, ◌<◌, ◌≤◌, List, [], ◌∷◌, ◌++◌, map, take, slice_get, Option, Some, None, refl, sym, ap, ap₂, subst, ◌∙◌, add-one, arith}
 use Rattle.std.specs.List.{range_with_len}
 use Rattle.std.proofs.lemmas.List.{take_all}
 use Rattle.std.proofs.lemmas.List.FromFn.{map-range_with_len_more}
@@ -8,7 +8,6 @@ use Rattle.hp_units.specs.LayoutParts.{LayoutParts}
 use Rattle.hp_units.specs.Memory.{Memory, kernel_order}
 use Rattle.hp_units.specs.Pages.{page_from}
 use Rattle.hp_units.specs.Placement.{IsWellPlaced}
-use Rattle.hp_units.specs.declared.rows.Row.{Row}
 use Rattle.hp_pages.specs.Pages.{PagesValue}
 use Rattle.hp_pages.specs.Places.{holders}
 use Rattle.hp_tape.specs.Deltas.{page_frames_of}

@@ -1,6 +1,6 @@
 -- A scenario traced.
-use Rattle.std.specs.Prelude.{ℕ, ◌≡◌, ◌+◌, ◌-◌, ◌^◌, Bool, List, [], ◌∷◌, ◌++◌, codes, None, if◌then◌else◌}
-use Rattle.std.specs.Fmt.{format_spec, styled_decimal}
+use Rattle.std.specs.Prelude.{ℕ, ◌≡◌, ◌+◌, ◌-◌, ◌^◌, nat_le, nat_lt, Bool, List, [], ◌∷◌, ◌++◌, codes, drop, length, take, None, if◌then◌else◌}
+use Rattle.std.specs.Fmt.{decimal, format_spec, styled_decimal}
 use Rattle.hp_escapes.specs.declared.escapes.Brackets.TheVariants.{Escaped}
 use Rattle.hp_machine.specs.Machine.{MachineValue, booted}
 use Rattle.hp_scenario.specs.Scenario.{ScenarioValue}
@@ -39,9 +39,16 @@ abbrev pub shown_rows : View → (number : ℕ) → (lists : List (List Row)) �
 shown_rows v number [] = []
 shown_rows v number (rows ∷ rest) = rows_if (shows v number) rows ++ shown_rows v (number + 1) rest
 
--- the row of the memory at boot
+-- the row of the memory at boot, or before the first line that may be shown
+abbrev pub start_text : View → List ℕ
+start_text v = if nat_le v.from 1 then codes "   0 boot" else codes "     before line " ++ decimal v.from
+
 abbrev pub IsStart : (form : Form) → View → MachineValue → (rows : RowsValue) → Type 0
-IsStart form v m rows = DrawsIf form m (codes "   0 boot") [] None (no_rows form v) rows
+IsStart form v m rows = DrawsIf form m (start_text v) [] None (no_rows form v) rows
+
+-- how many of n lines come before the first that may be shown
+abbrev pub skipped : View → (n : ℕ) → ℕ
+skipped v n = if nat_lt (v.from - 1) n then v.from - 1 else n
 
 -- a line was done, and its rows drawn where it is shown
 pub record TracesLine (v : View) (names : List (List ℕ)) (number : ℕ) (m : MachineValue) (line : Line)
@@ -50,19 +57,26 @@ pub record TracesLine (v : View) (names : List (List ℕ)) (number : ℕ) (m : M
   pub made : MakesWork m line.cpu (asked_by line.work) (numbered_text names number line) rows after
   pub drawn : AreDrawn (rows_if (shows v number) rows) old new
 
--- lines were done, and the rows of those that are shown drawn
-pub record TracesLines (v : View) (names : List (List ℕ)) (m : MachineValue) (lines : List Line)
+-- lines were done, which so many come before, and the rows of those that are shown drawn
+pub record TracesLines (v : View) (names : List (List ℕ)) (before : ℕ) (m : MachineValue) (lines : List Line)
     (old new : RowsValue) (after : MachineValue) : Type 0 where
   pub lists : List (List Row)
-  pub made : MakesLines names 1 m lines lists after
-  pub drawn : AreDrawn (shown_rows v 1 lists) old new
+  pub made : MakesLines names (before + 1) m lines lists after
+  pub drawn : AreDrawn (shown_rows v (before + 1) lists) old new
 
--- the memory at boot, and below it the lines, in a form
+-- the lines before the first that may be shown were done from boot on; then the row of the memory, and
+-- below it the other lines, in a form
 pub record IsScenarioTraced (form : Form) (v : View) (s : ScenarioValue) (rows : RowsValue) : Type 0 where
+  pub unseen : List (List Row)
+  pub first : MachineValue
+  pub begins :
+      MakesLines s.names 1 (booted s.layout) (take (skipped v (length s.lines)) s.lines) unseen first
   pub start : RowsValue
-  pub begun : IsStart form v (booted s.layout) start
+  pub begun : IsStart form v first start
   pub machine : MachineValue
-  pub traced : TracesLines v s.names (booted s.layout) s.lines start rows machine
+  pub traced :
+      TracesLines v s.names (skipped v (length s.lines)) first (drop (skipped v (length s.lines)) s.lines)
+      start rows machine
 
 -- the text of a scenario's trace: its rows were written
 pub record IsTraceOf (v : View) (s : ScenarioValue) (text : List ℕ) : Type 0 where

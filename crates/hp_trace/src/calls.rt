@@ -15,20 +15,20 @@ use hp_text::{write_echo_fault, write_read_fault, write_sealed, write_unrecorded
 use hp_units::{CallFault, Cpu, Event};
 use std::alloc::{AllocError, Global};
 
-/// What a text below a row says.
+/// The text below a row.
 #[derive(Clone, Copy)]
 enum Remark {
-    /// That the history is full.
+    /// The history is full.
     Full,
-    /// Why a control file does not take a word.
+    /// A control file does not take a word.
     Untaken(ControlFault),
-    /// Why a control file is not read.
+    /// A control file is not read.
     Unread(ControlFault),
-    /// How many records a seal handed out.
+    /// A seal handed out this many records.
     Sealed(u64),
 }
 
-/// Does what a line asks for, and draws it. An error is out of memory.
+/// Does what a line asks for, and draws it.
 pub(crate) fn trace_work(
     rows: &mut Rows,
     alloc: Global,
@@ -68,7 +68,7 @@ fn trace_event(
     }
 }
 
-/// Adds a row without an answer, and below it a text. An error is out of memory.
+/// Adds a row without an answer, and below it a text.
 fn note(
     rows: &mut Rows,
     alloc: Global,
@@ -95,7 +95,7 @@ fn write_remark(out: &mut String, remark: Remark) -> Result<(), AllocError>
     }
 }
 
-/// Reads a control file, and notes its text or why there is none.
+/// Reads a control file, and notes its text, or why it is not read.
 fn trace_file(
     rows: &mut Rows,
     alloc: Global,

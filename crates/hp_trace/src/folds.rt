@@ -97,7 +97,7 @@ impl Lines {
         }
     }
 
-    /// Adds a memory block. One that takes more than a line is counted.
+    /// Adds a memory block. One that takes more columns than a line has is counted.
     fn put_block(
         &mut self,
         alloc: Global,
@@ -109,9 +109,25 @@ impl Lines {
         if drawn.len() as u64 <= self.room {
             return self.put(drawn.as_str());
         }
-        let mut counted = String::from_str(alloc, " ")?;
+        let mut counted = String::new(alloc);
         block.write_counted(&mut counted, paper.orders)?;
-        self.put(counted.as_str())
+        self.put_counted(alloc, counted.as_str())
+    }
+
+    /// Adds a counted memory block: whole if a line has room for it, or else broken before counts.
+    fn put_counted(&mut self, alloc: Global, counted: &str) -> Result<(), AllocError> {
+        let is_whole = (counted.len() as u64) < self.room;
+        let mut word = String::new(alloc);
+        for piece in counted.split(' ') {
+            // A count of absent frames begins with a space: what follows it is not a word.
+            if !is_whole && !piece.starts_with('*') {
+                self.put(word.as_str())?;
+                word.clear();
+            }
+            word.push_str(" ")?;
+            word.push_str(piece)?;
+        }
+        self.put(word.as_str())
     }
 
     /// Adds a piece, on a further line if this one has no room for it.

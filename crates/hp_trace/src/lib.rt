@@ -1,10 +1,11 @@
 //! Scenarios traced: what each line answers, and a picture of the memory after each call.
 //!
 //! The crate owns the rows of a trace, which of them are shown, and the port that draws one for
-//! each call of a plan. It gives them as text, or as values to draw, or as the log of what happened
+//! each call of a plan. It returns them as text, as values to draw, or as the log of what happened
 //! to the memory between them. It runs a scenario's lines on a machine as `hotplug serial` does, but
-//! gives nothing at all once it is out of memory. It knows nothing of streams or command lines. Read
-//! specs/Traces first, then specs/Calls, specs/Rows and specs/Folds, and for the log specs/Logs.
+//! returns nothing once it is out of memory. It knows nothing of streams or command lines. Read
+//! specs/Traces first, then specs/Calls and specs/Rows, and for the log specs/Logs. How a row is laid
+//! out as text is tested, not proved: `columns` and `folds`.
 #![tactic(auto)]
 
 mod calls;

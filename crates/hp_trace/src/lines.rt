@@ -1,8 +1,8 @@
 //! A scenario traced line by line.
-ghost use Rattle.std.specs.Prelude.{◌≡◌, IfOk, OnOk, string_bytes};
+ghost use Rattle.std.specs.Prelude.{◌≡◌, ◌+◌, ◌^◌, ◌<◌, ◌≤◌, IfOk, OnOk, length, string_bytes};
 ghost use Rattle.hp_scenario.specs.Seen.{scenario_seen};
 ghost use Rattle.hp_trace.specs.declared.rows.Form.TheVariants.{Kept, Written};
-ghost use Rattle.hp_trace.specs.Traces.{AreRowsOf, IsScenarioTraced, IsStart, IsTraceOf, TracesLine, TracesLines, numbered_text};
+ghost use Rattle.hp_trace.specs.Traces.{AreRowsOf, IsScenarioTraced, IsStart, IsTraceOf, TracesLine, TracesLines, numbered_text, skipped, start_text};
 
 use crate::calls::trace_work;
 use crate::rows::{Form, Rows};
@@ -16,8 +16,8 @@ use hp_units::Text;
 use indexmap::IndexSet;
 use std::alloc::{AllocError, Global};
 
-/// Returns the trace of a scenario as text: a row of the memory at boot, and for each line that is
-/// shown its number, the line, what it answers, and the memory after each of its calls. A line that
+/// Returns the trace of a scenario as text: a row of the memory at boot, or before the first line
+/// that may be shown, and for each line that is shown its number, the line, what it answers, and the memory after each of its calls. A line that
 /// makes no record has a row of the memory, and below it the text that `hotplug serial` writes for it.
 /// So has a plan when it begins, and below the rows of its calls its end.
 ///
@@ -53,12 +53,40 @@ fn trace_scenario(
     ensures { IfOk result (λ rows. IsScenarioTraced form view (scenario_seen scenario.now) rows) }
 {
     let mut machine = Machine::boot(alloc, &scenario.layout)?;
+    let all = scenario.lines.as_slice();
+    let before = skipped(view, all.len());
+    let (front, shown) = all.split_at(before);
+    let names = &scenario.names;
+    let mut unseen = Rows::new(alloc, Form::Unseen, view);
+    trace_lines(&mut unseen, alloc, &mut machine, names, view, 0, front)?;
     let mut rows = start(alloc, &machine, view, form)?;
-    trace_lines(&mut rows, alloc, &mut machine, scenario, view)?;
+    trace_lines(
+        &mut rows,
+        alloc,
+        &mut machine,
+        names,
+        view,
+        before as u64,
+        shown,
+    )?;
     Ok(rows)
 }
 
-/// Returns the row of the memory at boot, in a form.
+/// Returns how many of n lines come before the first that may be shown.
+fn skipped(view: View, n: usize) -> usize
+    ensures is { result ≡ skipped view n }
+    ensures inside { result ≤ n }
+{
+    let before = view.from.saturating_sub(1);
+    if before < n as u64 {
+        before as usize
+    } else {
+        n
+    }
+}
+
+/// Returns the first row, in a form: that of the memory at boot, or before the first line that may
+/// be shown.
 pub(crate) fn start(
     alloc: Global,
     machine: &Machine,
@@ -67,26 +95,40 @@ pub(crate) fn start(
 ) -> Result<Rows, AllocError>
     ensures { IfOk result (IsStart form view machine.now) }
 {
+    let asked = start_text(alloc, view)?;
     let mut rows = Rows::new(alloc, form, view);
-    rows.draw(alloc, machine, "   0 boot", "", None)?;
+    rows.draw(alloc, machine, asked.as_str(), "", None)?;
     Ok(rows)
 }
 
-/// Does all lines, and draws the rows of those that are shown.
+/// Returns what stands in the first row.
+fn start_text(alloc: Global, view: View) -> Result<String, AllocError>
+    ensures { IfOk result (λ text. string_bytes text ≡ start_text view) }
+{
+    let from = view.from;
+    if from <= 1 {
+        return String::from_str(alloc, "   0 boot");
+    }
+    format!(in alloc; "     before line {from}")
+}
+
+/// Does all lines, and draws the rows of those that are shown. `before` lines come before them.
 fn trace_lines(
     rows: &mut Rows,
     alloc: Global,
     machine: &mut Machine,
-    scenario: &Scenario,
+    names: &IndexSet<Text>,
     view: View,
+    before: u64,
+    lines: &[Line],
 ) -> Result<(), AllocError>
-    ensures { OnOk result (TracesLines view scenario.now.names.keys machine.old scenario.now.lines rows.old
-        rows.new machine.new) }
+    requires { before + length lines.now < 2 ^ 64 }
+    ensures { OnOk result (TracesLines view names.now.keys before machine.old lines.now rows.old rows.new
+        machine.new) }
 {
-    let lines = scenario.lines.as_slice();
     for (index, line) in lines.iter().enumerate() {
-        let number = index as u64 + 1;
-        trace_line(rows, alloc, machine, &scenario.names, view, number, line)?;
+        let number = before + index as u64 + 1;
+        trace_line(rows, alloc, machine, names, view, number, line)?;
     }
     Ok(())
 }

@@ -27,7 +27,7 @@ struct TracePort<'a> {
 }
 
 impl<'a> TracePort<'a> {
-    /// A processor's port, with no call made yet.
+    /// Makes a processor's port, with no call made yet.
     fn new(machine: &'a mut Machine, cpu: Cpu, rows: &'a mut Rows) -> TracePort<'a>
         ensures same_machine { result.machine.ghost_name ≡ machine.entry.ghost_name }
         ensures same_rows { result.rows.ghost_name ≡ rows.entry.ghost_name }
@@ -95,14 +95,14 @@ impl<'a> Port for TracePort<'a> {
     ) };
 }
 
-/// Whether a call or a row was out of memory, given whether an earlier one was.
+/// Returns whether a call or a row was out of memory, if `was_lost` says so of earlier ones.
 fn is_lost(was_lost: bool, is_drawn: bool) -> bool
     ensures { result ≡ (was_lost || not is_drawn) }
 {
     was_lost || !is_drawn
 }
 
-/// Whether a call left no record because it was out of memory.
+/// Returns whether a call left no record because it was out of memory.
 fn is_memory(fault: CallFault) -> bool
     ensures { result ≡ is_memory fault }
 {
@@ -112,7 +112,7 @@ fn is_memory(fault: CallFault) -> bool
     }
 }
 
-/// Draws the row of a call of a plan, and answers whether there was memory for it.
+/// Draws the row of a call of a plan, and returns whether there was memory for it.
 fn draw_step(rows: &mut Rows, alloc: Global, machine: &Machine, receipt: &Receipt) -> bool
     ensures { IsTrue result
         → DrawsIf rows.old.form machine.now (step_text receipt.now.event) (answer_text receipt.now)
@@ -124,8 +124,8 @@ fn draw_step(rows: &mut Rows, alloc: Global, machine: &Machine, receipt: &Receip
     }
 }
 
-/// An event of a plan's driver, as a scenario has it, in the place of a line. It accesses no page,
-/// so it needs no owner's name.
+/// Returns an event of a plan's driver as a scenario spells it, below the plan's line. It accesses
+/// no page, so it needs no owner's name.
 fn step_text(alloc: Global, event: &Event) -> Result<String, AllocError>
     ensures { IfOk result (λ text. string_bytes text ≡ step_text event.now) }
 {
@@ -134,8 +134,7 @@ fn step_text(alloc: Global, event: &Event) -> Result<String, AllocError>
     Ok(out)
 }
 
-/// Draws the row of a call: what was asked, its serial and its reply, and the memory after it. An
-/// error is out of memory.
+/// Draws the row of a call: what was asked, its serial and its reply, and the memory after it.
 pub(crate) fn draw_receipt(
     rows: &mut Rows,
     alloc: Global,
@@ -157,7 +156,7 @@ pub(crate) fn draw_receipt(
     )
 }
 
-/// Which page moved by a call, if one did.
+/// Returns which page moved by a call, if one did.
 fn moved_of(reply: Reply) -> Option<Move>
     ensures { result ≡ moved_of reply }
 {
@@ -167,7 +166,7 @@ fn moved_of(reply: Reply) -> Option<Move>
     }
 }
 
-/// The answer of a call: its serial and its reply.
+/// Returns the serial and the reply of a call.
 fn answer_text(alloc: Global, receipt: &Receipt) -> Result<String, AllocError>
     ensures { IfOk result (λ text. string_bytes text ≡ answer_text receipt.now) }
 {
@@ -179,7 +178,7 @@ fn answer_text(alloc: Global, receipt: &Receipt) -> Result<String, AllocError>
 }
 
 /// Runs a plan's driver with at most `turns` migrations, with a row of the memory before it, a row
-/// for each of its calls, and how it ended. An error is out of memory.
+/// for each of its calls, and how it ended.
 pub(crate) fn trace_plan(
     rows: &mut Rows,
     alloc: Global,
@@ -209,7 +208,7 @@ fn say_end(rows: &mut Rows, alloc: Global, end: OpEnd) -> Result<(), AllocError>
     rows.say(alloc, out.as_str())
 }
 
-/// Runs a plan's driver, with a row for each of its calls. An error is out of memory.
+/// Runs a plan's driver, with a row for each of its calls.
 fn drive(
     rows: &mut Rows,
     alloc: Global,

@@ -20,7 +20,7 @@ pub(crate) fn snapshot_of(alloc: Global, machine: &Machine) -> Result<Snapshot, 
     Ok(Snapshot::new(holders, rows))
 }
 
-/// What has the memory that starts at each frame.
+/// Returns what holds the memory that starts at each frame.
 #[tactic(auto, using(crate::proofs::SnapshotsTaken::one_more))]
 fn holders_of(alloc: Global, machine: &Machine) -> Result<Vec<FrameHolder>, AllocError>
     requires { IsWellPlaced machine.now.layout machine.now.state }
@@ -34,7 +34,7 @@ fn holders_of(alloc: Global, machine: &Machine) -> Result<Vec<FrameHolder>, Allo
     Ok(holders)
 }
 
-/// What has the memory that starts at a frame.
+/// Returns what holds the memory that starts at a frame.
 fn holder_of(machine: &Machine, frame: Frame) -> FrameHolder
     requires placed { IsWellPlaced machine.now.layout machine.now.state }
     requires inside { frame < frame_count machine.now.layout }
@@ -43,7 +43,7 @@ fn holder_of(machine: &Machine, frame: Frame) -> FrameHolder
     FrameHolder::new(machine.kernel_at(frame), machine.pages().page_at(frame))
 }
 
-/// The row of each memory block.
+/// Returns the row of each memory block.
 #[tactic(auto, using(crate::proofs::SnapshotsTaken::take_none, crate::proofs::SnapshotsTaken::take_one))]
 fn rows_of(alloc: Global, machine: &Machine) -> Result<Vec<Row>, AllocError>
     requires { IsWellPlaced machine.now.layout machine.now.state }

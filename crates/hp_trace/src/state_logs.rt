@@ -48,7 +48,7 @@ impl StateLog {
         Ok(())
     }
 
-    /// The events.
+    /// Returns the events.
     pub(crate) fn into_events(self) -> Vec<LogEvent>
         ensures { result.items ≡ self.events }
     {
@@ -60,7 +60,7 @@ impl StateLog {
     }
 }
 
-/// The events from a state that was seen to a machine's.
+/// Returns the events from a state that was seen to a machine's.
 fn step_from(
     alloc: Global,
     machine: &Machine,

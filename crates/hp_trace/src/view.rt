@@ -6,22 +6,22 @@ ghost use Rattle.hp_trace.specs.Views.{shows};
 /// by the orders of their blocks.
 #[derive(Clone, Copy)]
 pub struct View {
-    /// The first line that is shown.
+    /// The first line that is shown, below the memory before it.
     pub from: u64,
     /// The last line that is shown.
     pub to: u64,
-    /// One line of so many is shown, from the first on; each where it is 0 or 1.
+    /// Shows the first line and each n-th after it; 0 is as 1.
     pub every: u64,
     /// The columns of a line. A row that takes more goes on below, and a memory block that has no
-    /// room in a line is counted. Where the row of the memory at boot takes more, each later row has
-    /// only the memory blocks that changed since the row above it.
+    /// room in a line is counted. If the first row takes more, each later row has only the memory
+    /// blocks that changed since the row above it.
     pub width: u64,
     /// Whether free frames are shown by the orders of their blocks.
     pub orders: bool,
 }
 
 impl View {
-    /// Whether a line is shown.
+    /// Returns whether a line is shown.
     pub(crate) fn shows(&self, line: u64) -> bool
         ensures { result ≡ shows self.now line }
     {

@@ -76,24 +76,6 @@ plan: done
 sealed 7
 ";
 
-/// In 64 columns no memory block has room, so each is counted.
-const COUNTED: &str = "   0 boot                                               0:N[4: .*4]
-                                                        1:M[4: .*4]
-                                                        2:off[4: -*4]
-   1 0 map db 0               1: done                   1:M[4: .*2 0*1 a*1]
-   2 0 write db 0 0 7         2: done                   =
-   3 0 plan 4 off 1                                     =
-     begin off 1              3: opened 3               1:M>off[4: :*2 0*1 a*1]
-     drainfor 3 0             4: done                   1:M>off[4: :*3 a*1]
-     migrate 3                5: moved 4 0              0:N[4: .*3 a*1]
-                                                        1:M>off[4: :*4]
-     migrate 3                6: refused NothingToMove  =
-     commit 3                 7: done                   1:off[4: -*4]
-plan: done
-   4 0 seal                                             =
-sealed 7
-";
-
 /// A frame whose number makes an answer of 26 characters, one more than its columns have.
 const LONG: &[u8] = br#"{"layout":{"order":10,"pageblocks":4,"blocks":4,"cpus":1,"batch":2,"high":2,
 "owners":1,"pages":4,"words":1,"history":9,"boot":["offline","offline","absent","normal"]},
@@ -105,6 +87,46 @@ const LONG_ANSWER: &str =
    1 0 kalloc 3               1: frame 12288            3:N[4096: .*4088 K*8]
    2 0 begin off 3            2: refused Unmovable 12288
                                                         =
+";
+
+/// In 80 columns with orders, counts go on in further lines.
+const COUNTS: &str = "   0 boot                                               0:off[4096: -*4096]
+                                                        1:off[4096: -*4096]
+                                                        2:absent[4096:  *4096]
+                                                        3:N[4096: .*4096 (10)*4]
+   1 0 kalloc 3               1: frame 12288            3:N[4096: .*4088 K*8
+                                                        (3)*1 (4)*1 (5)*1 (6)*1
+                                                        (7)*1 (8)*1 (9)*1
+                                                        (10)*3]
+   2 0 begin off 3            2: refused Unmovable 12288
+                                                        =
+";
+
+/// In 70 columns, from the last line on: a count of absent frames begins with a space.
+const ABSENT: &str = "     before line 2                                      0:off[4096:
+                                                        -*4096]
+                                                        1:off[4096:
+                                                        -*4096]
+                                                        2:absent[4096:
+                                                         *4096]
+                                                        3:N[4096:
+                                                        .*4088 K*8]
+   2 0 begin off 3            2: refused Unmovable 12288
+                                                        =
+";
+
+/// From the third line on, with the memory before it.
+const LATER: &str =
+    "     before line 3                                      0:N[....] 1:M[a0..] 2:off[----]
+   3 0 plan 4 off 1                                     0:N[....] 1:M[a0..] 2:off[----]
+     begin off 1              3: opened 3               0:N[....] 1:M>off[a0::] 2:off[----]
+     drainfor 3 0             4: done                   0:N[....] 1:M>off[a:::] 2:off[----]
+     migrate 3                5: moved 4 0              0:N[a...] 1:M>off[::::] 2:off[----]
+     migrate 3                6: refused NothingToMove  0:N[a...] 1:M>off[::::] 2:off[----]
+     commit 3                 7: done                   0:N[a...] 1:off[----] 2:off[----]
+plan: done
+   4 0 seal                                             0:N[a...] 1:off[----] 2:off[----]
+sealed 7
 ";
 
 /// Returns whether the trace of a scenario is this text.
@@ -144,10 +166,10 @@ fn texts_are_escaped(rt: HostRuntime) -> Result<(), Fail> {
     Ok(())
 }
 
-/// All lines, in rows of this many columns.
-fn in_columns(width: u64, orders: bool) -> View {
+/// All lines from one on, in rows of this many columns.
+fn in_columns(from: u64, width: u64, orders: bool) -> View {
     View {
-        from: 1,
+        from,
         to: 9,
         every: 1,
         width,
@@ -158,14 +180,27 @@ fn in_columns(width: u64, orders: bool) -> View {
 #[test]
 fn wide_rows_are_folded(rt: HostRuntime) -> Result<(), Fail> {
     let alloc = rt.alloc();
-    assert!(rt; is_traced(alloc, NARROW, in_columns(80, false), FOLDED));
-    assert!(rt; is_traced(alloc, NARROW, in_columns(80, true), ORDERED));
-    assert!(rt; is_traced(alloc, NARROW, in_columns(64, false), COUNTED));
+    assert!(rt; is_traced(alloc, NARROW, in_columns(1, 80, false), FOLDED));
+    assert!(rt; is_traced(alloc, NARROW, in_columns(1, 80, true), ORDERED));
     Ok(())
 }
 
 #[test]
 fn long_answers_have_their_own_line(rt: HostRuntime) -> Result<(), Fail> {
-    assert!(rt; is_traced(rt.alloc(), LONG, in_columns(100, false), LONG_ANSWER));
+    assert!(rt; is_traced(rt.alloc(), LONG, in_columns(1, 100, false), LONG_ANSWER));
+    Ok(())
+}
+
+#[test]
+fn counts_are_folded(rt: HostRuntime) -> Result<(), Fail> {
+    let alloc = rt.alloc();
+    assert!(rt; is_traced(alloc, LONG, in_columns(1, 80, true), COUNTS));
+    assert!(rt; is_traced(alloc, LONG, in_columns(2, 70, false), ABSENT));
+    Ok(())
+}
+
+#[test]
+fn a_trace_begins_before_its_first_line(rt: HostRuntime) -> Result<(), Fail> {
+    assert!(rt; is_traced(rt.alloc(), NARROW, in_columns(3, 120, false), LATER));
     Ok(())
 }
