@@ -1,7 +1,7 @@
 //! Ends, and a schedule that was found, as words.
 ghost use Rattle.std.specs.Prelude.{◌≡◌, ◌++◌, IfOk, OnOk, option_map, string_bytes};
 ghost use Rattle.std.specs.List.{flat_map};
-ghost use Rattle.hp_text.specs.Replies.{bare_reply_line};
+ghost use Rattle.hp_text.specs.Answers.{bare_reply_line};
 ghost use Rattle.hp_text.specs.State.{block_line};
 ghost use Rattle.hp_search.specs.Words.{absent_text, answers_text, blocks_text, counts_text, end_text, nearest_text, played_text, processors_text, total_text};
 
