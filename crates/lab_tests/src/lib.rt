@@ -1,12 +1,10 @@
 //! Tests of the laboratory: explorations with the text that each must write, scenarios that are
-//! refused, calls as lines, scenarios with the report on each, traces as pictures.
+//! refused, scenarios with the report on each, traces as pictures.
 //!
-//! They stand in a crate of their own, as integration tests do, so that the gate does not prove
-//! hp_search and hp_check once more with them. `rt test` in this folder runs them.
+//! They are a crate of their own, as integration tests are, so that the gate does not prove hp_search
+//! and hp_check once more with them. `rt test` in this folder runs them.
 #![tactic(auto)]
 
-#[cfg(test)]
-mod calls;
 #[cfg(test)]
 mod checks;
 #[cfg(test)]

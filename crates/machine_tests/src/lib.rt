@@ -2,12 +2,15 @@
 //!
 //! Each module tests a crate or two through what they make public: `memories` hp_memory and
 //! hp_states, `schedules` what hp_schedules keeps for a walk, `plans` a plan's driver (hp_ops),
-//! `controls`, `control_writes`, `scenarios`, `texts`, `maps` and `traces` what is read and written.
+//! `calls`, `controls`, `control_writes`, `scenarios`, `texts`, `maps` and `traces` what is read and
+//! written.
 //! `looks` has the one owner of a machine for those that only look at one; the layout is that of
 //! layouts_for_tests. The machine's own tests are history_tests. Run the tests by `rt test` in this
 //! folder.
 #![tactic(auto)]
 
+#[cfg(test)]
+mod calls;
 #[cfg(test)]
 mod control_writes;
 #[cfg(test)]
