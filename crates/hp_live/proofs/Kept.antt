@@ -1,0 +1,108 @@
+-- The receipts that a plan's calls leave.
+use Rattle.std.proofs.Common.{◌≡◌, ℕ, Bool, true, false, ◌||◌, not, List, [], ◌++◌, Option, Some, None, refl, sym, ap, subst, ◌∙◌, true≢false}
+use Rattle.hp_units.specs.Driver.{IsDriverRun}
+use Rattle.hp_units.specs.declared.plans.Item.{Item}
+use Rattle.hp_units.specs.declared.replies.CallFault.{CallFault}
+use Rattle.hp_units.specs.declared.replies.OpEnd.{OpEnd}
+use Rattle.hp_units.specs.declared.replies.Receipt.{Receipt}
+use Rattle.hp_machine.specs.Machine.{MachineValue}
+use Rattle.hp_machine.specs.MachinePorts.{AreCalls, HasCause}
+use Rattle.hp_ops.specs.Ports.{AreMade}
+use Rattle.hp_live.specs.Answers.{AnswerValue, IsLeft, IsPlanKept, IsPlanTold, said, untold}
+use Rattle.hp_live.specs.declared.answers.Did.{Did}
+use Rattle.hp_live.specs.declared.answers.Did.TheVariants as did
+use Rattle.hp_live.specs.Plans.{IsRunWith, Keeps}
+
+-- one receipt more
+pub one_kept : (old now new gained : List Receipt) (was is kept : Bool) → is ≡ (was || not kept)
+    → now ≡ old → Keeps now false gained new (not kept) → Keeps old was gained new is
+one_kept old now new gained false is true lost same keeps =
+    λ none. (refl, (keeps refl).1 ∙ ap (λ (l : List Receipt). l ++ gained) same)
+one_kept old now new gained false is false lost same keeps = λ none. absurd (true≢false (sym lost ∙ none))
+one_kept old now new gained true is kept lost same keeps = λ none. absurd (true≢false (sym lost ∙ none))
+
+-- what the calls that gave receipts and the one that left a fault made of a port
+pub all_kept : {S N K : Type 0} (old new : S) (name : S → N) (list : S → K) (cpu : S → ℕ)
+    (machine : S → MachineValue) (calls : S → List Receipt) (lost : S → Bool) (gained : List Receipt)
+    (fault : Option CallFault)
+    → AreMade
+    (λ (p : S) (rs : List Receipt) (q : S). (name q ≡ name p) × (list q ≡ list p) × (cpu q ≡ cpu p)
+    × AreCalls (machine p) (cpu p) rs (machine q) × Keeps (calls p) (lost p) rs (calls q) (lost q))
+    (λ (p : S) (left : CallFault) (q : S). (name q ≡ name p) × (list q ≡ list p) × (cpu q ≡ cpu p)
+    × (machine q ≡ machine p) × HasCause (Some left) (machine p) × (calls q ≡ calls p)
+    × (lost q ≡ lost p))
+    old gained fault new
+    → (name new ≡ name old) × (list new ≡ list old)
+    × AreCalls (machine old) (cpu old) gained (machine new) × HasCause fault (machine new)
+    × Keeps (calls old) (lost old) gained (calls new) (lost new)
+all_kept old new name list cpu machine calls lost gained None made =
+    (made.0, made.1, made.3, tt, made.4)
+all_kept old new name list cpu machine calls lost gained (Some fault) made =
+    let first = made.1 in
+    let left = made.2 in (
+      left.0 ∙ first.0,
+      left.1 ∙ first.1,
+      subst (λ (m : MachineValue). AreCalls (machine old) (cpu old) gained m) (sym left.3) first.3,
+      subst (HasCause (Some fault)) (sym left.3) left.4,
+      λ none. let kept = first.4 (sym left.6 ∙ none) in (kept.0, left.5 ∙ kept.1),
+    )
+
+-- a run, from a port's machine and receipts before and after it
+pub run_with : (m first last new : MachineValue) (cpu caller turns : ℕ) (plan : List Item) (end : OpEnd)
+    (fault : Option CallFault) (gained old start kept now : List Receipt)
+    → first ≡ m → caller ≡ cpu → new ≡ last → start ≡ old → now ≡ kept
+    → AreCalls first caller gained last → HasCause fault last
+    → kept ≡ start ++ gained
+    → IsDriverRun first.layout.cpus turns plan gained fault end
+    → IsRunWith m cpu turns plan old end now new
+run_with m first last new cpu caller turns plan end fault gained old start kept now at_first same at_last
+    at_start at_kept calls cause keeps ran = (
+      record {
+        receipts = gained;
+        fault = fault;
+        calls =
+            subst (λ (k : MachineValue). AreCalls m cpu gained k) (sym at_last)
+            (subst (λ (n : ℕ). AreCalls m n gained last) same
+            (subst (λ (k : MachineValue). AreCalls k caller gained last) at_first calls));
+        cause = subst (HasCause fault) (sym at_last) cause;
+        run = subst (λ (k : MachineValue). IsDriverRun k.layout.cpus turns plan gained fault end) at_first ran;
+      },
+      at_kept ∙ keeps ∙ ap (λ (l : List Receipt). l ++ gained) at_start,
+    )
+
+-- the run of a copy of a plan, in an answer that was empty
+pub plan_kept : (m new : MachineValue) (cpu turns : ℕ) (plan copied : List Item) (end : OpEnd)
+    (text : List ℕ) (old kept : List Receipt) (d : Did)
+    → copied ≡ plan → record { text = text; calls = old; did = d } ≡ untold
+    → IsRunWith m cpu turns copied old end kept new
+    → IsPlanKept m cpu turns plan end (record { text = text; calls = kept; did = d }) new
+plan_kept m new cpu turns plan copied end text old kept d same empty ran =
+    let none : old ≡ [] = ap (λ (a : AnswerValue). a.calls) empty in
+    subst (λ (p : List Item). IsPlanKept m cpu turns p end (record { text = text; calls = kept; did = d }) new)
+    same (
+      ran.0,
+      ap (λ (a : AnswerValue). record { text = a.text; calls = kept; did = a.did }) empty
+          ∙ ap (λ (l : List Receipt). record { text = []; calls = l; did = did.NoLine })
+          (ran.1 ∙ ap (λ (l : List Receipt). l ++ ran.0.receipts) none),
+    )
+
+-- a plan that ended before its first call
+pub none_kept : (m : MachineValue) (cpu turns : ℕ) (plan : List Item) (end : OpEnd) (a : AnswerValue)
+    → IsLeft m end → a ≡ untold → IsPlanKept m cpu turns plan end a m
+none_kept m cpu turns plan end a left is = (
+  record {
+    receipts = [];
+    fault = Some left.0;
+    calls = refl;
+    cause = left.1;
+    run = record { events = tt; ends = left.2 };
+  },
+  is,
+)
+
+-- a plan that was run, once its end is said
+pub plan_told : (m new : MachineValue) (cpu turns : ℕ) (plan : List Item) (end : OpEnd) (a b : AnswerValue)
+    → IsPlanKept m cpu turns plan end a new → b ≡ said a (did.Plan end)
+    → IsPlanTold m cpu turns plan b new
+plan_told m new cpu turns plan end a b kept is =
+    (end, kept.0, is ∙ ap (λ (x : AnswerValue). said x (did.Plan end)) kept.1)

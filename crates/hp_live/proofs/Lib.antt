@@ -1,0 +1,5 @@
+pub mod Called
+pub mod Kept
+pub mod Together
+pub mod Told
+pub mod Tokens

@@ -1,0 +1,103 @@
+-- The answer to a line: what it did, the calls of its plan, and its text.
+use Rattle.std.specs.Prelude.{◌≡◌, ◌⊎◌, ℕ, List, [], ◌++◌, length, Some, None}
+use Rattle.hp_units.specs.declared.events.Event.{Event}
+use Rattle.hp_units.specs.declared.plans.Item.{Item}
+use Rattle.hp_units.specs.declared.replies.CallFault.{CallFault}
+use Rattle.hp_units.specs.declared.replies.OpEnd.{OpEnd}
+use Rattle.hp_units.specs.declared.replies.OpEnd.TheVariants.{Left}
+use Rattle.hp_units.specs.declared.replies.Receipt.{Receipt}
+use Rattle.hp_units.specs.declared.replies.Reply.{Reply}
+use Rattle.hp_history.specs.Course.{receipt_for}
+use Rattle.hp_machine.specs.Machine.{IsCalled, MachineValue}
+use Rattle.hp_machine.specs.MachinePorts.{HasCause, IsPlanRun}
+use Rattle.hp_scenario.specs.Asked as asks
+use Rattle.hp_text.specs.Answers.{reply_line, sealed_line, unrecorded_line}
+use Rattle.hp_text.specs.Files.{write_fault_line}
+use Rattle.hp_text.specs.Plans.{plan_line}
+use Rattle.hp_commands.specs.Events.{WritesEvent}
+use Rattle.hp_commands.specs.Files.{WritesFile}
+use Rattle.hp_commands.specs.Serial.{WritesAsked}
+use Rattle.hp_live.specs.declared.answers.Did.{Did}
+use Rattle.hp_live.specs.declared.answers.Did.TheVariants as did
+
+-- the text, the receipts of a plan's calls, and what the line did
+pub record AnswerValue : Type 0 where
+  pub text : List ℕ
+  pub calls : List Receipt
+  pub did : Did
+
+-- what a line did, as text; a control file's text is its own
+abbrev pub did_text : Did → List ℕ
+did_text did.NoLine = []
+did_text (did.Event serial reply) = reply_line serial reply
+did_text (did.Unrecorded fault) = unrecorded_line fault
+did_text (did.Plan end) = plan_line end
+did_text (did.NotTaken fault) = write_fault_line fault
+did_text did.File = []
+did_text (did.Sealed count) = sealed_line count
+
+-- an empty answer
+abbrev pub untold : AnswerValue
+untold = record { text = []; calls = []; did = did.NoLine }
+
+-- the same after what a line did is said
+abbrev pub said : AnswerValue → Did → AnswerValue
+said a d = record { text = a.text ++ did_text d; calls = a.calls; did = d }
+
+-- an answer that says what a line did, and the calls of its plan
+abbrev pub told : Did → List Receipt → AnswerValue
+told d calls = record { text = did_text d; calls = calls; did = d }
+
+-- ---- what an answer is made of
+
+-- an event left a record, with this serial and this reply; or it left none, for this reason
+abbrev pub IsEventTold : MachineValue → (cpu : ℕ) → Event → Did → (new : MachineValue) → Type 0
+IsEventTold m cpu event d new =
+    ((serial : ℕ) × (reply : Reply) × (d ≡ did.Event serial reply)
+    × IsCalled m cpu event (receipt_for event (serial, reply)) new)
+    ⊎ ((fault : CallFault) × (d ≡ did.Unrecorded fault) × (new ≡ m))
+
+-- a plan was run: how it ended, and the receipts of its calls
+abbrev pub IsPlanTold : MachineValue → (cpu turns : ℕ) → List Item → AnswerValue → (new : MachineValue) → Type 0
+IsPlanTold m cpu turns items a new =
+    (end : OpEnd) × (run : IsPlanRun m cpu turns items end new) × (a ≡ told (did.Plan end) run.receipts)
+
+-- the parts of an answer to what a line asks for
+abbrev pub IsTold : MachineValue → (cpu : ℕ) → asks.Meaning → AnswerValue → (new : MachineValue) → Type 0
+IsTold m cpu (asks.event event) a new = (a ≡ told a.did []) × IsEventTold m cpu event a.did new
+IsTold m cpu (asks.plan items turns) a new = IsPlanTold m cpu turns items a new
+IsTold m cpu (asks.not_taken fault) a new = a ≡ told (did.NotTaken fault) []
+IsTold m cpu (asks.cat path) a new = a ≡ record { text = a.text; calls = []; did = did.File }
+IsTold m cpu asks.seal a new = a ≡ told (did.Sealed (length m.history)) []
+
+-- the answer to what a line asks for, and the machine after it: its text is what `hotplug serial`
+-- writes, and its parts are those of that text
+abbrev pub Answers : MachineValue → (cpu : ℕ) → asks.Meaning → AnswerValue → (new : MachineValue) → Type 0
+Answers m cpu meaning a new = WritesAsked m cpu meaning a.text new × IsTold m cpu meaning a new
+
+-- what a line asks for was done, whatever was written
+abbrev pub IsDone : MachineValue → (cpu : ℕ) → asks.Meaning → (new : MachineValue) → Type 0
+IsDone m cpu meaning new = (text : List ℕ) × WritesAsked m cpu meaning text new
+
+-- ---- on the way
+
+-- an event was called, and this came of it
+abbrev pub IsEventDone : MachineValue → (cpu : ℕ) → Event → Did → (new : MachineValue) → Type 0
+IsEventDone m cpu event d new =
+    WritesEvent m cpu event (did_text d) new × IsEventTold m cpu event d new
+
+-- a plan was run to this end, and the receipts of its calls are kept in an answer that says no more
+abbrev pub IsPlanKept : MachineValue → (cpu turns : ℕ) → List Item → OpEnd → AnswerValue → (new : MachineValue)
+    → Type 0
+IsPlanKept m cpu turns items end a new =
+    (run : IsPlanRun m cpu turns items end new)
+    × (a ≡ record { text = []; calls = run.receipts; did = did.NoLine })
+
+-- a plan ended before its first call, for this reason
+abbrev pub IsLeft : MachineValue → OpEnd → Type 0
+IsLeft m end = (fault : CallFault) × HasCause (Some fault) m × (end ≡ Left None fault)
+
+-- a file was read: its text, or why there is none
+abbrev pub IsFileTold : MachineValue → (path : List ℕ) → AnswerValue → Type 0
+IsFileTold m path a =
+    WritesFile m path a.text × (a ≡ record { text = a.text; calls = []; did = did.File })

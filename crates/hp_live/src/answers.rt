@@ -1,0 +1,112 @@
+//! The answer to a line.
+ghost use Rattle.std.specs.Prelude.{◌≡◌, ◌++◌, OnOk, string_bytes};
+ghost use Rattle.hp_live.specs.Answers.{did_text, said, untold};
+
+use hp_requests::ControlFault;
+use hp_text::{write_answer, write_echo_fault, write_plan_end, write_sealed, write_unrecorded};
+use hp_units::{CallFault, OpEnd, Receipt, Reply, Serial};
+use std::alloc::{AllocError, Global};
+use std::marker::Model;
+
+/// What a line did.
+#[derive(Clone, Copy, Drop)]
+pub enum Did {
+    /// Nothing: the text is no line.
+    NoLine,
+    /// Its event left a record with this serial and this reply.
+    Event { serial: Serial, reply: Reply },
+    /// Its event left no record.
+    Unrecorded(CallFault),
+    /// Its plan ended so.
+    Plan(OpEnd),
+    /// Nothing: the control file of its `echo` does not take the word.
+    NotTaken(ControlFault),
+    /// It read a control file, or found out why it is not read.
+    File,
+    /// It sealed this many records.
+    Sealed(u64),
+}
+
+/// The answer to a line: what it did, the calls of its plan, and the text that `hotplug serial`
+/// writes for it. One answer can be used for line after line; it keeps its memory.
+#[derive(Drop)]
+pub struct Answer {
+    pub(crate) text: String,
+    pub(crate) calls: Vec<Receipt>,
+    pub(crate) did: Did,
+}
+
+impl Model for Answer {
+    ghost use Rattle.std.specs.Prelude.{string_bytes};
+    ghost use Rattle.hp_live.specs.Answers.{AnswerValue};
+
+    ghost Value = { AnswerValue };
+
+    ghost view = { λ a. record { text = string_bytes a.text; calls = a.calls.items; did = a.did } };
+}
+
+impl Answer {
+    /// Returns an empty answer.
+    pub fn new(alloc: Global) -> Answer
+        ensures { result ≡ untold }
+    {
+        Answer {
+            text: String::new(alloc),
+            calls: Vec::new(alloc),
+            did: Did::NoLine,
+        }
+    }
+
+    /// Returns the text that `hotplug serial` writes for the line; the empty text for no line.
+    pub fn text(&self) -> &str
+        ensures { result.now ≡ self.now.text }
+    {
+        self.text.as_str()
+    }
+
+    /// Returns the calls of the line's plan, in order.
+    pub fn calls(&self) -> &[Receipt]
+        ensures { result.now ≡ self.now.calls }
+    {
+        self.calls.as_slice()
+    }
+
+    /// Returns what the line did.
+    pub fn did(&self) -> Did
+        ensures { result ≡ self.now.did }
+    {
+        self.did
+    }
+
+    /// Empties the answer.
+    pub(crate) fn clear(&mut self)
+        ensures { self.new ≡ untold }
+    {
+        self.text.clear();
+        self.calls.clear();
+        self.did = Did::NoLine;
+    }
+
+    /// Sets what the line did, and writes its text.
+    pub(crate) fn say(&mut self, did: Did) -> Result<(), AllocError>
+        ensures { OnOk result (self.new ≡ said self.old did) }
+    {
+        write_did(&mut self.text, &did)?;
+        self.did = did;
+        Ok(())
+    }
+}
+
+/// Writes what a line did. A control file's text is written when it is read.
+fn write_did(out: &mut String, did: &Did) -> Result<(), AllocError>
+    ensures { OnOk result (string_bytes out.new ≡ string_bytes out.old ++ did_text did.now) }
+{
+    match did {
+        Did::Event { serial, reply } => write_answer(out, *serial, *reply),
+        Did::Unrecorded(fault) => write_unrecorded(out, *fault),
+        Did::Plan(end) => write_plan_end(out, *end),
+        Did::NotTaken(fault) => write_echo_fault(out, *fault),
+        Did::Sealed(count) => write_sealed(out, *count),
+        Did::NoLine | Did::File => Ok(()),
+    }
+}

@@ -1,0 +1,24 @@
+//! What answers in a row are together: the contract of a function that does nothing.
+ghost use Rattle.std.specs.Prelude.{◌≡◌, ◌++◌, [], ℕ, List, Ok};
+ghost use Rattle.hp_units.specs.LayoutParts.{LayoutParts};
+ghost use Rattle.hp_machine.specs.Machine.{booted};
+ghost use Rattle.hp_scenario.specs.Scenario.{lines_from, nothing, scenario_in};
+ghost use Rattle.hp_commands.specs.Serial.{WritesLines};
+ghost use Rattle.hp_commands.specs.Served.{IsTextOf};
+ghost use Rattle.hp_text.specs.State.{state_text};
+ghost use Rattle.hp_live.specs.Sessions.{AnswersAll, SessionValue, script_of, started, taken};
+
+/// What a session has written is what `hotplug serial` writes for its lines. These are the texts that
+/// are lines, read like a scenario's `calls`. With the state of the machine after them, what was
+/// written is a text of `hotplug serial` for a scenario of the layout and these lines, and the only
+/// one if no line ran out of memory.
+pub fn answers_are_what_serial_writes()
+    ensures lines { (l : LayoutParts) (texts : List (List ℕ)) (written : List ℕ) (s : SessionValue)
+        → AnswersAll (started l) texts written s → WritesLines (booted l) s.lines written s.machine }
+    ensures read { (l : LayoutParts) (texts : List (List ℕ)) (written : List ℕ) (s : SessionValue)
+        → AnswersAll (started l) texts written s → lines_from 1 nothing (taken [] texts) ≡ Ok (script_of s) }
+    ensures serial { (l : LayoutParts) (texts : List (List ℕ)) (written : List ℕ) (s : SessionValue)
+        → AnswersAll (started l) texts written s → (input : List ℕ)
+        → scenario_in input ≡ Ok (record { layout = l; names = s.names; lines = s.lines })
+        → IsTextOf input (written ++ state_text s.machine.layout s.names s.machine.state) }
+{}

@@ -1,0 +1,21 @@
+//! A live machine: lines answered one at a time, as `hotplug serial` answers a scenario's.
+//!
+//! The crate owns a session and the form of its answers: as text, and as an object of JSON. It
+//! reads no stream. What a line is, hp_scenario says; what is written for it, hp_commands.
+//!
+//! Read specs/Sessions first: what an answer is, and what answers in a row are together.
+#![tactic(auto)]
+
+mod answers;
+mod laws;
+mod objects;
+mod plans;
+mod runs;
+mod session;
+mod words;
+
+pub use answers::{Answer, Did};
+pub use laws::answers_are_what_serial_writes;
+pub use objects::write_object;
+pub use session::{Lack, Session};
+pub use words::help;

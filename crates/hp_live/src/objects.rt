@@ -1,0 +1,163 @@
+//! An answer as an object of JSON.
+ghost use Rattle.std.specs.Prelude.{IfOk, OnOk};
+ghost use Rattle.hp_live.specs.Objects.{Adds, AddsObject, Appends, WritesObject, head_of};
+
+use crate::answers::{Answer, Did};
+use hp_text::{write_event, write_reply_words};
+use hp_units::{Event, Receipt};
+use indexmap::IndexSet;
+use json::Writer;
+use std::alloc::{AllocError, Global};
+
+/// Appends an answer to `out` as one object of JSON and a newline.
+///
+/// Its keys are `line`, the number; `text`; for an event `serial` and `answer`; for a plan `calls`
+/// and `end`; for a seal `sealed`; and for no line `fault` and `hint`. The buffer is handed through,
+/// so that its memory can be used again.
+pub fn write_object(
+    alloc: Global,
+    out: Vec<u8>,
+    number: u64,
+    answer: &Answer,
+    hint: &str,
+) -> Result<Vec<u8>, AllocError>
+    ensures { IfOk result (λ new. WritesObject out.items number answer.now.text new.items) }
+{
+    let mut writer = Writer::new(out);
+    write_tokens(&mut writer, alloc, number, answer, hint)?;
+    let mut out = writer.into_inner();
+    out.push(b'\n')?;
+    Ok(out)
+}
+
+/// Writes the tokens of an answer's object.
+fn write_tokens(
+    writer: &mut Writer,
+    alloc: Global,
+    number: u64,
+    answer: &Answer,
+    hint: &str,
+) -> Result<(), AllocError>
+    ensures { OnOk result (AddsObject writer.old number answer.now.text writer.new) }
+{
+    begin(writer, number, answer.text())?;
+    write_parts(writer, alloc, answer, hint)?;
+    writer.end_object()
+}
+
+/// Writes the keys that each object has.
+fn begin(writer: &mut Writer, number: u64, text: &str) -> Result<(), AllocError>
+    ensures { OnOk result (Adds writer.old writer.new (head_of number text.now)) }
+{
+    writer.begin_object()?;
+    writer.key("line")?;
+    writer.u64(number)?;
+    writer.key("text")?;
+    writer.string(text)
+}
+
+/// Writes the keys for what the line did.
+fn write_parts(
+    writer: &mut Writer,
+    alloc: Global,
+    answer: &Answer,
+    hint: &str,
+) -> Result<(), AllocError>
+    ensures { OnOk result (Appends writer.old writer.new) }
+{
+    let words = words_of(answer.text());
+    match answer.did() {
+        Did::NoLine => write_fault(writer, hint),
+        Did::Event { serial, .. } => write_answer(writer, serial.0, words),
+        Did::Unrecorded(_) | Did::NotTaken(_) => write_pair(writer, "answer", words),
+        Did::Plan(_) => write_plan(writer, alloc, answer.calls(), words),
+        Did::File => Ok(()),
+        Did::Sealed(count) => write_number(writer, "sealed", count),
+    }
+}
+
+/// Returns what comes after the colon in a line's text, without the newline.
+fn words_of(text: &str) -> &str {
+    let words = match text.split_once(": ") {
+        Some((_, words)) => words,
+        None => text,
+    };
+    words.trim_end()
+}
+
+/// Writes that a text is no line.
+fn write_fault(writer: &mut Writer, hint: &str) -> Result<(), AllocError>
+    ensures { OnOk result (Appends writer.old writer.new) }
+{
+    write_pair(writer, "fault", "no line")?;
+    write_pair(writer, "hint", hint)
+}
+
+/// Writes the serial of a call and its reply.
+fn write_answer(writer: &mut Writer, serial: u64, words: &str) -> Result<(), AllocError>
+    ensures { OnOk result (Appends writer.old writer.new) }
+{
+    write_number(writer, "serial", serial)?;
+    write_pair(writer, "answer", words)
+}
+
+/// Writes the calls of a plan, and how it ended.
+fn write_plan(
+    writer: &mut Writer,
+    alloc: Global,
+    calls: &[Receipt],
+    words: &str,
+) -> Result<(), AllocError>
+    ensures { OnOk result (Appends writer.old writer.new) }
+{
+    writer.key("calls")?;
+    write_calls(writer, alloc, calls)?;
+    write_pair(writer, "end", words)
+}
+
+/// Writes the calls of a plan as an array.
+fn write_calls(writer: &mut Writer, alloc: Global, calls: &[Receipt]) -> Result<(), AllocError>
+    ensures { OnOk result (Appends writer.old writer.new) }
+{
+    writer.begin_array()?;
+    for call in calls {
+        write_call(writer, alloc, call)?;
+    }
+    writer.end_array()
+}
+
+/// Writes a call of a plan as an object.
+fn write_call(writer: &mut Writer, alloc: Global, call: &Receipt) -> Result<(), AllocError>
+    ensures { OnOk result (Appends writer.old writer.new) }
+{
+    let mut words = String::new(alloc);
+    write_step(&mut words, alloc, &call.event)?;
+    writer.begin_object()?;
+    write_number(writer, "serial", call.serial.0)?;
+    write_pair(writer, "call", words.as_str())?;
+    words.clear();
+    write_reply_words(&mut words, call.reply)?;
+    write_pair(writer, "answer", words.as_str())?;
+    writer.end_object()
+}
+
+/// Writes an event of a plan's driver. It accesses no page, so it needs no owner's name.
+fn write_step(out: &mut String, alloc: Global, event: &Event) -> Result<(), AllocError> {
+    write_event(out, &IndexSet::new(alloc), event)
+}
+
+/// Writes a key and its text.
+fn write_pair(writer: &mut Writer, key: &str, text: &str) -> Result<(), AllocError>
+    ensures { OnOk result (Appends writer.old writer.new) }
+{
+    writer.key(key)?;
+    writer.string(text)
+}
+
+/// Writes a key and its number.
+fn write_number(writer: &mut Writer, key: &str, number: u64) -> Result<(), AllocError>
+    ensures { OnOk result (Appends writer.old writer.new) }
+{
+    writer.key(key)?;
+    writer.u64(number)
+}

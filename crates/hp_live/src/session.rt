@@ -1,0 +1,106 @@
+//! A session: a machine, and the lines that it has answered.
+ghost use Rattle.std.specs.Prelude.{◌≡◌, ◌<◌, [], ◌∷◌, ◌++◌, IfErr, IfOk, IsErr, IsOk, OnErr, OnOk, vec_capacity, vec_len};
+ghost use Rattle.hp_scenario.specs.Asked.{asked_by};
+ghost use Rattle.hp_live.specs.Answers.{Answers, IsDone, untold};
+ghost use Rattle.hp_live.specs.Sessions.{AnswersText, IsLost, started};
+
+use crate::answers::Answer;
+use crate::runs::answer_line;
+use hp_machine::UnrecordedMachine;
+use hp_scenario::{Line, read_line};
+use hp_units::{Layout, Text};
+use indexmap::IndexSet;
+use std::alloc::{AllocError, Global};
+use std::marker::Model;
+
+/// What there was no memory for.
+#[derive(Clone, Copy, Drop)]
+pub enum Lack {
+    /// To keep another line. Nothing was run, and nothing changed.
+    Line,
+    /// To write the answer of a line that was run. The session has kept it.
+    Answer,
+}
+
+/// A machine that answers lines one at a time, all lines so far, and the owners' names in them.
+#[derive(Drop)]
+pub struct Session {
+    pub(crate) names: IndexSet<Text>,
+    pub(crate) lines: Vec<Line>,
+    pub(crate) machine: UnrecordedMachine,
+}
+
+impl Model for Session {
+    ghost use Rattle.hp_live.specs.Sessions.{SessionValue};
+
+    ghost Value = { SessionValue };
+
+    ghost view = { λ s. record { names = s.names.keys; lines = s.lines.items; machine = s.machine } };
+}
+
+impl Session {
+    /// Boots a machine, which no line has run on yet.
+    pub fn start(alloc: Global, layout: &Layout) -> Result<Session, AllocError>
+        ensures { IfOk result (λ session. session ≡ started layout.now) }
+    {
+        let machine = UnrecordedMachine::boot(alloc, layout)?;
+        Ok(Session {
+            names: IndexSet::new(alloc),
+            lines: Vec::new(alloc),
+            machine,
+        })
+    }
+
+    /// Reads a line, runs it, and answers it in `out` as `hotplug serial` would. The line is kept.
+    /// A text that is no line changes nothing.
+    ///
+    /// Whether there is memory to keep the line is known before it is run. After an error, `out` has
+    /// no meaning.
+    pub fn answer(&mut self, alloc: Global, text: &str, out: &mut Answer) -> Result<(), Lack>
+        ensures ok { OnOk result (AnswersText self.old text.now out.new self.new) }
+        ensures err { IfErr result (λ lack. IsLost lack self.old text.now self.new) }
+    {
+        out.clear();
+        let Ok(()) = self.lines.reserve(1) else {
+            return Err(Lack::Line);
+        };
+        match read_line(alloc, &mut self.names, text) {
+            Ok(Some(line)) => {
+                let ran = run_and_keep(&mut self.lines, &mut self.machine, alloc, line, out);
+                or_lack(ran)
+            }
+            Ok(None) => Ok(()),
+            Err(AllocError) => Err(Lack::Line),
+        }
+    }
+}
+
+/// Runs a line, answers it, and keeps it, for which there is room.
+fn run_and_keep(
+    lines: &mut Vec<Line>,
+    machine: &mut UnrecordedMachine,
+    alloc: Global,
+    line: Line,
+    out: &mut Answer,
+) -> Result<(), AllocError>
+    requires room { vec_len lines.old < vec_capacity lines.old }
+    requires empty { out.old ≡ untold }
+    ensures kept { lines.new.items ≡ lines.old.items ++ line ∷ [] }
+    ensures ok { OnOk result (Answers machine.old line.cpu (asked_by line.work) out.new machine.new) }
+    ensures err { OnErr result (IsDone machine.old line.cpu (asked_by line.work) machine.new) }
+{
+    let answered = answer_line(out, alloc, machine, &line);
+    lines.push_reserved(line);
+    answered
+}
+
+/// Returns what there was no memory for, once a line was run.
+fn or_lack(ran: Result<(), AllocError>) -> Result<(), Lack>
+    ensures ok { OnOk result (IsOk ran) }
+    ensures err { IfErr result (λ lack. (lack ≡ Lack.Answer) × IsErr ran) }
+{
+    match ran {
+        Ok(()) => Ok(()),
+        Err(AllocError) => Err(Lack::Answer),
+    }
+}
