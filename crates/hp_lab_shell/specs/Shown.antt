@@ -18,4 +18,5 @@ HasRows view input = InScenario input (λ s. (rows : List RowValue) × AreRowsOf
 -- the bytes are a scenario, and its run has a log
 abbrev pub HasLog : (input : List ℕ) → Type 0
 HasLog input =
-    InScenario input (λ s. (block_frames : ℕ) × (events : List LogEvent) × IsLogOfScenario s block_frames events)
+    InScenario input (λ s.
+    (block_frames : ℕ) × (events : List LogEvent) × IsLogOfScenario s block_frames events)

@@ -5,7 +5,8 @@
 //! A `Laboratory` answers the words. The crate stands on no search, and so is proved beside the crates
 //! that do. It owns each word's defaults and limits, what a word needs of a scenario, and the exit
 //! status where nothing is answered. hp_check, hp_trace and hp_svg make the texts of `check` and
-//! `trace`, and hp_step_logs the lines of a log; it joins them, each with its status. hp_verdicts does all of `judge` but the command line.
+//! `trace`, and hp_step_logs the lines of a log; it joins them, each with its status. hp_verdicts does
+//! all of `judge` but the command line.
 //! What clap parsed, and what a file or a stream gives or takes, no contract can say: that is tried on
 //! the built program.
 //!

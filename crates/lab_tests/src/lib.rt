@@ -1,5 +1,5 @@
-//! Tests of the laboratory: explorations with the text that each must write, scenarios that are
-//! refused, scenarios with the report on each, traces as pictures.
+//! Tests of the laboratory: explorations with the text that each must write, what hp_schedules keeps
+//! for a walk, scenarios that are refused, scenarios with the report on each.
 //!
 //! They are a crate of their own, as integration tests are, so that the gate does not prove hp_search
 //! and hp_check once more with them. `rt test` in this folder runs them.
@@ -16,13 +16,11 @@ mod findings;
 #[cfg(test)]
 mod parts;
 #[cfg(test)]
-mod picture_parts;
-#[cfg(test)]
-mod pictures;
-#[cfg(test)]
 mod refusals;
 #[cfg(test)]
 mod replays;
+#[cfg(test)]
+mod schedules;
 #[cfg(test)]
 mod searches;
 #[cfg(test)]

@@ -1,16 +1,13 @@
 //! Tests of what stands around a machine: each public function once, on a small layout.
 //!
 //! Each module tests a crate or two through what they make public: `memories` hp_memory and
-//! hp_states, `schedules` what hp_schedules keeps for a walk, `plans` a plan's driver (hp_ops),
-//! `calls`, `controls`, `control_writes`, `scenarios`, `texts`, `maps` and `traces` what is read and
-//! written.
+//! hp_states, `plans` a plan's driver (hp_ops), `controls`, `control_writes`, `scenarios`, `texts`,
+//! `maps` and `traces` what is read and written.
 //! `looks` has the one owner of a machine for those that only look at one; the layout is that of
 //! layouts_for_tests. The machine's own tests are history_tests. Run the tests by `rt test` in this
 //! folder.
 #![tactic(auto)]
 
-#[cfg(test)]
-mod calls;
 #[cfg(test)]
 mod control_writes;
 #[cfg(test)]
@@ -25,8 +22,6 @@ mod memories;
 mod plans;
 #[cfg(test)]
 mod scenarios;
-#[cfg(test)]
-mod schedules;
 #[cfg(test)]
 mod texts;
 #[cfg(test)]

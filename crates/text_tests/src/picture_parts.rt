@@ -1,27 +1,8 @@
 //! Parts of pictures, most as hp_svg drew them when its text was proved to be that of a definition.
 use crate::pictures::{Block, ROWS, Row, Words};
 
-/// The names of owners, the width of a cell, the scale in percent, rows, and a part of their
-/// picture.
-pub(crate) type Part = (&'static [Words], u8, u16, &'static [Row], Words);
-
-/// What is shown of all characters, of narrow cells, of texts and blocks that have no room, of
-/// nothing, of the kernel's blocks, of rows that begin with text alone, and at other scales.
-pub(crate) const PARTS: &[Part] = &[
-    (NAMES, 1, 100, MARKED, LEGEND),
-    (&["db"], 3, 100, NARROW, NARROW_ROW),
-    (&["db"], 3, 100, NARROW, UNNAMED),
-    (&[], 255, 100, FOLDED, FOLDED_ROWS),
-    (&[], 8, 100, &[], EMPTY),
-    (&[], 8, 100, KERNEL, KERNEL_ROWS),
-    (&[], 8, 100, KERNEL, KERNEL_NUMBERS),
-    (&["db"], 8, 25, ROWS, QUARTER),
-    (&["db"], 8, 33, ROWS, THIRD),
-    (&["db"], 8, 400, ROWS, FOURFOLD),
-];
-
 /// More names than letters, the first of which is longer than its room in a legend.
-const NAMES: &[Words] = &[
+pub(crate) const NAMES: &[Words] = &[
     "a name longer than this",
     "b",
     "c",
@@ -52,7 +33,7 @@ const NAMES: &[Words] = &[
 ];
 
 /// A row with all characters.
-const MARKED: &[Row] = &[(
+pub(crate) const MARKED: &[Row] = &[(
     "all characters",
     "",
     None,
@@ -66,7 +47,7 @@ const MARKED: &[Row] = &[(
 )];
 
 /// A row whose cells are too narrow for most letters and orders, if a cell is 3 wide.
-const NARROW: &[Row] = &[(
+pub(crate) const NARROW: &[Row] = &[(
     "narrow cells",
     "",
     None,
@@ -80,7 +61,7 @@ const NARROW: &[Row] = &[(
 )];
 
 /// Memory blocks of which only two have room side by side, if a cell is 255 wide.
-const THREE: &[Block] = &[
+pub(crate) const THREE: &[Block] = &[
     ("0:N", "aa", &[], &[], "MM"),
     ("1:M", ".a", &[(0, 0, false)], &[], "UU"),
     ("2:M", "..", &[(0, 1, false)], &[], "UM"),
@@ -88,7 +69,7 @@ const THREE: &[Block] = &[
 
 /// Rows with those blocks, one of them with texts that need lines of their own, and with a page
 /// that moved to the second strip.
-const FOLDED: &[Row] = &[
+pub(crate) const FOLDED: &[Row] = &[
     ("", "", None, THREE),
     (
         "a text that is 30 letters long",
@@ -100,7 +81,7 @@ const FOLDED: &[Row] = &[
 ];
 
 /// Rows with the kernel's blocks of orders 0 to 2, the first row of text alone.
-const KERNEL: &[Row] = &[
+pub(crate) const KERNEL: &[Row] = &[
     ("the 2 calls above 1021 times more", "", None, &[]),
     (
         "kernel",
@@ -115,7 +96,7 @@ const KERNEL: &[Row] = &[
 ];
 
 /// The meaning of each character, with its colours, and the first name squeezed.
-const LEGEND: &str =
+pub(crate) const LEGEND: &str =
     "<rect x='8' y='8' width='12' height='12' fill='#7fbf7b'/><text x='26' y='18'>free</text>\n\
      <rect x='168' y='8' width='12' height='12' fill='url(#isolated)'/><text x='186' y='18'>free \
      and isolated</text>\n\
@@ -200,7 +181,7 @@ const LEGEND: &str =
      font-size='8' fill='#ffffff'>z</text><text x='26' y='146'>page of z</text>\n";
 
 /// A letter where it has room, an order where that has, and no lines between cells.
-const NARROW_ROW: &str =
+pub(crate) const NARROW_ROW: &str =
     "<text x='8' y='10'>narrow cells</text><text x='336' y='10'> 0:N</text><rect x='384' y='0' \
      width='6' height='12' fill='#0072b2'/><rect x='390' y='0' width='9' height='12' \
      fill='#e69f00'/><text x='392' y='9' font-size='8' fill='#000000'>b</text><rect x='399' \
@@ -213,10 +194,10 @@ const NARROW_ROW: &str =
      stroke-width='2' paint-order='stroke'>3</text>\n";
 
 /// The meaning of the letter of an owner who has no name.
-const UNNAMED: &str = "<text x='346' y='18'>page of owner b</text>\n";
+pub(crate) const UNNAMED: &str = "<text x='346' y='18'>page of owner b</text>\n";
 
 /// A row below one of two strips, in lines of its own, and all after it.
-const FOLDED_ROWS: &str =
+pub(crate) const FOLDED_ROWS: &str =
     "<text x='8' y='44'>a text that is 30 letters long</text><text x='188' y='58'>one of 26 \
      letters, as here</text><text x='336' y='72'> 0:N</text><rect x='384' y='62' width='510' \
      height='12' fill='#0072b2'/><text x='386' y='71' font-size='8' fill='#ffffff'>a</text><rect \
@@ -248,11 +229,12 @@ const FOLDED_ROWS: &str =
      </svg>\n";
 
 /// The size of a picture without rows.
-const EMPTY: &str = "width='820' height='76' viewBox='0 0 820 76'";
+pub(crate) const EMPTY: &str = "width='820' height='76' viewBox='0 0 820 76'";
 
 /// A line of text alone above a row; outlines of the kernel's blocks, and orders beside the letter of
 /// its cells.
-const KERNEL_ROWS: &str = "<text x='188' y='10'>the 2 calls above 1021 times more</text>\n\
+pub(crate) const KERNEL_ROWS: &str =
+    "<text x='188' y='10'>the 2 calls above 1021 times more</text>\n\
      <text x='8' y='24'>kernel</text><text x='336' y='24'> 0:N</text><rect x='384' y='14' \
      width='24' height='12' fill='#3d3d3d'/><text x='386' y='23' font-size='8' \
      fill='#ffffff'>K</text><rect x='408' y='14' width='8' height='12' fill='#7fbf7b'/><rect \
@@ -269,14 +251,14 @@ const KERNEL_ROWS: &str = "<text x='188' y='10'>the 2 calls above 1021 times mor
      stroke='#3d3d3d' stroke-width='2' paint-order='stroke'>2</text>";
 
 /// The first frame of each block, whose cells and pageblocks have no room for more numbers.
-const KERNEL_NUMBERS: &str =
+pub(crate) const KERNEL_NUMBERS: &str =
     "<text x='384' y='60'>block 0</text><text x='384' y='72'>frame 0</text>\n\
      <text x='464' y='60'>block 1</text><text x='464' y='72'>frame 4</text>\n\
      <text x='544' y='60'>block 2</text><text x='544' y='72'>frame 8</text>\n";
 
 /// The size at a quarter, a third and four times the scale.
-const QUARTER: &str = "width='205' height='38' viewBox='0 0 820 150'";
+pub(crate) const QUARTER: &str = "width='205' height='38' viewBox='0 0 820 150'";
 
-const THIRD: &str = "width='271' height='50' viewBox='0 0 820 150'";
+pub(crate) const THIRD: &str = "width='271' height='50' viewBox='0 0 820 150'";
 
-const FOURFOLD: &str = "width='3280' height='600' viewBox='0 0 820 150'";
+pub(crate) const FOURFOLD: &str = "width='3280' height='600' viewBox='0 0 820 150'";

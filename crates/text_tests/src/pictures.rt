@@ -1,5 +1,8 @@
 //! Rows drawn as a picture.
-use crate::picture_parts::{PARTS, Part};
+use crate::picture_parts::{
+    EMPTY, FOLDED, FOLDED_ROWS, FOURFOLD, KERNEL, KERNEL_NUMBERS, KERNEL_ROWS, LEGEND, MARKED,
+    NAMES, NARROW, NARROW_ROW, QUARTER, THIRD, UNNAMED,
+};
 use hp_pictures::{BlockPicture, FreeBlock, KernelBlock, Move, RowPicture};
 use hp_scenario::Scenario;
 use hp_svg::picture_of;
@@ -238,32 +241,84 @@ fn is_drawn(alloc: Global) -> Result<bool, AllocError> {
     Ok(drawn.as_str() == PICTURE)
 }
 
-/// Returns all parts. No caller's proof has to write the table out.
-fn all_parts() -> &'static [Part] {
-    PARTS
+/// Returns whether the picture of rows has a part.
+fn has_part(
+    alloc: Global,
+    owners: &[Words],
+    cell: u8,
+    scale: u16,
+    drawn: &[Row],
+    part: &str,
+) -> Result<bool, AllocError> {
+    let drawn = picture(alloc, owners, cell, scale, drawn)?;
+    Ok(drawn.as_str().contains(part))
 }
 
-/// Returns whether a picture has its part.
-fn is_part_drawn(alloc: Global, part: &Part) -> Result<bool, AllocError> {
-    let (names, cell, scale, rows, text) = *part;
-    let drawn = picture(alloc, names, cell, scale, rows)?;
-    Ok(drawn.as_str().contains(text))
+fn all_characters_are_explained(alloc: Global) -> Result<bool, AllocError> {
+    has_part(alloc, NAMES, 1, 100, MARKED, LEGEND)
 }
 
-/// Returns whether pictures have their parts.
-fn are_parts_drawn(alloc: Global, parts: &[Part]) -> Result<bool, AllocError> {
-    for part in parts {
-        if !is_part_drawn(alloc, part)? {
-            return Ok(false);
-        }
-    }
-    Ok(true)
+fn narrow_cells_have_no_letters(alloc: Global) -> Result<bool, AllocError> {
+    has_part(alloc, &["db"], 3, 100, NARROW, NARROW_ROW)
+}
+
+fn an_owner_without_a_name_is_explained(alloc: Global) -> Result<bool, AllocError> {
+    has_part(alloc, &["db"], 3, 100, NARROW, UNNAMED)
+}
+
+fn wide_rows_are_folded(alloc: Global) -> Result<bool, AllocError> {
+    has_part(alloc, &[], 255, 100, FOLDED, FOLDED_ROWS)
+}
+
+fn no_rows_have_a_size(alloc: Global) -> Result<bool, AllocError> {
+    has_part(alloc, &[], 8, 100, &[], EMPTY)
+}
+
+fn kernel_blocks_are_outlined(alloc: Global) -> Result<bool, AllocError> {
+    has_part(alloc, &[], 8, 100, KERNEL, KERNEL_ROWS)
+}
+
+fn frames_are_numbered(alloc: Global) -> Result<bool, AllocError> {
+    has_part(alloc, &[], 8, 100, KERNEL, KERNEL_NUMBERS)
+}
+
+fn is_scaled(alloc: Global, scale: u16, size: &str) -> Result<bool, AllocError> {
+    has_part(alloc, &["db"], 8, scale, ROWS, size)
 }
 
 #[test]
 fn rows_are_drawn(rt: HostRuntime) -> Result<(), Fail> {
     assert!(rt; is_drawn(rt.alloc())?);
-    assert!(rt; are_parts_drawn(rt.alloc(), all_parts())?);
+    Ok(())
+}
+
+#[test]
+fn legends_are_drawn(rt: HostRuntime) -> Result<(), Fail> {
+    assert!(rt; all_characters_are_explained(rt.alloc())?);
+    assert!(rt; an_owner_without_a_name_is_explained(rt.alloc())?);
+    Ok(())
+}
+
+#[test]
+fn cells_of_each_width_are_drawn(rt: HostRuntime) -> Result<(), Fail> {
+    assert!(rt; narrow_cells_have_no_letters(rt.alloc())?);
+    assert!(rt; wide_rows_are_folded(rt.alloc())?);
+    assert!(rt; no_rows_have_a_size(rt.alloc())?);
+    Ok(())
+}
+
+#[test]
+fn kernel_blocks_and_numbers_are_drawn(rt: HostRuntime) -> Result<(), Fail> {
+    assert!(rt; kernel_blocks_are_outlined(rt.alloc())?);
+    assert!(rt; frames_are_numbered(rt.alloc())?);
+    Ok(())
+}
+
+#[test]
+fn pictures_are_scaled(rt: HostRuntime) -> Result<(), Fail> {
+    assert!(rt; is_scaled(rt.alloc(), 25, QUARTER)?);
+    assert!(rt; is_scaled(rt.alloc(), 33, THIRD)?);
+    assert!(rt; is_scaled(rt.alloc(), 400, FOURFOLD)?);
     Ok(())
 }
 
