@@ -1,0 +1,6 @@
+pub mod Equal
+pub mod ListNumbers
+pub mod Parts
+pub mod PlainTexts
+pub mod Splicing
+pub mod Tellings

@@ -1,5 +1,5 @@
 -- Lines of plain characters.
-use Rattle.std.specs.Prelude.{ℕ, ◌≡◌, ◌≢◌, ◌×◌, ◌<◌, ◌≤◌, List, [], ◌∷◌, ◌++◌}
+use Rattle.std.specs.Prelude.{ℕ, ◌≡◌, ◌≢◌, ◌<◌, ◌≤◌, List, [], ◌∷◌, ◌++◌}
 use Rattle.std.specs.List.{AllByRecursion}
 
 -- a character that ASCII can show, but `<`

@@ -1,5 +1,5 @@
 -- The rows of a trace so far.
-use Rattle.std.specs.Prelude.{ℕ, List, Option, Some, None}
+use Rattle.std.specs.Prelude.{ℕ, List, Option}
 use Rattle.hp_plain.specs.Image.{Pictured}
 
 -- their text, the state that the last one shows, and the serials of the steps that are not undone

@@ -1,6 +1,7 @@
 //! What changed of the memory blocks and the pageblocks.
 ghost use Rattle.std.specs.Prelude.{◌≡◌, IfOk, OnOk};
-ghost use Rattle.hp_trace_json.specs.Changes.{AreBlocksTold, ArePageblocksTold, SetsMobility, SetsRow};
+ghost use Rattle.hp_units.specs.Arithmetic.{pageblock_count};
+ghost use Rattle.hp_trace_json.specs.Changes.{BlocksTold, PageblocksTold, SetsMobility, SetsRow};
 ghost use Rattle.hp_trace_json.specs.Told.{AddsIf};
 ghost use Rattle.hp_trace_json.specs.Parts.{is_unmovable, row_in, unmovable_in};
 
@@ -32,7 +33,7 @@ pub(crate) fn blocks_told(
     was: &Option<Image>,
     now: &Image,
 ) -> Result<Vec<BlockNow>, AllocError>
-    ensures { IfOk result (λ told. AreBlocksTold was.now now.now told.items) }
+    ensures { IfOk result (λ told. BlocksTold was.now now.now now.now.layout.blocks told.items) }
 {
     let mut told = Vec::new(alloc);
     for number in 0..now.layout().blocks() {
@@ -73,7 +74,8 @@ pub(crate) fn pageblocks_told(
     was: &Option<Image>,
     now: &Image,
 ) -> Result<Vec<PageblockNow>, AllocError>
-    ensures { IfOk result (λ told. ArePageblocksTold was.now now.now told.items) }
+    ensures { IfOk result
+        (λ told. PageblocksTold was.now now.now (pageblock_count now.now.layout) told.items) }
 {
     let mut told = Vec::new(alloc);
     let layout = now.layout();

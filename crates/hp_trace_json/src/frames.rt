@@ -1,6 +1,7 @@
 //! What changed of the kernel's blocks and the owners' pages.
 ghost use Rattle.std.specs.Prelude.{ℕ, ◌≡◌, ◌≢◌, IfOk, OnOk};
-ghost use Rattle.hp_trace_json.specs.Changes.{AreKernelBlocksTold, ArePagesTold, NoOwnersPages, SetsFrame, SetsOrder, TellsOwnersPages};
+ghost use Rattle.hp_units.specs.Arithmetic.{frame_count};
+ghost use Rattle.hp_trace_json.specs.Changes.{KernelTold, NoOwnersPages, OwnersPagesTold, PagesTold, SetsFrame, SetsOrder};
 ghost use Rattle.hp_trace_json.specs.Told.{AddsIf};
 ghost use Rattle.hp_trace_json.specs.Parts.{kernel_in, page_in};
 
@@ -34,7 +35,7 @@ pub(crate) fn kernel_told(
     was: &Option<Image>,
     now: &Image,
 ) -> Result<Vec<KernelNow>, AllocError>
-    ensures { IfOk result (λ told. AreKernelBlocksTold was.now now.now told.items) }
+    ensures { IfOk result (λ told. KernelTold was.now now.now (frame_count now.now.layout) told.items) }
 {
     let mut told = Vec::new(alloc);
     for number in 0..now.layout().frames() {
@@ -75,7 +76,7 @@ pub(crate) fn pages_told(
     was: &Option<Image>,
     now: &Image,
 ) -> Result<Vec<PageNow>, AllocError>
-    ensures { IfOk result (λ told. ArePagesTold was.now now.now told.items) }
+    ensures { IfOk result (λ told. PagesTold was.now now.now now.now.layout.owners told.items) }
 {
     let mut told = Vec::new(alloc);
     for number in 0..now.layout().owners() {
@@ -92,7 +93,7 @@ fn owners_pages_told(
     now: &Image,
     owner: Owner,
 ) -> Result<Vec<PageNow>, AllocError>
-    ensures told { IfOk result (λ told. TellsOwnersPages was.now now.now owner told.items) }
+    ensures told { IfOk result (λ told. OwnersPagesTold was.now now.now owner now.now.layout.pages told.items) }
     ensures others { IfOk result (λ told. (other : ℕ) → other ≢ owner → NoOwnersPages other told.items) }
 {
     let mut told = Vec::new(alloc);

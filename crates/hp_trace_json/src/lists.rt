@@ -1,7 +1,7 @@
 //! What changed of the free lists and the processors' lists.
 ghost use Rattle.std.specs.Prelude.{◌≡◌, ◌+◌, ◌*◌, IfOk, OnOk};
 ghost use Rattle.hp_units.specs.Memory.{class_index, pool_index};
-ghost use Rattle.hp_trace_json.specs.Changes.{AreCpuListsTold, AreFreeListsTold, SplicesCpu, SplicesFree};
+ghost use Rattle.hp_trace_json.specs.Changes.{CpuListsTold, FreeListsTold, SplicesCpu, SplicesFree};
 ghost use Rattle.hp_trace_json.specs.Parts.{cpu_list_at, free_list_at, pool_numbered};
 ghost use Rattle.hp_trace_json.specs.Told.{AddsIf};
 
@@ -38,7 +38,8 @@ pub(crate) fn free_lists_told(
     was: &Option<Image>,
     now: &Image,
 ) -> Result<Vec<FreeListNow>, AllocError>
-    ensures { IfOk result (λ told. AreFreeListsTold was.now now.now told.items) }
+    ensures { IfOk result
+        (λ told. FreeListsTold was.now now.now (5 * (now.now.layout.order + 1)) told.items) }
 {
     let mut told = Vec::new(alloc);
     for number in 0..5 * (now.layout().order() + 1) {
@@ -86,7 +87,7 @@ pub(crate) fn cpu_lists_told(
     was: &Option<Image>,
     now: &Image,
 ) -> Result<Vec<CpuListNow>, AllocError>
-    ensures { IfOk result (λ told. AreCpuListsTold was.now now.now told.items) }
+    ensures { IfOk result (λ told. CpuListsTold was.now now.now (3 * now.now.layout.cpus) told.items) }
 {
     let mut told = Vec::new(alloc);
     for number in 0..3 * now.layout().cpus() {

@@ -1,5 +1,5 @@
 //! The steps that are not undone, by their serials.
-ghost use Rattle.std.specs.Prelude.{◌≡◌, [], IfOk, OnErr, OnOk, drop, length};
+ghost use Rattle.std.specs.Prelude.{◌≡◌, ◌≤◌, ◌⊎◌, [], IfOk, OnOk, drop, length};
 ghost use Rattle.hp_trace_json.specs.Steps.{steps_after};
 
 use hp_units::Serial;
@@ -59,6 +59,9 @@ impl Steps {
 
     /// Returns how many of the steps are left, if there are `count` steps.
     fn kept_of(&self, count: u64) -> usize
+        ensures low { result ≤ count }
+        ensures within { result ≤ length self.now }
+        ensures most { (result ≡ count) ⊎ (result ≡ length self.now) }
     {
         let all = self.serials.len();
         if count < all as u64 { count as usize } else { all }

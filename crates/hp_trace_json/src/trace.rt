@@ -1,10 +1,10 @@
 //! The rows of a trace, as lines of JSON.
 ghost use Rattle.std.specs.Prelude.{◌≡◌, [], IfOk, None, OnOk, Some, length, string_bytes};
+ghost use Rattle.std.specs.Option.{option_map_or};
 ghost use Rattle.hp_units.specs.History.{net_of};
 ghost use Rattle.hp_trace_json.specs.Ascii.{AddsLine};
 ghost use Rattle.hp_trace_json.specs.Parts.{state_of};
 ghost use Rattle.hp_trace_json.specs.Steps.{steps_after};
-ghost use Rattle.hp_trace_json.specs.Traces.{serial_of};
 
 use crate::ascii::write_line;
 use crate::change::Change;
@@ -85,7 +85,7 @@ impl JsonTrace {
         ensures line { OnOk result (AddsLine self.old.text self.new.text) }
         ensures seen { OnOk result (self.new.seen ≡ Some (state_of machine.now)) }
         ensures steps { OnOk result (self.new.steps ≡ steps_after self.old.steps
-            (length (net_of machine.now.history)) (serial_of row.now.receipt)) }
+            (length (net_of machine.now.history)) (option_map_or (λ r. r.now.serial) row.now.receipt 0)) }
     {
         let before = self.steps.len() as u64;
         let dropped = self.steps.follow(alloc, machine.journal_len(), serial_of(row.receipt))?;
@@ -129,7 +129,7 @@ impl JsonTrace {
 
 /// Returns the serial of a call; 0 if there was none.
 fn serial_of(receipt: Option<&Receipt>) -> Serial
-    ensures { result ≡ serial_of receipt }
+    ensures { result ≡ option_map_or (λ r. r.now.serial) receipt.entry 0 }
 {
     match receipt {
         Some(receipt) => receipt.serial,

@@ -1,6 +1,6 @@
 //! What changed of the words of pages.
 ghost use Rattle.std.specs.Prelude.{ℕ, ◌≡◌, ◌≢◌, IfOk, OnOk, Some};
-ghost use Rattle.hp_trace_json.specs.Changes.{AreWordsTold, NoOwnersWords, NoWords, SetsWord, TellsOwnersWords, TellsWords};
+ghost use Rattle.hp_trace_json.specs.Changes.{NoOwnersWords, NoWords, OwnersWordsTold, PagesWordsTold, SetsWord, WordsTold};
 ghost use Rattle.hp_trace_json.specs.Told.{AddsIf};
 ghost use Rattle.hp_trace_json.specs.Parts.{word_of, words_in};
 
@@ -27,7 +27,7 @@ pub(crate) fn words_told(
     was: &Option<Image>,
     now: &Image,
 ) -> Result<Vec<WordNow>, AllocError>
-    ensures { IfOk result (λ told. AreWordsTold was.now now.now told.items) }
+    ensures { IfOk result (λ told. WordsTold was.now now.now now.now.layout.owners told.items) }
 {
     let mut told = Vec::new(alloc);
     for number in 0..now.layout().owners() {
@@ -44,7 +44,7 @@ fn owners_words_told(
     now: &Image,
     owner: Owner,
 ) -> Result<Vec<WordNow>, AllocError>
-    ensures told { IfOk result (λ told. TellsOwnersWords was.now now.now owner told.items) }
+    ensures told { IfOk result (λ told. OwnersWordsTold was.now now.now owner now.now.layout.pages told.items) }
     ensures others { IfOk result (λ told. (other : ℕ) → other ≢ owner → NoOwnersWords other told.items) }
 {
     let mut told = Vec::new(alloc);
@@ -67,9 +67,9 @@ fn pages_words_told(
     was: &[u64],
     now: &[u64],
 ) -> Result<Vec<WordNow>, AllocError>
-    ensures told { IfOk result (λ told. TellsWords owner page was.now now.now count told.items) }
-    ensures owners { IfOk result (λ told. (other : ℕ) → other ≢ owner → NoOwnersWords other told.items) }
-    ensures pages { IfOk result (λ told. (other : ℕ) → other ≢ page → NoWords owner other told.items) }
+    ensures told { IfOk result (λ told. PagesWordsTold owner page was.now now.now count told.items) }
+    ensures others { IfOk result
+        (λ told. (o p : ℕ) → (o ≡ owner → p ≡ page → ⊥) → NoWords o p told.items) }
 {
     let mut told = Vec::new(alloc);
     if was == now {

@@ -1,0 +1,20 @@
+use Rattle.std.proofs.Common.{◌≡◌, ◌+◌, ℕ, List, Some, subst, sym}
+use Rattle.hp_plain.specs.Image.{Pictured}
+use Rattle.hp_trace_json.specs.declared.frames.PageNow.{PageNow}
+use Rattle.hp_trace_json.specs.Changes.{NoOwnersPages, OwnersPagesTold, PagesTold}
+use Rattle.hp_trace_json.proofs.Tellings.{below_more, below_none}
+use Rattle.hp_trace_json.proofs.Parts.{pages_join}
+use Rattle.hp_trace_json.proofs.frames.pages_told.Goals as goal
+
+pub loop-number-init : goal.loop-number-init
+loop-number-init c =
+    below_none (λ owner. OwnersPagesTold c.args.was.now c.args.now.now owner c.args.now.now.layout.pages)
+    NoOwnersPages (pages_join c.args.was.now c.args.now.now)
+
+pub loop-number-preserved : goal.loop-number-preserved
+loop-number-preserved c =
+    subst (λ (l : List PageNow). PagesTold c.args.was.now c.args.now.now (c.loop-number.number + 1) l)
+    (sym c.in_ok-extend_from_slice.ensures.items)
+    (below_more (λ owner. OwnersPagesTold c.args.was.now c.args.now.now owner c.args.now.now.layout.pages)
+    NoOwnersPages (pages_join c.args.was.now c.args.now.now) c.loop-number.number _ _ c.loop-number.invariant
+    c.in_ok-of_owner.ensures.told c.in_ok-of_owner.ensures.others)
