@@ -1,4 +1,5 @@
 pub mod Equal
+pub mod Following
 pub mod ListNumbers
 pub mod Parts
 pub mod PlainTexts

@@ -1,6 +1,7 @@
 -- How entries of pages and words are joined.
-use Rattle.std.proofs.Common.{ℕ, List, Option, Some}
+use Rattle.std.proofs.Common.{◌≡◌, ℕ, List, Option, Some, subst}
 use Rattle.hp_plain.specs.Image.{Pictured}
+use Rattle.hp_trace_json.specs.declared.words.WordNow.{WordNow}
 use Rattle.hp_trace_json.specs.Changes.{NoOwnersPages, NoOwnersWords, NoWords, OwnersPagesTold, OwnersWordsTold, PagesWordsTold, SetsFrame, SetsWord, is_page, is_word}
 use Rattle.hp_trace_json.specs.Parts.{page_in, word_of, words_in}
 use Rattle.hp_trace_json.specs.Told.{IsSilent, Tells}
@@ -35,3 +36,12 @@ words_join was now owner =
     (λ page. PagesWordsTold owner page (words_in was owner page) (words_in (Some now) owner page)
     now.layout.words)
     (NoWords owner) (owner_joins was now owner) now.layout.pages
+
+-- what is told of a page's words, by equal words and an equal count
+pub words_at_as : (owner page : ℕ) (was now other next : List ℕ) (count most : ℕ) (told : List WordNow)
+    → was ≡ other → now ≡ next → count ≡ most → PagesWordsTold owner page was now count told
+    → PagesWordsTold owner page other next most told
+words_at_as owner page was now other next count most told first second third given =
+    subst (λ (l : List ℕ). PagesWordsTold owner page l next most told) first
+    (subst (λ (l : List ℕ). PagesWordsTold owner page was l most told) second
+    (subst (λ (n : ℕ). PagesWordsTold owner page was now n told) third given))

@@ -19,6 +19,13 @@ silent_first : {T : Type 0} (is : T → Bool) (xs ys : List T) → IsSilent is x
     → filter is (xs ++ ys) ≡ filter is ys
 silent_first is xs ys silent = filter-append is xs ys ∙ ap (λ l. l ++ filter is ys) silent
 
+pub silent_none : {T : Type 0} (is : T → Bool) (xs : List T) → xs ≡ [] → IsSilent is xs
+silent_none is xs empty = ap (λ l. filter is l) empty
+
+pub silent_both : {T : Type 0} (is : T → Bool) (xs ys : List T) → IsSilent is xs → IsSilent is ys
+    → IsSilent is (xs ++ ys)
+silent_both is xs ys first last = silent_first is xs ys first ∙ last
+
 silent_last : {T : Type 0} (is : T → Bool) (xs ys : List T) → IsSilent is ys
     → filter is (xs ++ ys) ≡ filter is xs
 silent_last is xs ys silent =
@@ -34,7 +41,7 @@ pub key_joins : {T V : Type 0} (is : T → Bool) (Sets : V → V → T → Type 
 key_joins is Sets was now =
     record {
       none = refl;
-      both = λ xs ys first last. silent_first is xs ys first ∙ last;
+      both = silent_both is;
       before = λ xs ys told silent. tells_as is Sets was now xs (xs ++ ys) (silent_last is xs ys silent) told;
       after = λ xs ys silent told. tells_as is Sets was now ys (xs ++ ys) (silent_first is xs ys silent) told;
     }
@@ -74,8 +81,11 @@ below_joins Said Silent joins n =
     }
 
 pub below_none : {T : Type 0} (Said Silent : ℕ → List T → Type 0) → ((k : ℕ) → Joins (Said k) (Silent k))
-    → TellsBelow Said Silent 0 []
-below_none Said Silent joins = λ k. (λ lt. absurd (omega (arith, lt)), λ le. (joins k).none)
+    → (xs : List T) → xs ≡ [] → TellsBelow Said Silent 0 xs
+below_none Said Silent joins xs empty = λ k. (
+  λ lt. absurd (omega (arith, lt)),
+  λ le. subst (λ l. Silent k l) (sym empty) (joins k).none,
+)
 
 pub below_more : {T : Type 0} (Said Silent : ℕ → List T → Type 0) → ((k : ℕ) → Joins (Said k) (Silent k))
     → (n : ℕ) (xs ys : List T) → TellsBelow Said Silent n xs → Said n ys
@@ -99,8 +109,11 @@ pub values_join : {T V : Type 0} (is : ℕ → T → Bool) (Sets : V → V → T
 values_join is Sets was now k = key_joins (is k) Sets (was k) (now k)
 
 pub values_none : {T V : Type 0} (is : ℕ → T → Bool) (Sets : V → V → T → Type 0) (was now : ℕ → V)
-    → TellsBelow (λ k. Tells (is k) Sets (was k) (now k)) (λ k. IsSilent (is k)) 0 []
-values_none is Sets was now = below_none _ _ (values_join is Sets was now)
+    → (xs : List T) → xs ≡ []
+    → TellsBelow (λ k. Tells (is k) Sets (was k) (now k)) (λ k. IsSilent (is k)) 0 xs
+values_none is Sets was now xs empty =
+    below_none (λ k. Tells (is k) Sets (was k) (now k)) (λ k. IsSilent (is k)) (values_join is Sets was now) xs
+    empty
 
 pub values_more : {T V : Type 0} (is : ℕ → T → Bool) (Sets : V → V → T → Type 0) (was now : ℕ → V)
     (Is : T → Type 0) (n : ℕ) (before after : V) (old new : List T) → before ≡ was n → after ≡ now n

@@ -1,5 +1,5 @@
 //! The steps that are not undone, by their serials.
-ghost use Rattle.std.specs.Prelude.{◌≡◌, ◌≤◌, ◌⊎◌, [], IfOk, OnOk, drop, length};
+ghost use Rattle.std.specs.Prelude.{◌≡◌, ◌≤◌, ◌⊎◌, [], ◌∷◌, ◌++◌, IfOk, OnOk, drop, if◌then◌else◌, length};
 ghost use Rattle.hp_trace_json.specs.Steps.{steps_after};
 
 use hp_units::Serial;
@@ -51,9 +51,7 @@ impl Steps {
         let kept = self.kept_of(count);
         let dropped = Vec::from_slice(alloc, &self.serials[kept..])?;
         self.serials.truncate(kept);
-        if (kept as u64) < count {
-            self.serials.push(serial)?;
-        }
+        add_step(&mut self.serials, (kept as u64) < count, serial)?;
         Ok(dropped)
     }
 
@@ -66,4 +64,15 @@ impl Steps {
         let all = self.serials.len();
         if count < all as u64 { count as usize } else { all }
     }
+}
+
+/// Adds a step, if there is one more.
+fn add_step(serials: &mut Vec<Serial>, is_step: bool, serial: Serial) -> Result<(), AllocError>
+    ensures { OnOk result
+        (serials.new.items ≡ serials.old.items ++ (if is_step then serial ∷ [] else [])) }
+{
+    if is_step {
+        serials.push(serial)?;
+    }
+    Ok(())
 }

@@ -100,17 +100,18 @@ impl JsonTrace {
         write_line(&mut self.text, json.as_str())
     }
 
-    /// Follows a call whose row is left out.
+    /// Follows a line or a call whose row is left out.
     pub fn pass(
         &mut self,
         alloc: Global,
         machine: &Machine,
-        receipt: &Receipt,
+        receipt: Option<&Receipt>,
     ) -> Result<(), AllocError>
         ensures { OnOk result (self.new ≡ record self.old { steps = steps_after self.old.steps
-            (length (net_of machine.now.history)) receipt.now.serial }) }
+            (length (net_of machine.now.history)) (option_map_or (λ r. r.now.serial) receipt.entry 0) }) }
     {
-        self.steps.follow(alloc, machine.journal_len(), receipt.serial)?;
+        let serial = serial_of(receipt);
+        self.steps.follow(alloc, machine.journal_len(), serial)?;
         Ok(())
     }
 

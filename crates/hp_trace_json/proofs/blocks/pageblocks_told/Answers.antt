@@ -8,6 +8,7 @@ use Rattle.hp_trace_json.proofs.blocks.pageblocks_told.Goals as goal
 pub loop-number-init : goal.loop-number-init
 loop-number-init c =
     values_none is_pageblock SetsMobility (unmovable_in c.args.was.now) (unmovable_in (Some c.args.now.now))
+    c.new-told.result.items c.new-told.ensures.items
 
 pub loop-number-preserved : goal.loop-number-preserved
 loop-number-preserved c =

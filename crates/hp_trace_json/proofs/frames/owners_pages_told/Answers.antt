@@ -1,15 +1,16 @@
-use Rattle.std.proofs.Common.{◌≡◌, Some, refl}
+use Rattle.std.proofs.Common.{◌≡◌, Some}
 use Rattle.hp_trace_json.specs.Changes.{SetsFrame, is_page}
 use Rattle.hp_trace_json.specs.Parts.{page_in}
 use Rattle.hp_trace_json.proofs.Equal.{are_keys, first_other, last_other}
-use Rattle.hp_trace_json.proofs.Tellings.{silent_added, values_more, values_none}
+use Rattle.hp_trace_json.proofs.Tellings.{silent_added, silent_none, values_more, values_none}
 use Rattle.hp_trace_json.proofs.frames.owners_pages_told.Goals as goal
 
 pub loop-number-init : goal.loop-number-init
 loop-number-init c =
     let o = c.args.owner in (
-      values_none (is_page o) SetsFrame (page_in c.args.was.now o) (page_in (Some c.args.now.now) o),
-      λ other differs page. refl,
+      values_none (is_page o) SetsFrame (page_in c.args.was.now o) (page_in (Some c.args.now.now) o)
+          c.new-told.result.items c.new-told.ensures.items,
+      λ other differs page. silent_none (is_page other page) c.new-told.result.items c.new-told.ensures.items,
     )
 
 pub loop-number-preserved : goal.loop-number-preserved

@@ -9,6 +9,7 @@ use Rattle.hp_trace_json.proofs.lists.cpu_lists_told.Goals as goal
 pub loop-number-init : goal.loop-number-init
 loop-number-init c =
     values_none is_cpu_list SplicesCpu (cpu_list_at c.args.was.now) (cpu_list_at (Some c.args.now.now))
+    c.new-told.result.items c.new-told.ensures.items
 
 pub loop-number-preserved : goal.loop-number-preserved
 loop-number-preserved c =

@@ -9,6 +9,7 @@ use Rattle.hp_trace_json.proofs.lists.free_lists_told.Goals as goal
 pub loop-number-init : goal.loop-number-init
 loop-number-init c =
     values_none is_free_list SplicesFree (free_list_at c.args.was.now) (free_list_at (Some c.args.now.now))
+    c.new-told.result.items c.new-told.ensures.items
 
 pub loop-number-preserved : goal.loop-number-preserved
 loop-number-preserved c =
