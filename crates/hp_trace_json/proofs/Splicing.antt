@@ -20,10 +20,10 @@ splices was now put at end gone start ends goes comes =
     ∙ (ends.0.2 ∙ ap (λ (k : ℕ). drop k now) (omega (arith, ends.0.1))) in
     record {
       leads = append_assoc (take at was) put (drop (at + gone) was)
-      ∙ (ap (λ (l : List ℕ). l ++ (put ++ drop (at + gone) was)) start.0.2
-      ∙ (ap (λ (l : List ℕ). take at now ++ (l ++ drop (at + gone) was)) comes
-      ∙ (ap (λ (l : List ℕ). take at now ++ (take (length now - end - at) (drop at now) ++ l)) tail
-      ∙ whole now at (length now - end - at))));
+          ∙ (ap (λ (l : List ℕ). l ++ (put ++ drop (at + gone) was)) start.0.2
+          ∙ (ap (λ (l : List ℕ). take at now ++ (l ++ drop (at + gone) was)) comes
+          ∙ (ap (λ (l : List ℕ). take at now ++ (take (length now - end - at) (drop at now) ++ l)) tail
+          ∙ whole now at (length now - end - at))));
       begins = start;
       ends = subst (λ (n : ℕ). is_last_end was now at n) (sym back) ends;
     }

@@ -82,7 +82,12 @@ pub(crate) fn pageblocks_told(
     for number in 0..layout.blocks() * layout.pageblocks() {
         let pageblock = Pageblock(number);
         let was_unmovable = unmovable_in(was, pageblock);
-        tell_pageblock(&mut told, pageblock, was_unmovable, is_unmovable(now.kind(pageblock)))?;
+        tell_pageblock(
+            &mut told,
+            pageblock,
+            was_unmovable,
+            is_unmovable(now.kind(pageblock)),
+        )?;
     }
     Ok(told)
 }
@@ -98,7 +103,10 @@ fn tell_pageblock(
         told.new.items) }
 {
     if was != is_unmovable {
-        told.push(PageblockNow { pageblock, is_unmovable })?;
+        told.push(PageblockNow {
+            pageblock,
+            is_unmovable,
+        })?;
     }
     Ok(())
 }

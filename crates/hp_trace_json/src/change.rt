@@ -66,11 +66,7 @@ impl Model for Change {
 }
 
 /// Returns how a state differs from the one before it; from nothing, if there is none.
-pub fn change_between(
-    alloc: Global,
-    was: &Option<Image>,
-    now: &Image,
-) -> Result<Change, AllocError>
+pub fn change_between(alloc: Global, was: &Option<Image>, now: &Image) -> Result<Change, AllocError>
     ensures { IfOk result (IsChange was.now now.now) }
 {
     let blocks = blocks_told(alloc, was, now)?;

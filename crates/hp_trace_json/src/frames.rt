@@ -40,7 +40,12 @@ pub(crate) fn kernel_told(
     let mut told = Vec::new(alloc);
     for number in 0..now.layout().frames() {
         let frame = Frame(number);
-        tell_kernel(&mut told, frame, kernel_in(was, frame), now.kernel_at(frame))?;
+        tell_kernel(
+            &mut told,
+            frame,
+            kernel_in(was, frame),
+            now.kernel_at(frame),
+        )?;
     }
     Ok(told)
 }

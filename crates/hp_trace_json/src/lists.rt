@@ -46,7 +46,14 @@ pub(crate) fn free_lists_told(
         let class = Class::numbered(number % 5);
         let order = Order(number / 5);
         let list = now.list(class, order);
-        tell_free_list(&mut told, alloc, class, order, free_list_in(was, class, order), list)?;
+        tell_free_list(
+            &mut told,
+            alloc,
+            class,
+            order,
+            free_list_in(was, class, order),
+            list,
+        )?;
     }
     Ok(told)
 }
@@ -67,7 +74,11 @@ fn tell_free_list(
         return Ok(());
     }
     let splice = splice_between(alloc, was, list)?;
-    told.push(FreeListNow { class, order, splice })?;
+    told.push(FreeListNow {
+        class,
+        order,
+        splice,
+    })?;
     Ok(())
 }
 
@@ -94,7 +105,14 @@ pub(crate) fn cpu_lists_told(
         let cpu = Cpu(number / 3);
         let pool = pool_numbered(number % 3);
         let list = now.cpu_list(cpu, pool);
-        tell_cpu_list(&mut told, alloc, cpu, pool, cpu_list_in(was, cpu, pool), list)?;
+        tell_cpu_list(
+            &mut told,
+            alloc,
+            cpu,
+            pool,
+            cpu_list_in(was, cpu, pool),
+            list,
+        )?;
     }
     Ok(told)
 }

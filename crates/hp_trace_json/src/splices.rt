@@ -9,9 +9,12 @@ use std::marker::Model;
 /// A change of a list: from a place on, some entries go and others come.
 #[derive(Drop)]
 pub struct Splice {
-    at: usize,
-    gone: usize,
-    put: Vec<Frame>,
+    /// The place.
+    pub at: usize,
+    /// How many entries go.
+    pub gone: usize,
+    /// The entries that come.
+    pub put: Vec<Frame>,
 }
 
 impl Model for Splice {
@@ -20,29 +23,6 @@ impl Model for Splice {
     ghost Value = { SpliceValue };
 
     ghost view = { λ s. record { at = s.at; gone = s.gone; put = s.put.items } };
-}
-
-impl Splice {
-    /// Returns the place from which on the list changes.
-    pub fn at(&self) -> usize
-        ensures { result ≡ self.now.at }
-    {
-        self.at
-    }
-
-    /// Returns how many entries go.
-    pub fn gone(&self) -> usize
-        ensures { result ≡ self.now.gone }
-    {
-        self.gone
-    }
-
-    /// Returns the entries that come.
-    pub fn put(&self) -> &[Frame]
-        ensures { result.now ≡ self.now.put }
-    {
-        self.put.as_slice()
-    }
 }
 
 /// Returns what makes one list of the other: all between their longest common start and end.

@@ -62,7 +62,11 @@ impl Steps {
         ensures most { (result ≡ count) ⊎ (result ≡ length self.now) }
     {
         let all = self.serials.len();
-        if count < all as u64 { count as usize } else { all }
+        if count < all as u64 {
+            count as usize
+        } else {
+            all
+        }
     }
 }
 

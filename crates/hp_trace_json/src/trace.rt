@@ -88,7 +88,9 @@ impl JsonTrace {
             (length (net_of machine.now.history)) (option_map_or (λ r. r.now.serial) row.now.receipt 0)) }
     {
         let before = self.steps.len() as u64;
-        let dropped = self.steps.follow(alloc, machine.journal_len(), serial_of(row.receipt))?;
+        let dropped = self
+            .steps
+            .follow(alloc, machine.journal_len(), serial_of(row.receipt))?;
         let change = self.seen.observe(alloc, machine)?;
         let told = RowJson {
             row,
@@ -107,8 +109,10 @@ impl JsonTrace {
         machine: &Machine,
         receipt: Option<&Receipt>,
     ) -> Result<(), AllocError>
-        ensures { OnOk result (self.new ≡ record self.old { steps = steps_after self.old.steps
-            (length (net_of machine.now.history)) (option_map_or (λ r. r.now.serial) receipt.entry 0) }) }
+        ensures { OnOk result (self.new ≡ record self.old {
+          steps = steps_after self.old.steps
+              (length (net_of machine.now.history)) (option_map_or (λ r. r.now.serial) receipt.entry 0);
+        }) }
     {
         let serial = serial_of(receipt);
         self.steps.follow(alloc, machine.journal_len(), serial)?;

@@ -76,7 +76,14 @@ fn pages_words_told(
         return Ok(told);
     }
     for index in 0..count {
-        tell_word(&mut told, owner, page, index, word_of(was, index), word_of(now, index))?;
+        tell_word(
+            &mut told,
+            owner,
+            page,
+            index,
+            word_of(was, index),
+            word_of(now, index),
+        )?;
     }
     Ok(told)
 }
@@ -94,7 +101,12 @@ fn tell_word(
         word told.old.items told.new.items) }
 {
     if was != word {
-        told.push(WordNow { owner, page, index, word })?;
+        told.push(WordNow {
+            owner,
+            page,
+            index,
+            word,
+        })?;
     }
     Ok(())
 }

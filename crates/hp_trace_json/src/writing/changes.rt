@@ -6,7 +6,7 @@ use crate::lists::{CpuListNow, FreeListNow};
 use crate::splices::Splice;
 use crate::words::WordNow;
 use crate::writing::keys::{name_of, write_auto, write_frame, write_order, write_row};
-use hp_units::{Auto, Frame, Owner, Page, Text};
+use hp_units::{Auto, Frame, Text};
 use indexmap::IndexSet;
 use json::Writer;
 use std::alloc::{AllocError, Global};
@@ -25,7 +25,12 @@ pub(super) fn write_change(
     out.begin_object()?;
     write_blocks(out, alloc, change.blocks.as_slice())?;
     write_pageblocks(out, alloc, change.pageblocks.as_slice())?;
-    write_lists(out, alloc, change.free_lists.as_slice(), change.cpu_lists.as_slice())?;
+    write_lists(
+        out,
+        alloc,
+        change.free_lists.as_slice(),
+        change.cpu_lists.as_slice(),
+    )?;
     write_kernel(out, alloc, change.kernel.as_slice())?;
     write_pages(out, alloc, names, change.pages.as_slice())?;
     write_words(out, alloc, names, change.words.as_slice())?;
@@ -108,42 +113,27 @@ fn write_lists(
     out.key("lists")?;
     out.begin_object()?;
     for told in free_lists {
-        write_free_list(out, alloc, told)?;
+        let class = told.class;
+        let order = told.order;
+        let key = format!(in alloc; "{class} {order}")?;
+        write_splice(out, key.as_str(), &told.splice)?;
     }
     for told in cpu_lists {
-        write_cpu_list(out, alloc, told)?;
+        let cpu = told.cpu;
+        let pool = told.pool;
+        let key = format!(in alloc; "cpu {cpu} {pool}")?;
+        write_splice(out, key.as_str(), &told.splice)?;
     }
     out.end_object()
 }
 
-/// Writes how a free list changed.
-fn write_free_list(
-    out: &mut Writer,
-    alloc: Global,
-    told: &FreeListNow,
-) -> Result<(), AllocError> {
-    let class = told.class;
-    let order = told.order;
-    let key = format!(in alloc; "{class} {order}")?;
-    out.key(key.as_str())?;
-    write_splice(out, &told.splice)
-}
-
-/// Writes how a processor's list changed.
-fn write_cpu_list(out: &mut Writer, alloc: Global, told: &CpuListNow) -> Result<(), AllocError> {
-    let cpu = told.cpu;
-    let pool = told.pool;
-    let key = format!(in alloc; "cpu {cpu} {pool}")?;
-    out.key(key.as_str())?;
-    write_splice(out, &told.splice)
-}
-
 /// Writes how a list changed; a place of 0, no entries that go, and none that come are left out.
-fn write_splice(out: &mut Writer, splice: &Splice) -> Result<(), AllocError> {
+fn write_splice(out: &mut Writer, key: &str, splice: &Splice) -> Result<(), AllocError> {
+    out.key(key)?;
     out.begin_object()?;
-    write_count(out, "at", splice.at())?;
-    write_count(out, "drop", splice.gone())?;
-    write_put(out, splice.put())?;
+    write_count(out, "at", splice.at)?;
+    write_count(out, "drop", splice.gone)?;
+    write_put(out, splice.put.as_slice())?;
     out.end_object()
 }
 
@@ -196,23 +186,13 @@ fn write_pages(
     out.key("pages")?;
     out.begin_object()?;
     for told in pages {
-        write_page_key(out, alloc, names, told.owner, told.page)?;
+        let name = name_of(names, told.owner);
+        let page = told.page;
+        let key = format!(in alloc; "{name} {page}")?;
+        out.key(key.as_str())?;
         write_frame(out, told.frame)?;
     }
     out.end_object()
-}
-
-/// Writes the key of a page.
-fn write_page_key(
-    out: &mut Writer,
-    alloc: Global,
-    names: &IndexSet<Text>,
-    owner: Owner,
-    page: Page,
-) -> Result<(), AllocError> {
-    let name = name_of(names, owner);
-    let key = format!(in alloc; "{name} {page}")?;
-    out.key(key.as_str())
 }
 
 /// Writes the words that changed, if any did.

@@ -147,21 +147,15 @@ fn write_map(
     out.string("map")?;
     out.string(name_of(names, owner))?;
     out.u64(u64::from(page))?;
-    match change {
-        FrameChange::Mapped(frame) => write_turn(out, None, Some(frame)),
-        FrameChange::Unmapped(frame) => write_turn(out, Some(frame), None),
-        FrameChange::Moved { was, now } => write_turn(out, Some(was), Some(now)),
-    }
-}
-
-/// Writes a frame before and now.
-fn write_turn(
-    out: &mut Writer,
-    was: Option<Frame>,
-    now: Option<Frame>,
-) -> Result<(), AllocError> {
-    write_frame(out, was)?;
-    write_frame(out, now)
+    write_frame(out, change.before())?;
+    write_frame(
+        out,
+        match change {
+            FrameChange::Mapped(frame) => Some(frame),
+            FrameChange::Unmapped(_) => None,
+            FrameChange::Moved { now, .. } => Some(now),
+        },
+    )
 }
 
 /// Writes that two frames exchanged their words.

@@ -52,19 +52,14 @@ fn write_layout(out: &mut Writer, layout: &Layout) -> Result<(), AllocError> {
 fn write_boots(out: &mut Writer, boots: &[Boot]) -> Result<(), AllocError> {
     out.begin_array()?;
     for boot in boots {
-        out.string(boot_word(*boot))?;
+        out.string(match boot {
+            Boot::Offline => "offline",
+            Boot::Normal => "normal",
+            Boot::Movable => "movable",
+            Boot::Absent => "absent",
+        })?;
     }
     out.end_array()
-}
-
-/// Returns the word for what a memory block is at boot.
-fn boot_word(boot: Boot) -> &'static str {
-    match boot {
-        Boot::Offline => "offline",
-        Boot::Normal => "normal",
-        Boot::Movable => "movable",
-        Boot::Absent => "absent",
-    }
 }
 
 /// Writes the owners' names.

@@ -52,7 +52,12 @@ pub(super) fn write_auto(out: &mut Writer, auto: Auto) -> Result<(), AllocError>
 pub(super) fn write_row(out: &mut Writer, row: &Row) -> Result<(), AllocError> {
     out.begin_object()?;
     out.key("state")?;
-    out.string(state_word(row.state))?;
+    out.string(match row.state {
+        State::Offline => "offline",
+        State::Online => "online",
+        State::Going => "going",
+        State::Absent => "absent",
+    })?;
     if let Some(zone) = row.zone {
         out.key("zone")?;
         out.string(match zone {
@@ -70,26 +75,11 @@ fn write_claim(out: &mut Writer, claim: Option<Claim>) -> Result<(), AllocError>
         out.key("op")?;
         out.u64(claim.op.0)?;
         out.key("wish")?;
-        out.string(wish_word(claim.wish))?;
+        out.string(match claim.wish {
+            Wish::Off => "off",
+            Wish::Normal => "normal",
+            Wish::Movable => "movable",
+        })?;
     }
     Ok(())
-}
-
-/// Returns the word for a state.
-fn state_word(state: State) -> &'static str {
-    match state {
-        State::Offline => "offline",
-        State::Online => "online",
-        State::Going => "going",
-        State::Absent => "absent",
-    }
-}
-
-/// Returns the word for a wish.
-fn wish_word(wish: Wish) -> &'static str {
-    match wish {
-        Wish::Off => "off",
-        Wish::Normal => "normal",
-        Wish::Movable => "movable",
-    }
 }

@@ -65,7 +65,10 @@ fn write_call(
 ) -> Result<(), AllocError> {
     match receipt {
         Some(receipt) => {
-            write_event_of(out, alloc, names, &receipt.event)?;
+            let mut words = String::new(alloc);
+            write_event_words(&mut words, names, &receipt.event)?;
+            out.key("call")?;
+            out.string(words.as_str())?;
             out.key("serial")?;
             out.u64(receipt.serial.0)?;
             write_answer(out, alloc, receipt.reply)
@@ -74,20 +77,8 @@ fn write_call(
     }
 }
 
-/// Writes a call, as a line has it without its processor.
-fn write_event_of(
-    out: &mut Writer,
-    alloc: Global,
-    names: &IndexSet<Text>,
-    event: &Event,
-) -> Result<(), AllocError> {
-    let mut words = String::new(alloc);
-    write_event_words(&mut words, names, event)?;
-    out.key("call")?;
-    out.string(words.as_str())
-}
-
-/// Writes an event; what control files alone can ask for is `probe 0x80` or `auto online`.
+/// Writes an event as a line has it without its processor; what control files alone can ask for is
+/// `probe 0x80` or `auto online`.
 fn write_event_words(
     out: &mut String,
     names: &IndexSet<Text>,
@@ -130,7 +121,11 @@ fn write_steps(
 ) -> Result<(), AllocError> {
     if goes_back(told.row.receipt) {
         out.key("drops")?;
-        write_serials(out, told.dropped)?;
+        out.begin_array()?;
+        for serial in told.dropped {
+            out.u64(serial.0)?;
+        }
+        out.end_array()?;
     }
     match told.journal {
         Some(deltas) => {
@@ -147,13 +142,4 @@ fn goes_back(receipt: Option<&Receipt>) -> bool {
         Some(receipt) => matches!(receipt.reply, Reply::Undone { .. } | Reply::Restored),
         None => false,
     }
-}
-
-/// Writes serials.
-fn write_serials(out: &mut Writer, serials: &[Serial]) -> Result<(), AllocError> {
-    out.begin_array()?;
-    for serial in serials {
-        out.u64(serial.0)?;
-    }
-    out.end_array()
 }
