@@ -1,8 +1,8 @@
 -- Plain characters, added one after another.
-use Rattle.std.proofs.Common.{◌≡◌, ℕ, List, [], ◌∷◌, ◌++◌, refl, sym, ap, ◌∙◌, append_assoc}
+use Rattle.std.proofs.Common.{ℕ, List, [], ◌∷◌, ◌++◌, sym, ap, ◌∙◌, append_assoc}
 use Rattle.std.proofs.lemmas.List.{append-nil}
 use Rattle.std.specs.List.{AllByRecursion}
-use Rattle.hp_trace_json.specs.Ascii.{AddsLine, AddsPlain, IsPlain}
+use Rattle.hp_trace_json.specs.Ascii.{AddsPlain, IsPlain}
 
 all_both : (xs ys : List ℕ) → AllByRecursion IsPlain xs → AllByRecursion IsPlain ys
     → AllByRecursion IsPlain (xs ++ ys)

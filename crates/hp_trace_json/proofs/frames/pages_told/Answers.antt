@@ -1,5 +1,4 @@
-use Rattle.std.proofs.Common.{◌≡◌, ◌+◌, ℕ, List, Some, ap, arith, subst, sym, ◌++◌, ◌∙◌}
-use Rattle.hp_plain.specs.Image.{Pictured}
+use Rattle.std.proofs.Common.{◌≡◌, ◌+◌, ℕ, List, ap, arith, subst, sym, ◌++◌, ◌∙◌}
 use Rattle.hp_trace_json.specs.declared.frames.PageNow.{PageNow}
 use Rattle.hp_trace_json.specs.Changes.{NoOwnersPages, OwnersPagesTold, PagesTold}
 use Rattle.hp_trace_json.proofs.Tellings.{below_more, below_none}

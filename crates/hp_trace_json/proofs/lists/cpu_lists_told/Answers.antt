@@ -1,4 +1,4 @@
-use Rattle.std.proofs.Common.{◌≡◌, ◌+◌, ◌*◌, ◌/◌, ℕ, Some, ap, ◌∙◌}
+use Rattle.std.proofs.Common.{◌≡◌, ◌/◌, Some, ap, ◌∙◌}
 use Rattle.hp_trace_json.specs.Changes.{SplicesCpu, is_cpu_list}
 use Rattle.hp_trace_json.specs.Parts.{cpu_list_at}
 use Rattle.hp_trace_json.proofs.Equal.{is_key, is_other}

@@ -1,4 +1,4 @@
-use Rattle.std.proofs.Common.{◌≡◌, ◌≢◌, ◌+◌, ℕ, List, Some, ap, arith, subst, sym, ◌++◌, ◌∙◌}
+use Rattle.std.proofs.Common.{◌≡◌, ◌+◌, ℕ, List, Some, ap, arith, subst, sym, ◌++◌, ◌∙◌}
 use Rattle.hp_trace_json.specs.declared.words.WordNow.{WordNow}
 use Rattle.hp_trace_json.specs.Changes.{NoOwnersWords, NoWords, OwnersWordsTold, PagesWordsTold, is_word}
 use Rattle.hp_trace_json.specs.Parts.{words_in}

@@ -1,5 +1,5 @@
-use Rattle.std.proofs.Common.{ap, sym, ◌++◌, ◌∙◌}
-use Rattle.hp_trace_json.proofs.Following.{dropped, followed}
+use Rattle.std.proofs.Common.{◌∙◌}
+use Rattle.hp_trace_json.proofs.Following.{dropped}
 use Rattle.hp_trace_json.proofs.steps.Steps.follow.Goals as goal
 
 pub returns-clause-dropped : goal.returns-clause-dropped
