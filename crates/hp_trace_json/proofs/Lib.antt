@@ -1,0 +1,7 @@
+pub mod Equal
+pub mod Following
+pub mod ListNumbers
+pub mod Parts
+pub mod PlainTexts
+pub mod Splicing
+pub mod Tellings

@@ -1,0 +1,7 @@
+pub mod Ascii
+pub mod Changes
+pub mod Parts
+pub mod Splices
+pub mod Steps
+pub mod Told
+pub mod Traces

@@ -1,0 +1,26 @@
+-- What entries tell of a part of a state, which has a value for each key: of each key whose value
+-- changed one entry, which makes the value now of the one before, and of the others nothing.
+use Rattle.std.specs.Prelude.{ℕ, ◌≡◌, ◌≢◌, ◌⊎◌, ◌<◌, ◌≤◌, Bool, List, [], ◌∷◌, ◌++◌}
+use Rattle.std.specs.List.{filter}
+
+-- of a key, whose entries are those that `is` tells, with a value before and now
+abbrev pub Tells : {T V : Type 0} → (is : T → Bool) → (Sets : V → V → T → Type 0) → (was now : V) → List T
+    → Type 0
+Tells is Sets was now told =
+    ((was ≡ now) × (filter is told ≡ []))
+    ⊎ ((x : _) × (was ≢ now) × (filter is told ≡ x ∷ []) × Sets was now x)
+
+-- nothing of a key
+abbrev pub IsSilent : {T : Type 0} → (is : T → Bool) → List T → Type 0
+IsSilent is told = filter is told ≡ []
+
+-- of the keys below n what is said of each, and nothing of the others
+abbrev pub TellsBelow : {T : Type 0} → (Said Silent : ℕ → List T → Type 0) → (n : ℕ) → List T → Type 0
+TellsBelow Said Silent n told = (k : ℕ) → (k < n → Said k told) × (n ≤ k → Silent k told)
+
+-- an entry of the key is added if the values differ
+abbrev pub AddsIf : {T V : Type 0} → (Is : T → Type 0) → (Sets : V → V → T → Type 0) → (was now : V)
+    → (old new : List T) → Type 0
+AddsIf Is Sets was now old new =
+    ((was ≡ now) × (new ≡ old))
+    ⊎ ((x : _) × (was ≢ now) × (new ≡ old ++ x ∷ []) × Is x × Sets was now x)
