@@ -1,7 +1,7 @@
 //! The rows of a trace as JSON: those of a first offline, and a scenario whose texts could do harm.
 use hp_machine::Machine;
 use hp_scenario::{Asked, Line, Scenario};
-use hp_trace_json::{JsonTrace, TraceRow};
+use hp_trace_json::{JsonTrace, TraceRow, head_line};
 use hp_units::{CallFault, Cpu, Receipt, Text};
 use indexmap::IndexSet;
 use std::alloc::{AllocError, Global};
@@ -64,10 +64,13 @@ fn is_trace_of(alloc: Global, scenario: &Scenario, boot: &str, text: &str) -> bo
 /// Returns the trace of a scenario whose lines are calls, with this text for the first row.
 fn json_of(alloc: Global, scenario: &Scenario, boot: &str) -> Result<String, AllocError> {
     let count = scenario.lines.as_slice().len() as u64;
-    let mut trace = JsonTrace::new(alloc, &scenario.layout, &scenario.names, count)?;
+    let mut text = head_line(alloc, &scenario.layout, &scenario.names, count)?;
+    let mut trace = JsonTrace::new(alloc);
     let mut machine = Machine::boot(alloc, &scenario.layout)?;
     add_rows(&mut trace, alloc, &mut machine, scenario, boot)?;
-    Ok(trace.into_text())
+    let rows = trace.into_text();
+    text.push_str(rows.as_str())?;
+    Ok(text)
 }
 
 /// Adds the rows of a scenario.
@@ -83,7 +86,6 @@ fn add_rows(
         text: Some(boot),
         cpu: None,
         receipt: None,
-        output: None,
         sealed: None,
     };
     trace.add(alloc, &scenario.names, machine, &boot)?;
@@ -129,7 +131,6 @@ fn add_call(
         text: None,
         cpu: Some(cpu),
         receipt: Some(receipt),
-        output: None,
         sealed: None,
     };
     trace.add(alloc, names, machine, &row)
