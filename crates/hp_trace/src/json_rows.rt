@@ -74,7 +74,7 @@ impl JsonRows {
     }
 
     /// Notes how many records the line sealed, for its next row.
-    pub(crate) fn seal(&mut self, count: u64)
+    pub(crate) fn set_sealed(&mut self, count: u64)
         ensures { self.new ≡ self.old }
     {
         self.sealed = Some(count);

@@ -114,10 +114,10 @@ impl Rows {
     }
 
     /// Notes how many records the line sealed, for its next row.
-    pub(crate) fn seal(&mut self, count: u64)
+    pub(crate) fn set_sealed(&mut self, count: u64)
         ensures { self.new ≡ self.old }
     {
-        self.json.seal(count);
+        self.json.set_sealed(count);
     }
 
     /// Adds a row with the machine's memory: what was asked, what was answered, which page moved by
