@@ -129,13 +129,8 @@ impl JsonRows {
 fn row_text(number: u64, text: &Option<String>) -> Option<&str> {
     match text {
         Some(text) => Some(text.as_str()),
-        None => {
-            if number == 0 {
-                Some("boot")
-            } else {
-                None
-            }
-        }
+        None if number == 0 => Some("boot"),
+        None => None,
     }
 }
 

@@ -14,7 +14,8 @@ const FIRST_OFFLINE: &[u8] =
 "calls":["0 map db 0","0 write db 0 1 7","0 begin off 1","0 commit 3","0 migrate 3","0 commit 3",
 "0 read db 0 1","0 undo 2"]}"#;
 
-const ROWS: &str = r#"{"trace":1,"layout":{"order":2,"pageblocks":1,"blocks":3,"cpus":1,"batch":1,"high":1,"owners":1,"pages":8,"words":2,"history":100,"boot":["normal","movable","movable"]},"names":["db"],"lines":8}
+const ROWS: &str =
+    r#"{"trace":1,"layout":{"order":2,"pageblocks":1,"blocks":3,"cpus":1,"batch":1,"high":1,"owners":1,"pages":8,"words":2,"history":100,"boot":["normal","movable","movable"]},"names":["db"],"lines":8}
 {"line":0,"text":"boot","change":{"blocks":{"0":{"state":"online","zone":"normal"},"1":{"state":"online","zone":"movable"},"2":{"state":"online","zone":"movable"}},"lists":{"NM 2":{"put":[0]},"MM 2":{"put":[4,8]}},"settings":{"auto_online_blocks":"offline"}}}
 {"line":1,"cpu":0,"call":"map db 0","serial":1,"answer":"done","journal":[["unlink","MM 2",4,null],["link","MM 1",6,null],["link","MM 0",5,null],["link","cpu 0 MM",4,null],["unlink","cpu 0 MM",4,null],["map","db",0,null,4]],"change":{"lists":{"MM 0":{"put":[5]},"MM 1":{"put":[6]},"MM 2":{"drop":1}},"pages":{"db 0":4}}}
 {"line":2,"cpu":0,"call":"write db 0 1 7","serial":2,"answer":"done","journal":[["word",4,1,"0","7"]],"change":{"words":{"db 0 1":"7"}}}
@@ -36,7 +37,8 @@ const LARGE_WORD: &[u8] =
 /// A text that would end a script element, change how a line is shown, and end a text of JSON.
 const HOSTILE: &str = "</script>\u{202E}\u{1F600}\u{7F}\"\\\u{2028}";
 
-const HOSTILE_ROWS: &str = r#"{"trace":1,"layout":{"order":1,"pageblocks":1,"blocks":1,"cpus":1,"batch":1,"high":1,"owners":2,"pages":2,"words":1,"history":100,"boot":["normal"]},"names":["db","web"],"lines":5}
+const HOSTILE_ROWS: &str =
+    r#"{"trace":1,"layout":{"order":1,"pageblocks":1,"blocks":1,"cpus":1,"batch":1,"high":1,"owners":2,"pages":2,"words":1,"history":100,"boot":["normal"]},"names":["db","web"],"lines":5}
 {"line":0,"text":"\u003c/script>\u202e\ud83d\ude00\u007f\"\\\u2028","change":{"blocks":{"0":{"state":"online","zone":"normal"}},"lists":{"NM 1":{"put":[0]}},"settings":{"auto_online_blocks":"offline"}}}
 {"line":1,"cpu":0,"call":"map db 0","serial":1,"answer":"done","journal":[["unlink","NM 1",0,null],["link","NM 0",1,null],["link","cpu 0 NM",0,null],["unlink","cpu 0 NM",0,null],["map","db",0,null,0]],"change":{"lists":{"NM 0":{"put":[1]},"NM 1":{"drop":1}},"pages":{"db 0":0}}}
 {"line":2,"cpu":0,"call":"write db 0 0 18446744073709551615","serial":2,"answer":"done","journal":[["word",0,0,"0","18446744073709551615"]],"change":{"words":{"db 0 0":"18446744073709551615"}}}

@@ -1,4 +1,4 @@
-use Rattle.std.proofs.Common.{List, ℕ, OnOk, ap, subst}
+use Rattle.std.proofs.Common.{List, OnOk, ap, subst}
 use Rattle.std.proofs.lemmas.Result.{on_ok_weaker}
 use Rattle.hp_trace.specs.Calls.{MakesSeal}
 use Rattle.hp_trace.specs.Rows.{Adds, Row, RowsValue}
