@@ -27,7 +27,10 @@ order, as many cells of each meaning in the legend as the trace has characters o
 outlines of free blocks of each width as the trace has brackets, and outlines of the kernel's blocks
 around all of its frames; each number of a frame above its cell; a line for each page that moved,
 from its cell in a row above to its cell, also where blocks are folded; layouts wider than a screen
-are folded, with all cells within the picture. Of `hotplug_lab check`: it finds no fault in any file
+are folded, with all cells within the picture. Of `hotplug_lab trace --json`, also on random
+scenarios: what a reader knows after each line is what `hotplug serial` prints for the lines up to
+there; the deltas of each step lead to its state; what an undo or a cancel drops are the last steps,
+and leads back to the state before them. Of `hotplug_lab check`: it finds no fault in any file
 of examples/, and one where a text that is no line comes last; with a setup it says how many
 interleavings there are.
 None of them writes a control character.
@@ -39,6 +42,7 @@ import sys
 from pathlib import Path
 from xml.etree import ElementTree
 
+from lab_json import check_json
 from lab_traces import check_drawn, check_wide, hostile
 
 ROOT = Path(__file__).resolve().parent.parent
@@ -394,6 +398,7 @@ def check_all(checks, programs):
         check_drawn(checks, programs, file.name, json.loads(file.read_text()))
     check_drawn(checks, programs, "hostile texts", hostile(ROOT))
     check_wide(checks, programs)
+    check_json(checks, programs)
     check_runs(checks, programs)
 
 

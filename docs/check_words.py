@@ -324,6 +324,8 @@ def check_lab(checks, lab):
                   ("explore", "--part", "1/2", "--jobs", "2"),
                   ("explore", "--jobs", "2", "--find", "done"),
                   ("sum", "--json", "--scenario", "1"), ("sum", "--setup", "1"),
+                  ("trace", "--json", "--from", "1"), ("trace", "--json", "--svg"),
+                  ("trace", "--json", "--log"), ("trace", "--json", "--orders"),
                   ("trace", "a", "b"), ("trace", "--width"), ("trace", "--to", str(2**64))):
         status, out, error = lab.call(*words, scenario=whole)
         checks.same(f"hotplug_lab {words}", (2, ""), (status, out))

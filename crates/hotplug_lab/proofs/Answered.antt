@@ -7,7 +7,7 @@ use Rattle.hp_lab_faults.specs.declared.program_fault.ProgramFault.{ProgramFault
 use Rattle.hp_lab_faults.specs.declared.program_fault.ProgramFault.TheVariants.{Lab, NotOpened, Parts, PastEnd, ReadFailed, Scenario, TooLong, WriteFailed}
 use Rattle.hp_lab_shell.specs.declared.words.Drawing.{Drawing}
 use Rattle.hp_lab_shell.specs.declared.words.Word.{Word}
-use Rattle.hp_lab_shell.specs.declared.words.Word.TheVariants.{Check, Explore, Find, Log, Never, Part, Picture, Sum, Trace}
+use Rattle.hp_lab_shell.specs.declared.words.Word.TheVariants.{Check, Explore, Find, Log, Never, Part, Picture, Sum, Told, Trace}
 use Rattle.hotplug_lab.specs.Words.{IsUnanswered}
 
 -- out of memory is a fault of each word
@@ -21,6 +21,7 @@ no_memory (Never asked wanted form) input = tt
 no_memory (Trace view) input = refl
 no_memory (Picture drawing) input = refl
 no_memory Log input = refl
+no_memory Told input = refl
 
 -- the bytes are no scenario
 unread : (view : View) (input : List ℕ) (fault : ProgramFault) → IsUnread input fault
@@ -69,3 +70,18 @@ pub not_logged : (word : Word) (input : List ℕ) (fault : ProgramFault) → wor
     → IsUnanswered word input fault
 not_logged word input fault is h =
     subst (λ (w : Word). IsUnanswered w input fault) (sym is) (unlogged input fault h)
+
+untold : (input : List ℕ) (fault : ProgramFault) → IsUnread input fault → IsUnanswered Told input fault
+untold input NotOpened h = absurd h
+untold input ReadFailed h = absurd h
+untold input TooLong h = absurd h
+untold input (Lab fault) h = h
+untold input (Parts fault) h = absurd h
+untold input (Scenario fault) h = h
+untold input (PastEnd asked lines) h = absurd h
+untold input WriteFailed h = absurd h
+
+pub not_told : (word : Word) (input : List ℕ) (fault : ProgramFault) → word ≡ Told → IsUnread input fault
+    → IsUnanswered word input fault
+not_told word input fault is h =
+    subst (λ (w : Word). IsUnanswered w input fault) (sym is) (untold input fault h)

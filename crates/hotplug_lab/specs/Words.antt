@@ -16,7 +16,7 @@ use Rattle.hp_part_files.specs.Faults.{IsSumFault}
 use Rattle.hp_part_files.specs.Parts.{IsFullPart, IsPartOf}
 use Rattle.hp_part_files.specs.Sums.{IsSumOf}
 use Rattle.hp_lab_shell.specs.Checks.{IsCheckOf}
-use Rattle.hp_lab_shell.specs.Shown.{HasLog, HasRows, HasTrace}
+use Rattle.hp_lab_shell.specs.Shown.{HasJson, HasLog, HasRows, HasTrace}
 use Rattle.hp_lab_faults.specs.declared.fault.LabFault.{LabFault}
 use Rattle.hp_lab_faults.specs.declared.fault.LabFault.TheVariants.{OutOfMemory}
 use Rattle.hp_lab_faults.specs.declared.part_fault.PartFault.{PartFault}
@@ -24,7 +24,7 @@ use Rattle.hp_lab_faults.specs.declared.program_fault.ProgramFault.{ProgramFault
 use Rattle.hp_lab_faults.specs.declared.program_fault.ProgramFault.TheVariants.{Lab, NotOpened, Parts, PastEnd, ReadFailed, Scenario, TooLong, WriteFailed}
 use Rattle.hp_lab_shell.specs.declared.words.Exploration.{Exploration}
 use Rattle.hp_lab_shell.specs.declared.words.Word.{Word}
-use Rattle.hp_lab_shell.specs.declared.words.Word.TheVariants.{Check, Explore, Find, Log, Never, Part, Picture, Sum, Trace}
+use Rattle.hp_lab_shell.specs.declared.words.Word.TheVariants.{Check, Explore, Find, Log, Never, Part, Picture, Sum, Told, Trace}
 use Rattle.hp_lab_shell.specs.Needs.{HasLines, IsPastEnd}
 
 -- the text of an exploration; the status is 0 if it finds what was asked for, and 3 if not
@@ -61,6 +61,7 @@ IsAnswerOf (Never asked wanted form) input text status =
 IsAnswerOf (Trace view) input text status = HasTrace view input text × (status ≡ 0)
 IsAnswerOf (Picture drawing) input text status = HasRows drawing.view input × (status ≡ 0)
 IsAnswerOf Log input text status = HasLog input × (status ≡ 0)
+IsAnswerOf Told input text status = HasJson input text × (status ≡ 0)
 
 -- the text and the status of a word, for a scenario that has the lines that the word names
 abbrev pub Answers : Word → (input text : List ℕ) → (status : ℕ) → Type 0
@@ -80,6 +81,7 @@ IsLabCause (Never asked wanted form) input fault =
 IsLabCause (Trace view) input fault = fault ≡ OutOfMemory
 IsLabCause (Picture drawing) input fault = fault ≡ OutOfMemory
 IsLabCause Log input fault = fault ≡ OutOfMemory
+IsLabCause Told input fault = fault ≡ OutOfMemory
 
 abbrev pub IsScenarioCause : Word → (input : List ℕ) → ScenarioFault → Type 0
 IsScenarioCause (Check setup) input fault = ⊥
@@ -91,6 +93,7 @@ IsScenarioCause (Never asked wanted form) input fault = ⊥
 IsScenarioCause (Trace view) input fault = Fails fault (scenario_in input)
 IsScenarioCause (Picture drawing) input fault = Fails fault (scenario_in input)
 IsScenarioCause Log input fault = Fails fault (scenario_in input)
+IsScenarioCause Told input fault = Fails fault (scenario_in input)
 
 -- why parts cannot be added up
 abbrev pub IsPartCause : Word → (input : List ℕ) → PartFault → Type 0

@@ -5,7 +5,7 @@ ghost use Rattle.hotplug_lab.specs.Words.{IsAddedOf, IsAnswerOf, IsExploringOf, 
 ghost use Rattle.hp_lab_shell.specs.declared.words.Word.TheVariants.{Explore, Find, Never, Part, Sum};
 
 use hp_lab_faults::ProgramFault;
-use hp_lab_shell::{Answer, Exploration, Word, checked, drawn, logged, traced};
+use hp_lab_shell::{Answer, Exploration, Word, checked, drawn, logged, told, traced};
 use hp_part_files::{part_text, sum_text};
 use hp_schedules::ShardId;
 use hp_search::{EndsForm, ScheduleForm, SearchText, explore_text_with_jobs, find_text};
@@ -47,6 +47,7 @@ pub(crate) fn answer_to<W: Watch>(
         Word::Trace(view) => traced(alloc, input, view),
         Word::Picture(drawing) => drawn(alloc, input, drawing),
         Word::Log => logged(alloc, input),
+        Word::Told => told(alloc, input),
     }
 }
 

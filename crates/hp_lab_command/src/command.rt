@@ -182,7 +182,7 @@ const SUM: [Argument; 3] = [
 ];
 
 /// The arguments of `trace`.
-const TRACE: [Argument; 10] = [
+const TRACE: [Argument; 11] = [
     Argument {
         name: "from",
         takes: Takes::Number,
@@ -237,6 +237,14 @@ const TRACE: [Argument; 10] = [
         help: "Writes what happens to frames and memory blocks, as a log that judge reads",
         against: &[
             "from", "to", "every", "width", "cell", "scale", "orders", "svg",
+        ],
+    },
+    Argument {
+        name: JSON,
+        takes: Takes::Nothing,
+        help: "Writes an object of JSON a line, for each row what changed in the memory",
+        against: &[
+            "from", "to", "every", "width", "cell", "scale", "orders", "svg", LOG,
         ],
     },
     SCENARIO_FILE,

@@ -9,7 +9,7 @@ use Rattle.hp_lab_faults.specs.declared.fault.LabFault.TheVariants.{OutOfMemory}
 use Rattle.hp_lab_faults.specs.declared.program_fault.ProgramFault.{ProgramFault}
 use Rattle.hp_lab_faults.specs.declared.program_fault.ProgramFault.TheVariants.{Lab, PastEnd}
 use Rattle.hp_lab_shell.specs.declared.words.Word.{Word}
-use Rattle.hp_lab_shell.specs.declared.words.Word.TheVariants.{Check, Explore, Find, Log, Never, Part, Picture, Sum, Trace}
+use Rattle.hp_lab_shell.specs.declared.words.Word.TheVariants.{Check, Explore, Find, Log, Never, Part, Picture, Sum, Told, Trace}
 
 -- the lines that work on operation 0 where their processor has begun none, of the scripts that a word
 -- searches
@@ -23,6 +23,7 @@ unbegun_of (Never asked wanted form) read = unbegun_in asked.setup read
 unbegun_of (Trace view) read = []
 unbegun_of (Picture drawing) read = []
 unbegun_of Log read = []
+unbegun_of Told read = []
 
 -- the first line that is shown, where one is asked for by its number
 abbrev pub first_shown : View → ℕ
@@ -43,6 +44,7 @@ last_named (Never asked wanted form) = asked.setup
 last_named (Trace view) = first_shown view
 last_named (Picture drawing) = first_shown drawing.view
 last_named Log = 0
+last_named Told = 0
 
 -- there is a line of this number, where it is known how many there are
 abbrev pub has_line : (asked : ℕ) → (count : Option ℕ) → Bool

@@ -4,12 +4,16 @@ use Rattle.hp_judge.specs.declared.events.LogEvent.{LogEvent}
 use Rattle.hp_pictures.specs.Rows.{RowValue}
 use Rattle.hp_search.specs.Holding.{InScenario}
 use Rattle.hp_trace.specs.Logs.{IsLogOfScenario}
-use Rattle.hp_trace.specs.Traces.{AreRowsOf, IsTraceOf}
+use Rattle.hp_trace.specs.Traces.{AreRowsOf, IsJsonOf, IsTraceOf}
 use Rattle.hp_trace.specs.declared.view.View.{View}
 
 -- the bytes are a scenario, and the text is its trace
 abbrev pub HasTrace : View → (input text : List ℕ) → Type 0
 HasTrace view input text = InScenario input (λ s. IsTraceOf view s text)
+
+-- the bytes are a scenario, and the text is its trace as JSON
+abbrev pub HasJson : (input text : List ℕ) → Type 0
+HasJson input text = InScenario input (λ s. IsJsonOf s text)
 
 -- the bytes are a scenario, and its trace has rows
 abbrev pub HasRows : View → (input : List ℕ) → Type 0

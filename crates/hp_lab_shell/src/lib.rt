@@ -32,6 +32,6 @@ pub use checks::checked;
 pub use laboratory::{Laboratory, Served};
 pub use logs::logged;
 pub use needs::{look_for_line, unbegun_of};
-pub use pictures::{drawn, traced};
+pub use pictures::{drawn, told, traced};
 pub use shell::run_program;
 pub use words::{Drawing, Exploration, Word};

@@ -26,6 +26,7 @@ pub fn unbegun_of(alloc: Global, input: &[u8], word: Word<'_>) -> Result<Vec<Unb
         Word::Trace(_) => Ok(Vec::new(alloc)),
         Word::Picture(_) => Ok(Vec::new(alloc)),
         Word::Log => Ok(Vec::new(alloc)),
+        Word::Told => Ok(Vec::new(alloc)),
     }
 }
 
@@ -74,6 +75,7 @@ fn last_named(word: Word<'_>) -> u64
         Word::Trace(view) => first_shown(view),
         Word::Picture(drawing) => first_shown(drawing.view),
         Word::Log => 0,
+        Word::Told => 0,
     }
 }
 

@@ -87,6 +87,8 @@ pub enum Word<'a> {
     Picture(Drawing),
     /// What happens to frames and memory blocks, as a log that `judge` reads.
     Log,
+    /// The trace as JSON, an object a line.
+    Told,
 }
 
 /// What the program is asked for, and the files that are named.
@@ -218,6 +220,9 @@ fn whole_word<'a>(asked: Exploration, words: &ArgMatches<'_>) -> Result<Word<'a>
 fn tracing_word<'a>(words: &ArgMatches<'_>) -> Result<Word<'a>, &'static str> {
     if words.get_flag(LOG) {
         return Ok(Word::Log);
+    }
+    if words.get_flag(JSON) {
+        return Ok(Word::Told);
     }
     let view = view_from(words);
     if view.from > view.to {

@@ -12,7 +12,7 @@ use Rattle.hp_ops.specs.Ports.{AreMade}
 use Rattle.hp_text.specs.Plans.{plan_line}
 use Rattle.hp_trace.specs.Calls.{IsDriven, IsStop, MakesPlan, MakesSteps, answer_text, moved_of, step_text}
 use Rattle.hp_trace.specs.Ports.{IsTraced, LeavesOff}
-use Rattle.hp_trace.specs.Rows.{Adds, AreDrawn, DrawsIf, RowsValue, drawing, drawn_joined, said, words}
+use Rattle.hp_trace.specs.Rows.{Adds, AreDrawn, DrawsIf, RowsValue, Says, drawing, drawn_joined, words}
 
 -- what is known of a port: its names, its processor, its machine and rows, and whether it was out of memory
 pub record Known (S N K : Type 0) : Type 0 where
@@ -123,7 +123,7 @@ pub plan_added : (m after : MachineValue) (cpu turns : ℕ) (plan copied : List 
     (asked : List ℕ) (old head steps new : RowsValue)
     → copied ≡ plan
     → DrawsIf old.form m asked [] None old head
-    → Adds head steps (λ list. IsDriven m cpu turns copied end list after) → new ≡ said steps (plan_line end)
+    → Adds head steps (λ list. IsDriven m cpu turns copied end list after) → Says (plan_line end) steps new
     → Adds old new (λ list. MakesPlan m cpu turns plan asked list after)
 plan_added m after cpu turns plan copied end asked old head steps new same drawn a is = record {
   rows = drawing asked [] None m ∷ (a.rows ++ words (plan_line end) ∷ []);

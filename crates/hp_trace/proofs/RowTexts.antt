@@ -1,8 +1,12 @@
 -- A row as text.
-use Rattle.std.proofs.Common.{◌≡◌, ℕ, Bool, List, ◌++◌, append_assoc, ap, subst, sym}
+use Rattle.std.proofs.Common.{◌≡◌, ℕ, Bool, List, ◌++◌, Some, Result, Ok, Err, OnOk, append_assoc, ap, refl, subst, sym}
 use Rattle.std.specs.Prelude.{codes}
+use Rattle.hp_machine.specs.Machine.{MachineValue}
 use Rattle.hp_pictures.specs.Rows.{RowValue}
-use Rattle.hp_trace.specs.Rows.{IsRowIn, IsWritten, RowsValue}
+use Rattle.hp_trace_json.specs.Ascii.{AddsLine}
+use Rattle.hp_trace_json.specs.Parts.{state_of}
+use Rattle.hp_trace_json.specs.Traces.{TraceValue}
+use Rattle.hp_trace.specs.Rows.{IsRowIn, IsRowTold, IsTextTold, IsWritten, RowsValue}
 
 pub row_in : (asked answer below beside memory old new was_asked was_answered : List ℕ)
     → was_asked ≡ asked → was_answered ≡ answer
@@ -27,3 +31,22 @@ row_written row old inside orders text kept same is written =
       written = written;
       is = ap (λ (b : Bool). record inside { orders = b; text = text; kept = kept }) is;
     })
+
+-- a row and a text as JSON
+pub from_both : {T E : Type 0} (r : Result T E) (P Q R : Type 0) → (P → Q → R) → OnOk r P → OnOk r Q → OnOk r R
+from_both (Ok x) P Q R f p q = f p q
+from_both (Err e) P Q R f p q = tt
+
+pub row_told : (m : MachineValue) (old inside : RowsValue) (json : TraceValue) → old ≡ inside
+    → AddsLine inside.json.text json.text → json.seen ≡ Some (state_of m)
+    → IsRowTold m old (record inside { json = json })
+row_told m old inside json same line seen =
+    subst (λ (r : RowsValue). IsRowTold m r (record inside { json = json })) (sym same)
+    (record { json = json; line = line; seen = seen; is = refl })
+
+pub text_told : (old inside : RowsValue) (json : TraceValue) → old ≡ inside
+    → AddsLine inside.json.text json.text → json.seen ≡ inside.json.seen
+    → IsTextTold old (record inside { json = json })
+text_told old inside json same line seen =
+    subst (λ (r : RowsValue). IsTextTold r (record inside { json = json })) (sym same)
+    (record { json = json; line = line; seen = seen; is = refl })

@@ -23,7 +23,7 @@ use Rattle.hp_text.specs.Files.{read_fault_line, write_fault_line}
 use Rattle.hp_text.specs.Plans.{plan_line}
 use Rattle.hp_trace.specs.Calls.{MakesEvent, MakesPlan, MakesSeal, MakesSteps, MakesWork, file_rows}
 use Rattle.hp_trace.specs.Logs.{AreLinesDrawn, IsLogOfScenario, RunsLines, histories}
-use Rattle.hp_trace.specs.Rows.{Adds, AreDrawn, DrawsIf, IsRowLogged, Row, RowsValue, drawing, drawn_joined, no_rows, noted, said_as, words}
+use Rattle.hp_trace.specs.Rows.{Adds, AreDrawn, DrawsIf, IsRowLogged, Row, RowsValue, SaysAs, drawing, drawn_joined, no_rows, noted, words}
 use Rattle.hp_trace.specs.StateLogs.{IsLogged, IsStepFrom, LogValue, no_log}
 use Rattle.hp_trace.specs.Traces.{IsStart}
 use Rattle.hp_trace.specs.declared.rows.Form.{Form}
@@ -154,8 +154,9 @@ next_seen m n old new same has drawn =
     )
 
 -- a text changes nothing
-said_nothing : (form : Form) (r : RowsValue) (text : List ℕ) → form ≡ Logged → said_as form r text ≡ r
-said_nothing form r text is = ap (λ (f : Form). said_as f r text) is
+said_nothing : (form : Form) (text : List ℕ) (old new : RowsValue) → form ≡ Logged
+    → SaysAs form text old new → new ≡ old
+said_nothing form text old new is said = subst (λ (f : Form). SaysAs f text old new) is said
 
 pub rows_logged : (m after : MachineValue) (rows : List Row) (old new : RowsValue) → IsReached m
     → Turns m rows after → HasSeen m old → AreDrawn rows old new
@@ -163,7 +164,7 @@ pub rows_logged : (m after : MachineValue) (rows : List Row) (old new : RowsValu
 rows_logged m after [] old new reached turns has drawn =
     ap (λ (r : RowsValue). r.log.events) drawn ∙ sym (append-nil old.log.events)
 rows_logged m after (words text ∷ rows) old new reached turns has drawn =
-    let same : drawn.0 ≡ old = drawn.1 ∙ said_nothing old.form old text has.form in
+    let same : drawn.0 ≡ old = said_nothing old.form text old drawn.0 has.form drawn.1 in
     rows_logged m after rows old new reached turns has
     (subst (λ (r : RowsValue). AreDrawn rows r new) same drawn.2)
 rows_logged m after (drawing asked answer moved n ∷ rows) old new reached turns has drawn =

@@ -1,5 +1,5 @@
 -- The rows of a trace: what was asked, what was answered, and the memory after it.
-use Rattle.std.specs.Prelude.{ℕ, ◌≡◌, Bool, List, [], ◌∷◌, ◌++◌, map, Option, None}
+use Rattle.std.specs.Prelude.{ℕ, ◌≡◌, Bool, List, [], ◌∷◌, ◌++◌, map, Option, None, Some}
 use Rattle.std.proofs.Common.{subst}
 use Rattle.std.specs.Str.Lines.{lines}
 use Rattle.hp_machine.specs.Machine.{MachineValue}
@@ -9,35 +9,47 @@ use Rattle.hp_pictures.specs.Rows.{RowValue, row_with}
 use Rattle.hp_pictures.specs.declared.row_picture.Move.{Move}
 use Rattle.hp_text.specs.State.{newline}
 use Rattle.hp_trace.specs.StateLogs.{IsLogged, LogValue, no_log}
+use Rattle.hp_trace_json.specs.Ascii.{AddsLine}
+use Rattle.hp_trace_json.specs.Parts.{state_of}
+use Rattle.hp_trace_json.specs.Traces.{TraceValue, no_trace}
 use Rattle.hp_trace.specs.declared.rows.Form.{Form}
-use Rattle.hp_trace.specs.declared.rows.Form.TheVariants.{Kept, Logged, Unseen, Written}
+use Rattle.hp_trace.specs.declared.rows.Form.TheVariants.{Kept, Logged, Told, Unseen, Written}
 use Rattle.hp_trace.specs.declared.view.View.{View}
 
 -- what becomes of rows, and whether they show free frames by orders; the text so far, the rows that are
--- kept, and the log
+-- kept, the log, and the rows as JSON
 pub record RowsValue : Type 0 where
   pub form : Form
   pub orders : Bool
   pub text : List ℕ
   pub kept : List RowValue
   pub log : LogValue
+  pub json : TraceValue
 
 abbrev pub no_rows : Form → View → RowsValue
-no_rows form v = record { form = form; orders = v.orders; text = []; kept = []; log = no_log }
+no_rows form v = record { form = form; orders = v.orders; text = []; kept = []; log = no_log; json = no_trace }
 
 -- lines as rows without memory blocks
 abbrev pub line_rows : (texts : List (List ℕ)) → List RowValue
 line_rows texts = map (λ text. row_with text [] None []) texts
 
--- a text of lines more
-abbrev pub said_as : Form → RowsValue → List ℕ → RowsValue
-said_as Unseen r text = r
-said_as Written r text = record r { text = r.text ++ text }
-said_as Kept r text = record r { kept = r.kept ++ line_rows (lines text) }
-said_as Logged r text = r
+-- a line of JSON more, for a text: no state is told
+pub record IsTextTold (old new : RowsValue) : Type 0 where
+  pub json : TraceValue
+  pub line : AddsLine old.json.text json.text
+  pub seen : json.seen ≡ old.json.seen
+  pub is : new ≡ record old { json = json }
 
-abbrev pub said : RowsValue → List ℕ → RowsValue
-said r text = said_as r.form r text
+-- a text of lines more
+abbrev pub SaysAs : Form → (text : List ℕ) → (old new : RowsValue) → Type 0
+SaysAs Unseen text old new = new ≡ old
+SaysAs Written text old new = new ≡ record old { text = old.text ++ text }
+SaysAs Kept text old new = new ≡ record old { kept = old.kept ++ line_rows (lines text) }
+SaysAs Logged text old new = new ≡ old
+SaysAs Told text old new = IsTextTold old new
+
+abbrev pub Says : (text : List ℕ) → (old new : RowsValue) → Type 0
+Says text old new = SaysAs old.form text old new
 
 -- ---- a row
 
@@ -60,6 +72,7 @@ AddsRow Unseen row old new = new ≡ old
 AddsRow Written row old new = IsWritten row old new
 AddsRow Kept row old new = new ≡ record old { kept = old.kept ++ row ∷ [] }
 AddsRow Logged row old new = new ≡ old
+AddsRow Told row old new = new ≡ old
 
 -- a row more, with the page that moved and a picture of the machine's memory
 pub record IsRow (form : Form) (m : MachineValue) (asked answer : List ℕ) (moved : Option Move)
@@ -74,6 +87,13 @@ pub record IsRowLogged (m : MachineValue) (old new : RowsValue) : Type 0 where
   pub logged : IsLogged m old.log log
   pub is : new ≡ record old { log = log }
 
+-- a line of JSON more, for a row: a reader of the rows has seen the machine's state
+pub record IsRowTold (m : MachineValue) (old new : RowsValue) : Type 0 where
+  pub json : TraceValue
+  pub line : AddsLine old.json.text json.text
+  pub seen : json.seen ≡ Some (state_of m)
+  pub is : new ≡ record old { json = json }
+
 -- a row more in its form, and none where it is not seen
 abbrev pub DrawsIf : Form → MachineValue → (asked answer : List ℕ) → (moved : Option Move)
     → (old new : RowsValue) → Type 0
@@ -81,6 +101,7 @@ DrawsIf Unseen m asked answer moved old new = new ≡ old
 DrawsIf Written m asked answer moved old new = IsRow Written m asked answer moved old new
 DrawsIf Kept m asked answer moved old new = IsRow Kept m asked answer moved old new
 DrawsIf Logged m asked answer moved old new = IsRowLogged m old new
+DrawsIf Told m asked answer moved old new = IsRowTold m old new
 
 -- ---- rows one under another
 
@@ -92,7 +113,7 @@ pub data Row : Type 0 where
 
 abbrev pub IsDrawn : Row → (old new : RowsValue) → Type 0
 IsDrawn (drawing asked answer moved m) old new = DrawsIf old.form m asked answer moved old new
-IsDrawn (words text) old new = new ≡ said old text
+IsDrawn (words text) old new = Says text old new
 
 abbrev pub AreDrawn : List Row → (old new : RowsValue) → Type 0
 AreDrawn [] old new = new ≡ old

@@ -9,10 +9,11 @@ use Rattle.hp_scenario.specs.declared.lines.Line.{Line}
 use Rattle.hp_pictures.specs.Rows.{RowValue}
 use Rattle.hp_trace.specs.Calls.{MakesWork}
 use Rattle.hp_trace.specs.Rows.{AreDrawn, DrawsIf, Row, RowsValue, no_rows}
+use Rattle.hp_trace_json.specs.Ascii.{AddsLine}
 use Rattle.hp_spelling.specs.Lines.{shown_line}
-use Rattle.hp_trace.specs.Views.{shows}
+use Rattle.hp_trace.specs.Views.{shows, whole_view}
 use Rattle.hp_trace.specs.declared.rows.Form.{Form}
-use Rattle.hp_trace.specs.declared.rows.Form.TheVariants.{Kept, Written}
+use Rattle.hp_trace.specs.declared.rows.Form.TheVariants.{Kept, Told, Written}
 use Rattle.hp_trace.specs.declared.view.View.{View}
 
 -- a line's number and the line
@@ -89,3 +90,11 @@ pub record AreRowsOf (v : View) (s : ScenarioValue) (list : List RowValue) : Typ
   pub rows : RowsValue
   pub traced : IsScenarioTraced Kept v s rows
   pub kept : list ≡ rows.kept
+
+-- its rows as JSON: a line about the scenario, and then theirs, of all lines
+pub record IsJsonOf (s : ScenarioValue) (text : List ℕ) : Type 0 where
+  pub head : List ℕ
+  pub begins : AddsLine [] head
+  pub rows : RowsValue
+  pub traced : IsScenarioTraced Told whole_view s rows
+  pub is : text ≡ head ++ rows.json.text

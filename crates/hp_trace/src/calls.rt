@@ -126,5 +126,6 @@ fn trace_seal(
 {
     let volume = machine.seal(alloc)?;
     let count = volume.records.as_slice().len() as u64;
+    rows.set_sealed(count);
     note(rows, alloc, machine, asked, Remark::Sealed(count))
 }

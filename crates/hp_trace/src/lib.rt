@@ -11,6 +11,7 @@
 mod calls;
 mod columns;
 mod folds;
+mod json_rows;
 mod lines;
 mod logs;
 mod plans;
@@ -19,6 +20,6 @@ mod snapshots;
 mod state_logs;
 mod view;
 
-pub use lines::{trace, trace_rows};
+pub use lines::{trace, trace_json, trace_rows};
 pub use logs::{ScenarioLog, trace_log};
 pub use view::View;

@@ -2,16 +2,17 @@
 ghost use Rattle.std.specs.Prelude.{◌≡◌, ◌+◌, ◌^◌, ◌<◌, ◌≤◌, IfOk, OnOk, length, string_bytes};
 ghost use Rattle.hp_scenario.specs.Seen.{scenario_seen};
 ghost use Rattle.hp_trace.specs.declared.rows.Form.TheVariants.{Kept, Written};
-ghost use Rattle.hp_trace.specs.Traces.{AreRowsOf, IsScenarioTraced, IsStart, IsTraceOf, TracesLine, TracesLines, numbered_text, skipped, start_text};
+ghost use Rattle.hp_trace.specs.Traces.{AreRowsOf, IsJsonOf, IsScenarioTraced, IsStart, IsTraceOf, TracesLine, TracesLines, numbered_text, skipped, start_text};
 
 use crate::calls::trace_work;
 use crate::rows::{Form, Rows};
-use crate::view::View;
+use crate::view::{View, whole_view};
 use hp_escapes::Brackets;
 use hp_machine::Machine;
 use hp_pictures::RowPicture;
 use hp_scenario::{Line, Scenario};
 use hp_spelling::write_shown_line;
+use hp_trace_json::head_line;
 use hp_units::Text;
 use indexmap::IndexSet;
 use std::alloc::{AllocError, Global};
@@ -41,6 +42,20 @@ pub fn trace_rows(
 {
     let rows = trace_scenario(alloc, scenario, view, Form::Kept)?;
     Ok(rows.into_kept())
+}
+
+/// Returns the trace of a scenario as JSON: a line that says what the scenario is, and then the rows of
+/// `trace_rows`, of all lines, a line each. docs/LAB.md has the keys. Each row tells how the state
+/// differs from that of the row above it; a text below a row is a row without a state.
+pub fn trace_json(alloc: Global, scenario: &Scenario) -> Result<String, AllocError>
+    ensures { IfOk result (λ text. IsJsonOf (scenario_seen scenario.now) (string_bytes text)) }
+{
+    let count = scenario.lines.as_slice().len() as u64;
+    let mut text = head_line(alloc, &scenario.layout, &scenario.names, count)?;
+    let rows = trace_scenario(alloc, scenario, whole_view(), Form::Told)?;
+    let rows = rows.into_json();
+    text.push_str(rows.as_str())?;
+    Ok(text)
 }
 
 /// Returns the rows of a scenario, in a form.
@@ -97,7 +112,7 @@ pub(crate) fn start(
 {
     let asked = start_text(alloc, view)?;
     let mut rows = Rows::new(alloc, form, view);
-    rows.draw(alloc, machine, asked.as_str(), "", None)?;
+    rows.draw(alloc, machine, asked.as_str(), "", None, None)?;
     Ok(rows)
 }
 
@@ -148,6 +163,7 @@ fn trace_line(
 {
     let asked = numbered_text(alloc, names, number, line)?;
     if view.shows(number) {
+        rows.begin_line(alloc, names, number, line)?;
         trace_work(rows, alloc, machine, line.cpu, &line.work, asked.as_str())
     } else {
         let mut unseen = Rows::new(alloc, Form::Unseen, view);

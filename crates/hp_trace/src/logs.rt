@@ -6,7 +6,7 @@ ghost use Rattle.hp_trace.specs.Logs.{AreLinesDrawn, IsLogOfScenario};
 use crate::calls::trace_work;
 use crate::lines::start;
 use crate::rows::{Form, Rows};
-use crate::view::View;
+use crate::view::whole_view;
 use hp_judge::LogEvent;
 use hp_machine::Machine;
 use hp_scenario::{Line, Scenario};
@@ -34,17 +34,6 @@ pub fn trace_log(alloc: Global, scenario: &Scenario) -> Result<ScenarioLog, Allo
         block_frames: scenario.layout.block_size(),
         events: rows.into_events(),
     })
-}
-
-/// Returns a view of all lines. A log has no columns.
-fn whole_view() -> View {
-    View {
-        from: 0,
-        to: u64::MAX,
-        every: 1,
-        width: 0,
-        orders: false,
-    }
 }
 
 /// Does all lines, and draws all their rows.

@@ -3,7 +3,7 @@ ghost use Rattle.std.specs.Prelude.{◌≡◌, ◌||◌, not, None, IfOk, IsTrue
 ghost use Rattle.hp_trace.specs.Calls.{IsDriven, MakesPlan, answer_text, moved_of, step_text};
 ghost use Rattle.hp_trace.specs.Ports.{is_memory};
 ghost use Rattle.hp_text.specs.Plans.{plan_line};
-ghost use Rattle.hp_trace.specs.Rows.{Adds, DrawsIf, said};
+ghost use Rattle.hp_trace.specs.Rows.{Adds, DrawsIf, Says};
 
 use crate::rows::Rows;
 use hp_machine::Machine;
@@ -153,6 +153,7 @@ pub(crate) fn draw_receipt(
         asked,
         answer.as_str(),
         moved_of(receipt.reply),
+        Some(receipt),
     )
 }
 
@@ -191,7 +192,7 @@ pub(crate) fn trace_plan(
     ensures { OnOk result (Adds rows.old rows.new
         (λ list. MakesPlan machine.old cpu turns plan.now asked.now list machine.new)) }
 {
-    rows.draw(alloc, machine, asked, "", None)?;
+    rows.draw(alloc, machine, asked, "", None, None)?;
     let plan = plan.copy(alloc)?;
     match drive(rows, alloc, machine, cpu, plan, turns) {
         Ok(end) => say_end(rows, alloc, end),
@@ -201,7 +202,7 @@ pub(crate) fn trace_plan(
 
 /// Writes how a plan ended.
 fn say_end(rows: &mut Rows, alloc: Global, end: OpEnd) -> Result<(), AllocError>
-    ensures { OnOk result (rows.new ≡ said rows.old (plan_line end)) }
+    ensures { OnOk result (Says (plan_line end) rows.old rows.new) }
 {
     let mut out = String::new(alloc);
     write_plan_end(&mut out, end)?;

@@ -1,18 +1,21 @@
 //! The rows of a trace.
 ghost use Rattle.std.specs.Prelude.{◌≡◌, ◌++◌, IfOk, OnOk, string_bytes};
 ghost use Rattle.std.specs.Str.Lines.{lines};
-ghost use Rattle.hp_trace.specs.Rows.{AddsRow, AreDrawn, DrawsIf, IsRow, IsRowLogged, IsWritten, line_rows, no_rows, noted, said};
+ghost use Rattle.hp_trace.specs.Rows.{AddsRow, AreDrawn, DrawsIf, IsRow, IsRowLogged, IsRowTold, IsTextTold, IsWritten, Says, line_rows, no_rows, noted};
 ghost use Rattle.hp_pictures.specs.Rows.{row_with};
 
 use crate::columns::write_row;
 use crate::folds::{Paper, memory_text};
+use crate::json_rows::JsonRows;
 use crate::state_logs::StateLog;
 use crate::view::View;
 use hp_judge::LogEvent;
 use hp_machine::Machine;
 use hp_map::picture_of;
 use hp_pictures::{BlockPicture, Move, RowPicture};
-use hp_units::Text;
+use hp_scenario::Line;
+use hp_units::{Receipt, Text};
+use indexmap::IndexSet;
 use std::alloc::{AllocError, Global};
 use std::marker::Model;
 
@@ -27,9 +30,11 @@ pub(crate) enum Form {
     Kept,
     /// The events between the states of the memory that they show.
     Logged,
+    /// Lines of JSON.
+    Told,
 }
 
-/// The rows so far, in one form: as text, as values, or as the events of a log.
+/// The rows so far, in one form: as text, as values, as the events of a log, or as JSON.
 #[derive(Drop)]
 pub(crate) struct Rows {
     form: Form,
@@ -38,6 +43,7 @@ pub(crate) struct Rows {
     /// All rows as values, or for a text the last one.
     kept: Vec<RowPicture>,
     log: StateLog,
+    json: JsonRows,
 }
 
 impl Model for Rows {
@@ -52,6 +58,7 @@ impl Model for Rows {
       text = string_bytes r.text;
       kept = r.kept.items;
       log = r.log;
+      json = r.json;
     } };
 }
 
@@ -66,23 +73,55 @@ impl Rows {
             text: String::new(alloc),
             kept: Vec::new(alloc),
             log: StateLog::new(alloc),
+            json: JsonRows::new(alloc),
         }
     }
 
     /// Adds a text of lines.
     pub(crate) fn say(&mut self, alloc: Global, text: &str) -> Result<(), AllocError>
-        ensures { OnOk result (self.new ≡ said self.old text.now) }
+        ensures { OnOk result (Says text.now self.old self.new) }
     {
         match self.form {
             Form::Unseen => Ok(()),
             Form::Written => self.text.push_str(text),
             Form::Kept => keep_lines(&mut self.kept, alloc, text),
             Form::Logged => Ok(()),
+            Form::Told => self.tell_text(alloc, text),
         }
     }
 
-    /// Adds a row with the machine's memory: what was asked, what was answered, and which page
-    /// moved by it.
+    /// Adds a text as a row of JSON.
+    fn tell_text(&mut self, alloc: Global, text: &str) -> Result<(), AllocError>
+        ensures { OnOk result (IsTextTold self.old self.new) }
+    {
+        self.json.say(alloc, text)
+    }
+
+    /// Begins a line, whose rows come next.
+    pub(crate) fn begin_line(
+        &mut self,
+        alloc: Global,
+        names: &IndexSet<Text>,
+        number: u64,
+        line: &Line,
+    ) -> Result<(), AllocError>
+        ensures { OnOk result (self.new ≡ self.old) }
+    {
+        match self.form {
+            Form::Told => self.json.begin_line(alloc, names, number, line),
+            _ => Ok(()),
+        }
+    }
+
+    /// Notes how many records the line sealed, for its next row.
+    pub(crate) fn set_sealed(&mut self, count: u64)
+        ensures { self.new ≡ self.old }
+    {
+        self.json.set_sealed(count);
+    }
+
+    /// Adds a row with the machine's memory: what was asked, what was answered, which page moved by
+    /// it, and the call if it was made.
     pub(crate) fn draw(
         &mut self,
         alloc: Global,
@@ -90,6 +129,7 @@ impl Rows {
         asked: &str,
         answer: &str,
         moved: Option<Move>,
+        receipt: Option<&Receipt>,
     ) -> Result<(), AllocError>
         ensures { OnOk result
             (DrawsIf self.old.form machine.now asked.now answer.now moved self.old self.new) }
@@ -99,6 +139,7 @@ impl Rows {
             Form::Written => self.draw_row(alloc, machine, asked, answer, moved),
             Form::Kept => self.draw_row(alloc, machine, asked, answer, moved),
             Form::Logged => self.log_row(alloc, machine),
+            Form::Told => self.tell_row(alloc, machine, receipt),
         }
     }
 
@@ -124,7 +165,7 @@ impl Rows {
         ensures { OnOk result (AddsRow self.old.form row self.old self.new) }
     {
         match self.form {
-            Form::Unseen | Form::Logged => Ok(()),
+            Form::Unseen | Form::Logged | Form::Told => Ok(()),
             Form::Written => self.write(alloc, row),
             Form::Kept => {
                 self.kept.push(row)?;
@@ -163,6 +204,18 @@ impl Rows {
         Ok(())
     }
 
+    /// Adds a row as JSON.
+    fn tell_row(
+        &mut self,
+        alloc: Global,
+        machine: &Machine,
+        receipt: Option<&Receipt>,
+    ) -> Result<(), AllocError>
+        ensures { OnOk result (IsRowTold machine.now self.old self.new) }
+    {
+        self.json.draw(alloc, machine, receipt)
+    }
+
     /// Adds a row without an answer, and below it a text of lines.
     pub(crate) fn note(
         &mut self,
@@ -173,7 +226,7 @@ impl Rows {
     ) -> Result<(), AllocError>
         ensures { OnOk result (AreDrawn (noted machine.now asked.now text.now) self.old self.new) }
     {
-        self.draw(alloc, machine, asked, "", None)?;
+        self.draw(alloc, machine, asked, "", None, None)?;
         self.say(alloc, text)
     }
 
@@ -187,6 +240,7 @@ impl Rows {
             text: all,
             kept: _,
             log: _,
+            json: _,
         } = self;
         all
     }
@@ -201,6 +255,7 @@ impl Rows {
             text: _,
             kept: all,
             log: _,
+            json: _,
         } = self;
         all
     }
@@ -215,8 +270,24 @@ impl Rows {
             text: _,
             kept: _,
             log,
+            json: _,
         } = self;
         log.into_events()
+    }
+
+    /// Returns the text of the rows as JSON.
+    pub(crate) fn into_json(self) -> String
+        ensures { string_bytes result ≡ self.json.text }
+    {
+        let Rows {
+            form: _,
+            paper: _,
+            text: _,
+            kept: _,
+            log: _,
+            json,
+        } = self;
+        json.into_text()
     }
 }
 

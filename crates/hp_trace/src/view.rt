@@ -1,6 +1,6 @@
 //! Which lines of a trace are shown.
 ghost use Rattle.std.specs.Prelude.{◌≡◌};
-ghost use Rattle.hp_trace.specs.Views.{shows};
+ghost use Rattle.hp_trace.specs.Views.{shows, whole_view};
 
 /// Which lines are shown, counted from 1, how wide a row may be, and whether free frames are shown
 /// by the orders of their blocks.
@@ -28,5 +28,18 @@ impl View {
         self.from <= line
             && line <= self.to
             && (self.every <= 1 || (line - self.from) % self.every == 0)
+    }
+}
+
+/// Returns a view of all lines, for rows that have no columns.
+pub(crate) fn whole_view() -> View
+    ensures { result ≡ whole_view }
+{
+    View {
+        from: 0,
+        to: u64::MAX,
+        every: 1,
+        width: 0,
+        orders: false,
     }
 }

@@ -1,5 +1,5 @@
 -- The rows of a trace so far.
-use Rattle.std.specs.Prelude.{ℕ, List, Option}
+use Rattle.std.specs.Prelude.{ℕ, List, [], Option, None}
 use Rattle.hp_plain.specs.Image.{Pictured}
 
 -- their text, the state that the last one shows, and the serials of the steps that are not undone
@@ -7,3 +7,7 @@ pub record TraceValue : Type 0 where
   pub text : List ℕ
   pub seen : Option Pictured
   pub steps : List ℕ
+
+-- before the first row
+abbrev pub no_trace : TraceValue
+no_trace = record { text = []; seen = None; steps = [] }

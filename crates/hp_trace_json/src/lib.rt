@@ -26,5 +26,5 @@ pub use lists::{CpuListNow, FreeListNow};
 pub use seen::SeenState;
 pub use splices::{Splice, splice_between};
 pub use steps::Steps;
-pub use trace::{JsonTrace, TraceRow};
+pub use trace::{JsonTrace, TraceRow, head_line};
 pub use words::WordNow;

@@ -1,16 +1,17 @@
 //! The rows of a trace, as lines of JSON.
-ghost use Rattle.std.specs.Prelude.{◌≡◌, [], IfOk, None, OnOk, Some, length, string_bytes};
+ghost use Rattle.std.specs.Prelude.{◌≡◌, [], IfOk, OnOk, Some, length, string_bytes};
 ghost use Rattle.std.specs.Option.{option_map_or};
 ghost use Rattle.hp_units.specs.History.{net_of};
 ghost use Rattle.hp_trace_json.specs.Ascii.{AddsLine};
 ghost use Rattle.hp_trace_json.specs.Parts.{state_of};
 ghost use Rattle.hp_trace_json.specs.Steps.{steps_after};
+ghost use Rattle.hp_trace_json.specs.Traces.{no_trace};
 
 use crate::ascii::write_line;
 use crate::change::Change;
 use crate::seen::SeenState;
 use crate::steps::Steps;
-use crate::writing::{RowJson, head_json, row_json};
+use crate::writing::{RowJson, head_json, output_json, row_json};
 use hp_machine::Machine;
 use hp_units::{Cpu, Layout, Receipt, Serial, Text};
 use indexmap::IndexSet;
@@ -28,13 +29,11 @@ pub struct TraceRow<'a> {
     pub cpu: Option<Cpu>,
     /// The call, if there was one.
     pub receipt: Option<&'a Receipt>,
-    /// What else was printed.
-    pub output: Option<&'a str>,
     /// How many records a seal handed out.
     pub sealed: Option<u64>,
 }
 
-/// A trace as lines of JSON: a head, and a line for each row so far.
+/// The rows of a trace so far, a line of JSON each.
 #[derive(Drop)]
 pub struct JsonTrace {
     text: String,
@@ -52,26 +51,15 @@ impl Model for JsonTrace {
 }
 
 impl JsonTrace {
-    /// Makes a trace with its head alone: the layout, the owners' names, and how many lines the
-    /// scenario has.
-    pub fn new(
-        alloc: Global,
-        layout: &Layout,
-        names: &IndexSet<Text>,
-        lines: u64,
-    ) -> Result<JsonTrace, AllocError>
-        ensures text { IfOk result (λ trace. AddsLine [] trace.text) }
-        ensures seen { IfOk result (λ trace. trace.seen ≡ None) }
-        ensures steps { IfOk result (λ trace. trace.steps ≡ []) }
+    /// Makes a trace without rows.
+    pub fn new(alloc: Global) -> JsonTrace
+        ensures { result ≡ no_trace }
     {
-        let mut text = String::new(alloc);
-        let head = head_json(alloc, layout, names, lines)?;
-        write_line(&mut text, head.as_str())?;
-        Ok(JsonTrace {
-            text,
+        JsonTrace {
+            text: String::new(alloc),
             seen: SeenState::new(),
             steps: Steps::new(alloc),
-        })
+        }
     }
 
     /// Adds a row: one line, with how the machine's state differs from that of the row above.
@@ -99,6 +87,16 @@ impl JsonTrace {
             change: &change,
         };
         let json = row_json(alloc, names, &told)?;
+        write_line(&mut self.text, json.as_str())
+    }
+
+    /// Adds a row with what else a line printed: a text, and no state.
+    pub fn add_output(&mut self, alloc: Global, line: u64, output: &str) -> Result<(), AllocError>
+        ensures line { OnOk result (AddsLine self.old.text self.new.text) }
+        ensures seen { OnOk result (self.new.seen ≡ self.old.seen) }
+        ensures steps { OnOk result (self.new.steps ≡ self.old.steps) }
+    {
+        let json = output_json(alloc, line, output)?;
         write_line(&mut self.text, json.as_str())
     }
 
@@ -130,6 +128,22 @@ impl JsonTrace {
         } = self;
         text
     }
+}
+
+/// Returns the line before the rows: the layout, the owners' names, and how many lines the scenario
+/// has.
+pub fn head_line(
+    alloc: Global,
+    layout: &Layout,
+    names: &IndexSet<Text>,
+    lines: u64,
+) -> Result<String, AllocError>
+    ensures { IfOk result (λ text. AddsLine [] (string_bytes text)) }
+{
+    let mut text = String::new(alloc);
+    let head = head_json(alloc, layout, names, lines)?;
+    write_line(&mut text, head.as_str())?;
+    Ok(text)
 }
 
 /// Returns the serial of a call; 0 if there was none.

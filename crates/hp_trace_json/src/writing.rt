@@ -8,4 +8,4 @@ mod keys;
 mod rows;
 
 pub(crate) use heads::head_json;
-pub(crate) use rows::{RowJson, row_json};
+pub(crate) use rows::{RowJson, output_json, row_json};

@@ -33,9 +33,22 @@ pub(crate) fn row_json(
     out.begin_object()?;
     write_line(&mut out, told.row)?;
     write_call(&mut out, alloc, names, told.row.receipt)?;
-    write_output(&mut out, told.row)?;
+    write_sealed(&mut out, told.row.sealed)?;
     write_steps(&mut out, alloc, names, told)?;
     write_change(&mut out, alloc, names, told.change)?;
+    out.end_object()?;
+    let bytes = out.into_inner();
+    String::from_utf8_lossy(alloc, bytes.as_slice())
+}
+
+/// Returns the JSON of a row with what else a line printed.
+pub(crate) fn output_json(alloc: Global, line: u64, output: &str) -> Result<String, AllocError> {
+    let mut out = Writer::new(Vec::new(alloc));
+    out.begin_object()?;
+    out.key("line")?;
+    out.u64(line)?;
+    out.key("output")?;
+    out.string(output)?;
     out.end_object()?;
     let bytes = out.into_inner();
     String::from_utf8_lossy(alloc, bytes.as_slice())
@@ -99,13 +112,9 @@ fn write_answer(out: &mut Writer, alloc: Global, reply: Reply) -> Result<(), All
     out.string(words.as_str())
 }
 
-/// Writes what else is printed, and how many records a seal handed out.
-fn write_output(out: &mut Writer, row: &TraceRow<'_>) -> Result<(), AllocError> {
-    if let Some(output) = row.output {
-        out.key("output")?;
-        out.string(output)?;
-    }
-    if let Some(sealed) = row.sealed {
+/// Writes how many records a seal handed out, if it is one.
+fn write_sealed(out: &mut Writer, sealed: Option<u64>) -> Result<(), AllocError> {
+    if let Some(sealed) = sealed {
         out.key("sealed")?;
         out.u64(sealed)?;
     }

@@ -1,7 +1,7 @@
 use Rattle.std.proofs.Common.{sym, subst}
 use Rattle.std.proofs.lemmas.Result.{IfErr-weaker}
 use Rattle.hotplug_lab.specs.Words.{IsUnanswered}
-use Rattle.hotplug_lab.proofs.Answered.{no_memory, not_drawn, not_logged, not_traced}
+use Rattle.hotplug_lab.proofs.Answered.{no_memory, not_drawn, not_logged, not_told, not_traced}
 use Rattle.hotplug_lab.proofs.answering.answer_to.Goals as goal
 
 pub returns-in-Check-clause-err : goal.returns-in-Check-clause-err
@@ -26,3 +26,8 @@ pub returns-in-Log-clause-err : goal.returns-in-Log-clause-err
 returns-in-Log-clause-err g c =
     IfErr-weaker c.logged.result _ _
     (λ fault h. not_logged c.args.word c.args.input.now fault c.in-Log.is h) c.logged.ensures.err
+
+pub returns-in-Told-clause-err : goal.returns-in-Told-clause-err
+returns-in-Told-clause-err g c =
+    IfErr-weaker c.told.result _ _
+    (λ fault h. not_told c.args.word c.args.input.now fault c.in-Told.is h) c.told.ensures.err
