@@ -32,8 +32,10 @@ class Reader:
         self.follow(row.get("change", {}))
         self.state = {part: values for part, values in self.state.items() if values}
         if "serial" in row:
-            self.printed += f'{row["serial"]}: {row["answer"]}\n'
             self.recorded += 1
+            # `serial` prints of a plan only its end; its calls have no text of their own
+            if "text" in row:
+                self.printed += f'{row["serial"]}: {row["answer"]}\n'
         self.printed += row.get("output", "")
         return [*self.faults_of_steps(row, old), *self.faults_of_deltas(row, old)]
 
@@ -62,7 +64,7 @@ class Reader:
                 yield f"drops {drops} where {row['answer']}"
             del self.steps[max(at, 0):]
         elif "journal" in row:
-            self.before[row["serial"]] = old
+            self.before[row["serial"]] = json.loads(json.dumps(old))
             self.steps.append(row["serial"])
         elif self.state != old:
             if old:
@@ -168,7 +170,7 @@ def check_rows(checks, programs, name, scenario):
     head, *rows = map(json.loads, lines)
     checks.holds(where, (head["trace"], head["layout"], head["lines"]) == (1, layout, len(calls)),
                  f"begins with {lines[0]}")
-    texts = [row["text"] for row in rows if "text" in row]
+    texts = [json.loads(f'"{row["text"]}"') for row in rows if "text" in row]
     checks.holds(where, texts == ["boot", *calls], f"has the lines {texts}")
     numbers = [row["line"] for row in rows]
     checks.holds(where, numbers == sorted(numbers), f"has the lines {numbers}")

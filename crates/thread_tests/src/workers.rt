@@ -151,18 +151,16 @@ fn two_workers_meet(rt: HostRuntime) -> Result<(), Fail> {
 
 #[test]
 fn a_gate_opens_after_the_call_was_made(rt: HostRuntime) -> Result<(), Fail> {
-    // The second worker's first call is over before the first worker leaves the gate after its map.
+    // The second worker reads while the first waits at the gate after its map.
     let points = [
         Point::After(0, 1),
         Point::Before(1, 1),
-        Point::Before(1, 2),
+        Point::After(1, 1),
         Point::After(0, 1),
     ];
     let gate = InOrder::new(points.as_slice());
-    let calls = r#""0 map db 0","1 read db 0 0","1 read db 0 0""#;
-    let outcome = run_lines(&rt, rt.alloc(), calls, &gate)?;
-    let word = LineEnd::Reply(Reply::Word(0));
-    assert!(rt; outcome.is(&[DONE], &[word, word], 3));
+    let outcome = run_lines(&rt, rt.alloc(), r#""0 map db 0","1 read db 0 0""#, &gate)?;
+    assert!(rt; outcome.is(&[DONE], &[LineEnd::Reply(Reply::Word(0))], 2));
     assert!(rt; gate.was_met());
     Ok(())
 }
