@@ -1,3 +1,5 @@
 pub mod LogFaults
 pub mod Counting
 pub mod Verdicts
+pub mod Selected
+pub mod Sizes

@@ -1,2 +1,4 @@
 pub mod Names
+pub mod Parts
 pub mod Reports
+pub mod Sizes

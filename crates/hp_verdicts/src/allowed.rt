@@ -23,7 +23,7 @@ pub struct AllowedKinds {
 }
 
 impl AllowedKinds {
-    /// Returns the set of no kinds.
+    /// Returns the empty set.
     pub fn none() -> AllowedKinds
         ensures { result ≡ allowed_none }
     {

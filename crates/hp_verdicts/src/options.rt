@@ -1,6 +1,6 @@
 //! The options of a judgement.
-ghost use Rattle.std.specs.Prelude.{◌≡◌, ◌<◌, ◌≤◌, ◌^◌, IfOk, IfSome};
-ghost use Rattle.hp_judge.specs.Events.{frame_count};
+ghost use Rattle.std.specs.Prelude.{◌≡◌, ◌↔◌, ◌<◌, ◌≤◌, ◌^◌, ℕ, IfErr, IfNone, IfOk, IfSome, None, Some};
+ghost use Rattle.hp_verdicts.specs.Sizes.{AreFrames, HasNoSize, IsSizeFault, IsSizeFor, IsSizeOf, blocks_for};
 
 use crate::allowed::AllowedKinds;
 use crate::selection::BlockRange;
@@ -43,7 +43,15 @@ impl JudgeOptions {
         range: Option<BlockRange>,
         allowed: AllowedKinds,
         most: u64,
-    ) -> Option<JudgeOptions> {
+    ) -> Option<JudgeOptions>
+        ensures some { IfSome result (λ options. options ≡ record {
+          block_frames = block_frames;
+          range = range;
+          allowed = allowed;
+          most = most;
+        }) }
+        ensures none { IfNone result ((frames : ℕ) × (block_frames ≡ Some frames) × HasNoSize frames range) }
+    {
         if let Some(frames) = block_frames {
             let _size = machine_size(frames, range)?;
         }
@@ -58,8 +66,8 @@ impl JudgeOptions {
     /// Returns the size of the machine. `told` is the number of frames per memory block in the log,
     /// if it has one.
     pub fn machine_size(&self, told: Option<u32>) -> Result<MachineSize, SizeFault>
-        ensures order { IfOk result (λ size. size.block_order < 32) }
-        ensures small { IfOk result (λ size. frame_count size < 2 ^ 32) }
+        ensures ok { IfOk result (IsSizeOf self.now.block_frames told self.now.range) }
+        ensures err { IfErr result (IsSizeFault self.now.block_frames told self.now.range) }
     {
         match machine_size(self.frames_with(told)?, self.range) {
             Some(size) => Ok(size),
@@ -69,7 +77,10 @@ impl JudgeOptions {
 
     /// Returns the frames per block from the options or the log. Fails if they differ or neither
     /// has it.
-    fn frames_with(&self, told: Option<u32>) -> Result<u64, SizeFault> {
+    fn frames_with(&self, told: Option<u32>) -> Result<u64, SizeFault>
+        ensures ok { IfOk result (AreFrames self.now.block_frames told) }
+        ensures err { IfErr result (IsSizeFault self.now.block_frames told self.now.range) }
+    {
         match (self.block_frames, told) {
             (Some(frames), Some(told)) if frames != told as u64 => Err(SizeFault::Different),
             (Some(frames), _) => Ok(frames),
@@ -97,8 +108,8 @@ impl JudgeOptions {
 /// Returns the size of a machine with 2^26 frames, or with all blocks up to the range's end if
 /// these are more.
 fn machine_size(block_frames: u64, range: Option<BlockRange>) -> Option<MachineSize>
-    ensures order { IfSome result (λ size. size.block_order < 32) }
-    ensures small { IfSome result (λ size. frame_count size < 2 ^ 32) }
+    ensures some { IfSome result (IsSizeFor block_frames range) }
+    ensures none { IfNone result (HasNoSize block_frames range) }
 {
     let order = order_of(block_frames)?;
     let blocks = most_blocks(order, range);
@@ -113,7 +124,8 @@ fn machine_size(block_frames: u64, range: Option<BlockRange>) -> Option<MachineS
 
 /// Returns the order of a power of two up to 2^26.
 fn order_of(count: u64) -> Option<u32>
-    ensures { IfSome result (λ order. order ≤ 26) }
+    ensures some { IfSome result (λ order. (order ≤ 26) × (count ≡ 2 ^ order)) }
+    ensures none { IfNone result ((order : ℕ) → order ≤ 26 → count ≡ 2 ^ order → ⊥) }
 {
     for order in 0..MOST_FRAMES_ORDER + 1 {
         if 1u64 << order == count {
@@ -126,6 +138,7 @@ fn order_of(count: u64) -> Option<u32>
 /// Returns the number of memory blocks in 2^26 frames, or the range's end if that is greater.
 fn most_blocks(order: u32, range: Option<BlockRange>) -> u32
     requires { order ≤ 26 }
+    ensures { result ≡ blocks_for order range }
 {
     let count = 1u32 << (MOST_FRAMES_ORDER - order);
     match range {

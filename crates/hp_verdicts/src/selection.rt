@@ -1,8 +1,11 @@
 //! The part of a log that is judged.
-ghost use Rattle.std.specs.Prelude.{◌<◌};
+ghost use Rattle.std.specs.Prelude.{◌≡◌, ◌<◌, if◌then◌else◌, true};
+ghost use Rattle.hp_judge.specs.Events.{is_move, is_well_formed};
+ghost use Rattle.hp_judge.specs.declared.events.LogEvent.TheVariants.{Move, Other};
+ghost use Rattle.hp_verdicts.specs.Parts.{IsPartOf, contains};
 
 use hp_judge::{LogEvent, MachineSize};
-use hp_numbers::{Frame, Order};
+use hp_numbers::{Block, Frame, Order};
 
 /// The memory blocks from `first` up to `end`, which is not in the range.
 #[derive(Clone, Copy, Drop)]
@@ -13,7 +16,9 @@ pub struct BlockRange {
 
 impl BlockRange {
     /// Returns whether a memory block is in the range.
-    pub fn contains(&self, block: u32) -> bool {
+    pub fn contains(&self, block: u32) -> bool
+        ensures { result ≡ contains self.now block }
+    {
         self.first <= block && block < self.end
     }
 
@@ -23,23 +28,35 @@ impl BlockRange {
     /// move out of the range is a free, and one into it an alloc of a movable page.
     pub fn part_of(&self, size: &MachineSize, event: &LogEvent) -> LogEvent
         requires { size.now.block_order < 32 }
+        ensures { is_well_formed size.now event.now ≡ true → IsPartOf size.now self.now event.now result }
     {
-        let is_inside = match event {
-            LogEvent::Alloc { frame, .. } => self.contains(size.block_of(*frame)),
-            LogEvent::Free { frame, .. } => self.contains(size.block_of(*frame)),
-            LogEvent::OnlineBegins { block, .. } => self.contains(block.0),
-            LogEvent::OnlineEnds { block, .. } => self.contains(block.0),
-            LogEvent::OfflineBegins { block } => self.contains(block.0),
-            LogEvent::OfflineEnds { block, .. } => self.contains(block.0),
-            LogEvent::Move { from, to } => return self.part_of_move(size, *from, *to),
-            LogEvent::Other => false,
-        };
-        if is_inside { *event } else { LogEvent::Other }
+        match event {
+            LogEvent::Alloc { frame, .. } => self.kept(Block(size.block_of(*frame)), event),
+            LogEvent::Free { frame, .. } => self.kept(Block(size.block_of(*frame)), event),
+            LogEvent::OnlineBegins { block, .. } => self.kept(*block, event),
+            LogEvent::OnlineEnds { block, .. } => self.kept(*block, event),
+            LogEvent::OfflineBegins { block } => self.kept(*block, event),
+            LogEvent::OfflineEnds { block, .. } => self.kept(*block, event),
+            LogEvent::Move { from, to } => self.part_of_move(size, *from, *to),
+            LogEvent::Other => LogEvent::Other,
+        }
+    }
+
+    /// Returns the event of a memory block if the block is in the range, else `LogEvent::Other`.
+    fn kept(&self, block: Block, event: &LogEvent) -> LogEvent
+        ensures { result ≡ (if contains self.now block then event.now else Other) }
+    {
+        if self.contains(block.0) {
+            *event
+        } else {
+            LogEvent::Other
+        }
     }
 
     /// Returns a move as the blocks of the range see it.
     fn part_of_move(&self, size: &MachineSize, from: Frame, to: Frame) -> LogEvent
         requires { size.now.block_order < 32 }
+        ensures { is_move size.now from to ≡ true → IsPartOf size.now self.now (Move from to) result }
     {
         let leaves = self.contains(size.block_of(from));
         let comes = self.contains(size.block_of(to));

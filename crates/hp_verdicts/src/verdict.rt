@@ -57,7 +57,7 @@ impl Verdict {
         self.judge.is_full()
     }
 
-    /// Reads the next event. After an error, the verdict is on no log.
+    /// Reads the next event. After an error, the verdict is unspecified.
     pub fn read(&mut self, event: &LogEvent) -> Result<(), AllocError>
         requires { self.old.tables.count < 2 ^ 63 }
         ensures size { self.new.tables.size ≡ self.old.tables.size }
@@ -76,7 +76,7 @@ impl Verdict {
         }
     }
 
-    /// Returns whether the log has no faults but allowed ones.
+    /// Returns whether the log has no faults except allowed ones.
     ///
     /// If no kind is allowed, this is whether a lawful machine can have written the log.
     pub fn is_lawful(&self) -> bool
