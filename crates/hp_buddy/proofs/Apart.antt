@@ -1,4 +1,4 @@
--- Free blocks that lie apart: a shorter list keeps it, and so does one block more.
+-- Free blocks lie apart: a shorter list keeps them apart, and so does one more block.
 use Rattle.std.proofs.Common.{◌≡◌, ℕ, ◌+◌, ◌%◌, ◌^◌, ◌<◌, ◌≤◌, List, [], ◌∷◌, ◌++◌, true, ◌∙◌, subst, arith, inl, inr}
 use Rattle.std.proofs.lemmas.Bool.{cases_lt}
 use Rattle.std.proofs.lemmas.Nat.{pow_pos}
@@ -21,7 +21,7 @@ pub has_order : (l : LayoutParts) (a : FreeAreas) (order : ℕ) → AreApart l a
     → HasOrder a order
 has_order l a order h low = omega (arith, h.areas.lists)
 
--- a free block's first frame is a frame
+-- a free block's first frame is a frame of the layout
 pub on_frame : (l : LayoutParts) (a : FreeAreas) (class : Class) (order first : ℕ) → AreFreeAreasOf l a
     → is_on first (free_list a class order) ≡ true → first < frame_count l
 on_frame l a class order first h on =
@@ -32,7 +32,7 @@ on_frame l a class order first h on =
 
 -- ---- a shorter list
 
--- a part of a list in its place
+-- a list is replaced by a part of it
 pub part-apart : (l : LayoutParts) (a : FreeAreas) (class : Class) (order : ℕ) (frames : List ℕ)
     → order ≤ l.order
     → IsPart order frames (free_list a class order) → AreApart l a

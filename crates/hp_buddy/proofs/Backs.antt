@@ -1,4 +1,4 @@
--- The opposite of one delta, on the lists of links.
+-- Undoing one delta, on the lists of links.
 use Rattle.std.proofs.Common.{◌≡◌, ℕ, ◌+◌, ◌*◌, ◌≤◌, List, [], ◌∷◌, get_or, Bool, true, false, not, cond, Option, Some, None, sym, ◌∙◌, ap, subst, ◌==◌}
 use Rattle.std.specs.List.{list_all}
 use Rattle.std.specs.Option.{ForSome, option_map_or}
@@ -34,7 +34,7 @@ behind-on (Some a) f (x ∷ xs) h =
     either true b d k yes_ no_ = yes_ k
     either false b d k yes_ no_ = no_ k
 
--- a delta that fits says that its frame is on its list
+-- the frame of a Link that fits is on the delta's list
 pub linked-on : (a : FreeAreas) (delta : Delta) (list : ListId) (class : Class) (order f : ℕ)
     (after : Option ℕ)
     → delta ≡ Link list f after → list ≡ Area class order
@@ -43,7 +43,7 @@ linked-on a delta list class order f after is list_is fits =
     behind-on after f (free_list a class order)
     (subst (λ (d : Delta). FitsAreas d a) (is ∙ ap (λ (k : ListId). Link k f after) list_is) fits)
 
--- and the numbers are in the layout
+-- and the delta's numbers are in the layout
 pub linked-in : (l : LayoutParts) (delta : Delta) (list : ListId) (class : Class) (order f : ℕ)
     (after : Option ℕ)
     → delta ≡ Link list f after → list ≡ Area class order
@@ -51,7 +51,7 @@ pub linked-in : (l : LayoutParts) (delta : Delta) (list : ListId) (class : Class
 linked-in l delta list class order f after is list_is numbers =
     (subst (λ (d : Delta). IsDeltaOf l d) (is ∙ ap (λ (k : ListId). Link k f after) list_is) numbers).0
 
--- it leaves the list
+-- the frame leaves the list
 pub link-undone : (v : BuddyValue) (l : LayoutParts) (links new : LinkedLists) (kinds : List Kind)
     (delta : Delta) (list : ListId) (class : Class) (order f : ℕ) (after before : Option ℕ)
     → Seen v l links kinds → delta ≡ Link list f after → list ≡ Area class order → FitsAreas delta v.areas
@@ -69,13 +69,13 @@ link-undone v l links new kinds delta list class order f after before s is list_
 
 -- ---- a frame that left its list comes back
 
--- what a test of a frame after says
+-- what a test of `after` shows
 pub after-true : (after : Option ℕ) (xs : List ℕ) → option_map_or (λ first. is_on first xs) after true ≡ true
     → (a : ℕ) → after ≡ Some a → is_on a xs ≡ true
 after-true None xs h a e = cc
 after-true (Some b) xs h a e = let same : b ≡ a = cc in subst (λ (n : ℕ). is_on n xs ≡ true) same h
 
--- what it is put after is on the list
+-- the frame that it is put after is on the list
 pub unlinked-after : (v : BuddyValue) (l : LayoutParts) (links : LinkedLists) (kinds : List Kind)
     (delta : Delta) (list : ListId) (class : Class) (order f n : ℕ) (after : Option ℕ)
     → Seen v l links kinds → delta ≡ Unlink list f after → list ≡ Area class order → FitsAreas delta v.areas
@@ -91,7 +91,7 @@ unlinked-after v l links kinds delta list class order f n after s is list_is fit
     (option_map_or (λ first. is_on first xs) after true) fit in
     subst (λ (m : ℕ). IsOn links m a) (sym number) (on_contains a xs (after-true after xs parts.1 a e))
 
--- it comes back
+-- the frame comes back
 pub unlink-undone : (v : BuddyValue) (l : LayoutParts) (links new : LinkedLists) (kinds : List Kind)
     (delta : Delta) (list : ListId) (class : Class) (order f n : ℕ) (after : Option ℕ)
     → Seen v l links kinds → delta ≡ Unlink list f after → list ≡ Area class order

@@ -53,7 +53,7 @@ room_left l most more was now before after n room =
 
 -- ---- numbers
 
--- a block of a lower order is no longer
+-- a block of a lower order is not greater
 smaller : (order top : ℕ) → order ≤ top → 2 ^ order ≤ 2 ^ top
 smaller order top low =
     let sum : top ≡ order + (top - order) = omega arith in
@@ -62,7 +62,7 @@ smaller order top low =
     ap (λ (n : ℕ). 2 ^ n) sum ∙ pow-add 2 order (top - order) in
     omega (arith, mul-le-mul_left (2 ^ order) some)
 
--- a half of a block of the layout fits a number
+-- the upper half of a block starts at a number of 32 bits
 pub half_fits : (l : LayoutParts) (a : FreeAreas) (order frame half : ℕ) → IsLayout l
     → MayBeGiven l a order frame → half < order → frame + 2 ^ half < 2 ^ 32
 half_fits l a order frame half layout block below =
@@ -71,7 +71,7 @@ half_fits l a order frame half layout block below =
 
 -- ---- a block that is split
 
--- the upper half of what is left is a frame in no free block
+-- the upper half of what is left starts at a frame in no free block
 pub record IsUpper (l : LayoutParts) (now : FreeAreas) (f : ℕ) : Type 0 where
   pub inside : f < frame_count l
   pub unfree : free_places now f ≡ 0
@@ -99,7 +99,7 @@ upper l a now class frame half order k f below block h next is at =
           (both.upper.unfree f (omega arith) (omega arith));
     }
 
--- with the upper half free
+-- one more upper half is free
 pub halves_next : (a now new : FreeAreas) (class : Class) (frame half order k f : ℕ) → half < order
     → k ≡ half + 1 → now ≡ with_halves a class frame k (order - k) → f ≡ frame + 2 ^ half
     → new ≡ with_front now class half f → new ≡ with_halves a class frame half (order - half)
@@ -116,12 +116,12 @@ pub record IsFront (f : ℕ) (xs : List ℕ) : Type 0 where
   pub rest : List ℕ
   pub is : xs ≡ f ∷ rest
 
--- by the first frame
+-- a list's front is its first frame
 front_of : (f : ℕ) (xs : List ℕ) → Some f ≡ first xs → IsFront f xs
 front_of f [] e = cc
 front_of f (x ∷ xs) e = let same : x ≡ f = cc in record { rest = xs; is = ap (λ (y : ℕ). y ∷ xs) same }
 
--- by the front that the links show
+-- the same, by the front that the links show
 pub seen-front_is : (v : BuddyValue) (l : LayoutParts) (links : LinkedLists) (kinds : List Kind)
     (class : Class) (order n f : ℕ)
     → Seen v l links kinds
@@ -142,7 +142,7 @@ front_left l a mid class order f h low front is =
     is ∙ ap (λ (xs : List ℕ). with_free_list a class order (without f xs)) front.is
     ∙ ap (λ (xs : List ℕ). with_free_list a class order xs) (without-front f front.rest apart.0)
 
--- and is in no free block then
+-- and then it is in no free block
 pub front_free : (l : LayoutParts) (a mid : FreeAreas) (class : Class) (order f : ℕ) → AreApart l a
     → order ≤ l.order → IsFront f (free_list a class order)
     → mid ≡ without_free a class order f → IsLeft l mid order f
@@ -150,13 +150,13 @@ front_free l a mid class order f h low front is =
     subst (λ (b : FreeAreas). IsLeft l b order f) (sym (front_left l a mid class order f h low front is))
     (tail-left l a class order f front.rest front.is low h)
 
--- its first frame is a frame
+-- the front block starts at a frame of the layout
 pub front_frame : (l : LayoutParts) (a : FreeAreas) (class : Class) (order f : ℕ) → AreApart l a
     → IsFront f (free_list a class order) → f < frame_count l
 front_frame l a class order f h front =
     on_frame l a class order f h.areas (front_on f front.rest (free_list a class order) front.is)
 
--- it was taken
+-- the front block was taken
 pub front_taken : (l : LayoutParts) (a mid new : FreeAreas) (class rest : Class) (order wanted f : ℕ)
     → AreApart l a → order ≤ l.order → IsFront f (free_list a class order)
     → mid ≡ without_free a class order f → new ≡ with_halves mid rest f wanted (order - wanted)
@@ -175,7 +175,7 @@ pub record IsOutcome (v new : BuddyValue) (wanted : ℕ) (o : Option ℕ) : Type
   pub block : IfSome o (MayBeGiven new.layout new.areas wanted)
   pub places : IfSome o (HasBlockMore v.areas new.areas wanted)
 
--- by what the definition took
+-- the outcome, by what the definition took
 pub outcome : (v new : BuddyValue) (wanted : ℕ) (taken : Option Taken) (o : Option ℕ) (was now : TapeValue)
     → AreApart v.layout v.areas → new.layout ≡ v.layout
     → IfSome taken (Takes v.layout v.areas wanted)
@@ -211,7 +211,7 @@ unfolding take_block
 take_block-found l a class wanted found e =
     ap (λ (o : Option ℕ). option_and_then (λ order. take_front a class class order wanted) o) (sym e)
 
--- no order, no block
+-- if no order has a block, none is taken or stolen
 pub take_block-none : (l : LayoutParts) (a : FreeAreas) (class : Class) (wanted : ℕ)
     → None ≡ least_order a class wanted (l.order + 1 - wanted) → take_block l a class wanted ≡ None
 unfolding take_block
@@ -244,7 +244,7 @@ buddy_free l a now class frame first order half other low below inside half_is o
           (subst (λ (n : ℕ). is_on n (free_list a class order) ≡ true) (sym place) on));
     }
 
--- without one buddy more
+-- one more buddy leaves
 pub buddies_next : (a now new : FreeAreas) (class : Class) (frame first order half other : ℕ) → first ≤ order
     → half ≡ ancestor frame order → other ≡ buddy half order
     → now ≡ without_buddies a class frame first (order - first) → new ≡ without_free now class order other
@@ -264,7 +264,7 @@ front_takes l a class rest order wanted taken h low w e =
     subst (λ (o : Option Taken). IfSome o (Takes l a wanted)) e
     (take_first-takes l a class rest order wanted (free_list a class order) refl low w h)
 
--- and its first frame is one
+-- and it starts at a frame of the layout
 pub taken_frame : (l m : LayoutParts) (a : FreeAreas) (class rest : Class) (order wanted : ℕ) (taken : Taken)
     → AreApart l a → order ≤ l.order → wanted ≤ order → m ≡ l
     → take_front a class rest order wanted ≡ Some taken → taken.frame < frame_count m
@@ -293,7 +293,7 @@ joined_left l a mid class frame order joined block h e is =
     subst (λ (b : FreeAreas). IsLeft l b joined (ancestor frame joined)) (sym is)
     (record { apart = j.apart; rest = j.block })
 
--- it was given
+-- the block was given
 pub block_given : (l : LayoutParts) (a mid new : FreeAreas) (zone : Zone) (class : Class)
     (frame order joined top : ℕ)
     → class ≡ class_of l a zone frame
@@ -320,7 +320,7 @@ frame_is_buddy l frame order half other inside below half_is other_is =
 
 -- ---- the order that is found
 
--- what is said of a block taken off a front is said of the block taken
+-- if two definitions of the block taken are equal, what holds for one holds for the other
 pub as_taken : (o : Option ℕ) (a : FreeAreas) (x y : Option Taken) → x ≡ y
     → MatchOption o (y ≡ None) (λ f. y ≡ Some (record { areas = a; frame = f }))
     → MatchOption o (x ≡ None) (λ f. x ≡ Some (record { areas = a; frame = f }))
@@ -349,7 +349,7 @@ steal_block-found l a mobility from wanted found same e =
     ap (λ (o : Option ℕ). option_and_then (λ order. steal_front l a mobility order wanted) o)
     (sym (e ∙ ap (λ (c : Class). greatest_order a c wanted (l.order + 1 - wanted)) same))
 
--- no order, no block
+-- if no order has a block, none is taken or stolen
 pub steal_block-none : (l : LayoutParts) (a : FreeAreas) (mobility : Mobility) (from : Class) (wanted : ℕ)
     → from ≡ stolen_class mobility
     → None ≡ greatest_order a from wanted (l.order + 1 - wanted) → steal_block l a mobility wanted ≡ None

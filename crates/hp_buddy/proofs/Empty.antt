@@ -1,4 +1,4 @@
--- Of areas with nothing free, the first pageblock may be given.
+-- In areas with nothing free, the first pageblock may be given.
 use Rattle.std.proofs.Common.{◌+◌, ◌*◌, ◌^◌, ◌≤◌, arith}
 use Rattle.std.proofs.Math.Nat.{mul-le-mul_right}
 use Rattle.hp_units.specs.LayoutParts.{LayoutParts}

@@ -19,7 +19,7 @@ areas_of links kinds = record { lists = links.lists; kinds = kinds }
 
 -- ---- whether a frame is on a list
 
--- what a list contains is on it
+-- what a list `Contains` is on it
 pub contains_on : (f : ℕ) (xs : List ℕ) → Contains xs f → is_on f xs ≡ true
 contains_on f xs h = at f xs h.0 h.1 h.2
   where
@@ -32,7 +32,7 @@ contains_on f xs h = at f xs h.0 h.1 h.2
         or_right true b h = refl
         or_right false b h = h
 
--- what is on a list it contains
+-- what is on a list, the list `Contains`
 pub on_contains : (f : ℕ) (xs : List ℕ) → is_on f xs ≡ true → Contains xs f
 on_contains f [] on = cc
 on_contains f (x ∷ xs) on = elim (on_cases f x xs on) [
@@ -58,14 +58,14 @@ unlisted links kinds f none n on =
           (subst (λ (xs : List ℕ). is_on f xs ≡ true) (get_or_past links.lists n [] past) there)
     ]
 
--- a frame on no list isn't on any
+-- an unlisted frame is not on list `n`
 pub off_list : (links : LinkedLists) (f n : ℕ) → IsUnlisted links f
     → is_on f (get_or links.lists n []) ≡ false
 off_list links f n none =
     false_from_ne_true (is_on f (get_or links.lists n []))
     (λ on. none n (on_contains f (get_or links.lists n []) on))
 
--- nor on all
+-- a frame that is on no list `n` is on none of all lists
 pub off_all : (f : ℕ) (lists : List (List ℕ)) → ((n : ℕ) → is_on f (get_or lists n []) ≡ false)
     → list_all (λ other. not (is_on f other)) lists ≡ true
 off_all f [] off = refl
@@ -79,7 +79,7 @@ off_all f (frames ∷ lists) off =
 
 -- ---- a frame leaves its list, and comes back
 
--- a frame that leaves a list leaves it whole
+-- if a frame is on a list only once, both ways of taking it off the list agree
 pub without-same : (f : ℕ) (xs : List ℕ) → is_on f (without_first f xs) ≡ false
     → without_first f xs ≡ without f xs
 without-same f [] off = refl
@@ -92,7 +92,7 @@ without-same f (x ∷ xs) off = step (x == f) f x xs refl off (without-same f xs
     step true f x xs e off rest = sym (is_on-none f xs off)
     step false f x xs e off rest = ap (λ (ys : List ℕ). x ∷ ys) (rest (rw e at off))
 
--- both say the same of a frame put after another
+-- both ways of putting a frame after another agree
 pub put_behind-same : (after : Option ℕ) (f : ℕ) (xs : List ℕ)
     → put_behind after f xs ≡ with_behind after f xs
 put_behind-same None f xs = refl
@@ -107,7 +107,7 @@ abbrev pub AreDistinct : List ℕ → Type 0
 AreDistinct [] = Unit {0}
 AreDistinct (x ∷ xs) = (is_on x xs ≡ false) × AreDistinct xs
 
--- a frame that stands last on a list, after a first one
+-- the last frame of a list, if it has one
 record IsLast (found : Option ℕ) (xs : List ℕ) : Type 0 where
   pub frame : ℕ
   pub is : found ≡ Some frame
@@ -120,7 +120,7 @@ last-is x (y ∷ ys) =
     let rest = last-is y ys in
     record { frame = rest.frame; is = rest.is; on = on_tail rest.frame x (y ∷ ys) rest.on }
 
--- after the last frame
+-- a frame is put after the last one
 behind-last_from : (x f : ℕ) (xs : List ℕ) → AreDistinct (x ∷ xs)
     → is_behind (last_from (Some x) xs) f (x ∷ (xs ++ f ∷ [])) ≡ true
 behind-last_from x f [] d = cond-true (x == x) (f == f) _ (eq-eqb x x refl) ∙ eq-eqb f f refl
@@ -134,7 +134,7 @@ behind-last_from x f (y ∷ ys) d =
     ∙ ap (λ (o : Option ℕ). is_behind o f (y ∷ (ys ++ f ∷ []))) (sym rest.is)
     ∙ behind-last_from y f ys d.1
 
--- a frame at the back stands after the last one
+-- a frame put at the back comes after the last one
 pub behind-last : (f : ℕ) (xs : List ℕ) → AreDistinct xs → is_behind (last xs) f (xs ++ f ∷ []) ≡ true
 behind-last f [] d = eq-eqb f f refl
 behind-last f (x ∷ xs) d = behind-last_from x f xs d

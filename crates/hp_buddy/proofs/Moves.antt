@@ -22,7 +22,7 @@ use Rattle.hp_lemmas.proofs.Parts.{with_back-places}
 
 -- ---- one block keeps the free blocks apart
 
--- the free blocks lie apart, and each frame is in as many
+-- the free blocks lie apart, and each frame is in as many as before
 pub record Moves (l : LayoutParts) (a after : FreeAreas) : Type 0 where
   pub apart : AreApart l after
   pub places : (frame : ℕ) → free_places after frame ≡ free_places a frame
@@ -32,7 +32,7 @@ pub record IsOut (l : LayoutParts) (mid : FreeAreas) (order first : ℕ) : Type 
   pub apart : AreApart l mid
   pub block : MayBeGiven l mid order first
 
--- by its list
+-- a free block leaves its list
 pub taken_out : (l : LayoutParts) (a : FreeAreas) (class : Class) (order f : ℕ) → order ≤ l.order
     → is_on f (free_list a class order) ≡ true → AreApart l a
     → IsOut l (without_free a class order f) order f
@@ -52,7 +52,7 @@ taken_out l a class order f low on h = record {
   };
 }
 
--- by whether it is free
+-- the same, by whether the block is free
 one-moves : (l : LayoutParts) (a : FreeAreas) (from to : Class) (order f : ℕ) (on : Bool)
     → is_on f (free_list a from order) ≡ on → order ≤ l.order → AreApart l a
     → Moves l a (cond on (with_back (without_free a from order f) to order f) a)
@@ -75,17 +75,17 @@ pub move_one-moves : (l : LayoutParts) (a : FreeAreas) (from to : Class) (order 
 move_one-moves l a from to order f low h =
     one-moves l a from to order f (is_on f (free_list a from order)) refl low h
 
--- and then others
+-- two moves, one after the other
 pub moves-then : (l : LayoutParts) (a b c : FreeAreas) → Moves l a b → Moves l b c → Moves l a c
 moves-then l a b c h k = record { apart = k.apart; places = λ frame. k.places frame ∙ h.places frame }
 
--- one block after another, of so many frames from the first one on
+-- the blocks that start at the `count` frames from `first` on move, one after another
 abbrev pub move_first : FreeAreas → (from to : Class) → (order first count : ℕ) → FreeAreas
 move_first a from to order first zero = a
 move_first a from to order first (suc count) =
     move_one (move_first a from to order first count) from to order (first + count)
 
--- so many frames from the first one on
+-- moving them keeps the free blocks apart
 pub move_first-moves : (l : LayoutParts) (a : FreeAreas) (from to : Class) (order first count : ℕ)
     → order ≤ l.order → AreApart l a → Moves l a (move_first a from to order first count)
 move_first-moves l a from to order first zero low h = record { apart = h; places = λ frame. refl }
@@ -109,7 +109,7 @@ staying frames first count = filter (λ f. not (is_among first count f)) frames
 abbrev pub going : List ℕ → (first count : ℕ) → List ℕ
 going frames first count = filter (λ f. is_on f frames) (range_with_len first count)
 
--- one more leaves
+-- two filters, one after the other, are one
 filter-both : (p q r : ℕ → Bool) (xs : List ℕ) → ((x : ℕ) → (p x && q x) ≡ r x)
     → filter q (filter p xs) ≡ filter r xs
 filter-both p q r [] e = refl
@@ -122,7 +122,7 @@ filter-both p q r (x ∷ xs) e = step (p x) (r x) (e x) (filter-both p q r xs e)
         ∙ ap (λ (ys : List ℕ). cond c (x ∷ ys) ys) h
     step false c f h = h ∙ ap (λ (b : Bool). cond b (x ∷ filter r xs) (filter r xs)) f
 
--- one more leaves
+-- one more frame leaves
 staying-more : (frames : List ℕ) (first count : ℕ)
     → without (first + count) (staying frames first count) ≡ staying frames first (suc count)
 staying-more frames first count =
@@ -142,7 +142,7 @@ range_more first (suc count) =
     ap (λ (ns : List ℕ). first ∷ ns)
     (range_more (first + 1) count ∙ ap (λ (n : ℕ). range_with_len (first + 1) count ++ n ∷ []) sum)
 
--- one more goes
+-- one more frame goes
 going-more : (frames : List ℕ) (first count : ℕ)
     → going frames first (suc count)
     ≡ going frames first count ++ cond (is_on (first + count) frames) ((first + count) ∷ []) []
@@ -174,7 +174,7 @@ off-filter x p (y ∷ ys) off = step (p y) (y == x) off (off-filter x p ys)
         first_off false b e = refl
     step false false f h = h f
 
--- the next one did not go
+-- the next frame did not go
 going-off : (frames : List ℕ) (first count : ℕ) → is_on (first + count) (going frames first count) ≡ false
 going-off frames first count =
     off-filter (first + count) (λ f. is_on f frames) (range_with_len first count)
@@ -192,7 +192,7 @@ on-filter x p (y ∷ ys) kept = step (p y) refl (on-filter x p ys kept)
         let other : (y == x) ≡ false = ne_eqb y x (λ same. both_ways (p x) (ap p (sym same) ∙ e) kept) in
         h ∙ ap (λ (b : Bool). b || is_on x ys) (sym other)
 
--- the next one stayed
+-- the next frame stayed
 staying-on : (frames : List ℕ) (first count : ℕ)
     → is_on (first + count) (staying frames first count) ≡ is_on (first + count) frames
 staying-on frames first count =
@@ -207,7 +207,7 @@ staying-on frames first count =
 abbrev pub written : List (List ℕ) → (i j : ℕ) → (rest more : List ℕ) → List (List ℕ)
 written lists i j rest more = set (set lists i rest) j (get_or (set lists i rest) j [] ++ more)
 
--- where both are one list
+-- if both are one list
 written-same : (lists : List (List ℕ)) (i j : ℕ) (rest more : List ℕ) → i < length lists → i ≡ j
     → written lists i j rest more ≡ set lists i (rest ++ more)
 written-same lists i j rest more low same =
@@ -215,14 +215,14 @@ written-same lists i j rest more low same =
     ∙ ap (λ (xs : List ℕ). set (set lists i rest) i (xs ++ more)) (get_or-set_same lists i rest [] low)
     ∙ set-set lists i rest (rest ++ more)
 
--- where they are two
+-- if they are two lists
 written-apart : (lists : List (List ℕ)) (i j : ℕ) (rest more : List ℕ) → i ≢ j
     → written lists i j rest more ≡ set (set lists i rest) j (get_or lists j [] ++ more)
 written-apart lists i j rest more ne =
     ap (λ (xs : List ℕ). set (set lists i rest) j (xs ++ more))
     (get_or-set_other lists i j rest [] (λ same. ne (sym same)))
 
--- the first list then
+-- the first list after both are written
 written-on : (lists : List (List ℕ)) (i j x : ℕ) (rest more : List ℕ) → i < length lists → j < length lists
     → is_on x more ≡ false
     → is_on x (get_or (written lists i j rest more) i []) ≡ is_on x rest
@@ -286,7 +286,7 @@ written-more lists i j x rest more low high off = elim (cases_eq i j) [
       ∙ sym (written-apart lists i j (without x rest) (more ++ x ∷ []) ne)
 ]
 
--- ---- so many frames of a pageblock at once
+-- ---- `count` frames of a pageblock at once
 
 -- the frames of a range that are on a list go to the back of another
 abbrev pub parted : FreeAreas → (from to : Class) → (order first count : ℕ) → FreeAreas
@@ -329,7 +329,7 @@ parted-step a from to order first count false has is =
     (sym (append-nil (going frames first count)) ∙ ap (λ (b : Bool).
     going frames first count ++ cond b (x ∷ []) []) (sym is) ∙ sym (going-more frames first count)))
 
--- whether the next one is free
+-- whether the next frame starts a free block
 parted-on : (a : FreeAreas) (from to : Class) (order first count : ℕ) → HasOrder a order
     → is_on (first + count) (free_list (parted a from to order first count) from order)
     ≡ is_on (first + count) (free_list a from order)
@@ -361,7 +361,7 @@ parted-none a from to order first =
     ∙ ap (λ (ls : List (List ℕ)). set ls j (get_or ls j [] ++ [])) (set-get_or a.lists i [])
     ∙ ap (λ (xs : List ℕ). set a.lists j xs) (append-nil (get_or a.lists j [])) ∙ set-get_or a.lists j [])
 
--- one at a time is at once
+-- moving blocks one at a time is moving them at once
 pub move_first-parted : (a : FreeAreas) (from to : Class) (order first count : ℕ) → HasOrder a order
     → move_first a from to order first count ≡ parted a from to order first count
 move_first-parted a from to order first zero has = sym (parted-none a from to order first)
@@ -372,7 +372,7 @@ move_first-parted a from to order first (suc count) has =
     (is_on (first + count) (free_list (parted a from to order first count) from order)) has
     (sym (parted-on a from to order first count has))
 
--- whether a frame is free when its turn comes is whether it was
+-- a frame is free when its turn comes exactly if it was free at first
 pub move_first-on : (a : FreeAreas) (from to : Class) (order first count : ℕ) → HasOrder a order
     → is_on (first + count) (free_list (move_first a from to order first count) from order)
     ≡ is_on (first + count) (free_list a from order)

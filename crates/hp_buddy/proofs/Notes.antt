@@ -1,4 +1,5 @@
--- What each small change notes: its delta fits the areas that it left, and leads back to those that it found.
+-- What each small change notes: its delta fits the areas that it left, and leads back to those that
+-- it found.
 use Rattle.std.proofs.Common.{◌≡◌, ℕ, ◌+◌, ◌*◌, ◌<◌, ◌≤◌, List, [], ◌∷◌, ◌++◌, length, get_or, set, Bool, true, false, not, Option, Some, None, refl, sym, ◌∙◌, ap, subst, arith, ◌&&◌}
 use Rattle.std.specs.Option.{ForSome, option_map_or}
 use Rattle.std.specs.List.{list_all}
@@ -57,7 +58,7 @@ order-small {v} {l} kept is low =
     let same : l.order ≡ v.layout.order = ap (λ (w : BuddyValue). w.layout.order) is in
     omega (arith, low, kept.layout.order)
 
--- its lists are in the table, and so is a frame of the layout
+-- the order's lists are in the table, and so is a frame of the layout
 pub list-there : {v : BuddyValue} {l : LayoutParts} {links : LinkedLists} {kinds : List Kind} {order n : ℕ}
     (class : Class)
     → IsBuddyOf l links kinds → buddy_of l links kinds ≡ v → order ≤ v.layout.order
@@ -94,14 +95,14 @@ kept-off {links = links} f kept is = record {
   kind_count = kept.kind_count;
 }
 
--- two tests
+-- two tests that hold
 pub both : (a b : Bool) → a ≡ true → b ≡ true → (a && b) ≡ true
 both true b e h = h
 both false b e h = cc
 
 -- ---- a free block leaves its list
 
--- what an unlink says
+-- what an unlink ensures
 pub record IsUnlinked (links new : LinkedLists) (f : ℕ) (after : Option ℕ) : Type 0 where
   pub free : IsUnlisted new f
   pub one_list : (list : ℕ) → IsOn links list f
@@ -128,13 +129,13 @@ unlink-areas l links new kinds class order f after h low on u =
     ap (λ (k : LinkedLists). areas_of k kinds) is
     ∙ ap (λ (ys : List ℕ). areas_of (with_list links n ys) kinds) (without-same f xs off)
 
--- a test of a frame after
+-- a test of `after`
 pub after-on : (after : Option ℕ) (xs : List ℕ) → ((b : ℕ) → after ≡ Some b → is_on b xs ≡ true)
     → option_map_or (λ first. is_on first xs) after true ≡ true
 after-on None xs h = refl
 after-on (Some b) xs h = h b refl
 
--- and its delta
+-- and the delta of the unlink
 pub unlink-notes : (l : LayoutParts) (links new : LinkedLists) (kinds : List Kind) (class : Class)
     (order f : ℕ) (after : Option ℕ) (was now : TapeValue) (delta : Delta)
     → IsBuddyOf l links kinds → order ≤ l.order → f < frame_count l
@@ -251,7 +252,7 @@ pub record UnlinkSeen (v : BuddyValue) (new : LinkedLists) (kinds : List Kind) (
   pub areas : areas_of new kinds ≡ without_free v.areas class order f
   pub notes : NotesAreas v.layout 1 was now (areas_of new kinds) v.areas
 
--- by what the unlink says
+-- the same, by what the unlink ensures
 pub seen-unlink : (v : BuddyValue) (l : LayoutParts) (links new : LinkedLists) (kinds : List Kind)
     (class : Class) (order f : ℕ) (after : Option ℕ) (was now : TapeValue) (delta : Delta)
     → Seen v l links kinds → order ≤ v.layout.order → f < frame_count v.layout

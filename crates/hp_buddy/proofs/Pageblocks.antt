@@ -26,7 +26,7 @@ use Rattle.hp_buddy.proofs.Moves.{Moves, moves-then, move_first, move_first-move
 
 -- ---- the frames of a pageblock
 
--- those that are in a pageblock are those between its first frame and the next one's
+-- a frame is in a pageblock exactly if it lies from its first frame up to the next pageblock's
 among-pageblock : (f size pageblock : ℕ) → 0 < size
     → is_among (pageblock * size) size f ≡ (f / size == pageblock)
 among-pageblock f size pageblock some = elim (cases_eq (f / size) pageblock) [
@@ -107,7 +107,7 @@ move_free-moves l a from to pageblock order low h =
     (move_free-first l a from to pageblock order (has_order l a order h low))
     (move_first-moves l a from to order (pageblock * pageblock_size l) (pageblock_size l) low h)
 
--- so many orders
+-- the same for the lowest `count` orders
 pub move_free_below-moves : (l : LayoutParts) (a : FreeAreas) (from to : Class) (pageblock count : ℕ)
     → count ≤ l.order + 1 → AreApart l a → Moves l a (move_free_below l a from to pageblock count)
 move_free_below-moves l a from to pageblock zero low h = record { apart = h; places = λ frame. refl }
@@ -118,7 +118,7 @@ move_free_below-moves l a from to pageblock (suc count) low h =
     (move_free-moves l (move_free_below l a from to pageblock count) from to pageblock count (omega arith)
     before.apart)
 
--- a whole pageblock
+-- the same for a whole pageblock
 pub move_pageblock-moves : (l : LayoutParts) (zone : Zone) (isolated : Bool) (a : FreeAreas) (pageblock : ℕ)
     → AreApart l a → Moves l a (move_pageblock l zone isolated a pageblock)
 unfolding move_pageblock
@@ -137,7 +137,7 @@ move_pageblock-moves l zone isolated a pageblock h =
 
 -- ---- no more free blocks than frames
 
--- the same lists have as many
+-- equal lists have equally many free blocks
 count-same : (a b : FreeAreas) (class : Class) (order first count : ℕ)
     → free_list a class order ≡ free_list b class order
     → free_count a class order first count ≡ free_count b class order first count
@@ -175,7 +175,7 @@ lone a class order other frame has has_other ne once on =
     (off-free gone class other frame (omega (arith, (with_free_list-size a class order []).lists, has_other))
     none)
 
--- none below
+-- no order below has a free block at the frame
 orders-none : (a : FreeAreas) (class : Class) (frame order : ℕ)
     → ((o : ℕ) → o < order → is_on frame (free_list a class o) ≡ false) → orders_at a class frame order ≡ 0
 unfolding orders_at
@@ -200,7 +200,7 @@ orders-le a class frame (suc order) has once =
         omega arith
     step false e h = omega arith
 
--- how many free blocks start at so many frames from the first one on, of each order below one
+-- how many free blocks of the orders below `order` start at the `count` frames from `first` on
 abbrev pub free_total : FreeAreas → Class → (first count order : ℕ) → ℕ
 free_total a class first count zero = 0
 free_total a class first count (suc order) =
@@ -244,7 +244,7 @@ frame_in l pageblock at low below =
     let up : pageblock + 1 ≤ l.blocks * l.pageblocks = omega arith in
     omega (arith, mul-le-mul_right size up)
 
--- more frames have no fewer free blocks
+-- more frames have at least as many free blocks
 pub count-le : (a : FreeAreas) (class : Class) (order first count more : ℕ)
     → free_count a class order first count ≤ free_count a class order first (count + more)
 count-le a class order first count zero = let same : count + 0 ≡ count = omega arith in rw same (omega arith)
@@ -252,7 +252,7 @@ count-le a class order first count (suc more) =
     let same : count + suc more ≡ suc (count + more) = omega arith in
     rw same (omega (arith, count-le a class order first count more))
 
--- with the next one still within
+-- the same with the next frame, which is still within
 pub count-within : (a : FreeAreas) (class : Class) (order first at count : ℕ) → at < count
     → free_count a class order first at + free_one a class order (first + at)
     ≤ free_count a class order first count
@@ -270,7 +270,7 @@ one-same a now from to order first at frame has is place =
     ∙ ap (λ (n : ℕ). free_one (move_first a from to order first at) from order n) place
     ∙ ap (λ (b : Bool). cond b 1 0) (move_first-on a from to order first at has)
 
--- with the next one
+-- the count with the next frame
 pub count_next : (a : FreeAreas) (class : Class) (order first at : ℕ)
     → free_count a class order first (at + 1)
     ≡ free_count a class order first at + free_one a class order (first + at)
@@ -278,7 +278,7 @@ count_next a class order first at = let next : at + 1 ≡ suc at = omega arith i
 
 -- ---- one order after another
 
--- with the next order
+-- the blocks of one more order have moved
 pub below_next : (l : LayoutParts) (a now new : FreeAreas) (from to : Class) (pageblock order : ℕ)
     → now ≡ move_free_below l a from to pageblock order
     → new ≡ move_free l now from to pageblock order → new ≡ move_free_below l a from to pageblock (order + 1)
@@ -287,13 +287,13 @@ below_next l a now new from to pageblock order is moved =
     moved ∙ ap (λ (b : FreeAreas). move_free l b from to pageblock order) is
     ∙ ap (λ (n : ℕ). move_free_below l a from to pageblock n) next
 
--- the same of the count
+-- the count with one more order
 pub total_next : (a : FreeAreas) (class : Class) (first count order : ℕ)
     → free_total a class first count (order + 1)
     ≡ free_total a class first count order + free_count a class order first count
 total_next a class first count order = let next : order + 1 ≡ suc order = omega arith in rw next refl
 
--- and then the kind
+-- and then the kind changes
 pub pageblock_moved : (l : LayoutParts) (zone : Zone) (isolated : Bool) (a mid new : FreeAreas)
     (pageblock : ℕ) (kind moved : Kind) (from to : Class)
     → kind ≡ kind_of a pageblock

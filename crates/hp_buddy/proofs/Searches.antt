@@ -14,13 +14,13 @@ use Rattle.hp_buddy.proofs.Linked.{contains_on}
 use Rattle.hp_buddy.proofs.Notes.{Seen}
 use Rattle.hp_buddy.proofs.Standing.{seen-on}
 
--- an order whose list is empty is passed by
+-- an order whose list is empty is skipped
 pub order_or-empty : (frames : List ℕ) (order len : ℕ) (other : Option ℕ) → len ≡ length frames → len ≤ 0
     → order_or frames order other ≡ other
 order_or-empty [] order len other e none = refl
 order_or-empty (frame ∷ frames) order len other e none = absurd (omega arith)
 
--- an order whose list has a block is the answer
+-- an order whose list has a block is the result
 pub order_or-some : (frames : List ℕ) (order len : ℕ) (other : Option ℕ) → len ≡ length frames → 0 < len
     → order_or frames order other ≡ Some order
 order_or-some [] order len other e some = absurd (omega arith)
@@ -54,7 +54,7 @@ join_order-more a class frame order end h =
     let next : order + 1 ≡ suc order = omega arith in
     rw (less, next) refl
 
--- by the answer whether the buddy is free
+-- the same, by whether the buddy is free
 pub join_order-on : (a : FreeAreas) (class : Class) (frame order end half other : ℕ) (on : Bool) → order < end
     → half ≡ ancestor frame order → other ≡ buddy half order
     → on ≡ is_on other (free_list a class order)

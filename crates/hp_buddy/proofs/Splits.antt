@@ -83,7 +83,7 @@ front_on first frames xs e =
     subst (λ (ys : List ℕ). is_on first ys ≡ true) (sym e)
     (or_left (first == first) (is_on first frames) (eq-eqb first first refl))
 
--- its frames are in one free block less
+-- without the front block its frames are in one free block less
 pub tail-places : (a : FreeAreas) (class : Class) (order first frame : ℕ) (frames : List ℕ)
     → free_list a class order ≡ first ∷ frames → HasOrder a order
     → free_places (with_free_list a class order frames) frame + covered frame order first
@@ -95,7 +95,7 @@ tail-places a class order first frame frames e has =
       list_places-cons frame order first frames,
     )
 
--- the front block is in no free block then
+-- and then the front block is in no free block
 pub tail-left : (l : LayoutParts) (a : FreeAreas) (class : Class) (order first : ℕ) (frames : List ℕ)
     → free_list a class order ≡ first ∷ frames → order ≤ l.order → AreApart l a
     → IsLeft l (with_free_list a class order frames) order first
@@ -129,7 +129,7 @@ pub record Takes (l : LayoutParts) (a : FreeAreas) (wanted : ℕ) (taken : Taken
   pub block : MayBeGiven l taken.areas wanted taken.frame
   pub places : HasBlockMore a taken.areas wanted taken.frame
 
--- off a list
+-- the front block of a list is taken
 pub take_first-takes : (l : LayoutParts) (a : FreeAreas) (class rest : Class) (order wanted : ℕ)
     (frames : List ℕ)
     → free_list a class order ≡ frames → order ≤ l.order → wanted ≤ order → AreApart l a
@@ -153,7 +153,7 @@ take_first-takes l a class rest order wanted (first ∷ frames) e low w h =
           (arith, split_places, tail-places a class order first frame frames e (has_order l a order h low));
     }
 
--- of the order found
+-- a block of the order found is taken
 and_then-takes : (P : Taken → Type 0) (first count : ℕ) (f : ℕ → Option Taken) (o : Option ℕ)
     → IfSome o (IsOrderAmong first count)
     → ((order : ℕ) → IsOrderAmong first count order → IfSome (f order) P) → IfSome (option_and_then f o) P

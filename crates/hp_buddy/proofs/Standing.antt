@@ -1,4 +1,4 @@
--- Where a free block stands, by the list that links say it is on.
+-- The class and the order of a free block, by the list that the links have it on.
 use Rattle.std.proofs.Common.{◌≡◌, ℕ, zero, suc, ◌+◌, ◌*◌, ◌/◌, ◌%◌, ◌<◌, List, [], ◌∷◌, length, get_or, Bool, true, false, cond, Option, Some, None, replicate, refl, sym, ◌∙◌, ap, subst, arith}
 use Rattle.std.proofs.lemmas.List.{length-replicate}
 use Rattle.std.proofs.lemmas.Bool.{both_ways, false_from_ne_true, cond-true, cond-false}
@@ -28,11 +28,11 @@ index-numbered (suc (suc (suc zero))) h = refl
 index-numbered (suc (suc (suc (suc zero)))) h = refl
 index-numbered (suc (suc (suc (suc (suc n))))) h = absurd (omega arith)
 
--- the number of the list of the class and the order that a number says
+-- the class and the order that a list's number gives lead back to the number
 pub number_back : (n : ℕ) → 5 * (n / 5) + class_index (class_numbered (n % 5)) ≡ n
 number_back n = omega (arith, index-numbered (n % 5) (omega arith))
 
--- the class and the order that the number of a list says
+-- a list's number gives the list's class
 pub number_class : (class : Class) (order n : ℕ) → n ≡ 5 * order + class_index class
     → class_numbered (n % 5) ≡ class
 number_class class order n e =
@@ -65,7 +65,7 @@ place_from-at f number (suc k) (frames ∷ lists) on one =
     (λ j there. let same : suc j ≡ suc k = one (suc j) there in omega arith)
     ∙ ap (λ (n : ℕ). Some (class_numbered (n % 5), n / 5)) sum
 
--- no list, no place
+-- a frame on no list has no place
 pub place_from-none : (f number : ℕ) (lists : List (List ℕ)) → ((j : ℕ) → is_on f (get_or lists j []) ≡ false)
     → place_from f number lists ≡ None
 place_from-none f number [] off = refl
@@ -81,7 +81,7 @@ off_first : (f : ℕ) (frames : List ℕ) (lists : List (List ℕ)) → is_on f 
 off_first f frames lists first others zero = first
 off_first f frames lists first others (suc k) = others k
 
--- what is next on each list that has a frame, and none where no list has it, is the next one
+-- the next frame is the one that follows on the list with the frame, and None if no list has it
 next_from-is : (f : ℕ) (lists : List (List ℕ)) (next : Option ℕ)
     → ((k : ℕ) → is_on f (get_or lists k []) ≡ true → next ≡ successor f (get_or lists k []))
     → (((k : ℕ) → is_on f (get_or lists k []) ≡ false) → next ≡ None) → next ≡ next_from f lists
@@ -97,7 +97,7 @@ next_from-is f (frames ∷ lists) next on off =
     by_first true f frames next later e on off = on e ∙ sym (cond-true (is_on f frames) _ later e)
     by_first false f frames next later e on off = off e ∙ sym (cond-false (is_on f frames) _ later e)
 
--- so is what links say is next
+-- and so is the frame that the links show as next
 pub next-is : (links : LinkedLists) (f : ℕ) (next : Option ℕ)
     → ((k : ℕ) → IsOn links k f → next ≡ successor f (list_at links k)) → (IsUnlisted links f → next ≡ None)
     → next ≡ next_from f links.lists
@@ -108,7 +108,7 @@ next-is links f next on off =
 
 -- ---- of the value that contracts see
 
--- no other list
+-- a frame on a list is on no other list
 one : (links : LinkedLists) (f k : ℕ) → IsOn links k f → IsApart links → (j : ℕ)
     → is_on f (get_or links.lists j []) ≡ true → j ≡ k
 one links f k on apart j there = apart.one_list j k f (on_contains f (get_or links.lists j []) there) on

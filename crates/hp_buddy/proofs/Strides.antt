@@ -19,7 +19,7 @@ stays : (m : FreeAreas) (from to : Class) (order x : ℕ) → is_on x (free_list
 stays m from to order x off =
     ap (λ (on : Bool). cond on (with_back (without_free m from order x) to order x) m) off
 
--- so many frames stay
+-- several frames that start no free block stay
 pub skip : (a : FreeAreas) (from to : Class) (order first at more : ℕ) → HasOrder a order
     → ((j : ℕ) → j < more → is_on (first + (at + j)) (free_list a from order) ≡ false)
     → move_first a from to order first (at + more) ≡ move_first a from to order first at
@@ -38,7 +38,7 @@ whole order top low =
     let sum : top - order + order ≡ top = omega arith in
     sym (pow-add 2 (top - order) order) ∙ ap (λ (n : ℕ). 2 ^ n) sum
 
--- what comes after a multiple, before the next one, is none
+-- a number between two multiples is no multiple
 between : (size x r : ℕ) → 0 < r → r < size → (x * size + r) % size ≡ 0 → ⊥
 between size x r some less is = let rest : r ≡ 0 = sym (mod-mul-add x size r less) ∙ is in omega arith
 

@@ -19,7 +19,7 @@ use Rattle.hp_buddy.proofs.Strides.{skip, stride}
 abbrev pub IsWhole : LayoutParts → FreeAreas → Class → (pageblock : ℕ) → Type 0
 IsWhole l a class pageblock = is_on (pageblock * pageblock_size l) (free_list a class l.order) ≡ true
 
--- a frame of it starts no free block of a lower order
+-- a frame of such a pageblock starts no free block of a lower order
 lower-off : (l : LayoutParts) (a : FreeAreas) (class : Class) (pageblock order f : ℕ) → order < l.order
     → AreApart l a → IsWhole l a class pageblock
     → pageblock * pageblock_size l ≤ f → f < pageblock * pageblock_size l + 2 ^ l.order
@@ -48,7 +48,7 @@ lower-stays l a from to pageblock order low h whole =
     ∙ skip a from to order first 0 (pageblock_size l) has
     (λ j less. lower-off l a from pageblock order (first + (0 + j)) low h whole (omega arith) (omega arith))
 
--- of any of them
+-- nor does anything of all lower orders
 lowers-stay : (l : LayoutParts) (a : FreeAreas) (from to : Class) (pageblock count : ℕ) → count ≤ l.order
     → AreApart l a → IsWhole l a from pageblock → move_free_below l a from to pageblock count ≡ a
 lowers-stay l a from to pageblock zero low h whole = refl

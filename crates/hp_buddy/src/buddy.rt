@@ -161,8 +161,8 @@ impl Buddy {
     }
 
     /// Takes a block: the front block of the least order at which the class has one, split down to
-    /// `order`. Returns `None`, and changes nothing, if the class has none (Knuth, volume 1,
-    /// section 2.5, reservation; which end of the list is this model's choice).
+    /// `order` (Knuth, volume 1, section 2.5, reservation; which end of the list is this model's
+    /// choice). Returns `None`, and changes nothing, if the class has none.
     pub fn take(&mut self, class: Class, order: Order, tape: &mut Tape) -> Option<Frame>
         requires order { order ≤ self.old.layout.order }
         requires apart { AreApart self.old.layout self.old.areas }
@@ -184,12 +184,11 @@ impl Buddy {
         }
     }
 
-    /// Steals a block for a mobility of zone Normal: the front block of the greatest order at
-    /// which the other mobility has one, split down to `order`. A whole pageblock changes to
-    /// the wanted mobility.
+    /// Steals a block for a mobility of zone Normal: the front block of the greatest order at which
+    /// the other mobility has one, split down to `order` (Gorman, chapter 6: fallback; the exact
+    /// rule is this model's). A whole pageblock changes to the wanted mobility.
     ///
-    /// Returns `None`, and changes nothing, if the other mobility has none (Gorman, chapter 6:
-    /// fallback; the exact rule is this model's).
+    /// Returns `None`, and changes nothing, if the other mobility has none.
     pub fn steal(&mut self, wanted: Mobility, order: Order, tape: &mut Tape) -> Option<Frame>
         requires order { order ≤ self.old.layout.order }
         requires apart { AreApart self.old.layout self.old.areas }
@@ -284,9 +283,9 @@ impl Buddy {
         self.push_back(class, order, first, tape);
     }
 
-    /// Removes a pageblock that is one isolated free block. It is movable and not isolated from
-    /// then on (Linux guide, Memory Hot(Un)Plug: offlining removes the free pages from the
-    /// allocator).
+    /// Removes a pageblock that is one isolated free block (Linux guide, Memory Hot(Un)Plug:
+    /// offlining removes the free pages from the allocator). From then on the pageblock is movable
+    /// and not isolated.
     pub fn remove_pageblock(&mut self, zone: Zone, pageblock: Pageblock, tape: &mut Tape)
         requires pageblock { pageblock < pageblock_count self.old.layout }
         requires free { is_on (pageblock * pageblock_size self.old.layout)
@@ -306,7 +305,7 @@ impl Buddy {
         self.set_kind(pageblock, Kind::plain(), tape);
     }
 
-    /// Undoes a delta that fits and whose numbers are within the layout. A delta of another layer
+    /// Undoes a delta, which must fit and have numbers within the layout. A delta of another layer
     /// changes nothing.
     pub fn back(&mut self, delta: Delta)
         requires fits { FitsAreas delta self.old.areas }

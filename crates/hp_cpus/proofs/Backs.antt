@@ -1,4 +1,4 @@
--- The opposite of one delta, on the processors' lists.
+-- Undoing one delta, on the processors' lists.
 use Rattle.std.proofs.Common.{◌≡◌, ℕ, ◌+◌, ◌*◌, ◌<◌, List, [], get_or, true, not, Option, sym, ◌∙◌, ap, subst}
 use Rattle.std.specs.List.{list_all}
 use Rattle.std.specs.Option.{ForSome, option_map_or}
@@ -21,7 +21,7 @@ use Rattle.hp_cpus.proofs.Edits.{Seen, cpus_of, number, unlink-cached}
 
 -- ---- a frame that was put on a list leaves it
 
--- a delta that fits says that its frame is on its list
+-- the frame of a Link that fits is on the delta's list
 pub linked-on : (v : CpusValue) (areas : FreeAreas) (delta : Delta) (list : ListId) (cpu : ℕ) (pool : Pool)
     (f : ℕ) (after : Option ℕ)
     → delta ≡ Link list f after → list ≡ CpuList pool cpu
@@ -30,7 +30,7 @@ linked-on v areas delta list cpu pool f after is list_is fits =
     behind-on after f (list_of v cpu pool) (subst (λ (d : Delta). FitsCached d (frames_of areas v))
     (is ∙ ap (λ (k : ListId). Link k f after) list_is) fits)
 
--- and its number is in the layout
+-- and the delta's numbers are in the layout
 linked-in : (l : LayoutParts) (delta : Delta) (list : ListId) (cpu : ℕ) (pool : Pool) (f : ℕ)
     (after : Option ℕ)
     → delta ≡ Link list f after → list ≡ CpuList pool cpu
@@ -38,7 +38,7 @@ linked-in : (l : LayoutParts) (delta : Delta) (list : ListId) (cpu : ℕ) (pool 
 linked-in l delta list cpu pool f after is list_is numbers =
     (subst (λ (d : Delta). IsDeltaOf l d) (is ∙ ap (λ (k : ListId). Link k f after) list_is) numbers).0
 
--- it leaves the list
+-- the frame leaves the list
 pub link-undone : (v : CpusValue) (l : LayoutParts) (links new : LinkedLists) (delta : Delta) (list : ListId)
     (cpu : ℕ) (pool : Pool) (f : ℕ) (after before : Option ℕ) (given : FreeAreas)
     → Seen v l links → delta ≡ Link list f after → list ≡ CpuList pool cpu
@@ -57,7 +57,7 @@ link-undone v l links new delta list cpu pool f after before given s is list_is 
 
 -- ---- a frame that left its list comes back
 
--- what it is put after is on the list
+-- the frame that it is put after is on the list
 pub unlinked-after : (v : CpusValue) (l : LayoutParts) (links : LinkedLists) (delta : Delta) (list : ListId)
     (cpu : ℕ) (pool : Pool) (f n : ℕ) (after : Option ℕ) (given : FreeAreas)
     → Seen v l links → delta ≡ Unlink list f after → list ≡ CpuList pool cpu
@@ -74,7 +74,7 @@ unlinked-after v l links delta list cpu pool f n after given s is list_is fits p
     (option_map_or (λ first. is_on first xs) after true) fit in
     subst (λ (m : ℕ). IsOn links m a) (sym place) (on_contains a xs (after-true after xs parts.1 a e))
 
--- it comes back
+-- the frame comes back
 pub unlink-undone : (v : CpusValue) (l : LayoutParts) (links new : LinkedLists) (delta : Delta)
     (list : ListId) (cpu : ℕ) (pool : Pool) (f n : ℕ) (after : Option ℕ)
     → Seen v l links → delta ≡ Unlink list f after → list ≡ CpuList pool cpu → n ≡ 3 * cpu + pool_index pool

@@ -1,4 +1,5 @@
--- What the free areas' calls note leads back beside the processors' lists too, which it leaves as they are.
+-- What the free areas' calls note leads back beside the processors' lists too. The deltas leave
+-- these lists as they are.
 use Rattle.std.proofs.Common.{◌≡◌, ℕ, ◌+◌, ◌≤◌, List, [], ◌∷◌, ◌++◌, length, refl, sym, ◌∙◌, ap, subst, arith}
 use Rattle.std.specs.List.{AllByRecursion}
 use Rattle.std.proofs.lemmas.List.{length-append}

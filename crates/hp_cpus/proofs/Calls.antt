@@ -27,7 +27,7 @@ pub record IsPopped (c d : CpusValue) (b : BuddyValue) (o : Option ℕ) : Type 0
   pub places : IfSome o
       (λ f. (other : ℕ) → places_among b.areas c other ≡ places_among b.areas d other + one_at f other)
 
--- by what a list gave
+-- the same, by what a list gave
 pub popped : (c d : CpusValue) (b : BuddyValue) (cpu : ℕ) (pool : Pool) (o : Option ℕ) (P : Type 0)
     → AreTogether c b → cpu < c.layout.cpus
     → MatchOption o (list_of c cpu pool ≡ []) (λ f. list_of c cpu pool ≡ f ∷ list_of d cpu pool)
@@ -53,14 +53,14 @@ taken_one l fs gs new cpu pool None rest is split popped = taken-none l fs gs cp
 taken_one l fs gs new cpu pool (Some f) rest is split popped =
     taken-some l fs gs new cpu pool f rest is split popped
 
--- the same places counted otherwise
+-- the same places counted in another way
 pub same_places : (o : Option ℕ) (p q r : ℕ → ℕ) → ((other : ℕ) → p other ≡ q other)
     → IfSome o (λ f. (other : ℕ) → p other ≡ r other + one_at f other)
     → IfSome o (λ f. (other : ℕ) → q other ≡ r other + one_at f other)
 same_places None p q r same h = tt
 same_places (Some f) p q r same h = λ other. omega (arith, same other, h other)
 
--- the bound where the list has a frame, and where it is empty
+-- the bound if the list has a frame, and if it is empty
 pub bound-some : (l : LayoutParts) (xs : List ℕ) → 0 < length xs → take_one_from l xs ≡ 1
 bound-some l [] some = absurd (omega arith)
 bound-some l (x ∷ xs) some = refl
@@ -80,7 +80,7 @@ put_one-isolated l fs cpu zone f at kind at_is is isolated =
     cond-true (kind_of fs.areas (pageblock_of l f)).isolated _ _
     (sym (ap (λ (k : Kind). k.isolated) known) ∙ isolated)
 
--- another one to its list
+-- any other frame goes to its list
 pub put_one-cached : (l : LayoutParts) (fs : FreeFrames) (cpu : ℕ) (zone : Zone) (f at : ℕ) (kind : Kind)
     (pool : Pool)
     → at ≡ pageblock_of l f → kind ≡ kind_of fs.areas at → kind.isolated ≡ false
@@ -122,7 +122,7 @@ drained l m n fs gs hs js cpu same other first second third =
     ∙ ap (λ (is : FreeFrames). drain_pool l cpu is Mm) (second ∙ ap (λ (k : LayoutParts).
     drain_pool k cpu gs Nm) same ∙ ap (λ (is : FreeFrames). drain_pool l cpu is Nm) first)
 
--- so many deltas for each frame of three lists
+-- `each` deltas for each frame of three lists
 pub three_lists : (nu nm mm each : ℕ) → nu * each + nm * each + mm * each ≡ (nu + nm + mm) * each
 three_lists nu nm mm each =
     sym (add-mul (nu + nm) mm each ∙ ap (λ (n : ℕ). n + mm * each) (add-mul nu nm each))

@@ -1,4 +1,4 @@
--- How often frames stand on the processors' lists.
+-- How often frames are on the processors' lists.
 use Rattle.std.proofs.Common.{◌≡◌, ℕ, ◌+◌, ◌*◌, ◌<◌, ◌≤◌, List, [], ◌∷◌, ◌++◌, length, get_or, true, cond, refl, subst, arith, inl, inr, ◌==◌, eq-eqb}
 use Rattle.std.specs.Prelude.{count_by, sum_by}
 use Rattle.std.proofs.lemmas.Bool.{cases_lt, both_ways, false_from_ne_true, cond-true}
@@ -13,17 +13,17 @@ use Rattle.hp_links.specs.LinkedLists.{LinkedLists, IsUnlisted}
 use Rattle.hp_buddy.proofs.Linked.{AreDistinct, contains_on}
 use Rattle.hp_cpus.specs.Cpus.{CpusValue, list_of, with_list_of, places_in, one_at}
 
--- how often a frame stands on a list
+-- how often a frame is on a list
 abbrev pub times : ℕ → List ℕ → ℕ
 times f xs = count_by (λ other. other == f) xs
 
 -- ---- one list
 
--- one frame more in front
+-- one more frame in front
 pub times-cons : (f x : ℕ) (xs : List ℕ) → times f (x ∷ xs) ≡ one_at x f + times f xs
 times-cons f x xs = sum_by-cons (λ o. cond (o == f) 1 0) x xs
 
--- one frame more at the back
+-- one more frame at the back
 pub times-push : (f x : ℕ) (xs : List ℕ) → times f (xs ++ x ∷ []) ≡ times f xs + one_at x f
 times-push f x xs = sum_by_push (λ o. cond (o == f) 1 0) xs x
 
@@ -31,7 +31,7 @@ times-push f x xs = sum_by_push (λ o. cond (o == f) 1 0) xs x
 pub one-self : (x f : ℕ) → x ≡ f → one_at x f ≡ 1
 one-self x f e = cond-true (x == f) 1 0 (eq-eqb x f e)
 
--- a frame on a list stands there
+-- a frame on a list is there at least once
 pub times-on : (f : ℕ) (xs : List ℕ) → is_on f xs ≡ true → 1 ≤ times f xs
 times-on f [] e = cc
 times-on f (x ∷ xs) e = elim (on_cases f x xs e) [
@@ -39,7 +39,7 @@ times-on f (x ∷ xs) e = elim (on_cases f x xs e) [
   | inr on ↦ omega (arith, times-cons f x xs, times-on f xs on)
 ]
 
--- a list where each frame stands at most once
+-- a list on which each frame is at most once
 pub distinct : (xs : List ℕ) → ((f : ℕ) → times f xs ≤ 1) → AreDistinct xs
 distinct [] few = tt
 distinct (x ∷ xs) few = (
@@ -67,7 +67,7 @@ with_list_of-places c cpu pool xs f low size =
     sum_by-set (λ (ys : List ℕ). times f ys) c.cached (3 * cpu + pool_index pool) xs []
     (list_in c.layout.cpus cpu (length c.cached) pool low size)
 
--- a list has a frame no more often than all
+-- a frame is on one list at most as often as on all lists
 pub list_of-le : (c : CpusValue) (cpu : ℕ) (pool : Pool) (f : ℕ) → cpu < c.layout.cpus → HasLists c
     → times f (list_of c cpu pool) ≤ places_in c f
 list_of-le c cpu pool f low size =
@@ -86,7 +86,7 @@ pub with_list_of-size : (c : CpusValue) (cpu : ℕ) (pool : Pool) (xs : List ℕ
     → HasLists (with_list_of c cpu pool xs)
 with_list_of-size c cpu pool xs size = omega (arith, size, length-set c.cached (3 * cpu + pool_index pool) xs)
 
--- a frame that stands nowhere is on no list
+-- a frame that is nowhere is on no list
 pub unlisted : (links : LinkedLists) (f : ℕ) → sum_by (λ (xs : List ℕ). times f xs) links.lists ≡ 0
     → IsUnlisted links f
 unlisted links f none n on =

@@ -64,7 +64,7 @@ cpu-small {v} {l} kept is low =
     let same : l.cpus ≡ v.layout.cpus = ap (λ (w : CpusValue). w.layout.cpus) is in
     omega (arith, low, kept.layout.cpus)
 
--- its list is in the table, and so is a frame of the layout
+-- the processor's list is in the table, and so is a frame of the layout
 pub list-there : {v : CpusValue} {l : LayoutParts} {links : LinkedLists} {cpu n : ℕ} (pool : Pool)
     → IsCpusOf l links → cpus_of l links ≡ v → cpu < v.layout.cpus → n ≡ number cpu pool
     → n < length links.lists
@@ -99,7 +99,7 @@ kept-off {links = links} f kept is = record {
 
 -- ---- a frame leaves its list
 
--- it is on a list
+-- a frame that is to leave is on a list
 pub seen-listed : (v : CpusValue) (l : LayoutParts) (links : LinkedLists) (cpu : ℕ) (pool : Pool) (f : ℕ)
     → Seen v l links → is_on f (list_of v cpu pool) ≡ true → IsListed links f
 seen-listed v l links cpu pool f s on = (
@@ -108,7 +108,7 @@ seen-listed v l links cpu pool f s on = (
       (subst (λ (w : CpusValue). is_on f (list_of w cpu pool) ≡ true) (sym s.is) on),
 )
 
--- the lists without it
+-- the lists without the frame
 pub unlink-cached : (l : LayoutParts) (links new : LinkedLists) (cpu : ℕ) (pool : Pool) (f : ℕ)
     (after : Option ℕ)
     → IsCpusOf l links → cpu < l.cpus
@@ -126,7 +126,7 @@ unlink-cached l links new cpu pool f after kept low on u =
     ap (λ (k : LinkedLists). cpus_of l k) is
     ∙ ap (λ (ys : List ℕ). cpus_of l (with_list links n ys)) (without-same f xs off)
 
--- and its delta
+-- and the delta of the unlink
 pub unlink-notes : (l : LayoutParts) (links new : LinkedLists) (cpu : ℕ) (pool : Pool) (f : ℕ)
     (after : Option ℕ) (was now : TapeValue) (delta : Delta)
     → cpu < l.cpus → f < frame_count l
@@ -152,7 +152,7 @@ unlink-notes l links new cpu pool f after was now delta low frame on u room note
     (ap (λ (ys : List ℕ). frames_of areas (cpus_of l (with_list new n ys))) (put_behind-same after f xs)
     ∙ ap (λ (k : LinkedLists). frames_of areas (cpus_of l k)) (u.undone n there))
 
--- both of the value that contracts see
+-- both for the value that contracts see
 pub record UnlinkSeen (v new : CpusValue) (cpu : ℕ) (pool : Pool) (f : ℕ) (was now : TapeValue) : Type 0 where
   pub cached : new ≡ with_list_of v cpu pool (without f (list_of v cpu pool))
   pub notes : (areas : FreeAreas) → NotesFree v.layout 1 was now (frames_of areas new) (frames_of areas v)
@@ -174,7 +174,7 @@ seen-unlink v l links new cpu pool f after was now delta s low frame on u room n
 
 -- ---- a frame comes to a list
 
--- it comes to a list of the table, and what it left is undone when it leaves
+-- a frame comes to a list of the table, and its leaving undoes that
 link-notes : (l : LayoutParts) (links : LinkedLists) (cpu : ℕ) (pool : Pool) (f : ℕ) (frames : List ℕ)
     (after : Option ℕ) (was now : TapeValue) (delta : Delta)
     → IsCpusOf l links → cpu < l.cpus → f < frame_count l → is_behind after f frames ≡ true
@@ -204,7 +204,7 @@ pub record LinkSeen (v new : CpusValue) (cpu : ℕ) (pool : Pool) (frames : List
   pub cached : new ≡ with_list_of v cpu pool frames
   pub notes : (areas : FreeAreas) → NotesFree v.layout 1 was now (frames_of areas new) (frames_of areas v)
 
--- of one value
+-- the same, for one value
 linked : (v new : CpusValue) (cpu : ℕ) (pool : Pool) (frames : List ℕ) (was now : TapeValue)
     → new ≡ with_list_of v cpu pool frames
     → ((areas : FreeAreas)

@@ -25,7 +25,7 @@ pub record IsLast (f : ℕ) (xs : List ℕ) : Type 0 where
 
 -- ---- of a list
 
--- by the first frame
+-- a list's first frame, and the others
 first_is : (f : ℕ) (xs : List ℕ) → Some f ≡ first xs → IsFirst f xs
 first_is f [] e = cc
 first_is f (x ∷ xs) e =
@@ -36,7 +36,7 @@ first_is f (x ∷ xs) e =
       on = or_left (x == f) (is_on f xs) (eq-eqb x f same);
     }
 
--- by the last frame
+-- a list's last frame, and the others
 last_from-is : (f x : ℕ) (xs : List ℕ) → Some f ≡ last_from (Some x) xs → IsLast f (x ∷ xs)
 last_from-is f x [] e =
     let same : x ≡ f = cc in
@@ -49,7 +49,7 @@ last_is : (f : ℕ) (xs : List ℕ) → Some f ≡ last xs → IsLast f xs
 last_is f [] e = cc
 last_is f (x ∷ xs) e = last_from-is f x xs e
 
--- a list with no last frame has none
+-- a list with no last frame has no frames
 last_from-none : (x : ℕ) (xs : List ℕ) → None ≡ last_from (Some x) xs → x ∷ xs ≡ []
 last_from-none x [] e = cc
 last_from-none x (y ∷ ys) e = absurd (some (last_from-none y ys e))
@@ -92,7 +92,7 @@ seen-no_last v l links cpu pool n s place e =
 
 -- ---- the end left
 
--- the first frame stands nowhere else on the list
+-- the first frame is nowhere else on the list
 off_rest : (f : ℕ) (xs rest : List ℕ) → times f xs ≤ 1 → xs ≡ f ∷ rest → is_on f rest ≡ false
 off_rest f xs rest few is =
     false_from_ne_true (is_on f rest) (λ on. omega (
@@ -122,7 +122,7 @@ left v new cpu pool f size low is =
     ap (λ (w : CpusValue). list_of w cpu pool) is
     ∙ list_of-same v cpu pool (without f (list_of v cpu pool)) low size
 
--- the others stand after the first one
+-- the others come after the first one
 pub first-left : (v new : CpusValue) (cpu : ℕ) (pool : Pool) (f : ℕ) → HasLists v → cpu < v.layout.cpus
     → ((o : ℕ) → places_in v o ≤ 1) → IsFirst f (list_of v cpu pool)
     → new ≡ with_list_of v cpu pool (without f (list_of v cpu pool))

@@ -1,4 +1,5 @@
--- One turn of a refill, a spill and a drain: a frame moves between the free areas and a processor's list.
+-- One turn of a refill, a spill and a drain: a frame moves between the free areas and a processor's
+-- list.
 use Rattle.std.proofs.Common.{◌≡◌, ℕ, ◌+◌, ◌*◌, ◌<◌, ◌≤◌, [], ◌∷◌, ◌++◌, Some, refl, sym, ◌∙◌, ap, subst, arith}
 use Rattle.std.proofs.Math.Nat.{mul-le-mul_right}
 use Rattle.hp_units.specs.declared.rows.Class.{Class}
@@ -28,14 +29,14 @@ pub record IsTurn (l : LayoutParts) (c d : CpusValue) (b e : BuddyValue) (was no
 
 -- ---- a frame is taken
 
--- what a take of one frame says
+-- what taking one frame ensures
 pub record IsTaken (l : LayoutParts) (class : Class) (b e : BuddyValue) (f : ℕ)
     (was now : TapeValue) : Type 0 where
   pub taken : take_block l b.areas class 0 ≡ Some (record { areas = e.areas; frame = f })
   pub layout : e.layout ≡ l
   pub notes : NotesAreas l (take_bound l) was now e.areas b.areas
 
--- of the processors' layout
+-- the same, by the processors' layout
 pub taken_as : (l : LayoutParts) (class known : Class) (b e : BuddyValue) (f : ℕ) (was now : TapeValue)
     → b.layout ≡ l → class ≡ known
     → take_block b.layout b.areas class 0 ≡ Some (record { areas = e.areas; frame = f }) → e.layout ≡ b.layout
@@ -69,7 +70,7 @@ taken-turn l c d b e cpu pool f was mid now same low taken out is notes =
 
 -- ---- a frame is given
 
--- a frame left a list, which has the others, and was given
+-- a frame left a list, which keeps the others, and was given
 pub given-turn : (l : LayoutParts) (c d : CpusValue) (b e : BuddyValue) (f : ℕ) (was mid now : TapeValue)
     → c.layout ≡ l → d.layout ≡ c.layout
     → IsOut c d b b f → AreTogether d e
@@ -90,7 +91,7 @@ given-turn l c d b e f was mid now same kept out together places first then = re
   places = λ o. omega (arith, places o, out.places o);
 }
 
--- the lists and the areas then
+-- the lists and the areas after that
 pub given_is : (l : LayoutParts) (c d : CpusValue) (b e : BuddyValue) (cpu : ℕ) (pool : Pool) (zone : Zone)
     (f : ℕ)
     → d.layout ≡ l → zone ≡ zone_of_pool pool
@@ -105,7 +106,7 @@ given_is l c d b e cpu pool zone f same zone_is is gave =
 
 -- ---- many turns
 
--- one turn more
+-- one more turn
 pub notes-turn : (l : LayoutParts) (done : ℕ) (was mid now : TapeValue) (c d e : CpusValue)
     (a b g : FreeAreas)
     → NotesFree l (done * (l.order + 2)) was mid (frames_of b d) (frames_of a c)
@@ -115,7 +116,7 @@ notes-turn l done was mid now c d e a b g before turn =
     notes-then l l (done * (l.order + 2)) (l.order + 2) ((done + 1) * (l.order + 2)) was mid now (frames_of a
     c) (frames_of b d) (frames_of g e) refl (omega (arith, one_done done (l.order + 2))) before turn
 
--- there is room for one turn more
+-- there is room for one more turn
 pub turn_room : (l : LayoutParts) (done all : ℕ) (was now : TapeValue) (c d : CpusValue) (a b : FreeAreas)
     → done < all → HasRoom was (all * (l.order + 2))
     → NotesFree l (done * (l.order + 2)) was now (frames_of b d) (frames_of a c) → HasRoom now (l.order + 2)
@@ -123,7 +124,7 @@ turn_room l done all was now c d a b below room notes =
     room_left l (done * (l.order + 2)) (l.order + 2) was now (frames_of a c) (frames_of b d) notes
     (omega (arith, room, room_for_one done all (l.order + 2) below))
 
--- so many turns are no more than all
+-- the turns done note at most as much as all turns
 pub few_turns : (l : LayoutParts) (done all : ℕ) (was now : TapeValue) (later earlier : FreeFrames)
     → done ≤ all → NotesFree l (done * (l.order + 2)) was now later earlier
     → NotesFree l (all * (l.order + 2)) was now later earlier

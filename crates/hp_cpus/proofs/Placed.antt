@@ -8,7 +8,7 @@ use Rattle.hp_lemmas.proofs.Placed.{IsInUse, past-offline}
 use Rattle.hp_buddy.proofs.Placed.{placed-apart}
 use Rattle.hp_cpus.specs.Cpus.{AreTogether, MayBePut}
 
--- no frame is in two of their places
+-- no frame is in two places of the free areas and the processors' lists
 pub placed-together : (l : LayoutParts) (s : Memory) → IsLayout l → IsWellPlaced l s
     → AreTogether (record { layout = l; cached = s.free.cached })
     (record { layout = l; areas = s.free.areas })
@@ -20,7 +20,7 @@ placed-together l s layout h = record {
   once = λ f. omega (arith, h.once f);
 }
 
--- a frame in use is in neither
+-- a frame in use is in none of these places
 pub in_use-put : (l : LayoutParts) (s : Memory) (frame : ℕ) → IsInUse l s 0 frame
     → MayBePut (record { layout = l; cached = s.free.cached }) (record { layout = l; areas = s.free.areas })
     frame

@@ -11,7 +11,7 @@ use Rattle.hp_cpus.specs.Batches.{with_refill, filled}
 use Rattle.hp_cpus.specs.Cpus.{CpusValue, list_of, with_list_of}
 use Rattle.hp_cpus.proofs.Counts.{HasLists, list_in, list_of-same}
 
--- no frames more stand where nothing was taken
+-- if nothing was taken, a list gets no frames
 with_refill-none : (fs : FreeFrames) (cpu : ℕ) (pool : Pool)
     → with_refill fs cpu pool (record { areas = fs.areas; frames = [] }) ≡ fs
 with_refill-none fs cpu pool =
@@ -24,7 +24,7 @@ pub filled-zero : (l : LayoutParts) (fs : FreeFrames) (cpu : ℕ) (pool : Pool) 
 unfolding take_frames
 filled-zero l fs cpu pool = with_refill-none fs cpu pool
 
--- there is none to take
+-- there is no frame to take
 pub filled-none : (l : LayoutParts) (fs : FreeFrames) (cpu : ℕ) (pool : Pool) (count : ℕ)
     → take_block l fs.areas (class_of_pool pool) 0 ≡ None → filled l fs cpu pool count ≡ fs
 unfolding take_frames
@@ -50,7 +50,7 @@ with_refill-more fs a cpu pool f cpus refill low size =
     ∙ set-set fs.cached n (xs ++ f ∷ []) (xs ++ f ∷ [] ++ refill.frames)
     ∙ ap (λ (ys : List ℕ). set fs.cached n ys) (append_assoc xs (f ∷ []) refill.frames)))
 
--- one is taken, and the others then
+-- one frame is taken, and then the others
 filled-suc : (l : LayoutParts) (fs : FreeFrames) (a : FreeAreas) (cpu : ℕ) (pool : Pool) (f count cpus : ℕ)
     → cpu < cpus → length fs.cached ≡ 3 * cpus
     → take_block l fs.areas (class_of_pool pool) 0 ≡ Some (record { areas = a; frame = f })
@@ -63,7 +63,7 @@ filled-suc l fs a cpu pool f count cpus low size some =
     (record { areas = fs.areas; frames = [] }))) some
     ∙ with_refill-more fs a cpu pool f cpus (take_frames l pool count a) low size
 
--- the same of a loop that has taken some of all
+-- the same for a loop that has taken some of all
 pub filled-more : (l : LayoutParts) (fs gs : FreeFrames) (a : FreeAreas) (cpu : ℕ) (pool : Pool)
     (f done all cpus : ℕ)
     → cpu < cpus → length fs.cached ≡ 3 * cpus → done < all
@@ -78,7 +78,7 @@ filled-more l fs gs a cpu pool f done all cpus low size below some is =
 
 -- ---- one frame from a list
 
--- a list that is empty is filled
+-- an empty list is filled
 pub refilled-empty : (l : LayoutParts) (fs : FreeFrames) (cpu : ℕ) (pool : Pool)
     → cached_list fs cpu pool ≡ [] → filled l fs cpu pool l.batch ≡ refilled l fs cpu pool
 refilled-empty l fs cpu pool empty =
@@ -86,7 +86,7 @@ refilled-empty l fs cpu pool empty =
     ap (λ (xs : List ℕ). with_cached_list (record fs { areas = r.areas }) cpu pool (xs ++ r.frames)) empty
     ∙ sym (ap (λ (xs : List ℕ). refilled_from l fs cpu pool xs) empty)
 
--- another one stays
+-- any other list stays
 pub refilled-some : (l : LayoutParts) (fs : FreeFrames) (cpu : ℕ) (pool : Pool)
     → 0 < length (cached_list fs cpu pool) → fs ≡ refilled l fs cpu pool
 refilled-some l fs cpu pool some = from l fs cpu pool (cached_list fs cpu pool) some
@@ -96,7 +96,7 @@ refilled-some l fs cpu pool some = from l fs cpu pool (cached_list fs cpu pool) 
     from l fs cpu pool [] some = absurd (omega arith)
     from l fs cpu pool (x ∷ xs) some = refl
 
--- its front frame
+-- the front frame of the list is taken
 pub taken-some : (l : LayoutParts) (fs gs new : FreeFrames) (cpu : ℕ) (pool : Pool) (f : ℕ) (rest : List ℕ)
     → gs ≡ refilled l fs cpu pool → cached_list gs cpu pool ≡ f ∷ rest
     → new ≡ with_cached_list gs cpu pool rest
@@ -107,7 +107,7 @@ taken-some l fs gs new cpu pool f rest is front popped =
     ∙ ap (λ (xs : List ℕ). pop_from gs cpu pool xs) front
     ∙ ap (λ (hs : FreeFrames). Some (record { free = hs; frame = f })) (sym popped)
 
--- no frame
+-- no frame is taken
 pub taken-none : (l : LayoutParts) (fs gs : FreeFrames) (cpu : ℕ) (pool : Pool) → gs ≡ refilled l fs cpu pool
     → cached_list gs cpu pool ≡ [] → take_one l fs cpu pool ≡ None
 unfolding take_one
@@ -117,7 +117,7 @@ taken-none l fs gs cpu pool is empty =
 
 -- ---- a list that got a frame
 
--- the list then
+-- the list after that
 pub pushed-some : (v new : CpusValue) (cpu : ℕ) (pool : Pool) (f : ℕ) → HasLists v → cpu < v.layout.cpus
     → new ≡ with_list_of v cpu pool (list_of v cpu pool ++ f ∷ []) → list_of new cpu pool ≡ [] → ⊥
 pushed-some v new cpu pool f size low is empty =

@@ -10,7 +10,7 @@ use Rattle.hp_units.specs.ProcessorLists.{give_all, drain_pool}
 use Rattle.hp_cpus.specs.Batches.{given_last}
 use Rattle.hp_cpus.proofs.Counts.{list_in}
 
--- a frame was given from a list, which has the others
+-- a frame was given from a list, which keeps the others
 abbrev pub given : LayoutParts → FreeFrames → ℕ → Pool → (frame : ℕ) → List ℕ → FreeFrames
 given l fs cpu pool frame rest =
     with_cached_list (record fs { areas = give_block l fs.areas (zone_of_pool pool) frame 0 }) cpu pool rest
@@ -37,7 +37,7 @@ given_last-zero l fs cpu pool =
     ∙ ap (λ (lists : List (List ℕ)). record fs { cached = lists })
     (set-get_or fs.cached (3 * cpu + pool_index pool) [])
 
--- the last one is given, and the others then
+-- the last frame is given, and then the others
 given_last-suc : (l : LayoutParts) (fs : FreeFrames) (cpu : ℕ) (pool : Pool) (f count cpus : ℕ) (ys : List ℕ)
     → cpu < cpus → length fs.cached ≡ 3 * cpus
     → cached_list fs cpu pool ≡ ys ++ f ∷ [] → count ≤ length ys
@@ -67,7 +67,7 @@ given_last-suc l fs cpu pool f count cpus ys low size is enough =
     })
     (set-set fs.cached n ys (take kept ys)))
 
--- the same of a loop that has given some of all
+-- the same for a loop that has given some of all
 pub given_last-more : (l : LayoutParts) (fs gs : FreeFrames) (cpu : ℕ) (pool : Pool) (f done all cpus : ℕ)
     (ys : List ℕ)
     → cpu < cpus → length fs.cached ≡ 3 * cpus → done < all
@@ -84,7 +84,7 @@ given_last-more l fs gs cpu pool f done all cpus ys low size below enough split 
 
 -- ---- a drain
 
--- the front frame is given, and the others then
+-- the front frame is given, and then the others
 pub drain_pool-more : (l : LayoutParts) (fs gs : FreeFrames) (cpu : ℕ) (pool : Pool) (f cpus : ℕ)
     (rest : List ℕ)
     → cpu < cpus → length fs.cached ≡ 3 * cpus

@@ -44,7 +44,7 @@ pub record IsIn (c d : CpusValue) (b e : BuddyValue) (f : ℕ) : Type 0 where
   pub together : AreTogether d e
   pub places : (o : ℕ) → places_among e.areas d o ≡ places_among b.areas c o + one_at f o
 
--- it left a processor's list
+-- the frame left a processor's list
 pub list-out : (c d : CpusValue) (b : BuddyValue) (cpu : ℕ) (pool : Pool) (f : ℕ) (xs : List ℕ)
     → AreTogether c b → cpu < c.layout.cpus → d ≡ with_list_of c cpu pool xs
     → ((o : ℕ) → times o (list_of c cpu pool) ≡ times o xs + one_at f o) → IsOut c d b b f
@@ -73,14 +73,14 @@ list-out c d b cpu pool f xs h low is parts =
         elim (cases_lt f (frame_count c.layout))
         [ inl low ↦ low | inr past ↦ absurd (omega (arith, h.within f past)) ]
 
--- there is at most one of it when it comes to where it was nowhere
+-- a frame that was nowhere and comes to a place is in at most one
 once-more : (places : ℕ → ℕ) (f o : ℕ) → places f ≡ 0 → places o ≤ 1 → places o + one_at f o ≤ 1
 once-more places f o none few = elim (cases_eq f o) [
   | inl same ↦ let here : places o ≡ 0 = ap places (sym same) ∙ none in omega (arith, one-self f o same)
   | inr other ↦ omega (arith, one-other f o other)
 ]
 
--- it came to a processor's list
+-- the frame came to a processor's list
 pub list-in : (c d : CpusValue) (b : BuddyValue) (cpu : ℕ) (pool : Pool) (f : ℕ) (xs : List ℕ)
     → AreTogether c b → MayBePut c b f → cpu < c.layout.cpus → d ≡ with_list_of c cpu pool xs
     → ((o : ℕ) → times o xs ≡ times o (list_of c cpu pool) + one_at f o) → IsIn c d b b f
@@ -101,7 +101,7 @@ list-in c d b cpu pool f xs h may low is parts =
       places = λ o. omega (arith, more o);
     })
 
--- it left the free areas
+-- the frame left the free areas
 pub area-out : (c : CpusValue) (b e : BuddyValue) (f : ℕ) → AreTogether c b → e.layout ≡ b.layout
     → AreApart e.layout e.areas → MayBeGiven e.layout e.areas 0 f → HasBlockMore b.areas e.areas 0 f
     → IsOut c c b e f
@@ -130,7 +130,7 @@ areas-apart c b h = subst (λ (l : LayoutParts). AreApart l b.areas) (sym h.layo
 pub listed_once : (c : CpusValue) (b : BuddyValue) → AreTogether c b → (o : ℕ) → places_in c o ≤ 1
 listed_once c b h o = omega (arith, h.once o)
 
--- a frame that stands nowhere is not on this list
+-- a frame that is nowhere is not on this list
 pub off_list_of : (c : CpusValue) (cpu : ℕ) (pool : Pool) (f : ℕ) → HasLists c → cpu < c.layout.cpus
     → places_in c f ≡ 0 → is_on f (list_of c cpu pool) ≡ false
 off_list_of c cpu pool f size low none =
@@ -154,7 +154,7 @@ frame_of_list c cpu pool f size low within on = elim (cases_lt f (frame_count c.
       (omega (arith, within f past, times-on f (list_of c cpu pool) on, list_of-le c cpu pool f low size))
 ]
 
--- how often frames stand on a list with one more in front, or at the back
+-- how often frames are on a list with one more in front, or at the back
 pub front-times : (xs ys : List ℕ) (f : ℕ) → xs ≡ f ∷ ys → (o : ℕ) → times o xs ≡ times o ys + one_at f o
 front-times xs ys f is o = ap (λ (zs : List ℕ). times o zs) is ∙ omega (arith, times-cons o f ys)
 

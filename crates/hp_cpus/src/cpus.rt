@@ -102,11 +102,11 @@ impl Cpus {
         self.links.next(frame)
     }
 
-    /// Takes the front frame of a processor's list. An empty list is first refilled by a batch from
-    /// the free areas.
+    /// Takes the front frame of a processor's list (Gorman, chapter 6: per-cpu lists; which end of
+    /// the list is this model's choice). Refills an empty list first, with up to a batch of frames
+    /// from the free areas.
     ///
-    /// Returns `None`, and changes nothing, if they have no frame for the pool (Gorman, chapter 6:
-    /// per-cpu lists; which end of the list is this model's choice).
+    /// If the free areas have no frame for the pool, returns `None` and changes nothing.
     pub fn take_one(
         &mut self,
         cpu: Cpu,
@@ -140,10 +140,10 @@ impl Cpus {
     }
 
     /// Puts a frame of a zone at the front of the processor's list of its pool. If the list is then
-    /// longer than `high`, it gives a batch back to the free areas, last frame first.
+    /// longer than `high`, gives a batch back to the free areas, last frame first (Gorman, chapter
+    /// 6: per-cpu lists; which ends of the list is this model's choice).
     ///
-    /// A frame of an isolated pageblock goes straight to the free areas (Gorman, chapter 6: per-cpu
-    /// lists; which ends of the list is this model's choice).
+    /// A frame of an isolated pageblock goes straight to the free areas.
     pub fn put_one(
         &mut self,
         cpu: Cpu,
@@ -204,7 +204,7 @@ impl Cpus {
         self.drain_pool(cpu, Pool::Mm, buddy, tape);
     }
 
-    /// Undoes a delta that fits, whatever the free areas are, and whose numbers are within the
+    /// Undoes a delta, which must fit, whatever the free areas are. Its numbers must be within the
     /// layout. A delta of another layer changes nothing.
     pub fn back(&mut self, delta: Delta)
         requires fits { (areas : FreeAreas) × FitsCached delta (frames_of areas self.old) }

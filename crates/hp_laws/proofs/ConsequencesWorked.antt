@@ -1,4 +1,5 @@
--- Worked states that the consequences of placement exclude: each breaks one of them, so none is well placed.
+-- Worked states that the consequences of placement exclude: each breaks one of them, so none is
+-- well placed.
 use Rattle.std.proofs.Common.{◌≡◌, ◌≤◌, [], ◌∷◌, true, false, Some, None, refl, arith}
 use Rattle.std.specs.List.{list_all}
 use Rattle.hp_units.specs.declared.rows.Class.TheVariants.{Nm, IsoM}
@@ -93,7 +94,8 @@ unfolding everything
 long_list_excluded p =
     (let short : 17 ≤ 16 = free_length small long_list Nm 0 small_layout p in absurd (omega arith))
 
--- a going block of which each frame is free, in two halves that are not joined: a Commit would name no frame
+-- a going block of which each frame is free, in two halves that are not joined: a Commit would name
+-- no frame
 abbrev in_halves : Memory
 in_halves =
     let s : Memory = boot_memory small in

@@ -226,7 +226,8 @@ commit_done : reply_of small booted 0 drained 0 (Commit 2) ≡ Done
 unfolding everything
 commit_done = refl
 
--- the page of block 2 moved, both processors' lists were drained, and the Commit is refused all the same
+-- the page of block 2 moved, both processors' lists were drained, and the Commit is refused all the
+-- same
 refused_commit : IsLegal small booted 0 (drained ++ record_of drained 0 (Commit 2) (Refused (NotFree 9)) ∷ [])
     → ⊥
 refused_commit = wrong_reply drained 0 (Commit 2) (Refused (NotFree 9)) Done commit_done (λ e. cc)

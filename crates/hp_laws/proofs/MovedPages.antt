@@ -1,4 +1,5 @@
--- A migration gives one page another frame, leaves each other page where it is, and changes no word.
+-- A migration gives one page another frame, leaves each other page where it is, and changes no
+-- word.
 use Rattle.std.proofs.Common.{◌≡◌, ◌≢◌, ℕ, ◌≤◌, ◌==◌, List, true, cond, Option, Some, None, refl, sym, ◌∙◌, ap, subst, arith, eq-eqb, ne_eqb}
 use Rattle.std.proofs.lemmas.Bool.{cond-true, cond-false}
 use Rattle.std.specs.Prelude.{is_some, flat_map}

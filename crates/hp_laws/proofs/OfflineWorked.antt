@@ -131,7 +131,8 @@ not_alone : AreAnswered (boot_memory small) disturbed
 unfolding everything
 not_alone = refl
 
--- a base state in which a block with a kernel's block is going for an operation that is still to come
+-- a base state in which a block with a kernel's block is going for an operation that is still to
+-- come
 abbrev claimed_early : Memory
 claimed_early =
     let s : Memory = boot_memory small in

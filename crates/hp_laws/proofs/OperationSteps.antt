@@ -1,4 +1,5 @@
--- What one step does to the rows of memory blocks: a claimed row changes only where its operation ends.
+-- What one step does to the rows of memory blocks: a claimed row changes only where its operation
+-- ends.
 use Rattle.std.proofs.Common.{◌≡◌, ◌≢◌, ℕ, ◌/◌, ◌<◌, ◌≤◌, Bool, true, false, cond, Option, Some, None, refl, ap, sym, subst, arith, ◌⊎◌, inl, inr, eqb-true}
 use Rattle.std.specs.Prelude.{nat_le}
 use Rattle.std.specs.Bool.{then_some}

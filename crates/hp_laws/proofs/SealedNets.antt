@@ -96,7 +96,8 @@ abbrev pub count_of_all : List (List Record) → ℕ
 count_of_all [] = 0
 count_of_all (h ∷ later) = length h + count_of_all later
 
--- their steps have rising serials, none was refused, and they lead to the state that the histories lead to
+-- their steps have rising serials, none was refused, and they lead to the state that the histories
+-- lead to
 pub record AreSteps (l : LayoutParts) (base : Memory) (before : ℕ) (hs : List (List Record)) : Type 0 where
   pub numbered : Numbered before (before + count_of_all hs) (net_of_all hs)
   pub good : AllGood l base (net_of_all hs)

@@ -27,7 +27,8 @@ use Rattle.hp_lemmas.proofs.Geometry.{aligned_ancestor}
 use Rattle.hp_laws.proofs.Gives.{give_block-ordered, give_block-kinds}
 use Rattle.hp_lemmas.proofs.KernelBlocks.{kernel-places}
 
--- a list written at one index: whatever holds there of what is written, and of all before, holds of all
+-- a list written at one index: whatever holds there of what is written, and of all before, holds of
+-- all
 pub get_or-cases : {X : Type 0} (P : ℕ → X → Type 0) (xs : List X) (i : ℕ) (x d : X) → i < length xs → P i x
     → ((k : ℕ) → P k (get_or xs k d)) → (k : ℕ) → P k (get_or (set xs i x) k d)
 get_or-cases P xs i x d h new old k = elim (cases_eq k i) [

@@ -14,7 +14,8 @@ use Rattle.hp_lemmas.proofs.Sizes.{halves-kinds}
 use Rattle.hp_laws.proofs.Ordered.{AreOrdered}
 use Rattle.hp_laws.proofs.Areas.{has_order, part-ordered, halves-ordered}
 
--- what was taken: the areas stay in order, its frames leave their places, and it was a block of the class
+-- what was taken: the areas stay in order, its frames leave their places, and it was a block of the
+-- class
 pub record TakesOrdered (l : LayoutParts) (class_at : ℕ → Option Class) (a : FreeAreas) (class : Class)
     (wanted : ℕ) (taken : Taken) : Type 0 where
   pub ordered : AreOrdered l class_at taken.areas

@@ -21,7 +21,7 @@ ghost use Rattle.hp_units.specs.declared.rows.Pool.{Pool};
 ghost use Rattle.hp_units.specs.declared.rows.Zone.TheVariants.{Normal as NormalZone};
 ghost use Rattle.hp_laws.specs.Consequences.{IsFrameOf, IsFrameInUse, IsLowestInUse, IsPluggedIn};
 
-/// A frame on a processor's list is in a block of the zone of the list's pool.
+/// A frame on a processor's list lies in a block whose zone is that of the list's pool.
 pub fn cached_frames_lie_in_zone()
     ensures state { (l : LayoutParts) (s : Memory) (cpu : ℕ) (pool : Pool) (frame : ℕ) → IsWellPlaced l s
         → is_on frame (cached_list s.free cpu pool) ≡ true

@@ -8,7 +8,8 @@ ghost use Rattle.hp_units.specs.declared.plans.Item.{Item};
 ghost use Rattle.hp_units.specs.declared.replies.Record.{Record};
 ghost use Rattle.hp_units.specs.declared.replies.Reply.TheVariants.{Restored};
 
-/// An undo that is not refused leaves the state that the steps up to its serial lead to.
+/// An undo to `serial` that is not refused leaves the state after the steps up to `serial` that
+/// were not undone before.
 pub fn undone_state()
     ensures { (l : LayoutParts) (base : Memory) (serial : ℕ) (h : List Record) (r : Record)
         → r.event ≡ UndoAfter serial
@@ -16,8 +17,8 @@ pub fn undone_state()
         → value_of l base (h ++ r ∷ []) ≡ run l base (steps_until serial (net_of h)) }
 {}
 
-/// A Cancel that restores leaves the state just before its operation's Begin, whose record has the
-/// operation's number as its serial.
+/// A Cancel that restores leaves the state just before its operation's Begin. The serial of the
+/// Begin is the operation's number.
 pub fn restored_state()
     ensures { (l : LayoutParts) (base : Memory) (before op : ℕ) (h : List Record) (r : Record)
         → IsLegal l base before (h ++ r ∷ [])
@@ -28,8 +29,8 @@ pub fn restored_state()
         × (value_of l base (h ++ r ∷ []) ≡ value_of l base (take (op - before - 1) h)) }
 {}
 
-/// Each prefix of the steps is what some undo keeps, and its state is the one just before the step
-/// that follows it.
+/// For each prefix of the steps, some undo keeps just that prefix. The state after the prefix is
+/// the one just before the next step.
 pub fn earlier_states()
     ensures prefix { (l : LayoutParts) (base : Memory) (before k : ℕ) (h : List Record)
         → IsLegal l base before h

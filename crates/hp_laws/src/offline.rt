@@ -1,4 +1,4 @@
-//! The law of an offline that nothing disturbs. Each law is the contract of a function with an
+//! The laws of an offline that nothing disturbs. Each law is the contract of a function with an
 //! empty body.
 ghost use Rattle.std.specs.Prelude.{◌≡◌, ℕ, ◌+◌, ◌<◌, false, List, [], ◌∷◌, ◌++◌, length};
 ghost use Rattle.hp_units.specs.Boot.{boot_memory};

@@ -1,5 +1,5 @@
-//! The laws of operations on memory blocks. Each law is the contract of a function
-//! with an empty body.
+//! The laws of operations on memory blocks. Each law is the contract of a function with an empty
+//! body.
 ghost use Rattle.std.specs.Prelude.{◌≡◌, ℕ, false, List, [], ◌∷◌, ◌++◌};
 ghost use Rattle.hp_laws.specs.Operations.{BeginsAt, IsOpenBehind, RowsAre, state_before, state_behind, wished_row};
 ghost use Rattle.hp_units.specs.History.{IsLegal, is_refused, net_of, value_of};
@@ -12,7 +12,7 @@ ghost use Rattle.hp_units.specs.declared.plans.Item.{Item};
 ghost use Rattle.hp_units.specs.declared.replies.Record.{Record};
 
 /// A Begin that is not undone claims each block of its plan. While no Commit and no Cancel of its
-/// operation follows, the rows of these blocks stay as it left them.
+/// operation follows, the rows of these blocks stay as the Begin left them.
 pub fn operations_hold_their_rows()
     ensures claimed { (l : LayoutParts) (base : Memory) (before : ℕ) (h : List Record) (place : ℕ)
         (b : Record) (plan : List Item)
@@ -29,8 +29,8 @@ pub fn operations_hold_their_rows()
 {}
 
 /// A Commit that is not refused gives each block of its operation's plan its wish, all in this one
-/// step. Just before it, their rows are still those that the Begin left (Linux, memory hotplug:
-/// offlining).
+/// step. Just before the Commit, their rows are still those that the Begin left (Linux, memory
+/// hotplug: offlining).
 pub fn commits_grant_wishes()
     ensures held { (l : LayoutParts) (base : Memory) (before : ℕ) (h : List Record) (r : Record) (place : ℕ)
         (b : Record) (plan : List Item)

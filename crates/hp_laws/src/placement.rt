@@ -1,5 +1,5 @@
-//! The laws of placement and of contents. Each law is the contract of a function
-//! with an empty body.
+//! The laws of placement and of contents. Each law is the contract of a function with an empty
+//! body.
 ghost use Rattle.std.specs.Prelude.{◌≡◌, ℕ, ◌+◌, ◌≤◌, true, List, ◌==◌, if◌then◌else◌};
 ghost use Rattle.std.specs.Option.{option_map};
 ghost use Rattle.hp_units.specs.Arithmetic.{block_of};
@@ -68,8 +68,8 @@ pub fn migrations_move_no_word()
         ≡ option_map (λ frame. if frame == from then to else frame) (frame_at s.pages owner page) }
 {}
 
-/// The contents of the pages are what the net's Map, Unmap and Write make of those of the base
-/// state. No drain, migration, operation or block changes them.
+/// The pages hold what the Map, Unmap and Write events that were not undone make of the base state.
+/// No other event changes their words.
 pub fn contents_follow_net()
     ensures { (l : LayoutParts) (base : Memory) (before : ℕ) (h : List Record) → IsLegal l base before h
         → (value_of l base h).pages.contents ≡ contents_of_net l base.pages.contents (net_of h) }

@@ -13,8 +13,8 @@ ghost use Rattle.hp_units.specs.declared.plans.Item.{Item};
 ghost use Rattle.hp_units.specs.declared.replies.Record.{Record};
 
 /// A Begin that is not undone claims each block of its plan. While no Commit and no Cancel of its
-/// operation follows, the rows of these blocks stay as it left them, even if the history is sealed
-/// in between.
+/// operation follows, the rows of these blocks stay as the Begin left them, even if the history is
+/// sealed in between.
 pub fn operations_hold_across_seals()
     ensures claimed { (l : LayoutParts) (base : Memory) (before : ℕ) (hs : List (List Record)) (place : ℕ)
         (b : Record) (plan : List Item)
@@ -30,8 +30,8 @@ pub fn operations_hold_across_seals()
 {}
 
 /// A Commit that is not refused gives each block of its operation's plan its wish, all in this one
-/// step, in whichever history the operation began. Just before it, their rows are still those that
-/// the Begin left (Linux, memory hotplug: offlining).
+/// step, in whichever history the operation began. Just before the Commit, their rows are still
+/// those that the Begin left (Linux, memory hotplug: offlining).
 pub fn commits_grant_across_seals()
     ensures held { (l : LayoutParts) (base : Memory) (before : ℕ) (hs : List (List Record)) (h : List Record)
         (r : Record) (place : ℕ) (b : Record) (plan : List Item)
@@ -49,8 +49,8 @@ pub fn commits_grant_across_seals()
 {}
 
 /// A Cancel that is not refused gives each block of its operation's plan the row that it had just
-/// before the Begin, whether it restores or releases, and in whichever history the operation began
-/// (Linux, memory hotplug: undo_isolate).
+/// before the Begin, whether the Cancel restores or releases, and in whichever history the
+/// operation began (Linux, memory hotplug: undo_isolate).
 pub fn cancels_give_back_across_seals()
     ensures { (l : LayoutParts) (base : Memory) (before : ℕ) (hs : List (List Record)) (h : List Record)
         (r : Record) (place : ℕ) (b : Record) (plan : List Item)

@@ -30,7 +30,7 @@ plan-room plan blocks each items most size is few below =
     (le-min (let a = claimed-few plan blocks in omega (arith, a, few))
     (let b = claimed-below plan blocks in omega (arith, b, below))))
 
--- the answer
+-- the answer to a Begin
 begun : (l : LayoutParts) (s : Memory) (op : ℕ) (plan : List Item)
     → first_some (plan_refusals l s plan) ≡ None
     → opened l s op plan ≡ record { memory = begin_plan l s op plan; reply = Opened op }

@@ -29,7 +29,7 @@ use Rattle.hp_layers.proofs.Lifts.{notes-blocks, notes-free}
 
 -- ---- several changes
 
--- none
+-- no change
 pub reworked-none : (m : Layers) (most : ℕ) (tape : TapeValue) → AreOfOneLayout m → IsTidy m.frames
     → IsReworked m (state_of m) most m tape tape
 reworked-none m most tape one tidy = record {
@@ -42,7 +42,7 @@ reworked-none m most tape one tidy = record {
   notes = notes-none IsOfMemory Fits undo m.layout most tape (view_of m);
 }
 
--- one after another, the later by a rule of the layout on the state that the earlier left
+-- two changes, the later by a rule of the layout on the state that the earlier left
 pub reworked-then : (rule : LayoutParts → Memory → Memory) (bound : LayoutParts → ℕ) (m n o : Layers)
     (s : Memory) (done total : ℕ) (was mid now : TapeValue)
     → done + bound m.layout ≤ total
@@ -127,7 +127,7 @@ isolated m f bs op block zone was mid now one zone_is g set_is layout_is notes =
           (omega arith) (notes-then l _ 1 was mid now _ _ v first second);
     }
 
--- another one is claimed alone
+-- any other block is only claimed
 claim-other : (l : LayoutParts) (s : Memory) (op block : ℕ) (wish : Wish) → (wish ≡ OffWish → ⊥)
     → claim_block l op s block wish
     ≡ record s { blocks = with_row s.blocks block (claimed_row (row_of s.blocks block) op wish) }
@@ -160,7 +160,7 @@ claimed m bs op block wish was now one tidy other set_is layout_is notes =
 
 -- ---- the blocks of a plan
 
--- one block further
+-- one more block is claimed
 pub begun-further : (m n o : Layers) (op : ℕ) (plan : List Item) (number : ℕ) (was mid now : TapeValue)
     → IsReworked m (fold (begin_block m.layout op plan) (state_of m) (range_with_len 0 number))
     (claimed_below plan number * moved_block_bound m.layout) n was mid
@@ -182,7 +182,7 @@ begun-further m n o op plan number was mid now a b =
     m n o (fold (begin_block l op plan) (state_of m) (range_with_len 0 number))
     (claimed_below plan number * each) (claimed_below plan (number + 1) * each) was mid now sum a b)
 
--- the blocks below one are among those below a later one
+-- the claimed blocks up to a number are among those below a greater number
 claimed-rises : (plan : List Item) (n m : ℕ) → n < m
     → claimed_below plan n + claimed_at plan n ≤ claimed_below plan m
 claimed-rises plan n zero low = absurd (omega arith)

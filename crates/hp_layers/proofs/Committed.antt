@@ -39,13 +39,13 @@ use Rattle.hp_layers.proofs.States.{are-placed}
 
 -- ---- a block gets its wish
 
--- what is wished for it
+-- a claim wishes Off exactly if its wish is Off
 wished : (claim : Option Claim) (wish : Wish) → option_map (λ c. c.wish) claim ≡ Some wish
     → wishes_off claim ≡ is_off wish
 wished None wish e = absurd (let f : None ≡ Some wish = e in cc)
 wished (Some claim) wish e = ap is_off (same_Some claim.wish wish e)
 
--- one that is to go is all free
+-- a block that is to go offline is all free
 pub may-go : (m : Layers) (block : ℕ) (wish : Wish) → ArePlaced m → IsGrantable m.layout (state_of m) block
     → option_map (λ c. c.wish) (row_of m.blocks.blocks block).claim ≡ Some wish → wish ≡ OffWish
     → IsAllFree m.layout m.frames.buddy.areas (zone_of_block m.blocks.blocks block) block
@@ -54,7 +54,7 @@ may-go m block wish p ready e w =
     ready (claim_going row.state row.zone row.claim (wished row.claim wish e ∙ ap is_off w)
     (p.placed.in_order.rows block))
 
--- one that is to come is not there yet
+-- a block that is to go online is offline or absent
 stays-on : (wish : Wish) → (wish ≡ OffWish → ⊥) → is_off wish ≡ false
 stays-on OffWish ne = absurd (ne refl)
 stays-on NormalWish ne = refl
@@ -73,7 +73,7 @@ may-come m block wish p e ne = by_claim (row_of m.blocks.blocks block).claim ref
         or_left (is_offline_state row.state) _ (claim_offline row.state row.zone row.claim claim is
         (wished row.claim wish e ∙ stays-on wish ne) (p.placed.in_order.rows block))
 
--- by its claim
+-- a commit gives a block the wish of its claim, and leaves a block without one as it is
 pub granted : (m new : Layers) (block : ℕ) (wish : Wish) (most : ℕ) (was now : TapeValue)
     → option_map (λ c. c.wish) (row_of m.blocks.blocks block).claim ≡ Some wish
     → IsReworked m (grant m.layout (state_of m) block wish) most new was now
@@ -99,7 +99,7 @@ ungranted m block most tape p e = by_claim (row_of m.blocks.blocks block).claim 
     by_claim None f = reworked-none m most tape p.one (tidy-placed m p)
     by_claim (Some claim) f = absurd (let g : Some claim.wish ≡ None = f in cc)
 
--- it may note fewer deltas than there is room for
+-- a change may note fewer deltas than its bound
 pub reworked_more : (m : Layers) (s : Memory) (most more : ℕ) (new : Layers) (was now : TapeValue)
     → most ≤ more → IsReworked m s most new was now → IsReworked m s more new was now
 reworked_more m s most more new was now le r = record {
@@ -160,7 +160,7 @@ committing-next l s blocks number block layout low here inside ready rise h =
       left = λ k above short. (let more = rise number k (omega arith) short in omega (arith, more, here));
     }
 
--- the layers in the middle of it are placed, and the next block may get its wish
+-- in the middle of a commit the layers are placed, and the next block may get its wish
 pub middle-placed : (m n : Layers) (t : Memory) (blocks : List ℕ) (number most : ℕ) (was mid : TapeValue)
     → ArePlaced m → IsReworked m t most n was mid → IsCommitting m.layout (state_of m) blocks number t
     → ArePlaced n
@@ -206,7 +206,7 @@ leaving-all l s (x ∷ xs) =
 
 -- ---- the list of an operation's blocks
 
--- what passes a test among numbers from one on is no less
+-- of the numbers from `from` on, those that pass a test are not below `from`
 filter-above : (p : ℕ → Bool) (from count k : ℕ) → k < length (filter p (range_with_len from count))
     → from ≤ get_or (filter p (range_with_len from count)) k 0
 filter-above p from zero k short = absurd (omega arith)
@@ -219,7 +219,7 @@ filter-above p from (suc count) k short =
     kept true x xs rest (suc k) short = let above = rest k (omega arith) in omega (arith, above)
     kept false x xs rest k short = let above = rest k short in omega (arith, above)
 
--- and each is less than those after it
+-- and each of them is less than those after it
 filter-rises : (p : ℕ → Bool) (from count k j : ℕ) → k < j → j < length (filter p (range_with_len from count))
     → get_or (filter p (range_with_len from count)) k 0 < get_or (filter p (range_with_len from count)) j 0
 filter-rises p from zero k j less short = absurd (omega arith)

@@ -45,7 +45,7 @@ frames-answered m f event given most was now p none le g =
           NotesFree k most was now (free_of f) (free_of m.frames)) p.one.cpus g.notes));
     }
 
--- at the layers' own layout
+-- the same by the layers' own layout
 at_layout : (m : Layers) (f : Frames) (cpu : ℕ) (was now : TapeValue) → ArePlaced m
     → IsGiven (drain_lists m.frames.cpus.layout (free_of m.frames) cpu)
     (drain_bound m.frames.cpus.layout (free_of m.frames) cpu) m.frames f was now

@@ -39,7 +39,7 @@ find-range_past p b (suc k) (suc m) none =
         next : (j : ℕ) → b + 1 + j ≡ b + (j + 1)
         next j = omega arith
 
--- each frame from one on to the end of its block has the same ancestor
+-- all frames from a frame to the end of its block have the same ancestor
 same-ancestor : (frame order k : ℕ) → k < 2 ^ order - frame % 2 ^ order
     → ancestor (frame + k) order ≡ ancestor frame order
 same-ancestor frame order k below =
@@ -48,7 +48,7 @@ same-ancestor frame order k below =
     ap (λ (n : ℕ). n * size)
     (quotient (frame + k) size (frame / size) (omega (arith, parts)) (omega (arith, parts, below)))
 
--- a frame whose ancestor starts a free block stands in one
+-- a frame whose ancestor starts a free block is in a free block
 stands : (l : LayoutParts) (a : FreeAreas) (frame order : ℕ) → order ≤ l.order
     → is_free_start a order (ancestor frame order) ≡ true → is_in_free_block l a frame ≡ true
 stands l a frame order most on =
@@ -58,7 +58,7 @@ stands l a frame order most on =
     (subst (λ (n : ℕ). order < n) (sym (length-range_with_len 0 (l.order + 1))) below)
     (ap p (get_or-range_with_len 0 (l.order + 1) order 0 below ∙ omega arith) ∙ on)
 
--- so do all frames from one on to the end of its free block
+-- and so are all frames from it to the end of its free block
 pub run-is_free : (l : LayoutParts) (a : FreeAreas) (frame order k : ℕ) → IsCovered l a frame order
     → k < 2 ^ order - frame % 2 ^ order → is_in_free_block l a (frame + k) ≡ true
 run-is_free l a frame order k covered below =

@@ -1,4 +1,4 @@
--- What the place of a frame says of the free lists.
+-- What a frame's place shows about the free lists.
 use Rattle.std.proofs.Common.{◌≡◌, ℕ, Bool, true, false, ◌||◌, [], ◌∷◌, Option, Some, None, IfSome, refl, sym, ◌∙◌, ap, subst, inl, inr, ◌==◌, eq-eqb, ne_eqb}
 use Rattle.std.specs.List.{list_any}
 use Rattle.std.specs.Option.{option_map_or}
@@ -10,7 +10,7 @@ use Rattle.hp_units.specs.FreeAreas.{is_on}
 use Rattle.hp_units.specs.Memory.{FreeAreas, free_list}
 use Rattle.hp_units.specs.Refusals.{is_free_start}
 
--- where a frame stands at the front of a free block, if it does
+-- the class and the order of the free block that starts at a frame, if one does
 pub record IsPlaceOf (a : FreeAreas) (frame : ℕ) (place : Option (Class × ℕ)) : Type 0 where
   pub on : (class : Class) (order : ℕ) → is_on frame (free_list a class order) ≡ true
       → place ≡ Some (class, order)
@@ -54,7 +54,7 @@ other-list a frame class order p h ne =
     false_from_ne_true (is_on frame (free_list a class order))
     (λ on. ne (ap (λ (q : Class × ℕ). q.1) (same_Some p (class, order) (h.on class order on))))
 
--- whether a free block of an order starts at it
+-- whether a free block of an order starts at a frame, by the frame's place
 pub start-place : (a : FreeAreas) (frame order : ℕ) (place : Option (Class × ℕ)) → IsPlaceOf a frame place
     → option_map_or (λ p. p.1 == order) place false ≡ is_free_start a order frame
 start-place a frame order None h =

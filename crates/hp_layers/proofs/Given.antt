@@ -18,7 +18,7 @@ use Rattle.hp_layers.specs.declared.frames.Frames.{Frames}
 use Rattle.hp_layers.specs.Frames.{IsGiven, IsTidy, MayReturn, free_of, places_of}
 use Rattle.hp_layers.proofs.Taken.{tidy-less, with_buddy}
 
--- it may be given to the areas
+-- a block that may come back may be given to the areas
 pub may-give : (f : Frames) (order first : ℕ) → IsTidy f → MayReturn f order first
     → MayBeGiven f.buddy.layout f.buddy.areas order first
 may-give f order first h r =
@@ -30,7 +30,7 @@ may-give f order first h r =
       unfree = λ o low high. omega (arith, r.nowhere o low high);
     })
 
--- its frames are in one place more, and that is the only one
+-- then each frame of the block is in that one place only, and no other frame is in two
 once-more : (f : Frames) (order first o : ℕ) → IsTidy f → MayReturn f order first
     → places_of f o + covered o order first ≤ 1
 once-more f order first o h r = elim (cases_lt o first) [
@@ -76,7 +76,7 @@ area-given rule bound f e order first was now h r g =
 
 -- ---- pageblocks that change their class
 
--- what a call of the areas ensures by which no frame comes to a free block
+-- what a call of the areas ensures if it brings no frame to a free block
 pub record IsAreaMoved (moved : FreeAreas) (most : ℕ) (b e : BuddyValue) (was now : TapeValue) : Type 0 where
   pub moved_is : e.areas ≡ moved
   pub layout : e.layout ≡ b.layout
@@ -103,7 +103,7 @@ area-moved rule bound f e was now h g =
 
 -- ---- many calls
 
--- one more, which changes the areas by a rule of the layout
+-- one more call, which changes the areas by a rule of the layout
 pub given-then : (l : LayoutParts) (rule : LayoutParts → FreeAreas → FreeAreas) (bound : LayoutParts → ℕ)
     (areas : FreeAreas) (done total : ℕ) (f g h : Frames) (was mid now : TapeValue)
     → f.cpus.layout ≡ l → done + bound l ≤ total

@@ -211,7 +211,7 @@ kernel-given-in {before} m f kernel cpu frame order was mid now p low none is se
           omega (arith, few)) (notes-then l 1 _ was mid now _ _ v first second);
     })
 
--- by the zone that was read
+-- the same, by the zone that was read
 pub kernel-given : {before : List Delta} (m : Layers) (f : Frames) (kernel : List (Option ℕ))
     (cpu frame order : ℕ) (zone : Zone) (was mid now : TapeValue)
     → ArePlaced m → frame < frame_count m.layout → was.deltas ≡ before

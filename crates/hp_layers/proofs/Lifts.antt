@@ -1,5 +1,5 @@
--- What one layer's call notes leads back in the whole frame view too, whose other parts it leaves
--- as they are.
+-- What one layer's call notes leads back in the whole frame view too. The call leaves the view's
+-- other parts as they are.
 use Rattle.std.proofs.Common.{◌≡◌, ℕ, List, [], ◌∷◌, Option, refl, sym, ◌∙◌, ap, subst}
 use Rattle.std.specs.List.{AllByRecursion}
 use Rattle.hp_units.specs.LayoutParts.{LayoutParts}

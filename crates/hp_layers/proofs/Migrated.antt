@@ -60,7 +60,7 @@ source-inside m from p holds =
     in_frames m.layout (state_of m) from p.one.layout p.placed
     (let some = source-mapped m from holds in omega (arith, some))
 
--- after the target's taking its frame may still come back
+-- after the target is taken, the source frame may still come back
 pub source-returns : (m : Layers) (wanted : Option Handed) (most : ℕ) (f : Frames) (was now : TapeValue)
     (from to : ℕ)
     → ArePlaced m → is_some (page_at (state_of m).pages from) ≡ true
@@ -212,7 +212,7 @@ migrate-done {before} m f g ps op from to zone was mid more now p none live sour
 
 -- ---- the frames of a block
 
--- as they are computed
+-- their numbers as the code computes them end within the layout
 pub block-last : (l : LayoutParts) {block at size : ℕ} → block < l.blocks → at ≡ block
     → size ≡ l.pageblocks * 2 ^ l.order → at * size + size ≤ frame_count l
 block-last l {block} {at} low here size_is =

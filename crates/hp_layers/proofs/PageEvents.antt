@@ -219,7 +219,7 @@ unmap-done-in {before} m f ps cpu owner page frame was mid now p low small is no
           omega (arith, few)) (notes-then l 2 _ was mid now _ _ v first second);
     })
 
--- by the frame that the pages answered, and the zone that was read
+-- the Unmap is done, by the frame that the pages returned and the zone that was read
 pub unmap-done : {before : List Delta} (m : Layers) (f : Frames) (ps : PagesValue) (cpu owner page frame : ℕ)
     (zone : Zone) (was mid now : TapeValue)
     → ArePlaced m → owner < m.layout.owners → page < m.layout.pages

@@ -4,13 +4,13 @@ use Rattle.std.proofs.Math.Nat.{mul-le-mul_left, mul-le-mul_right, one-le-pow, s
 use Rattle.hp_units.specs.LayoutParts.{LayoutParts, IsLayout}
 use Rattle.hp_units.specs.Arithmetic.{pageblock_count}
 
--- one of so many pageblocks from a block's first one on, by the numbers that the code read
+-- pageblock `number` of a block, by the numbers that the code read
 pub pageblock-is : {at block count many : ℕ} (number : ℕ) → at ≡ block → count ≡ many
     → at * count + number ≡ block * many + number
 pageblock-is {at} {block} {count} number here all =
     ap (λ (b : ℕ). b * count + number) here ∙ ap (λ (n : ℕ). block * n + number) all
 
--- it lies in the layout
+-- that pageblock lies in the layout
 pub pageblock-inside : (l : LayoutParts) {block at count number : ℕ} → block < l.blocks → at ≡ block
     → count ≡ l.pageblocks → number < count → at * count + number < pageblock_count l
 pageblock-inside l {block} {at} {count} {number} low here many less =
@@ -28,13 +28,13 @@ pageblocks-few l layout =
     mul-le-mul_left l.blocks more in
     omega (arith, all, layout.frames)
 
--- its number fits
+-- the pageblock's number fits into 32 bits
 pub pageblock-fits : {l : LayoutParts} {block at count number : ℕ} → IsLayout l → block < l.blocks
     → at ≡ block → count ≡ l.pageblocks → number < count → Fits w32 (at * count + number)
 pageblock-fits {l} layout low here many less =
     omega (arith, pageblocks-few l layout, pageblock-inside l low here many less)
 
--- and that of a block's first one
+-- and so does the number of a block's first pageblock
 pub first-fits : {l : LayoutParts} {block at count : ℕ} → IsLayout l → block < l.blocks → at ≡ block
     → count ≡ l.pageblocks → Fits w32 (at * count)
 first-fits {l} {block} {at} {count} layout low here many =

@@ -11,7 +11,8 @@ use Rattle.hp_layers.specs.declared.layers.Layers.{Layers}
 use Rattle.hp_layers.specs.Frames.{IsTidy, MayReturn}
 use Rattle.hp_layers.specs.Layers.{ArePlaced, state_of}
 
--- the free areas and the processors' lists are of one layout, and no frame is in two of their places
+-- the free areas and the processors' lists are of one layout, and no frame is in two of their
+-- places
 pub tidy-placed : (m : Layers) → ArePlaced m → IsTidy m.frames
 tidy-placed m p =
     subst (λ (l : LayoutParts).
@@ -44,7 +45,7 @@ pub page-returns : (m : Layers) (owner page frame : ℕ) → ArePlaced m
 page-returns m owner page frame p is =
     used-returns m 0 frame p (page-in_use m.layout (state_of m) owner page frame p.one.layout p.placed is)
 
--- and lies in the layout
+-- a page's frame lies in the layout
 pub page-inside : (m : Layers) (owner page frame : ℕ) → ArePlaced m
     → frame_at (state_of m).pages owner page ≡ Some frame → frame < frame_count m.layout
 page-inside m owner page frame p is =

@@ -14,7 +14,7 @@ use Rattle.hp_units.specs.Rows.{wish_of}
 use Rattle.hp_plain.specs.Plans.{names_no_block}
 use Rattle.hp_layers.specs.Operations.{claimed_at, claimed_below}
 
--- where no item has a claimed block, a later refusal is the first
+-- if no item's block is claimed, the first refusal is one of the later ones
 pub none_claimed : (item : Option Item) (rest : Option Refusal) → None ≡ option_map (λ item. item.block) item
     → option_or (option_map (λ item. Busy item.block) item) rest ≡ rest
 none_claimed None rest e = refl
@@ -54,7 +54,7 @@ answer-step {A} f plan i item answer low here e =
 
 -- ---- the blocks of the layout
 
--- of a plan that names no other block, each item's is one
+-- if a plan names only blocks of the layout, each item's block is one of them
 inside : (blocks : ℕ) (xs : List Item) (i : ℕ) (d : Item) → list_any (λ x. nat_le blocks x.block) xs ≡ false
     → i < length xs → (get_or xs i d).block < blocks
 inside blocks [] i d none low = absurd (omega arith)
@@ -83,7 +83,7 @@ item-within l plan i item none low here =
 
 -- ---- how many blocks a plan names: no more than it has items
 
--- an item more names one block more, and that is its own
+-- one more item adds only its own block
 more-at : (item : Item) (plan : List Item) (block : ℕ) → (item.block ≡ block → ⊥)
     → claimed_at (item ∷ plan) block ≡ claimed_at plan block
 more-at item plan block other = rw (ne_eqb item.block block other) refl

@@ -31,17 +31,17 @@ refused_for m cpu event deltas reason p first =
     refused m event (asked m.layout (state_of m) cpu event) deltas deltas reason p
     (ap (λ (o : Option Refusal). answer m.layout (state_of m) 0 cpu event o) first) refl
 
--- the first of several, where its test holds
+-- the first of several, if its test holds
 pub holds-first : {A : Type 0} (test : Bool) (reason : A) (others : List (Option A)) → test ≡ true
     → first_some (then_some test reason ∷ others) ≡ Some reason
 holds-first test reason others e = ap (λ (b : Bool). first_some (then_some b reason ∷ others)) e
 
--- the first of several, where its test fails
+-- the first of several, if its test fails
 pub fails-first : {A : Type 0} (test : Bool) (reason : A) (others : List (Option A)) → test ≡ false
     → first_some (then_some test reason ∷ others) ≡ first_some others
 fails-first test reason others e = ap (λ (b : Bool). first_some (then_some b reason ∷ others)) e
 
--- the first of several, where something is missing
+-- the first of several, if something is missing
 pub lacks-first : {A B : Type 0} (o : Option A) (reason : B) (others : List (Option B)) → o ≡ None
     → first_some (unless_some o reason ∷ others) ≡ Some reason
 lacks-first {A} o reason others e = ap (λ (p : Option A). first_some (unless_some p reason ∷ others)) e
@@ -81,7 +81,7 @@ map_others m cpu owner page =
     then_some (is_some (frame_at (state_of m).pages owner page)) AlreadyMapped
     ∷ unless_some (page_frame m.layout (state_of m).free cpu) NoFrame ∷ []
 
--- those of one that is to be unmapped
+-- the refusals of a page that is to be unmapped, after the same
 abbrev pub unmap_others : Layers → (owner page : ℕ) → List (Option Refusal)
 unmap_others m owner page = unless_some (frame_at (state_of m).pages owner page) NotMapped ∷ []
 
@@ -128,7 +128,7 @@ pub word-refused : (m : Layers) (event : Event) (owner page index : ℕ) (deltas
 word-refused m event owner page index deltas reason found p of e first =
     refused_for m 0 event deltas reason p (ap first_some of ∙ (sym first ∙ e))
 
--- a word that is there, of a layout and a table of pages
+-- a word that is in the layout and in the table of pages
 pub record IsWord (l : LayoutParts) (table : List (List (Option ℕ))) (owner page index : ℕ) : Type 0 where
   pub owner_low : owner < l.owners
   pub page_low : page < l.pages
@@ -136,7 +136,7 @@ pub record IsWord (l : LayoutParts) (table : List (List (Option ℕ))) (owner pa
   pub frame : ℕ
   pub mapped : entry_of table owner page ≡ Some frame
 
--- that of an event that isn't refused
+-- the word of an event that isn't refused is there
 pub word-there : (m : Layers) (owner page index : ℕ) (found : Option Refusal) → found ≡ None
     → found ≡ first_some (word_refusals m.layout (state_of m) owner page index)
     → IsWord m.layout m.pages.pages.table owner page index
@@ -155,7 +155,7 @@ word-there m owner page index found e first =
     there None h = absurd (let e = h in cc)
     there (Some frame) h = (frame, refl)
 
--- it is one of the pages' own layout
+-- and it is a word of the pages' own layout
 pub word-there_in_pages : (m : Layers) (owner page index : ℕ) (found : Option Refusal) → AreOfOneLayout m
     → found ≡ None → found ≡ first_some (word_refusals m.layout (state_of m) owner page index)
     → IsWord m.pages.layout m.pages.pages.table owner page index

@@ -79,7 +79,7 @@ moved m f bs block flag zone row was mid now one zone_is g set_is layout_is note
           (omega arith) (notes-then l _ 1 was mid now _ _ v first second);
     }
 
--- its row alone changes
+-- a block's row alone changes
 pub row-set : (m : Layers) (bs : BlocksValue) (block : ℕ) (row : Row) (was now : TapeValue) → AreOfOneLayout m
     → IsTidy m.frames
     → bs.blocks ≡ with_row m.blocks.blocks block row → bs.layout ≡ m.blocks.layout
@@ -135,7 +135,7 @@ areas-and-row m f bs block most total areas row was mid now one le g set_is layo
 
 -- ---- the blocks of an operation
 
--- one block further
+-- one more block is changed
 pub fold-further : (rule : Memory → ℕ → Memory) (s : Memory) (blocks : List ℕ) (number block : ℕ)
     → number < length blocks → get_or blocks number 0 ≡ block
     → fold rule s (take (number + 1) blocks) ≡ rule (fold rule s (take number blocks)) block
@@ -196,7 +196,7 @@ cancel-done {before} m new op blocks was now p none live is r =
     (subst (λ (bs : List ℕ). IsReworked m (fold (release_block m.layout) (state_of m) bs)
     (length bs * moved_block_bound m.layout) new was now) is r))
 
--- a number more, or not
+-- a list with one number more, or with none, has at most one more entry
 pub push-few : (xs ys : List ℕ) (b : Bool) (x n : ℕ) → ys ≡ xs ++ cond b (x ∷ []) [] → length xs ≤ n
     → length ys ≤ n + 1
 push-few xs ys true x n is few = omega (arith, ap length is, length-append xs (x ∷ []), few)

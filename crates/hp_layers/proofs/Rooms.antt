@@ -17,7 +17,7 @@ use Rattle.hp_layers.specs.Layers.{NotesView}
 pub room-less : (t : TapeValue) (some more : ℕ) → HasRoom t (some + more) → HasRoom t some
 room-less t some more room = omega (arith, room)
 
--- room for two parts, the other one first
+-- room for two parts, in the other order
 pub room-turn : (t : TapeValue) (some more : ℕ) → HasRoom t (some + more) → HasRoom t (more + some)
 room-turn t some more room = omega (arith, room)
 
@@ -42,7 +42,7 @@ room-kernel l most more was now later earlier n room =
     subst (λ (t : TapeValue). HasRoom t more) (sym n.tape)
     (omega (arith, length-append was.deltas n.deltas, n.few, room))
 
--- how much room a frame of a processor's list needs, and one more, fits
+-- the room for a frame of a processor's list, plus one, fits into 64 bits
 list-fits : (l : LayoutParts) (xs : List ℕ) → IsLayout l → Fits w64 (take_one_from l xs + 1)
 list-fits l [] layout =
     let most : l.batch * (l.order + 2) ≤ 1024 * 12 =
@@ -51,12 +51,12 @@ list-fits l [] layout =
     omega (arith, most, layout.order)
 list-fits l (x ∷ xs) layout = omega arith
 
--- and so does that of a frame for a page
+-- and so does the room for a page's frame
 pub page-fits : (l : LayoutParts) (fs : FreeFrames) (cpu : ℕ) → IsLayout l
     → Fits w64 (page_frame_bound l fs cpu + 1)
 page-fits l fs cpu layout = list-fits l (cached_list fs cpu MmPool) layout
 
--- and of a block for the kernel
+-- and the room for a kernel block
 pub kernel-fits : (l : LayoutParts) (fs : FreeFrames) (cpu order : ℕ) → IsLayout l
     → Fits w64 (kernel_block_bound l fs cpu order + 1)
 kernel-fits l fs cpu zero layout = list-fits l (cached_list fs cpu NuPool) layout

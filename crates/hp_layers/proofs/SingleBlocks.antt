@@ -50,7 +50,7 @@ asked-refused m event deltas refusal p first =
     refused m event (asked m.layout (state_of m) 0 event) deltas deltas refusal p
     (ap (λ (o : Option Refusal). answer m.layout (state_of m) 0 0 event o) (sym first)) refl
 
--- one that isn't
+-- an event that isn't refused
 pub asked-reworked : {before : List Delta} (m new : Layers) (event : Event) (s : Memory) (reply : Reply)
     (most : ℕ) (was now : TapeValue)
     → ArePlaced m → None ≡ first_some (event_refusals m.layout (state_of m) 0 event)
@@ -112,7 +112,7 @@ blocks-put m bs wanted was now one tidy set_is layout_is notes = record {
 
 -- ---- an added block goes online at once
 
--- a row that was written before the block goes online doesn't count
+-- a row written before the block goes online makes no difference
 online-twice : (l : LayoutParts) (zone : Zone) (s : Memory) (block : ℕ) (row : Row)
     → online_block l zone (with_block_row s block row) block ≡ online_block l zone s block
 unfolding online_block
@@ -139,7 +139,7 @@ reworked-more m new s most more was now le r = record {
   notes = notes-more IsOfMemory Fits undo m.layout most more was now (view_of new) (view_of m) le r.notes;
 }
 
--- by the zone that it goes online in
+-- the state after a block is added, by the zone in which it goes online
 abbrev added_to : LayoutParts → Option Zone → Memory → ℕ → Memory
 added_to l None s block = s
 added_to l (Some zone) s block = online_block l zone s block

@@ -13,7 +13,7 @@ use Rattle.hp_units.specs.Migrations.{migration_source}
 use Rattle.hp_units.specs.Rows.{is_claimed_by, is_going, is_live}
 use Rattle.hp_layers.specs.Migrations.{source_from, source_of}
 
--- one block further
+-- one more block is searched
 pub source-further : (l : LayoutParts) (s : Memory) (op number count : ℕ) → number < count
     → source_of l s op number ≡ None
     → source_from l s op number (count - number) ≡ source_from l s op (number + 1) (count - (number + 1))
@@ -41,7 +41,7 @@ source-unclaimed l s op block none =
     ap (λ (claimed : Bool). cond (claimed && is_going (row_of s.blocks block))
     (find (λ frame. is_some (page_at s.pages frame)) (frames_of_block l block)) None) none
 
--- many of them
+-- several blocks that the operation does not hold
 pub source-skipped : (l : LayoutParts) (s : Memory) (op first more count : ℕ) → first + more ≤ count
     → ((block : ℕ) → first ≤ block → block < first + more → is_claimed_by op (row_of s.blocks block) ≡ false)
     → source_from l s op first (count - first) ≡ source_from l s op (first + more) (count - (first + more))
@@ -56,7 +56,7 @@ source-skipped l s op first (suc more) count low none =
     (λ block from to. none block (omega (arith, from)) (omega (arith, to)))
     ∙ ap (λ (n : ℕ). source_from l s op n (count - n)) next)
 
--- all from one on to another
+-- all blocks between two numbers
 pub source-between : (l : LayoutParts) (s : Memory) (op first past count : ℕ) → first ≤ past → past ≤ count
     → ((block : ℕ) → first ≤ block → block < past → is_claimed_by op (row_of s.blocks block) ≡ false)
     → source_from l s op first (count - first) ≡ source_from l s op past (count - past)
@@ -99,7 +99,7 @@ source-all l s op = sources l s op 0 l.blocks
 
 -- ---- an operation that has a source is live
 
--- where a block is claimed
+-- if a block is claimed
 live-here : (claimed going : Bool) (op block from : ℕ) (rows : List Row) (here later : Option ℕ)
     → is_claimed_by op (get_or rows block offline_row) ≡ claimed → block < length rows
     → (later ≡ Some from → list_any (is_claimed_by op) rows ≡ true)

@@ -24,7 +24,7 @@ pub step-no_cpu : (l : LayoutParts) (s : Memory) (serial cpu : ℕ) (event : Eve
 unfolding step refusal_of
 step-no_cpu l s serial cpu event past = rw (le-leb l.cpus cpu past) refl
 
--- one that is
+-- a processor that is in the layout
 pub step-in : (l : LayoutParts) (s : Memory) (serial cpu : ℕ) (event : Event) → cpu < l.cpus
     → step l s serial cpu event ≡ answer l s serial cpu event (first_some (event_refusals l s cpu event))
 unfolding step refusal_of

@@ -1,4 +1,5 @@
--- Blocks that are taken, straight from the areas or by a processor's list, and from several sources in turn.
+-- Blocks that are taken, straight from the areas or by a processor's list, and from several sources
+-- in turn.
 use Rattle.std.proofs.Common.{◌≡◌, ℕ, ◌+◌, ◌^◌, ◌≤◌, List, [], ◌∷◌, Option, Some, None, refl, sym, ◌∙◌, ap, subst, arith, IfSome}
 use Rattle.std.specs.Prelude.{MatchOption}
 use Rattle.std.specs.Option.{option_or}
@@ -111,7 +112,7 @@ empty_from l fs cpu pool [] is none = refl
 empty_from l fs cpu pool (frame ∷ frames) is none =
     absurd (list-hands fs cpu pool frame frames (cached_list fs cpu pool) is none)
 
--- only a list that is empty hands none out
+-- only an empty list hands none out
 pub empty-bound : (l : LayoutParts) (fs : FreeFrames) (cpu : ℕ) (pool : Pool) → take_one l fs cpu pool ≡ None
     → take_one_bound l fs cpu pool ≡ batch_bound l
 unfolding take_one
@@ -124,7 +125,7 @@ wanted-none : (wanted : Option Handed) (old new : FreeFrames) → HandsOut wante
 wanted-none None old new h = refl
 wanted-none (Some handed) old new h = absurd (let e = h.0 in cc)
 
--- it hands none out, and the other does or doesn't
+-- the first rule hands none out, and the second does or doesn't
 pub then-taken : (wanted : Option Handed) (other : Frames → Option Handed) (order most : ℕ)
     (bound : Frames → ℕ) (old mid new : Frames) (was between now : TapeValue) (more : ℕ) (answer : Option ℕ)
     → bound old ≤ more → IsTaken wanted order most old mid was between None
@@ -157,7 +158,7 @@ pub record IsListEmpty (f mid : Frames) (was between : TapeValue) (cpu : ℕ) (p
   pub tape : between ≡ was
   pub bound : take_one_bound f.cpus.layout (free_of f) cpu pool ≡ batch_bound f.cpus.layout
 
--- deltas that were none
+-- a rule that handed none out noted no deltas
 pub list-empty : {f mid : Frames} {was between : TapeValue} {cpu : ℕ} {pool : Pool} {most : ℕ}
     {answer : Option ℕ}
     → answer ≡ None

@@ -18,7 +18,7 @@ pub record IsLatest (l : LayoutParts) (delta : Delta) (now : FrameView) : Type 0
   pub fits : Fits delta now
   pub numbers : IsDeltaOf l delta
 
--- it fits, and its numbers are in the layout
+-- the latest delta fits, and its numbers are in the layout
 pub latest : (l : LayoutParts) (all deltas : List Delta) (delta : Delta) (now first : FrameView)
     → IsUnwound l all now first → all ≡ deltas ++ delta ∷ [] → IsLatest l delta now
 latest l all deltas delta now first u is = record {
@@ -47,7 +47,7 @@ unwound l all deltas delta now new first u is undone =
           ∙ ap (λ (ds : List Delta). undo_all undo ds now) (sym is) ∙ u.ends;
     })
 
--- ---- of a tape's deltas those past a mark
+-- ---- a tape's deltas past a mark
 
 pub past-length : (mark : ℕ) (all deltas : List Delta) (delta : Delta) → mark < length all
     → all ≡ deltas ++ delta ∷ [] → mark ≤ length deltas

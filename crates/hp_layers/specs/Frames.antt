@@ -15,7 +15,7 @@ use Rattle.hp_units.specs.Placement.{covered}
 use Rattle.hp_cpus.specs.Cpus.{AreTogether, frames_of, places_among}
 use Rattle.hp_layers.specs.declared.frames.Frames.{Frames}
 
--- this part of the state
+-- the free frames as a part of the state
 abbrev pub free_of : Frames → FreeFrames
 free_of f = frames_of f.buddy.areas f.cpus
 
@@ -84,7 +84,7 @@ given_back l fs cpu zone frame zero = put_one l fs cpu zone frame
 given_back l fs cpu zone frame (suc below) =
     record fs { areas = give_block l fs.areas zone frame (suc below) }
 
--- how many deltas giving it back may note in this state
+-- how many deltas giving a block back may note in this state
 abbrev pub give_back_bound : LayoutParts → FreeFrames → (cpu : ℕ) → Zone → (frame order : ℕ) → ℕ
 give_back_bound l fs cpu zone frame zero = put_one_bound l fs cpu zone frame
 give_back_bound l fs cpu zone frame (suc below) = give_bound l

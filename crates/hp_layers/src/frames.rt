@@ -42,7 +42,7 @@ impl Frames {
         Ok(Frames { buddy, cpus })
     }
 
-    /// Returns how many deltas taking a kernel block may note in this state.
+    /// Returns the most deltas that `kernel_block` may note in this state.
     pub(crate) fn kernel_block_room(&self, layout: &Layout, cpu: Cpu, order: Order) -> usize
         requires cpu { cpu < self.now.cpus.layout.cpus }
         ensures { result ≡ kernel_block_bound layout.now (free_of self.now) cpu order }
@@ -54,7 +54,7 @@ impl Frames {
         }
     }
 
-    /// Returns how many deltas taking a frame for a page may note in this state.
+    /// Returns the most deltas that `page_frame` may note in this state.
     pub(crate) fn page_frame_room(&self, layout: &Layout, cpu: Cpu) -> usize
         requires cpu { cpu < self.now.cpus.layout.cpus }
         ensures { result ≡ page_frame_bound layout.now (free_of self.now) cpu }
@@ -62,7 +62,7 @@ impl Frames {
         self.take_one_room(layout, cpu, Pool::Mm)
     }
 
-    /// Returns how many deltas taking a frame from a processor's list may note in this state.
+    /// Returns the most deltas that `take_one` may note in this state.
     fn take_one_room(&self, layout: &Layout, cpu: Cpu, pool: Pool) -> usize
         requires cpu { cpu < self.now.cpus.layout.cpus }
         ensures { result ≡ take_one_bound layout.now (free_of self.now) cpu pool }
@@ -161,7 +161,7 @@ impl Frames {
         self.steal(Mobility::Movable, Order(0), tape)
     }
 
-    /// Returns how many deltas giving a block back may note in this state.
+    /// Returns the most deltas that `give_back` may note in this state.
     pub(crate) fn give_back_room(
         &self,
         layout: &Layout,
@@ -183,7 +183,7 @@ impl Frames {
         }
     }
 
-    /// Returns how many deltas giving a single frame back may note in this state.
+    /// Returns the most deltas that giving a single frame back may note in this state.
     fn put_one_room(&self, layout: &Layout, cpu: Cpu, zone: Zone, frame: Frame) -> usize
         requires cpu { cpu < self.now.cpus.layout.cpus }
         requires frame { frame < frame_count layout.now }
@@ -201,8 +201,8 @@ impl Frames {
         }
     }
 
-    /// Gives a block back: a single frame to the processor's list, any other block
-    /// straight to the areas.
+    /// Gives a block back: a single frame to the processor's list, any other block straight to the
+    /// areas.
     pub(crate) fn give_back(
         &mut self,
         cpu: Cpu,
@@ -300,8 +300,8 @@ impl Frames {
         }
     }
 
-    /// Adds a whole pageblock at the back of its zone's list. None of its frames may be
-    /// free or on a list.
+    /// Adds a whole pageblock at the back of its zone's list. None of its frames may be free or on
+    /// a list.
     fn add_pageblock(&mut self, layout: &Layout, zone: Zone, pageblock: Pageblock, tape: &mut Tape)
         requires same { self.old.cpus.layout ≡ layout.now }
         requires pageblock { pageblock < pageblock_count layout.now }
@@ -319,7 +319,7 @@ impl Frames {
         self.buddy.add_pageblock(zone, pageblock, tape);
     }
 
-    /// Returns how many deltas draining a processor's lists may note in this state.
+    /// Returns the most deltas that `drain` may note in this state.
     pub(crate) fn drain_room(&self, layout: &Layout, cpu: Cpu) -> usize
         requires { cpu < self.now.cpus.layout.cpus }
         ensures { result ≡ drain_bound layout.now (free_of self.now) cpu }
@@ -341,7 +341,7 @@ impl Frames {
         self.cpus.drain(cpu, &mut self.buddy, tape);
     }
 
-    /// Takes the front frame of a processor's list, which is refilled first if it is empty.
+    /// Takes the front frame of a processor's list. Refills an empty list first.
     fn take_one(&mut self, cpu: Cpu, pool: Pool, tape: &mut Tape) -> Option<Frame>
         requires cpu { cpu < self.old.cpus.layout.cpus }
         requires tidy { IsTidy self.old }
@@ -378,7 +378,7 @@ impl Frames {
     }
 }
 
-/// Returns how many deltas a batch of single frames, and one frame more, may note.
+/// Returns the most deltas that a batch of single frames and one more frame may note.
 fn batch_room(layout: &Layout) -> usize
     ensures is { result ≡ batch_bound layout.now }
     ensures small { result ≤ 2 ^ 20 }

@@ -70,8 +70,8 @@ impl Layers {
         })
     }
 
-    /// Undoes the deltas on a tape after its first `mark`, latest first, and takes them off the
-    /// tape. Allocates nothing.
+    /// Undoes the deltas after a tape's first `mark`, latest first, and removes them. Allocates
+    /// nothing.
     pub fn unwind(&mut self, tape: &mut Tape, mark: usize)
         requires one { AreOfOneLayout self.old }
         requires mark { mark ≤ length tape.old.deltas }
@@ -110,8 +110,8 @@ impl Layers {
         }
     }
 
-    /// Returns the zone of the memory block that contains the frame, or Normal if
-    /// the block has none.
+    /// Returns the zone of the memory block that contains the frame, or Normal if the block has
+    /// none.
     fn zone_of(&self, frame: Frame) -> Zone
         requires frame { IsFrame self.now.layout frame }
         requires one { AreOfOneLayout self.now }

@@ -84,7 +84,7 @@ parity first order q e (inr h) =
     let next : (q / 2 * 2 + 1) * 2 ^ order ≡ q / 2 * 2 * 2 ^ order + 2 ^ order = grind arith in
     inr (e ∙ ap (λ (n : ℕ). n * 2 ^ order) h ∙ next)
 
--- each is the other one's buddy
+-- a block is its buddy's buddy
 pub buddy-buddy : (first order : ℕ) → first % 2 ^ order ≡ 0 → buddy (buddy first order) order ≡ first
 buddy-buddy first order e =
     twice (first / 2 ^ order / 2) order first
@@ -117,7 +117,7 @@ pub record IsUpperHalf (first last top : ℕ) : Type 0 where
   pub buddy_is : buddy (first + 2 ^ last) last ≡ first
   pub above : (first + 2 ^ last) / 2 ^ top ≡ first / 2 ^ top
 
--- of a multiple
+-- the upper half of a multiple's block
 pub upper_half_of : (q first last top : ℕ) → first ≡ q * 2 ^ suc last → suc last ≤ top
     → IsUpperHalf first last top
 upper_half_of q first last top e h =
@@ -135,7 +135,7 @@ upper_half_of q first last top e h =
       above = same_above (first + 2 ^ last) first (suc last) top h (rw e (here ∙ sym there));
     }
 
--- of an aligned block
+-- the upper half of an aligned block
 pub upper_half : (first last top : ℕ) → first % 2 ^ suc last ≡ 0 → suc last ≤ top → IsUpperHalf first last top
 upper_half first last top e h =
     upper_half_of (first / 2 ^ suc last) first last top (multiple first (suc last) e) h
@@ -162,7 +162,7 @@ above_of t order top first h (inr e) =
     let half = upper_half_of t (t * 2 * 2 ^ order) order top double h in
     rw (e, buddy_odd) (sym half.above)
 
--- of an aligned block
+-- the same for an aligned block
 pub buddy_above : (first order top : ℕ) → first % 2 ^ order ≡ 0 → suc order ≤ top
     → buddy first order / 2 ^ top ≡ first / 2 ^ top
 buddy_above first order top e h =

@@ -34,7 +34,7 @@ covered-buddies frame order q = by_half (q / 2) (half_cases q)
         rw (e, buddy-multiple, xor_odd, double, next)
         (omega (arith, covered-halves frame order (t * 2 ^ suc order)))
 
--- the same of the blocks that a frame lies in
+-- the same for the blocks that a frame lies in
 pub covered-ancestors : (frame order first : ℕ)
     → covered frame order (ancestor first order) + covered frame order (buddy (ancestor first order) order)
     ≡ covered frame (suc order) (ancestor first (suc order))
@@ -118,7 +118,7 @@ less-step true frame order x xs ys h = omega (arith, list_places-cons frame orde
 less-step false frame order x xs ys h =
     omega (arith, list_places-cons frame order x xs, list_places-cons frame order x ys)
 
--- a list without a frame has no more
+-- a list without a block has at most as many blocks with a frame
 pub without-le : (frame order block : ℕ) (frames : List ℕ)
     → list_places frame order (without block frames) ≤ list_places frame order frames
 without-le frame order block [] = omega arith
@@ -127,7 +127,7 @@ without-le frame order block (x ∷ xs) =
 
 -- ---- the buddies leave
 
--- without buddies there are no more
+-- without buddies a frame is in at most as many free blocks
 pub without_buddies-le : (a : FreeAreas) (class : Class) (first order count frame : ℕ)
     → 5 * (order + count) ≤ length a.lists
     → free_places (without_buddies a class first order count) frame ≤ free_places a frame
@@ -145,7 +145,7 @@ without_buddies-le a class first order (suc count) frame h =
       without_buddies-le a class first order count frame (omega arith),
     )
 
--- at each of so many orders from one on the frame's buddy is free
+-- at each of `count` orders from `order` on the frame's buddy is free
 abbrev pub HasBuddies : FreeAreas → Class → (first order count : ℕ) → Type 0
 HasBuddies a class first order count =
     (i : ℕ) → order ≤ i → i < order + count → is_on (buddy (ancestor first i) i) (free_list a class i) ≡ true
@@ -188,7 +188,7 @@ without_buddies-places a class first order (suc count) frame h once buddies =
 
 -- ---- the order that a block joins up to
 
--- it isn't below the first, nor above the last, and below it each buddy is free
+-- the joined order lies from the first to the last, and at each order below it the buddy is free
 pub record JoinsTo (a : FreeAreas) (class : Class) (first order count joined : ℕ) : Type 0 where
   pub low : order ≤ joined
   pub high : joined ≤ order + count
@@ -216,7 +216,7 @@ joins-step true a class first order count joined e h = record {
 joins-step false a class first order count joined e h =
     record { low = omega arith; high = omega arith; buddies = λ i low high. absurd (omega arith) }
 
--- it is what is joined up to
+-- `join_order` is that order
 pub join_order-joins : (a : FreeAreas) (class : Class) (first order count : ℕ)
     → JoinsTo a class first order count (join_order a class first order count)
 join_order-joins a class first order zero =

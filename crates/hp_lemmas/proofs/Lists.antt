@@ -62,7 +62,7 @@ off_by_places block order frames e =
     false_from_ne_true (is_on block frames)
     (λ on. let some : 1 ≤ list_places block order frames = on-places block order frames on in omega arith)
 
--- a list has no more blocks than all
+-- a frame is in at most as many blocks of one list as of all lists
 pub list_places-le : (a : FreeAreas) (class : Class) (order frame : ℕ) → HasOrder a order
     → list_places frame order (free_list a class order) ≤ free_places a frame
 list_places-le a class order frame h = omega (arith, with_free_list-places a class order frame [] h)
@@ -102,12 +102,12 @@ pub free_list-apart : (a : FreeAreas) (class : Class) (order : ℕ) (frames : Li
 free_list-apart a class order frames c o ne =
     get_or-set_other a.lists (5 * order + class_index class) (5 * o + class_index c) frames [] ne
 
--- of that class and order
+-- the list of this class and order, or another one
 pub record IsThatList (class : Class) (order : ℕ) (c : Class) (o : ℕ) : Type 0 where
   pub class_is : c ≡ class
   pub order_is : o ≡ order
 
--- by the number
+-- which of both, by the lists' numbers
 pub that_list : (class : Class) (order : ℕ) (c : Class) (o : ℕ)
     → 5 * o + class_index c ≡ 5 * order + class_index class → IsThatList class order c o
 that_list class order c o e =

@@ -1,4 +1,4 @@
--- A list of free blocks with fewer blocks, and one with a block more.
+-- A list of free blocks with fewer blocks, and one with one more block.
 use Rattle.std.proofs.Common.{◌≡◌, ℕ, ◌+◌, ◌≤◌, List, [], ◌∷◌, ◌++◌, ◌==◌, true, arith, ◌⊎◌, inl, inr, ◌-◌}
 use Rattle.std.proofs.lemmas.Bool.{or_left, eq-eqb}
 use Rattle.std.proofs.lemmas.List.Sums.{sum_by_push}
@@ -10,7 +10,7 @@ use Rattle.hp_lemmas.proofs.Places.{list_places-cons, HasOrder, with_free_list-p
 use Rattle.hp_lemmas.proofs.Lists.{on_cases, on_tail, on-without}
 use Rattle.hp_lemmas.proofs.Joins.{without-le}
 
--- each block of a list is on the other, and each frame is in no more blocks of it
+-- each block of a list is on the other, and each frame is in at most as many blocks of the first
 pub record IsPart (order : ℕ) (frames old : List ℕ) : Type 0 where
   pub on : (frame : ℕ) → is_on frame frames ≡ true → is_on frame old ≡ true
   pub places : (frame : ℕ) → list_places frame order frames ≤ list_places frame order old
@@ -31,7 +31,7 @@ without-part order block frames =
       places = λ frame. without-le frame order block frames;
     }
 
--- a list with one block more: wherever it stands
+-- a list with one more block, anywhere on it
 pub record IsMore (order first : ℕ) (frames old : List ℕ) : Type 0 where
   pub on : (frame : ℕ) → is_on frame frames ≡ true → (first ≡ frame) ⊎ (is_on frame old ≡ true)
   pub places : (frame : ℕ)
@@ -45,7 +45,7 @@ front-more order first frames =
       places = λ frame. list_places-cons frame order first frames;
     }
 
--- on a list with a block at its back
+-- a frame on a list with one more block at its back
 pub back-on : (first frame : ℕ) (frames : List ℕ) → is_on frame (frames ++ first ∷ []) ≡ true
     → (first ≡ frame) ⊎ (is_on frame frames ≡ true)
 back-on first frame [] on = on_cases frame first [] on

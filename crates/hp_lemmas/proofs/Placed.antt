@@ -1,4 +1,5 @@
--- In a well placed state free blocks and blocks in use lie within the frames, and no frame in use is free.
+-- In a well placed state free blocks and blocks in use lie within the frames, and no frame in use
+-- is free.
 use Rattle.std.proofs.Common.{◌≡◌, ℕ, ◌+◌, ◌*◌, ◌-◌, ◌/◌, ◌^◌, ◌<◌, ◌≤◌, List, [], ◌∷◌, length, true, cond, refl, sym, ◌∙◌, ap, subst, arith, inl, inr, Option, Some, None, IfSome, ◌%◌}
 use Rattle.std.proofs.lemmas.Bool.{cases_lt, both_ways}
 use Rattle.std.proofs.lemmas.List.{get_or_past}
@@ -56,7 +57,7 @@ free_order a class order first n size on = elim (cases_lt (5 * order + class_ind
       (get_or_past a.lists (5 * order + class_index class) [] past) on))
 ]
 
--- it lies within the frames
+-- a free block lies within the frames
 pub free-within : (l : LayoutParts) (s : Memory) (class : Class) (order first : ℕ) → IsLayout l
     → IsWellPlaced l s → is_on first (free_list s.free.areas class order) ≡ true
     → first + 2 ^ order ≤ frame_count l
@@ -76,7 +77,7 @@ free-within l s class order first layout h on = elim (cases_lt (frame_count l) (
 
 -- ---- what is in use
 
--- what a place of its own has is a frame
+-- a number with a place of its own is a frame
 pub in_frames : (l : LayoutParts) (s : Memory) (f : ℕ) → IsLayout l → IsWellPlaced l s
     → 1 ≤ kernel_places s f + mapped_places s.pages f → f < frame_count l
 in_frames l s f layout p some = elim (cases_lt f (frame_count l)) [
@@ -103,13 +104,13 @@ kernel_in s first order is = elim (cases_lt first (length s.kernel)) [
     nothing : None ≡ Some order → ⊥
     nothing e = cc
 
--- it is as a kernel's block must be
+-- a kernel's block is as it must be
 kernel_is : (l : LayoutParts) (s : Memory) (first order : ℕ) → IsWellPlaced l s
     → kernel_order s first ≡ Some order → IsKernelAt l s.blocks.rows first order
 kernel_is l s first order p is =
     subst (λ (o : Option ℕ). IfSome o (IsKernelAt l s.blocks.rows first)) is (p.in_order.kernel first)
 
--- it is a place of each of its frames
+-- a kernel's block is a place of each of its frames
 kernel_covers : (s : Memory) (first order f : ℕ) → kernel_order s first ≡ Some order → first ≤ f
     → f < first + 2 ^ order → 1 ≤ kernel_places s f
 kernel_covers s first order f is above below =

@@ -10,7 +10,7 @@ use Rattle.hp_units.specs.FreeAreas.{with_front, with_halves, order_or, least_or
 use Rattle.hp_units.specs.Placement.{covers, list_places, places_from, free_places, covered}
 use Rattle.hp_lemmas.proofs.Sizes.{with_halves-size}
 
--- one block more on a list
+-- one more block on a list
 pub list_places-cons : (frame order first : ℕ) (frames : List ℕ)
     → list_places frame order (first ∷ frames) ≡ covered frame order first + list_places frame order frames
 list_places-cons frame order first frames = sum_by-cons (λ x. cond (covers frame order x) 1 0) first frames

@@ -10,11 +10,11 @@ pub record SameAreas (a b : FreeAreas) : Type 0 where
   pub lists : length b.lists ≡ length a.lists
   pub kinds : length b.kinds ≡ length a.kinds
 
--- of one state
+-- a state and itself
 pub same_areas : (a : FreeAreas) → SameAreas a a
 same_areas a = record { lists = refl; kinds = refl }
 
--- and then of another
+-- one state and another, by way of a third
 pub same_areas-then : {a b c : FreeAreas} → SameAreas a b → SameAreas b c → SameAreas a c
 same_areas-then h k = record { lists = k.lists ∙ h.lists; kinds = k.kinds ∙ h.kinds }
 

@@ -32,7 +32,7 @@ all-set P [] i x all h = tt
 all-set P (y ∷ ys) zero x all h = (h, all.1)
 all-set P (y ∷ ys) (suc i) x all h = (all.0, all-set P ys i x all.1 h)
 
--- a table of so many owners' rows of so many pages
+-- a table of `owners` rows of `pages` pages each
 pub record IsTable {A : Type 0} (owners pages : ℕ) (table : List (List (Option A))) : Type 0 where
   pub tall : length table ≡ owners
   pub wide : AllByRecursion (λ row. length row ≡ pages) table

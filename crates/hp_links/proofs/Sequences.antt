@@ -1,4 +1,4 @@
--- What the words of the contracts are where a list is split at a frame.
+-- What the words of the contracts mean for a list that is split at a frame.
 use Rattle.std.proofs.Common.{ℕ, ◌≡◌, ◌≢◌, ◌<◌, ◌≤◌, inl, inr, eqb, ltb, List, [], ◌∷◌, ◌++◌, Option, None, Some, refl, sym, ◌∙◌, ap, subst}
 use Rattle.std.proofs.lemmas.Bool.{cases_eq, eq-eqb, ne_eqb, lt-ltb, le-ltb, cond-true, cond-false}
 use Rattle.std.proofs.lemmas.Option.{none-some, same_Some}
@@ -6,7 +6,7 @@ use Rattle.hp_links.specs.LinkedLists.{first, last_from, without, predecessor_fr
 use Rattle.hp_links.specs.Rings.{Member, Absent, Distinct, frame_at}
 use Rattle.hp_links.proofs.Chains.{last_or, first_or, absent_not}
 
--- a list in three parts, where the frame is not in the first one
+-- a list in three parts: before a frame's first occurrence, the frame, and after it
 pub record SplitsAt (f : ℕ) (xs : List ℕ) : Type 0 where
   pub ahead : List ℕ
   pub behind : List ℕ
@@ -54,7 +54,7 @@ pub first-frame : (frames head : ℕ) (xs : List ℕ) → frames ≤ head → ((
 first-frame frames head [] le below = frame_at-head frames head le
 first-frame frames head (x ∷ xs) le below = frame_at-frame frames x (below x (inl refl))
 
--- the frame at the last place of a chain is the list's last one, or what stands before the first
+-- the frame at the last place of a chain is the list's last one, or what comes before the first
 pub last-frame : (frames head : ℕ) (xs : List ℕ) → ((x : ℕ) → Member x xs → x < frames)
     → frame_at frames (last_or head xs) ≡ last_from (frame_at frames head) xs
 last-frame frames head [] below = refl
@@ -91,7 +91,7 @@ Member-without f y (x ∷ xs) m =
           ]
     ]
 
--- what stands before a frame stays when the frame leaves
+-- what comes before a frame stays when the frame leaves
 pub record StandsBefore (o : Option ℕ) (xs : List ℕ) : Type 0 where
   pub frame : ℕ
   pub is : o ≡ Some frame
@@ -167,7 +167,7 @@ back_from f y (x ∷ xs) m d =
           ∙ ap (λ ys. y ∷ ys) rest)
     ]
 
--- a frame put after what stood before it
+-- a frame put back after what came before it
 pub back : (f : ℕ) (xs : List ℕ) → Member f xs → Distinct xs
     → with_behind (predecessor f xs) f (without f xs) ≡ xs
 back f [] m d = absurd m

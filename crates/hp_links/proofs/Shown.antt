@@ -16,7 +16,7 @@ pub shows : (frames : ℕ) (t : Table) (lens : List ℕ) (lists : List (List ℕ
 shows frames t lens lists k =
     ap (λ (ls : List (List ℕ)). record { frame_count = frames; lists = ls }) (lists_are frames t lens lists k)
 
--- a frame is on a list only where there is such a list
+-- a frame is on a list only if there is such a list
 pub listed_in : (ls : List (List ℕ)) (l x : ℕ) → Member x (get_or ls l []) → l < length ls
 listed_in [] l x m = absurd m
 listed_in (xs ∷ ls) zero x m = omega arith

@@ -1,5 +1,5 @@
--- What the invariant and the view of a `Links` say of the lists that contracts see, and what each
--- change leaves.
+-- What the invariant and the view of a `Links` show about the lists that contracts see, and what
+-- each change leaves.
 use Rattle.std.proofs.Common.{ℕ, ◌≡◌, ◌≢◌, ◌<◌, ◌≤◌, ◌+◌, ◌-◌, inl, inr, List, [], ◌∷◌, ◌++◌, Option, None, Some, IfSome, IfNone, true, is_some, length, get_or, map, set, refl, sym, ◌∙◌, ap, subst, arith}
 use Rattle.std.proofs.lemmas.List.{append-nil, append_assoc, length-append, get_or-set_same, get_or-set_other, set-set, set-get_or, ext_get_or, get_or-map, length-map, length-set}
 use Rattle.std.proofs.lemmas.Bool.{cases_eq, false≢true}

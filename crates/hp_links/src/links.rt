@@ -110,7 +110,7 @@ impl Links {
         Ok(frames)
     }
 
-    /// Puts a frame, which is on no list, at the front of a list.
+    /// Puts a frame that is on no list at the front of a list.
     pub fn push_front(&mut self, list: ListNumber, frame: Frame)
         requires list_in { list < length self.old.lists }
         requires frame_in { frame < self.old.frame_count }
@@ -122,7 +122,7 @@ impl Links {
         self.rings.insert(list, head, place_of(frame), after);
     }
 
-    /// Puts a frame, which is on no list, at the back of a list.
+    /// Puts a frame that is on no list at the back of a list.
     pub fn push_back(&mut self, list: ListNumber, frame: Frame)
         requires list_in { list < length self.old.lists }
         requires frame_in { frame < self.old.frame_count }

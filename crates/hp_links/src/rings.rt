@@ -20,12 +20,12 @@ pub fn place_of(frame: Frame) -> u32
 pub struct Node {
     pub next: u32,
     pub prev: u32,
-    /// One more than the number of the list that the frame is on. 0 for a head, and for
-    /// a frame on no list.
+    /// One more than the number of the list that the frame is on. 0 for a head, and for a frame on
+    /// no list.
     pub list: u32,
 }
 
-/// Returns the list that an entry's code means.
+/// Decodes an entry's list: 0 is none; any other code is the list's number plus one.
 fn list_of_code(code: u32) -> Option<ListNumber>
     ensures { result ≡ list_of_code code }
 {

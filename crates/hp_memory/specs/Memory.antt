@@ -13,8 +13,8 @@ pub record MemoryValue : Type 0 where
   pub layout : LayoutParts
   pub state : Memory
 
--- the deltas lead from one state's frame view back to that of an earlier state,
--- which is well placed
+-- the deltas lead from one state's frame view back to that of an earlier state, which is well
+-- placed
 pub record LeadsBack (l : LayoutParts) (deltas : List Delta) (later earlier : Memory) : Type 0 where
   pub placed : IsWellPlaced l earlier
   pub numbers : AllByRecursion (IsDeltaOf l) deltas

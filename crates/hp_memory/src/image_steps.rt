@@ -18,8 +18,8 @@ pub struct ImageStep {
     pub reply: Reply,
 }
 
-/// Carries out one step of the definitions from an Image, whose state must be well
-/// placed, to a new Image.
+/// Carries out one step of the definitions from an Image, whose state must be well placed, to a new
+/// Image.
 ///
 /// A Cancel only releases here, and an UndoAfter does nothing, as in `Memory::step`. Both Images
 /// are converted whole, so this costs much more than `Memory::step`.

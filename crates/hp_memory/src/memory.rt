@@ -1,4 +1,4 @@
-//! The memory of a machine.
+//! A machine's memory, in layers.
 ghost use Rattle.std.specs.Prelude.{◌≡◌, ◌≤◌, IfOk, OnErr, OnOk, drop, length, take};
 ghost use Rattle.hp_units.specs.Boot.{boot_memory};
 ghost use Rattle.hp_units.specs.LayoutParts.{IsLayout};
@@ -88,8 +88,8 @@ impl Memory {
         self.layers.blocks.is_live(op)
     }
 
-    /// Carries out one step of the definitions, and notes what it did to the layers on the tape,
-    /// after the deltas there.
+    /// Carries out one step of the definitions. Appends to the tape the deltas of what the step did
+    /// to the layers.
     ///
     /// A Cancel only releases here, and an UndoAfter does nothing. All memory is allocated before
     /// anything changes.
@@ -115,8 +115,7 @@ impl Memory {
         self.layers.step(alloc, serial, cpu, event, tape)
     }
 
-    /// Undoes the steps whose deltas come after the first `mark` on the tape: undoes these deltas,
-    /// latest first, and takes them off the tape. Allocates nothing.
+    /// Undoes the deltas after the first `mark`, latest first, and removes them. Allocates nothing.
     pub fn back(&mut self, tape: &mut Tape, mark: usize)
         requires mark { mark ≤ length tape.old.deltas }
         requires leads { (s : State)

@@ -1,8 +1,8 @@
-//! Parsing numbers from words.
+//! Parses numbers from words.
 ghost use Rattle.std.specs.Prelude.{◌≡◌};
 ghost use Rattle.hp_numbers.specs.NumberWords.{NumbersAreSpelled, is_bare as bare, number_of};
 
-/// Returns whether the word has no sign and no leading zero.
+/// Returns whether the word has neither a `+` nor a leading zero; `parse` would accept both.
 fn is_bare(word: &str) -> bool
     ensures { result ≡ bare word.now }
 {

@@ -1,4 +1,4 @@
-//! Printing numbers of things, in decimal.
+//! Prints numbers of things in decimal.
 ghost use Rattle.std.specs.Prelude.{Some};
 ghost use Rattle.std.specs.Fmt.{decimal};
 

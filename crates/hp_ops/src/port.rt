@@ -1,4 +1,4 @@
-//! What a driver calls.
+//! The port through which a driver makes its calls.
 ghost use Rattle.std.specs.Prelude.{◌≡◌, ◌++◌, [], List, Some, IfErr, IfOk};
 ghost use Rattle.hp_units.specs.declared.replies.CallFault.{CallFault};
 ghost use Rattle.hp_units.specs.declared.replies.Receipt.{Receipt};
@@ -7,7 +7,7 @@ ghost use Rattle.hp_ops.specs.Ports.{IsReplied, PortValue, with_receipts};
 use hp_units::{CallFault, Event, Reply};
 use std::alloc::Global;
 
-/// Calls of one processor on a machine, wherever the machine is.
+/// Makes one processor's calls, on a machine of its own or on a shared one.
 pub trait Port {
     /// The receipts so far, the fault of the last call, and the number of processors.
     ghost shows: { Self → PortValue };
@@ -22,8 +22,8 @@ pub trait Port {
     fn cpus(&self) -> u32
         ensures { result ≡ (shows self.now).cpus };
 
-    /// Makes one call. Returns the reply of one new receipt, which is of this event; or a fault,
-    /// which the port then shows, and no receipt.
+    /// Makes one call. Returns the reply and adds one receipt, of this event; or returns a fault,
+    /// which the port then shows, and adds no receipt.
     fn call(&mut self, alloc: Global, event: &Event) -> Result<Reply, CallFault>
         ensures ok { IfOk result (λ reply. IsReplied shows makes self.old event.now reply self.new) }
         ensures err { IfErr result

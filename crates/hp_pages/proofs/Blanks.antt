@@ -9,7 +9,7 @@ pub zeros-blank : (n : ℕ) → is_blank (replicate n 0) ≡ true
 zeros-blank zero = refl
 zeros-blank (suc n) = zeros-blank n
 
--- and nothing else is
+-- and only zeros are
 first-zero : (w : ℕ) (rest : Bool) → ((w == 0) && rest) ≡ true → w ≡ 0
 first-zero w rest e = elim (cases_Bool (w == 0)) [
   | inl is ↦ eqb-true w 0 is
@@ -26,13 +26,13 @@ blank-zeros (w ∷ ws) e =
     ap (λ (n : ℕ). n ∷ ws) (first-zero w (is_blank ws) e)
     ∙ ap (λ (xs : List ℕ). 0 ∷ xs) (blank-zeros ws (rest-blank (w == 0) (is_blank ws) e))
 
--- a zero that becomes 0
+-- a zero that is written again
 pub set-zero : (n index : ℕ) → set {A = ℕ} (replicate n 0) index 0 ≡ replicate n 0
 set-zero zero index = refl
 set-zero (suc n) zero = refl
 set-zero (suc n) (suc index) = ap (λ (xs : List ℕ). 0 ∷ xs) (set-zero n index)
 
--- a word that is not 0
+-- a word that is written and is not 0: the words are not blank
 pub set-some : (words : List ℕ) (index value : ℕ) → index < length words → (value ≡ 0 → ⊥)
     → is_blank (set words index value) ≡ false
 set-some [] index value within some = absurd (omega arith)
@@ -44,7 +44,7 @@ set-some (w ∷ ws) (suc index) value within some =
     last true b e = e
     last false b e = refl
 
--- words that are 0 but for one
+-- words that are all 0 except one
 and-assoc : (a b c : Bool) → (a && (b && c)) ≡ ((a && b) && c)
 and-assoc true b c = refl
 and-assoc false b c = refl
@@ -65,7 +65,7 @@ none-needed words blank = cond-true _ _ _ blank
 pub some-needed : (words : List ℕ) → is_blank words ≡ false → buffer_for words ≡ Some words
 some-needed words some = cond-false _ _ _ some
 
--- the words are read off it
+-- the words are read from the buffer
 pub buffer-words : (n : ℕ) (words : List ℕ) → length words ≡ n
     → unwrap_or (buffer_for words) (replicate n 0) ≡ words
 buffer-words n words size = elim (cases_Bool (is_blank words)) [

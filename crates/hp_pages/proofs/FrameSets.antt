@@ -59,12 +59,12 @@ first_bit word from fits some =
       below = λ n low high. rw (bit_up word from n low, lowest.2 (n - from) (omega arith)) refl;
     }
 
--- a number of a word's 64
+-- a number among the 64 of a word
 pub same_word : (at n : ℕ) → at ≤ n → n < at / 64 * 64 + 64
     → (n / 64 ≡ at / 64) × (at % 64 ≤ n % 64) × (n % 64 < 64)
 same_word at n low high = (omega arith, omega arith, omega arith)
 
--- a word has no frame from one on
+-- a word has no frame at or after one
 pub none_in_word : (words : List ℕ) (first at : ℕ)
     → ((n : ℕ) → first ≤ n → n < at → has words n ≡ false)
     → FindsLowest (λ i. eqb (bit_at (get_or words (at / 64) 0) i) 1) (at % 64) 64 None
@@ -77,7 +77,7 @@ none_in_word words first at before none n low high = elim (cases_lt n at) [
       (none (n % 64) same.1 same.2)
 ]
 
--- nor words that are 0
+-- nor have words that are 0
 pub none_in_words : (words : List ℕ) (first at past : ℕ)
     → ((n : ℕ) → first ≤ n → n < at / 64 * 64 + 64 → has words n ≡ false)
     → ((k : ℕ) → at / 64 + 1 ≤ k → k < past → get_or words k 0 ≡ 0)
@@ -102,7 +102,7 @@ found_below words first at bit before lowest n low high = elim (cases_lt n at) [
       (lowest.below (n % 64) same.1 (omega arith))
 ]
 
--- a word has its lowest frame from one on
+-- a word's lowest frame at or after one
 pub found_in_word : (words : List ℕ) (first at bit : ℕ) → first ≤ at
     → ((n : ℕ) → first ≤ n → n < at → has words n ≡ false)
     → IsLowest (λ i. eqb (bit_at (get_or words (at / 64) 0) i) 1) (at % 64) 64 bit
@@ -119,7 +119,7 @@ found_in_word words first at bit from before lowest past within = record {
 
 -- ---- the lowest number of a range
 
--- by another test with the same answers
+-- the same for another test with the same results
 pub finds_same : (p q : ℕ → Bool) (first past : ℕ) (found : Option ℕ) → ((n : ℕ) → n < past → p n ≡ q n)
     → FindsLowest p first past found → FindsLowest q first past found
 finds_same p q first past None same none = λ n low high. sym (same n high) ∙ none n low high
@@ -130,7 +130,7 @@ finds_same p q first past (Some found) same lowest = record {
   below = λ n low high. sym (same n (omega (arith, lowest.high))) ∙ lowest.below n low high;
 }
 
--- from the next number on
+-- the search from the next number on
 next_lowest : (p : ℕ → Bool) (first count : ℕ) (found : Option ℕ) → p first ≡ false
     → FindsLowest p first (first + suc count) found → FindsLowest p (first + 1) (first + 1 + count) found
 next_lowest p first count None not_here none = λ n low high. none n (omega arith) (omega arith)
@@ -144,7 +144,7 @@ next_lowest p first count (Some found) not_here lowest = record {
   below = λ n low high. lowest.below n (omega arith) high;
 }
 
--- where the first number passes
+-- if the first number passes
 here_lowest : (p : ℕ → Bool) (first past : ℕ) (found : Option ℕ) → first < past → p first ≡ true
     → FindsLowest p first past found → found ≡ Some first
 here_lowest p first past None lt here none =
@@ -174,7 +174,7 @@ bit-one : (b : Bool) → eqb (bit_of b) 1 ≡ b
 bit-one true = refl
 bit-one false = refl
 
--- where one bit of the word of a frame changed
+-- the set after one bit of a frame's word changed
 pub has-set : (words : List ℕ) (frame before word : ℕ) (is_in : Bool) → frame < 64 * length words
     → before ≡ get_or words (frame / 64) 0
     → ((i : ℕ) → i < 64 → bit_at word i ≡ cond (eqb i (frame % 64)) (bit_of is_in) (bit_at before i))

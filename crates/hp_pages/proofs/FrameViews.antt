@@ -23,7 +23,7 @@ entry_at table f found first =
     subst (λ (o : ℕ). entry_of table o found.1 ≡ Some f)
     (let e : is.row ≡ found.0 = omega (arith, is.owner_is) in e) is.entry
 
--- a frame that holds none has no first page
+-- a frame that holds no page has no first page
 none_found : (table : List (List (Option ℕ))) (f : ℕ) (found : Option (ℕ × ℕ)) → holders table f ≡ 0
     → page_from 0 table f ≡ found → found ≡ None
 none_found table f None none first = refl
@@ -47,7 +47,7 @@ pub held_le : (f : ℕ) (entry : Option ℕ) → held f entry 1 ≤ 1
 held_le f entry =
     elim (cases_Bool (holds f entry)) [ inl is ↦ rw is (omega arith) | inr isnt ↦ rw isnt (omega arith) ]
 
--- an entry changed that was not the frame and is not: the frame's first page is the same
+-- a changed entry that neither was nor is the frame leaves the frame's first page the same
 kept_found : (table : List (List (Option ℕ))) (owner page : ℕ) (x : Option ℕ) (f : ℕ) (found : Option (ℕ × ℕ))
     → IsIn table owner page → holders table f ≤ 1
     → (entry_of table owner page ≡ Some f → ⊥) → (x ≡ Some f → ⊥) → page_from 0 table f ≡ found
@@ -95,7 +95,7 @@ no_buffer_past l ps frame past =
     get_or_past (map (buffer_by ps) (all_frames l)) frame None
     (let e = length-map-range_with_len (buffer_by ps) 0 (frame_count l) in omega (arith, e, past))
 
--- a list by a function that changed at one number, and at two
+-- a list made by a function that changed at one number, and at two
 pub one_changed : {X : Type 0} (b c : ℕ → Option X) (n at : ℕ) (x : Option X) → at < n → c at ≡ x
     → ((k : ℕ) → k < n → (k ≡ at → ⊥) → c k ≡ b k)
     → map c (range_with_len 0 n) ≡ set (map b (range_with_len 0 n)) at x

@@ -18,8 +18,8 @@ use Rattle.hp_pages.proofs.PageParts.{AreSized, has_none, held_no, held_yes, not
 
 -- ---- map
 
--- a buffer stays needed where its frame still holds one page, and where it comes to another frame
--- that holds one
+-- a buffer stays needed if its frame still holds one page, and if it moves to another frame that
+-- holds one
 pub needed_at : (v new : PageFrames) (f g : ℕ) (b : Option (List ℕ))
     → (holders v.table f ≡ 1 → holders new.table g ≡ 1) → IfSome b (IsNeeded v f) → IfSome b (IsNeeded new g)
 needed_at v new f g None one needed = tt
@@ -78,7 +78,7 @@ settled-map l v owner page frame are settled in_owners in_pages unmapped free =
 
 -- ---- unmap
 
--- a frame without a buffer, whose buffer is taken away
+-- taking the buffer away from a frame that has none changes nothing
 pub kept-none : (v : PageFrames) (frame : ℕ) → buffer_of v frame ≡ None → with_buffer v frame None ≡ v
 kept-none v frame none =
     same_frames _ _ _ _ refl
@@ -175,7 +175,7 @@ settled-unmap l v owner page frame are settled in_owners in_pages mapped =
 
 -- ---- move
 
--- a frame with a page is not one without
+-- a frame that holds a page is not a frame that holds none
 apart_of : (v : PageFrames) (owner page from to : ℕ) → entry_of v.table owner page ≡ Some from
     → holders v.table to ≡ 0 → from ≡ to → ⊥
 apart_of v owner page from to mapped free same =

@@ -50,7 +50,7 @@ are_of l t buffers zeros layer table = record {
   words = layer.words;
 }
 
--- they stay so where one buffer changes
+-- they stay within the layout when one buffer changes
 pub layer-buffer : (l : LayoutParts) (t : TableValue) (buffers new : List (Option (List ℕ)))
     (zeros : List ℕ) (frame : ℕ) (b : Option (List ℕ))
     → AreLayerOf l t buffers zeros → frame < frame_count l → IfSome b (λ words. length words ≡ l.words)
@@ -78,13 +78,13 @@ layer-buffer l t buffers new zeros frame b are low sized e =
           (sym (get_or-set_other buffers frame f b None other)) (are.words f)
     ]
 
--- a word that changes leaves the size of a buffer
+-- a changed word leaves the size of its buffer the same
 pub same-size : (b : Option (List ℕ)) (size index value : ℕ) → IfSome b (λ words. length words ≡ size)
     → IfSome (option_map (λ words. set words index value) b) (λ words. length words ≡ size)
 same-size None size index value sized = sized
 same-size (Some words) size index value sized = length-set words index value ∙ sized
 
--- and where one entry does
+-- and when one entry changes
 pub layer-entry : (l : LayoutParts) (t new : TableValue) (buffers : List (Option (List ℕ))) (zeros : List ℕ)
     (owner page : ℕ) (entry : Option ℕ)
     → AreLayerOf l t buffers zeros → new ≡ record t { rows = with_entry t.rows owner page entry }
@@ -193,7 +193,7 @@ swap_twice buffers a b apart a_in b_in =
 
 -- ---- no pages
 
--- a list by a function that is always nothing
+-- a list made by a function that is always None
 pub map_none : {X : Type 0} (f : ℕ → Option X) → ((n : ℕ) → f n ≡ None) → (first count : ℕ)
     → map f (range_with_len first count) ≡ replicate count None
 map_none f none first zero = refl
@@ -206,7 +206,7 @@ abbrev pub no_pages : LayoutParts → PageFrames
 no_pages l =
     record { table = replicate l.owners (replicate l.pages None); buffers = replicate (frame_count l) None }
 
--- it is the frame view of no pages
+-- it is the frame view of empty pages
 pub no_pages_is : (l : LayoutParts) → page_frames_of l (empty_pages l) ≡ no_pages l
 no_pages_is l =
     ap (λ (b : List (Option (List ℕ))).
@@ -221,13 +221,13 @@ no_pages_is l =
 abbrev pub no_buffer : Option (List ℕ)
 no_buffer = None
 
--- no frame has a buffer there
+-- no frame has a buffer in it
 pub none_read : (count frame : ℕ) → get_or (replicate count no_buffer) frame None ≡ None
 none_read zero frame = refl
 none_read (suc count) zero = refl
 none_read (suc count) (suc frame) = none_read count frame
 
--- and it is settled
+-- and that frame view is settled
 pub settled_no_pages : (l : LayoutParts) → AreSettled (no_pages l)
 settled_no_pages l = record {
   once =
@@ -254,7 +254,7 @@ new_is l layout rows buffers layout_is rows_are buffers_are =
 
 -- ---- lists that are copied
 
--- one item further
+-- one more item is copied
 pub copied-more : {X : Type 0} (xs items copy new : List X) (at : ℕ) (item x : X) → items ≡ xs
     → at < length items → item ≡ get_or items at item → x ≡ item → copy ≡ take at xs → new ≡ copy ++ x ∷ []
     → new ≡ take (at + 1) xs

@@ -1,4 +1,4 @@
--- Sums of places, and what they tell.
+-- Sums of places, and what they show.
 use Rattle.std.proofs.Common.{◌≡◌, ℕ, zero, suc, ◌<◌, ◌≤◌, ◌+◌, ◌*◌, true, false, cond, ltb, List, [], ◌∷◌, length, get_or, set, Option, Some, None, refl, sym, ap, ◌∙◌, subst, inl, inr, arith}
 use Rattle.std.specs.Prelude.{count_by, position, is_some}
 use Rattle.std.specs.List.{AllByRecursion, position_or_len}
@@ -95,7 +95,7 @@ row_none base (entry ∷ row) f none =
       | inr isnt ↦ rw isnt (omega (arith, rest))
     ]
 
--- the sum of a frame that holds none
+-- the sum of a frame that holds no page is 0
 pub sum_none : (pages base : ℕ) (table : List (List (Option ℕ))) (f : ℕ) → holders table f ≡ 0
     → table_sum pages base table f ≡ 0
 sum_none pages base [] f none = refl
@@ -119,7 +119,7 @@ row_free f (entry ∷ row) none =
     let rest = row_free f row (λ k lt. none (suc k) (omega arith)) in
     sum_by-cons (λ (e : Option ℕ). cond (holds f e) 1 0) entry row ∙ rw here (omega (arith, rest))
 
--- `position` finds none
+-- `position` finds no entry: none of the row is the frame
 no_position : (f : ℕ) (row : List (Option ℕ)) → position (holds f) row ≡ None → count_by (holds f) row ≡ 0
 no_position f row none = elim (cases_lt (position_or_len (holds f) row) (length row)) [
   | inl within ↦
@@ -128,7 +128,7 @@ no_position f row none = elim (cases_lt (position_or_len (holds f) row) (length 
   | inr past ↦ row_free f row (λ k lt. fails_before_first (holds f) row k None (omega arith))
 ]
 
--- a frame's first page, of owners counted from one on
+-- a frame's first page, counting owners from `owner` on
 pub record IsPageFrom (owner : ℕ) (table : List (List (Option ℕ))) (f : ℕ) (found : ℕ × ℕ) : Type 0 where
   pub row : ℕ
   pub owner_is : found.0 ≡ owner + row
@@ -136,7 +136,7 @@ pub record IsPageFrom (owner : ℕ) (table : List (List (Option ℕ))) (f : ℕ)
   pub in_pages : found.1 < length (get_or table row [])
   pub entry : get_or (get_or table row []) found.1 None ≡ Some f
 
--- by the first place of its first row
+-- the same with one more row, by the first place in it
 from_row : (owner : ℕ) (row : List (Option ℕ)) (table : List (List (Option ℕ))) (f : ℕ) (found : ℕ × ℕ)
     (at : Option ℕ)
     → position (holds f) row ≡ at
@@ -170,7 +170,7 @@ page_from-Some owner (row ∷ table) f found e =
     from_row owner row table f found (position (holds f) row) refl (page_from-Some (owner + 1) table f found)
     e
 
--- by the first place of its first row
+-- the same with one more row, by the first place in it
 none_row : (owner : ℕ) (row : List (Option ℕ)) (table : List (List (Option ℕ))) (f : ℕ) (at : Option ℕ)
     → position (holds f) row ≡ at
     → (page_from (owner + 1) table f ≡ None → holders table f ≡ 0)
@@ -298,9 +298,9 @@ pub only_page : (table : List (List (Option ℕ))) (owner page f : ℕ) → hold
     → entry_of table owner page ≡ Some f → page_from 0 table f ≡ Some (owner, page)
 only_page table owner page f once e = only_of table owner page f (page_from 0 table f) once e refl
 
--- ---- what the sum of a frame tells
+-- ---- what the sum of a frame shows
 
--- without one of its pages
+-- the sum of a frame without one of its pages
 pub sum_without : (pages : ℕ) (table : List (List (Option ℕ))) (owner page f : ℕ)
     → entry_of table owner page ≡ Some f
     → table_sum pages 1 (with_entry table owner page None) f + place_of pages owner page
@@ -322,7 +322,7 @@ sum_one pages table owner page f once e =
     let rest = sum_none pages 1 (with_entry table owner page None) f (omega (arith, one)) in
     omega (arith, rest, sum_without pages table owner page f e)
 
--- the sum is 0 exactly where the frame holds none
+-- the sum is 0 exactly if the frame holds no page
 marks_of : (pages : ℕ) (table : List (List (Option ℕ))) (f : ℕ) (found : Option (ℕ × ℕ))
     → page_from 0 table f ≡ found
     → ltb 0 (table_sum pages 1 table f) ≡ is_some found

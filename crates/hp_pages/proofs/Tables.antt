@@ -1,4 +1,4 @@
--- What the calls of the table keep and answer.
+-- What the calls of the table keep and return.
 use Rattle.std.proofs.Common.{◌≡◌, ℕ, zero, suc, map, ◌<◌, ◌≤◌, ◌+◌, ◌-◌, ◌*◌, ◌/◌, ◌%◌, ◌^◌, Bool, false, ltb, List, [], ◌∷◌, length, get_or, set, replicate, Option, Some, None, refl, sym, ap, ◌∙◌, subst, inl, inr, arith}
 use Rattle.std.specs.Prelude.{IfSome, find, is_some}
 use Rattle.std.specs.List.{AllByRecursion, range_with_len}
@@ -21,7 +21,7 @@ table_of sums pages rows = record { frames = length sums; pages = pages; rows = 
 abbrev no_frame : Option ℕ
 no_frame = None
 
--- a frame of at most 2^20
+-- one of at most 2^20 frames has a number below 2^20
 pub below_most : (now : Option ℕ) (frames : ℕ) → IfSome now (λ frame. frame < frames) → frames ≤ 2 ^ 20
     → IfSome now (λ frame. frame < 2 ^ 20)
 below_most None frames below le = tt
@@ -82,7 +82,7 @@ page_none t sums frame are lt none =
     none_of (page_from 0 t.rows frame)
     (sym (sum_marks t.pages t.rows frame) ∙ le-ltb 0 _ (omega (arith, are.each frame lt, none)))
 
--- the page that a sum tells
+-- the page that a sum stands for
 pub record IsPageOf (t : TableValue) (sum frame : ℕ) : Type 0 where
   pub owner : ℕ
   pub page : ℕ
@@ -120,7 +120,7 @@ pub page_of_sum : (t : TableValue) (sums : List ℕ) (frame : ℕ) → AreSumsOf
 page_of_sum t sums frame are lt once some =
     page_of_found t sums frame (page_from 0 t.rows frame) are lt once some refl
 
--- as the code works it out
+-- that page as the code computes it
 pub page_told : (t : TableValue) (sums : List ℕ) (frame sum : ℕ) → AreSumsOf t sums → frame < t.frames
     → holders t.rows frame ≤ 1 → sum ≡ get_or sums frame 0
     → (sum ≡ 0 → ⊥)

@@ -1,5 +1,5 @@
 -- The calls of the layer and the definitions of the rules: the frame view of the pages after a rule
--- is what the call makes of the frame view before, where no frame holds two pages.
+-- is what the call makes of the frame view before, if no frame holds two pages.
 use Rattle.std.proofs.Common.{◌≡◌, ℕ, ◌<◌, ◌≤◌, true, false, List, [], length, set, Option, Some, None, refl, sym, ap, ◌∙◌, subst, inl, inr, arith}
 use Rattle.std.specs.Prelude.{IfSome, is_some, option_map, slice_index, unwrap_or}
 use Rattle.std.specs.Option.{option_and_then, option_map_or}
@@ -24,7 +24,7 @@ use Rattle.hp_pages.proofs.FrameViews.{entry_at, first_none, not_held, held_self
 -- ---- the rules
 
 -- what the rules and the calls have in common: numbers of the layout, no frame holds two pages, and
--- a page has words where it has a frame
+-- a page has words exactly if it has a frame
 pub record AreOnce (l : LayoutParts) (ps : Pages) : Type 0 where
   pub pages_of : ArePagesOf l ps
   pub once : (frame : ℕ) → holders ps.table frame ≤ 1
@@ -102,7 +102,7 @@ frame_in : (l : LayoutParts) (ps : Pages) (owner page frame : ℕ) → AreOnce l
 frame_in l ps owner page frame are mapped =
     subst (λ (entry : Option ℕ). IfSome entry (IsFrame l)) mapped (are.pages_of.mapped owner page)
 
--- a page's frame is no other
+-- a page has only one frame
 apart_from : (ps : Pages) (owner page frame : ℕ) → frame_at ps owner page ≡ Some frame → (f : ℕ)
     → (f ≡ frame → ⊥) → entry_of ps.table owner page ≡ Some f → ⊥
 apart_from ps owner page frame mapped f other e =

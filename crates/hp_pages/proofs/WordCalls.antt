@@ -1,4 +1,4 @@
--- A write of a word: what the call changes and notes is what the rule says.
+-- A write of a word: what the call changes and notes is as the rule has it.
 use Rattle.std.proofs.Common.{◌≡◌, ◌≢◌, cond, ℕ, ◌<◌, ◌^◌, ◌&&◌, Bool, true, false, not, nat_lt, List, [], ◌∷◌, ◌++◌, length, get_or, set, replicate, Option, Some, None, refl, sym, ap, ◌∙◌, subst, inl, inr, arith}
 use Rattle.std.specs.Prelude.{IfSome, IsSome, option_map, slice_get, slice_index, unwrap_or}
 use Rattle.std.proofs.lemmas.Bool.{cases_eq, eq-eqb, ne_eqb}
@@ -19,7 +19,7 @@ use Rattle.hp_pages.proofs.PageCalls.{kept-none}
 
 -- ---- write
 
--- a write gets zeros where there is no buffer and the value isn't 0
+-- a write prepares zeros if there is no buffer and the value isn't 0
 filled : (l : LayoutParts) (b : Option (List ℕ)) (value : ℕ) (d : Delta) (words : List ℕ)
     → cond (needs_buffer b value) (Fill (fresh_words l)) (Change d) ≡ Fill words
     → (b ≡ None) × (words ≡ fresh_words l) × (value ≢ 0)
@@ -40,7 +40,7 @@ pub prepared-fill : (l : LayoutParts) (v : PageFrames) (index value frame : ℕ)
 prepared-fill l v index value frame words h =
     filled l (buffer_of v frame) value (change_at l v frame index value) words h
 
--- and else the delta, where there is a buffer, or the value is 0
+-- otherwise it prepares the delta
 changed : (l : LayoutParts) (b : Option (List ℕ)) (value : ℕ) (d change : Delta)
     → cond (needs_buffer b value) (Fill (fresh_words l)) (Change d) ≡ Change change
     → (b ≡ None → value ≡ 0) × (change ≡ d)
@@ -129,7 +129,7 @@ written-word l v frame index value words there some =
     with_buffer v frame (buffer_for (set (unwrap_or b (fresh_words l)) index value))) there
     ∙ ap (λ (b : Option (List ℕ)). with_buffer v frame b) (some-needed (set words index value) some))
 
--- some word is not 0 then
+-- then some word is not 0
 pub left-some : (words : List ℕ) (index value : ℕ) (beside : Bool) → index < length words
     → beside ≡ is_blank (set words index 0) → (value ≡ 0 → beside ≡ false)
     → is_blank (set words index value) ≡ false
@@ -138,8 +138,8 @@ left-some words index value beside within is other = elim (cases_eq value 0) [
   | inr some ↦ set-some words index value within some
 ]
 
--- the delta of a word is of the pages and of the layout; it fits where the word is what came, and its
--- opposite is the word that was
+-- the delta of a word is of the pages and of the layout; it fits if the word is the new one, and
+-- undoing it brings the old one back
 record IsWordDelta (frame index was now : ℕ) (d : Delta) : Type 0 where
   own : IsOfPages d
   numbers : (l : LayoutParts) → IsFrame l frame → index < l.words → IsDeltaOf l d
@@ -212,7 +212,7 @@ notes-word l v frame index value words was now are in_frames in_words there room
       };
     }
 
--- by the buffer that is there
+-- the same, by the buffer that is there
 pub notes-changed : (l : LayoutParts) (v : PageFrames) (frame index value : ℕ) (b : Option (List ℕ))
     (was now : TapeValue)
     → AreSized l v

@@ -77,8 +77,8 @@ unmap_from v owner page frame =
 abbrev pub unmap_frame : PageFrames → (owner page : ℕ) → PageFrames
 unmap_frame v owner page = option_map_or (unmap_from v owner page) (entry_of v.table owner page) v
 
--- one word changes in a frame, and in a page's frame; a frame keeps a buffer only
--- while a word is not 0
+-- one word changes in a frame, and in a page's frame; a frame keeps a buffer only while a word is
+-- not 0
 abbrev pub write_at : LayoutParts → PageFrames → (frame index value : ℕ) → PageFrames
 write_at l v frame index value = with_buffer v frame (buffer_for (slice_set (words_in l v frame) index value))
 

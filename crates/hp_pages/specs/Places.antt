@@ -23,7 +23,7 @@ place_of pages owner page = 1 + owner * pages + page
 abbrev pub held : ℕ → Option ℕ → ℕ → ℕ
 held frame entry place = if holds frame entry then place else 0
 
--- the sum of the places at which a frame is in a row, which begins at a place; and in a table
+-- the sum of the places at which a frame is in a row that begins at `place`; the same in a table
 abbrev pub row_sum : (place : ℕ) → List (Option ℕ) → (frame : ℕ) → ℕ
 row_sum place [] frame = 0
 row_sum place (entry ∷ row) frame = held frame entry place + row_sum (place + 1) row frame

@@ -1,4 +1,4 @@
-//! The buffers of words, by frame.
+//! Stores each frame's buffer of words.
 ghost use Rattle.std.specs.Prelude.{◌≡◌, ◌<◌, IfOk, IfSome, None, Some, length, option_map, replicate, slice_index_or, slice_set};
 ghost use Rattle.hp_units.specs.Pages.{fresh_words};
 ghost use Rattle.hp_tape.specs.Deltas.{is_blank};
@@ -104,7 +104,7 @@ impl Buffers {
     }
 }
 
-/// Returns whether all words are 0. A page of such words needs no buffer.
+/// Returns whether all words are 0: then their page needs no buffer.
 pub fn is_blank(words: &[u64]) -> bool
     ensures { result ≡ is_blank words.now }
 {

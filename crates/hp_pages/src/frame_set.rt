@@ -7,10 +7,10 @@ use hp_units::Frame;
 use std::alloc::{AllocError, Global};
 use std::marker::Model;
 
-/// A set of frames, as a bitmap of 64 frames per word, lowest bit first. Only `none`
-/// and `copy` allocate.
+/// A set of frames, as a bitmap of 64 frames per word, lowest bit first. Only `none` and `copy`
+/// allocate.
 ///
-/// A contract sees the list of words; `has` of specs/FrameSets means that a frame is in the set.
+/// A contract sees the list of words; `has` of specs/FrameSets tests whether a frame is in the set.
 #[derive(Drop)]
 pub struct FrameSet {
     words: Vec<u64>,
@@ -51,8 +51,8 @@ impl FrameSet {
         self.words[at] = with_bit(self.words[at], frame.0 % 64, is_in);
     }
 
-    /// Returns the lowest frame in the set with first <= frame < past. Takes one
-    /// step per 64 frames.
+    /// Returns the lowest frame in the set with first <= frame < past. Takes one step per 64
+    /// frames.
     pub fn lowest(&self, first: u32, past: u32) -> Option<Frame>
         requires within { past ≤ 64 * length self.now }
         requires small { past ≤ 2 ^ 20 }
@@ -74,7 +74,7 @@ impl FrameSet {
     }
 
     /// Returns the index of the first word that is not 0, at or after `first` and before `past`. If
-    /// there is none, returns the greater of the two.
+    /// there is none, returns `first` or `past`, whichever is greater.
     fn skip_empty(&self, first: u32, past: u32) -> u32
         requires within { past ≤ length self.now }
         requires small { first + past < 2 ^ 32 }

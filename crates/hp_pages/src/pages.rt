@@ -234,8 +234,8 @@ impl Pages {
 
     /// Prepares a write of a word to a mapped page: allocates what `write` needs.
     ///
-    /// That is a buffer of zeros if the page's frame has none and the value is not 0, otherwise the
-    /// word's delta.
+    /// If the page's frame has no buffer and the value is not 0, that is a buffer of zeros;
+    /// otherwise it is the word's delta.
     pub fn prepare(
         &self,
         alloc: Global,
@@ -313,8 +313,8 @@ impl Pages {
         tape.note(Delta::Filled { index, frame, now });
     }
 
-    /// Writes a word of a frame that has a buffer, unless the word stays 0. If all its words are 0
-    /// then, the old buffer moves into the tape.
+    /// Writes a word of a frame that has a buffer, unless the word stays 0. If all words of the
+    /// frame are then 0, the old buffer moves into the tape.
     fn overwrite(&mut self, frame: Frame, index: u32, value: u64, change: Delta, tape: &mut Tape)
         requires frame { IsFrame self.old.layout frame }
         requires index { index < self.old.layout.words }

@@ -8,11 +8,9 @@ use hp_units::Frame;
 use std::alloc::{AllocError, Global};
 use std::marker::Model;
 
-/// For each frame the sum of the places of its pages, counted from 1: 0 if it holds no page, and
-/// its page's place if it holds one.
+/// For each frame, the sum of the places, counted from 1, of the pages that map it.
 ///
-/// It is a sum because undoing a delta may leave a frame to two pages for a while,
-/// and then to either.
+/// A sum, because while deltas are undone two pages may map one frame.
 #[derive(Drop)]
 pub(crate) struct PlaceSums {
     sums: Vec<u64>,
@@ -87,8 +85,8 @@ impl PlaceSums {
         self.mapped.set(frame, sum != 0);
     }
 
-    /// Returns the lowest frame with a page, with first <= frame < past. Takes one
-    /// step per 64 frames.
+    /// Returns the lowest frame with a page, with first <= frame < past. Takes one step per 64
+    /// frames.
     pub(crate) fn lowest(&self, first: u32, past: u32) -> Option<Frame>
         requires { past ≤ length self.now }
         ensures { FindsLowest (λ frame. nat_lt 0 (slice_index self.now frame)) first past result }

@@ -1,4 +1,4 @@
-//! The table of pages, both ways.
+//! Maps each owner's pages to frames, and frames back to pages.
 ghost use Rattle.std.specs.Prelude.{◌≡◌, ◌+◌, ◌*◌, ◌<◌, ◌≤◌, ◌^◌, IfOk, IfSome, None, find, is_some, length, replicate, slice_index_or, slice_set};
 ghost use Rattle.hp_pages.specs.Places.{frame_of_code};
 ghost use Rattle.hp_units.specs.Memory.{entry_of, with_entry};
@@ -12,7 +12,7 @@ use std::alloc::{AllocError, Global};
 use std::marker::Model;
 
 /// The frames of one owner's pages, as codes: 0 for a page that is not mapped, and its frame plus
-/// one otherwise. A code takes four bytes, since most calls wait for this table.
+/// one otherwise. A code takes only four bytes, because most calls wait for a read of this table.
 #[derive(Drop)]
 struct PageRow {
     codes: Vec<u32>,
@@ -70,7 +70,7 @@ fn no_codes(alloc: Global, pages: u32) -> Result<Vec<u32>, AllocError>
     Ok(codes)
 }
 
-/// Returns the frame that a code means.
+/// Decodes a page's frame: 0 is none; any other code is the frame plus one.
 fn frame_of_code(code: u32) -> Option<Frame>
     ensures { result ≡ frame_of_code code }
 {

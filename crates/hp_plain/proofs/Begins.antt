@@ -28,7 +28,7 @@ passes : (cpus cpu : ℕ) (past : Bool) (other : Option Refusal) → nat_le cpus
 passes cpus cpu false other e below = refl
 passes cpus cpu true other e below = let above : cpus ≤ cpu = leb-true cpus cpu e in absurd (omega arith)
 
--- what a Begin answers and does is its step
+-- what a Begin does and replies is its step
 pub begins : (l : LayoutParts) (s : Memory) (serial cpu : ℕ) (plan : List Item) (event : Event) → cpu < l.cpus
     → event ≡ Begin plan
     → opened l s serial plan ≡ step l s serial cpu event

@@ -11,7 +11,7 @@ use Rattle.hp_units.specs.Rows.{blocks_of, is_claimed_by}
 use Rattle.hp_units.proofs.Lists.{on_cases}
 use Rattle.hp_plain.proofs.Filters.{on-filter, filter-range_more}
 
--- a number on a list of numbers from one on is below their end
+-- each of the `n` numbers from `a` on is below `a + n`
 range-below : (a n b : ℕ) → is_on b (range_with_len a n) ≡ true → b < a + n
 range-below a zero b e = absurd (false≢true e)
 range-below a (suc n) b e = elim (on_cases b a (range_with_len (a + 1) n) e) [
@@ -35,7 +35,7 @@ blocks_of-below l bs op blocks e k below =
     range-below 0 l.blocks (get_or blocks k 0) (on-filter p (get_or blocks k 0) (all_blocks l) on) in
     omega arith
 
--- a filter of the numbers below one, one number further
+-- a filter of the numbers below `n`, with one more number
 pub filter-below_more : (p : ℕ → Bool) (n : ℕ) (keep : Bool) → p n ≡ keep
     → filter p (range_with_len 0 (n + 1)) ≡ filter p (range_with_len 0 n) ++ cond keep (n ∷ []) []
 filter-below_more p n keep e =

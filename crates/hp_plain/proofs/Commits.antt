@@ -1,4 +1,4 @@
--- One step further in the checks of a commit and the search of a migration.
+-- One more step in the checks of a commit and the search of a migration.
 use Rattle.std.proofs.Common.{◌≡◌, ℕ, suc, ◌+◌, ◌<◌, List, length, get_or, drop, Bool, true, false, cond, ◌&&◌, Option, refl, sym, ◌∙◌, ap, add-one}
 use Rattle.std.specs.List.{find, flat_map, list_all}
 use Rattle.std.specs.Option.{option_or}
@@ -19,8 +19,8 @@ all-step {X} p xs i d holds h e =
     and_cond true false rest f = absurd cc
     and_cond false true rest f = absurd cc
 
--- the first number that passes a test among those of the blocks that are left, by the answer of the
--- first of these
+-- the first number that passes a test among those of the blocks that are left, by the result for
+-- the first of these blocks
 pub find-flat_item : (p : ℕ → Bool) (f : ℕ → List ℕ) (xs : List ℕ) (i d : ℕ) (found : Option ℕ)
     → i < length xs → d ≡ get_or xs i d → found ≡ find p (f d)
     → find p (flat_map f (drop i xs)) ≡ option_or found (find p (flat_map f (drop (i + 1) xs)))

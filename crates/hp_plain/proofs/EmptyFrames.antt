@@ -1,4 +1,4 @@
--- Free frames with nothing on the processors' lists are within their layout where their areas are.
+-- Free frames with nothing on the processors' lists are within their layout if their areas are.
 use Rattle.std.proofs.Common.{◌≡◌, ℕ, ◌+◌, ◌*◌, List, [], length, get_or, replicate, true, ◌∙◌, ap, subst}
 use Rattle.std.proofs.lemmas.List.{length-replicate}
 use Rattle.std.proofs.lemmas.Bool.{false≢true}
@@ -31,7 +31,7 @@ empty-areas_of l = record {
       (at_replicate (5 * (l.order + 1)) (5 * order + class_index class) []) on));
 }
 
--- with areas within the layout and the empty lists of its processors they are within it
+-- free frames with areas within the layout and its processors' empty lists are within the layout
 pub empty_of : (l : LayoutParts) (fs : FreeFrames) → AreFreeAreasOf l fs.areas → fs.cached ≡ empty_cached l
     → AreFreeFramesOf l fs
 empty_of l fs areas cached = record {

@@ -40,7 +40,7 @@ pages_of l = record {
       (sym (no_entry l.owners l.pages owner page)) tt;
 }
 
--- its kernel's blocks
+-- the kernel blocks of the empty state
 kernel_of : (l : LayoutParts) → AreKernelBlocksOf l (replicate (frame_count l) None)
 kernel_of l = record {
   frames = length-replicate (frame_count l) None;
@@ -49,7 +49,7 @@ kernel_of l = record {
       (sym (at_replicate (frame_count l) first None)) tt;
 }
 
--- and all of it
+-- the whole empty state
 pub memory_of : (l : LayoutParts) (s : Memory) → AreFreeFramesOf l s.free → s.pages ≡ empty_pages l
     → s.kernel ≡ replicate (frame_count l) None
     → s.blocks ≡ empty_blocks l → IsMemoryOf l s

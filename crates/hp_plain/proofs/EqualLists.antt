@@ -18,7 +18,7 @@ told : {P : Type 0} (r : Bool) → Decides r P → MatchBool r P (P → ⊥)
 told true d = d.0 refl
 told false d = λ same. false≢true (d.1 same)
 
--- what `==` says of two lists, where `==` of their items decides whether these are the same
+-- `==` decides whether two lists are the same, if `==` of their items decides it for these
 pub lists_told : {A : Type 0} {E : A → A → Bool} → ((x y : A) → Decides (E x y) (x ≡ y)) → (xs ys : List A)
     → (r : Bool) → r ≡ pointwise E xs ys → MatchBool r (xs ≡ ys) (xs ≢ ys)
 lists_told decides xs ys r is = told r (slice_eq-Decides decides xs ys r is)

@@ -21,7 +21,7 @@ on-filter p number [] e = e
 on-filter p number (x ∷ xs) e =
     filter-step (p x) (x == number) number x xs (filter p xs) refl (on-filter p number xs) e
 
--- a filter of numbers from one on, one number further
+-- a filter of the numbers from `a` on, with one more number
 pub filter-range_more : (p : ℕ → Bool) (a n : ℕ) (keep : Bool) → p (a + n) ≡ keep
     → filter p (range_with_len a (n + 1)) ≡ filter p (range_with_len a n) ++ cond keep ((a + n) ∷ []) []
 filter-range_more p a n keep e =

@@ -18,7 +18,8 @@ pub on_append : (frame : ℕ) (xs ys : List ℕ) → is_on frame (xs ++ ys) ≡ 
 on_append frame xs ys on =
     or_cases (is_on frame xs) (is_on frame ys) (sym (list_any-append (λ other. other == frame) xs ys) ∙ on)
 
--- a frame on one of the lists after one was written is on the list written, or was on the same list before
+-- a frame on one of the lists after one was written is on the list written, or was on the same list
+-- before
 pub on-set : (lists : List (List ℕ)) (i j : ℕ) (frames : List ℕ) (frame : ℕ)
     → is_on frame (get_or (set lists i frames) j []) ≡ true
     → ((j ≡ i) × (is_on frame frames ≡ true)) ⊎ (is_on frame (get_or lists j []) ≡ true)

@@ -19,7 +19,7 @@ pageblock_within l pageblock below =
     let more : pageblock + 1 ≤ l.blocks * l.pageblocks = omega arith in
     omega (arith, mul-le-mul_left (2 ^ l.order) more)
 
--- and few enough to be numbered
+-- and few enough for numbers of 32 bits
 pub pageblock_few : (l : LayoutParts) (pageblock : ℕ) → IsLayout l → pageblock < pageblock_count l
     → pageblock * 2 ^ l.order < 2 ^ 32
 pageblock_few l pageblock layout below =

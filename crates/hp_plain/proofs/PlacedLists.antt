@@ -1,4 +1,4 @@
--- One list further in a walk over the free blocks, or over the processors' lists.
+-- One more list in a walk over the free blocks, or over the processors' lists.
 use Rattle.std.proofs.Common.{◌≡◌, ℕ, zero, suc, ◌+◌, ◌*◌, ◌/◌, ◌%◌, ◌<◌, List, [], length, get_or, refl, sym, ◌∙◌, ap, subst, arith, true, ◌==◌, inl, inr}
 use Rattle.std.specs.List.{count_by}
 use Rattle.std.proofs.lemmas.Bool.{cases_lt, false≢true}
@@ -17,7 +17,7 @@ use Rattle.hp_placement.proofs.Counting.{SoFar, marked_as, so_far_all, so_far_mo
 
 -- ---- the lists of classes and orders, by number
 
--- the class of a number below five has it
+-- the class numbered `n` has the index `n`, if `n` is below five
 class_of_low : (n : ℕ) → n < 5 → class_index (class_numbered n) ≡ n
 class_of_low zero h = refl
 class_of_low (suc zero) h = refl
@@ -49,7 +49,7 @@ number_of class order =
       class_is = ap class_numbered rest ∙ class_numbered-index class;
     }
 
--- what a walk over the numbers asked holds of each list
+-- what holds for the list of each number holds for the list of each class and order
 pub each_list : (P : Class → ℕ → List ℕ → Type 0) (a : FreeAreas)
     → ((k : ℕ) → k < length a.lists → P (class_numbered (k % 5)) (k / 5) (get_or a.lists k []))
     → ((class : Class) (order : ℕ) → P class order []) → (class : Class) (order : ℕ)
@@ -68,7 +68,7 @@ each_list P a each none class order = elim (cases_lt (5 * order + class_index cl
 
 -- ---- the free blocks
 
--- what a walk over the lists has come to
+-- what holds after a walk over the lists below `number`
 abbrev pub FreeSoFar : LayoutParts → FreeAreas → List Row → (number : ℕ) → (old new : List ℕ) → Type 0
 FreeSoFar l a rows number old new =
     SoFar (λ frame n frames. list_places frame (n / 5) frames)
@@ -137,7 +137,7 @@ cached_numbered fs number =
     let whole : number ≡ 3 * (number / 3) + pool_index (pool_numbered (number % 3)) = omega arith in
     ap (λ (n : ℕ). get_or fs.cached n []) whole
 
--- what a walk over the lists has come to
+-- what holds after a walk over the lists below `number`
 abbrev pub CachedSoFar : LayoutParts → FreeFrames → List Row → (number : ℕ) → (old new : List ℕ) → Type 0
 CachedSoFar l fs rows number old new =
     SoFar (λ frame n frames. count_by (λ other. other == frame) frames)

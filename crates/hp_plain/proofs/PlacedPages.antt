@@ -1,4 +1,4 @@
--- One page further in a walk over an owner's pages, and one owner further in a walk over all.
+-- One more page in a walk over an owner's pages, and one more owner in a walk over all.
 use Rattle.std.proofs.Common.{◌≡◌, ℕ, ◌+◌, ◌<◌, ◌≤◌, List, [], length, get_or, cond, Option, None, refl, sym, ap, subst, arith, inl, inr}
 use Rattle.std.specs.List.{count_by}
 use Rattle.std.proofs.lemmas.Bool.{cases_lt}

@@ -1,4 +1,4 @@
--- Numbers from one on: one number further in a test and a fold over them.
+-- Tests and folds over the numbers from `a` on, with one more number.
 use Rattle.std.proofs.Common.{◌≡◌, ℕ, zero, suc, ◌+◌, ◌-◌, ◌<◌, List, [], ◌∷◌, ◌++◌, Bool, true, false, cond, ◌||◌, ◌&&◌, refl, sym, ◌∙◌, ap, arith, add-one}
 use Rattle.std.specs.List.{fold, list_any, list_all, range_with_len}
 use Rattle.std.proofs.lemmas.Bool.{false≢true}
@@ -13,7 +13,7 @@ range_step a n size h =
     ap (λ (k : ℕ). range_with_len (a + n) k) less
     ∙ ap (λ (k : ℕ). (a + n) ∷ range_with_len k (size - (n + 1))) next
 
--- a test of some number from one on
+-- a test whether some number from `n` on passes
 pub any-below_step : (p : ℕ → Bool) (n size : ℕ) (holds : Bool) → n < size → p n ≡ holds
     → list_any p (range_with_len n (size - n))
     ≡ cond holds true (list_any p (range_with_len (n + 1) (size - (n + 1))))
@@ -42,14 +42,14 @@ all-range_step p a n size holds h e =
     and_cond true false rest f = absurd (false≢true (sym f))
     and_cond false true rest f = absurd (false≢true f)
 
--- numbers from one on, one number further
+-- the numbers from `a` on, with one more
 pub range_push : (a n : ℕ) → range_with_len a (suc n) ≡ range_with_len a n ++ (a + n) ∷ []
 range_push a zero = ap (λ (k : ℕ). k ∷ []) (omega arith)
 range_push a (suc n) =
     ap (λ (xs : List ℕ). a ∷ xs)
     (range_push (a + 1) n ∙ ap (λ (k : ℕ). range_with_len (a + 1) n ++ k ∷ []) (omega arith))
 
--- a fold over numbers from one on, one number further
+-- a fold over the numbers from `a` on, with one more
 pub fold-range_more : {B : Type 0} (f : B → ℕ → B) (b : B) (a n : ℕ)
     → fold f b (range_with_len a (n + 1)) ≡ f (fold f b (range_with_len a n)) (a + n)
 fold-range_more f b a n =

@@ -1,4 +1,4 @@
--- One step further in a search over numbers, and over the entries of a list.
+-- One more step in a search over numbers, and over the entries of a list.
 use Rattle.std.proofs.Common.{◌≡◌, ℕ, suc, ◌+◌, ◌<◌, ◌==◌, List, [], ◌∷◌, ◌++◌, length, get_or, take, drop, Bool, true, false, cond, ◌||◌, Some, refl, sym, ◌∙◌, ap, add-one, zero-add}
 use Rattle.std.specs.List.{find, flat_map, fold, list_any, range_with_len}
 use Rattle.std.specs.Option.{option_or}
@@ -13,7 +13,7 @@ use Rattle.hp_plain.proofs.Ranges.{fold-range_more}
 
 -- ---- numbers from one on
 
--- a fold over the numbers below one, one number further
+-- a fold over the numbers below `n`, with one more number
 pub fold-below_more : {B : Type 0} (f : B → ℕ → B) (b : B) (n : ℕ)
     → fold f b (range_with_len 0 (n + 1)) ≡ f (fold f b (range_with_len 0 n)) n
 fold-below_more f b n = fold-range_more f b 0 n ∙ ap (f (fold f b (range_with_len 0 n))) (zero-add n)
@@ -48,13 +48,13 @@ stands block before (item ∷ items) =
     turn false true z = refl
     turn false false z = refl
 
--- the blocks of items, one item further
+-- the blocks of items, with one more item
 blocks_in-push : (before : List ℕ) (items : List Item) (item : Item)
     → blocks_in before (items ++ item ∷ []) ≡ item.block ∷ blocks_in before items
 blocks_in-push before [] item = refl
 blocks_in-push before (first ∷ items) item = blocks_in-push (first.block ∷ before) items item
 
--- one item further in the search for a block that stands a second time
+-- one more item in the search for a block that is named a second time
 pub repeated-step : (plan : List Item) (n : ℕ) (d : Item) (found : Bool) → n < length plan
     → found ≡ list_any (λ item. item.block == (get_or plan n d).block) (take n plan)
     → first_repeated (blocks_in [] (take n plan)) (drop n plan)

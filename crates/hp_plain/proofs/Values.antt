@@ -1,4 +1,4 @@
--- Values made of their parts, and equal where their parts are.
+-- Values made of their parts, and equal if their parts are.
 use Rattle.std.proofs.Common.{◌≡◌, ℕ, zero, suc, ◌<◌, List, [], ◌∷◌, ◌++◌, length, get_or, set, Option, None, Some, refl, sym, ◌∙◌, ap, subst}
 use Rattle.std.specs.List.{slice_get}
 use Rattle.std.specs.Option.{option_flatten}
@@ -9,19 +9,19 @@ use Rattle.hp_units.specs.declared.rows.Row.{Row}
 use Rattle.hp_units.specs.Memory.{FreeAreas, FreeFrames, Pages, Blocks, Memory, with_entry}
 use Rattle.hp_plain.specs.Image.{Pictured}
 
--- free frames of areas and of the processors' lists
+-- free frames, from areas and processors' lists
 abbrev pub frames_value : FreeAreas → List (List ℕ) → FreeFrames
 frames_value areas cached = record { areas = areas; cached = cached }
 
--- pages of the frames that hold them and of their words
+-- pages, from the frames that hold them and their words
 abbrev pub pages_value : List (List (Option ℕ)) → List (List (Option (List ℕ))) → Pages
 pages_value table contents = record { table = table; contents = contents }
 
--- blocks of their rows and of what a block that is added becomes
+-- blocks, from their rows and what an added block becomes
 abbrev pub blocks_value : List Row → Auto → Blocks
 blocks_value rows auto = record { rows = rows; auto = auto }
 
--- a state of its parts
+-- a state, from its parts
 abbrev pub memory_value : FreeFrames → Pages → List (Option ℕ) → Blocks → Memory
 memory_value free pages kernel blocks =
     record { free = free; pages = pages; kernel = kernel; blocks = blocks }

@@ -1,10 +1,10 @@
--- One step further in a walk over numbered entries.
+-- One more step in a walk over numbered entries.
 use Rattle.std.proofs.Common.{◌≡◌, ℕ, ◌+◌, ◌<◌, List, [], ◌∷◌, ◌++◌, length, get_or, take, ◌∙◌, ap, arith}
 use Rattle.std.specs.List.{fold, enumerate_from}
 use Rattle.std.proofs.lemmas.List.{take_more, length-take}
 use Rattle.std.proofs.lemmas.List.Sums.{fold_push}
 
--- numbered entries, one entry further
+-- numbered entries, with one more entry
 enumerate_push : {X : Type 0} (n : ℕ) (xs : List X) (x : X)
     → enumerate_from n (xs ++ x ∷ []) ≡ enumerate_from n xs ++ (n + length xs, x) ∷ []
 enumerate_push n [] x = ap (λ (k : ℕ). (k, x) ∷ []) (omega arith)
@@ -12,7 +12,7 @@ enumerate_push {X} n (y ∷ ys) x =
     ap (λ (es : List (ℕ × X)). (n, y) ∷ es)
     (enumerate_push (n + 1) ys x ∙ ap (λ (k : ℕ). enumerate_from (n + 1) ys ++ (k, x) ∷ []) (omega arith))
 
--- a fold over numbered entries, one entry further
+-- a fold over numbered entries, with one more entry
 pub fold-enumerate_more : {X B : Type 0} (f : B → ℕ × X → B) (b : B) (xs : List X) (i : ℕ) (d : X)
     → i < length xs
     → fold f b (enumerate_from 0 (take (i + 1) xs))

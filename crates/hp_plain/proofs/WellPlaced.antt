@@ -66,7 +66,7 @@ twice_pages l s start m n o h cached kernel twice p =
       p.once t.frame,
     ))
 
--- all places are marked: then each frame has to be
+-- if all places are marked, each frame's mark is the number of its places
 all_marked : (l : LayoutParts) (s : Memory) (start m n o marks : List ℕ) → HasFree l s start m
     → AreMarked m n (cached_places s.free) → AreMarked n o (kernel_counts s.kernel)
     → AreMarked o marks (mapped_places s.pages) → (frame : ℕ) → mark_of marks frame ≡ places_of l s frame
@@ -99,7 +99,7 @@ placed_once l s start m n o marks false h cached kernel pages not_all = λ p.
 
 -- ---- well placed states
 
--- by its parts
+-- a state is well placed if its parts are
 pub well_placed : (l : LayoutParts) (s : Memory) → IsMemoryOf l s → AreRows s.blocks.rows
     → AreKinds l s.free.areas.kinds s.blocks.rows → AreListsJoined l s.free.areas → ArePlacedOnce l s
     → IsWellPlaced l s
@@ -128,7 +128,7 @@ well_placed l s of rows kinds joined p = record {
   once = p.once;
 }
 
--- and its parts
+-- the parts of a well placed state
 pub record ArePartsPlaced (l : LayoutParts) (s : Memory) : Type 0 where
   pub rows : AreRows s.blocks.rows
   pub kinds : AreKinds l s.free.areas.kinds s.blocks.rows

@@ -20,8 +20,8 @@ abbrev pub blocks_in : List ℕ → List Item → List ℕ
 blocks_in before [] = before
 blocks_in before (item ∷ items) = blocks_in (item.block ∷ before) items
 
--- the last two refusals of a plan: for a block that is to go online, and for one
--- that is to go offline
+-- the last two refusals of a plan: for a block that is to go online, and for one that is to go
+-- offline
 abbrev pub change_refusals : LayoutParts → Memory → List Item → List (Option Refusal)
 change_refusals l s plan =
     option_map (λ item. NotOffline item.block)

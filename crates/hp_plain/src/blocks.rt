@@ -25,8 +25,8 @@ impl Model for Blocks {
 }
 
 impl Blocks {
-    /// Creates the rows of a layout's blocks, all offline and unclaimed. An added
-    /// block stays offline.
+    /// Creates the rows of a layout's blocks, all offline and unclaimed. An added block stays
+    /// offline.
     pub(crate) fn empty(alloc: Global, layout: &Layout) -> Result<Blocks, AllocError>
         ensures { IfOk result (λ blocks. blocks ≡ empty_blocks layout.now) }
     {

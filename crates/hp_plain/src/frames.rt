@@ -77,8 +77,8 @@ impl FreeFrames {
         &self.areas
     }
 
-    /// Returns the single frames on a processor's list of a pool, front first. The list is empty
-    /// for a processor outside the layout (Gorman, chapter 6: per-cpu lists).
+    /// Returns a processor's list of a pool, front first (Gorman, chapter 6: per-cpu lists). Empty
+    /// for a processor outside the layout.
     pub(crate) fn cached_list(&self, cpu: Cpu, pool: Pool) -> &[Frame]
         ensures { result.now ≡ cached_list self.now cpu pool }
     {
@@ -129,8 +129,8 @@ impl FreeFrames {
         self.areas.add_back(class, order, frame)
     }
 
-    /// Adds a frame of the layout at the back of a processor's list. If memory runs
-    /// out, nothing changes.
+    /// Adds a frame of the layout at the back of a processor's list. If memory runs out, nothing
+    /// changes.
     pub(crate) fn add_cached(
         &mut self,
         layout: &Layout,
@@ -149,7 +149,7 @@ impl FreeFrames {
         self.cached[3 * cpu.0 as usize + pool.index() as usize].push_back(frame)
     }
 
-    /// Sets the kind of a pageblock. Its number must be below the number of kinds.
+    /// Sets the kind of a pageblock, whose number must be below the number of kinds.
     pub(crate) fn set_kind(&mut self, pageblock: Pageblock, kind: Kind)
         requires { pageblock < length self.old.areas.kinds }
         ensures { self.new ≡ record self.old { areas = with_kind self.old.areas pageblock kind } }

@@ -199,8 +199,8 @@ impl Pages {
         frames.at(page)
     }
 
-    /// Returns the words of an owner's page, or `None` if the page is not mapped or
-    /// outside the layout.
+    /// Returns the words of an owner's page, or `None` if the page is not mapped or outside the
+    /// layout.
     pub(crate) fn words_at(&self, owner: Owner, page: Page) -> Option<&[u64]>
         ensures { option_map (λ words. words.now) result ≡ words_at self.now owner page }
     {

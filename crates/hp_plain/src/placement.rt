@@ -1,5 +1,5 @@
-//! The test of a state's places, part by part: each must be allowed where it is, and its frames are
-//! marked. hp_placement has the tests of single blocks, frames and pages.
+//! Tests the parts of a state one by one: each must lie where it may, and none of its frames may be
+//! marked yet. hp_placement has the tests of single blocks, frames and pages.
 ghost use Rattle.std.specs.Prelude.{◌≡◌, ◌+◌, ◌*◌, ◌<◌, [], IfOk, MatchBool, count_by, length, slice_index_or, ℕ};
 ghost use Rattle.hp_units.specs.Arithmetic.{frame_count};
 ghost use Rattle.hp_units.specs.InLayout.{AreFreeAreasOf, ArePagesOf};
@@ -81,8 +81,8 @@ pub(crate) fn place_pages(layout: &Layout, pages: &Pages, marks: &mut Marks) -> 
     true
 }
 
-/// Returns whether each page of one owner has both a frame and words or neither,
-/// and marks the frames.
+/// Returns whether each page of one owner has both a frame and words or neither, and marks the
+/// frames.
 fn place_owner(layout: &Layout, pages: &Pages, marks: &mut Marks, owner: Owner) -> bool
     requires pages { ArePagesOf layout.now pages.now }
     requires owner { owner < layout.now.owners }
@@ -102,7 +102,7 @@ fn place_owner(layout: &Layout, pages: &Pages, marks: &mut Marks, owner: Owner) 
     true
 }
 
-/// Returns whether no free block's buddy, of the same class and order, is free too.
+/// Returns whether, below the greatest order, no free block's buddy is free in the same class.
 pub(crate) fn are_joined(alloc: Global, layout: &Layout, areas: &Areas) -> Result<bool, AllocError>
     requires { AreFreeAreasOf layout.now areas.now }
     ensures { IfOk result (λ joined. MatchBool joined (AreListsJoined layout.now areas.now)
@@ -112,8 +112,8 @@ pub(crate) fn are_joined(alloc: Global, layout: &Layout, areas: &Areas) -> Resul
     Ok(are_joined_by(&mut heads, layout, areas))
 }
 
-/// Returns the same, by way of the table of free blocks' first frames, in which
-/// nothing may be set yet.
+/// Returns the same. `heads` is a table of free blocks' first frames, in which nothing may be set
+/// yet.
 fn are_joined_by(heads: &mut Heads, layout: &Layout, areas: &Areas) -> bool
     requires areas { AreFreeAreasOf layout.now areas.now }
     requires length { length heads.old ≡ frame_count layout.now }

@@ -1,4 +1,5 @@
--- The derived `==` of an enum is true exactly of equal values, where that of each variant's fields is.
+-- The derived `==` of an enum is true exactly for equal values, if the `==` of each variant's
+-- fields is.
 use Rattle.std.proofs.Common.{◌≡◌, Bool, true, false, List, [], ◌∷◌, refl, ap, subst, inl, inr, rules}
 use Rattle.std.specs.Prelude.{IsTrue, ◌↔◌}
 use Rattle.hp_units.specs.declared.replies.Refusal.{Refusal}
@@ -13,7 +14,7 @@ use denote.Struct.Values.{Values}
 use denote.Enum.Compared.{Each, by}
 use denote.Enum.Declared.{Choice, Record, values_one}
 
--- the test of each variant's fields is true exactly of equal ones
+-- the test of each variant's fields is true exactly for equal fields
 abbrev pub TellEqual : (Fss : List (List Field)) → Each Bool Fss → Type 0
 TellEqual [] each = Unit {0}
 TellEqual (Fs ∷ Fss) each = ((x y : Values Fs) → IsTrue (each.0 x y) ↔ (x ≡ y)) × TellEqual Fss each.1

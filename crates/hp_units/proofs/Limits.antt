@@ -8,12 +8,12 @@ use Rattle.std.proofs.lemmas.Bool.{leb-true, eqb-true, and_parts, false≢true}
 use Rattle.hp_units.specs.declared.layouts.LayoutFault.TheVariants.{BadOrder, BadPageblocks, BadBlocks, TooManyFrames, BadCpus, BadMarks, BadOwners, BadPages, BadWords, BadLimit, BadBoot}
 use Rattle.hp_units.specs.LayoutParts.{LayoutParts, IsLayout, layout_fault, frame_fault, processor_fault, owner_fault, is_within, is_pageblock_count}
 
--- no first answer: neither of both
+-- `option_or` is None only if both options are
 neither : {A : Type 0} (a b : Option A) → option_or a b ≡ None → (a ≡ None) × (b ≡ None)
 neither None b e = (refl, e)
 neither (Some x) b e = absurd cc
 
--- no fault where a test fails: the test holds
+-- a test that yields no fault holds
 holds : {A : Type 0} (test : Bool) (fault : A) → then_some (not test) fault ≡ None → test ≡ true
 holds true fault e = refl
 holds false fault e = absurd cc
@@ -118,7 +118,7 @@ within_limits l none =
       boot = eqb-true (length l.boot) l.blocks boot.0;
     }
 
--- all parts of a layout but its limit of records are numbers of 32 bits
+-- all parts of a layout, except its limit of records, are numbers of 32 bits
 pub record AreShort (l : LayoutParts) : Type 0 where
   pub order : l.order < 2 ^ 32
   pub pageblocks : l.pageblocks < 2 ^ 32

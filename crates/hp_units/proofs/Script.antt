@@ -110,7 +110,8 @@ sealed_value l first calls = let base = value_on l first in value_of l base (sea
 abbrev pub sealed_replies : LayoutParts → List (ℕ × Event) → List (ℕ × Event) → List Reply
 sealed_replies l first calls = replies_of (sealed_history l first calls)
 
--- a history after a driver's run of a plan, and the receipts of the run: each event is the one that is next
+-- a history after a driver's run of a plan, and the receipts of the run: each event is the driver's
+-- next one
 abbrev pub driven_on : (fuel : ℕ) → LayoutParts → Memory → (cpu turns : ℕ) → List Item → List Record
     → List Receipt → Option Event → List Record × List Receipt
 driven_on zero l base cpu turns plan earlier receipts next = (earlier, receipts)

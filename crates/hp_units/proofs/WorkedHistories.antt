@@ -1,4 +1,5 @@
--- Worked histories, computed: what an undo and a Cancel answer, and the state after them; and worked texts.
+-- Worked histories, computed: the replies to an undo and a Cancel, and the state after them; and
+-- worked texts.
 use Rattle.std.proofs.Common.{◌≡◌, ℕ, List, [], ◌∷◌, ◌++◌, codes, refl}
 use Rattle.std.specs.Fmt.{decimal}
 use Rattle.hp_units.specs.Names.{Item, MovableWish, IsoM, KernelAuto, KernelAlloc, Map, Write, Read, Begin, DrainFor, Cancel, UndoAfter, Done, GivesFrame, Word, Moved, Opened, Restored, Released, Undone, Refused, NoCpu, NoOp, NotMapped, NotFree, HoldsUnmovable, Gone}
@@ -11,14 +12,14 @@ use Rattle.hp_units.proofs.Worked.{small}
 abbrev coming_3 : List Item
 coming_3 = record { block = 3; wish = MovableWish } ∷ []
 
--- what is read and what is refused inside an operation does not keep its Cancel from restoring
+-- a Cancel restores even if calls inside its operation read, or were refused
 reads_inside : replies_on small
     ((0, Map 0 0) ∷ (0, Begin off_2) ∷ (1, Read 0 0 0) ∷ (1, Read 0 7 0) ∷ (0, Cancel 2) ∷ [])
     ≡ (Done ∷ Opened 2 ∷ Word 0 ∷ Refused NotMapped ∷ Restored ∷ [])
 unfolding everything
 reads_inside = refl
 
--- nor does a step of another that was undone in the meantime
+-- and even if another caller's step inside it was undone in the meantime
 undone_inside : replies_on small
     ((0, Map 0 0) ∷ (0, Begin off_2) ∷ (1, Write 0 0 0 7) ∷ (1, UndoAfter 2) ∷ (0, Cancel 2) ∷ [])
     ≡ (Done ∷ Opened 2 ∷ Done ∷ Undone 1 ∷ Restored ∷ [])
@@ -44,7 +45,7 @@ crossed_operations : replies_on small
 unfolding everything
 crossed_operations = refl
 
--- a drain of another operation is a step of another
+-- a drain of another operation counts as another caller's step
 foreign_drain : replies_on small
     ((0, Begin coming_3) ∷ (0, Begin off_2) ∷ (0, DrainFor 1 0) ∷ (0, Cancel 2) ∷ [])
     ≡ (Opened 1 ∷ Opened 2 ∷ Done ∷ Released ∷ [])
@@ -75,7 +76,7 @@ release_undone_value : value_on small ((0, Map 0 0) ∷ (0, Begin off_2) ∷ (1,
 unfolding everything
 release_undone_value = refl
 
--- the caller's processor comes before all else
+-- the caller's processor is checked before all else
 no_processor : replies_on small
     ((2, UndoAfter 99) ∷ (2, Cancel 1) ∷ (2, Read 0 0 0) ∷ (0, UndoAfter 99) ∷ (0, Cancel 1) ∷ [])
     ≡ (Refused NoCpu ∷ Refused NoCpu ∷ Refused NoCpu ∷ Refused Gone ∷ Refused NoOp ∷ [])

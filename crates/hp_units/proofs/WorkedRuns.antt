@@ -60,7 +60,8 @@ not_online : end_of (driven small (boot_memory small) 0 5 off_3 one_page).1 ≡ 
 unfolding everything
 not_online = refl
 
--- each frame is in one place: after boot, with a page mapped, with a block going offline, and with one gone
+-- each frame is in one place: after boot, with a page mapped, with a block going offline, and with
+-- one gone
 booted_is_placed : is_placed small (boot_memory small) ≡ true
 unfolding everything
 booted_is_placed = refl

@@ -1,5 +1,5 @@
--- One run of a plan's driver: each event follows from the receipts so far, and the
--- end from all of them.
+-- One run of a plan's driver: each event follows from the receipts so far, and the end from all of
+-- them.
 use Rattle.std.specs.Prelude.{◌≡◌, ℕ, ◌+◌, Bool, true, false, List, [], ◌∷◌, ◌++◌, Option, Some, None, nat_lt, count_by, fold, if◌then◌else◌}
 use Rattle.std.specs.List.{last_or}
 use Rattle.std.specs.Option.{option_map_or, option_and_then}

@@ -65,8 +65,8 @@ with_halves a class frame last zero = a
 with_halves a class frame last (suc count) =
     with_front (with_halves a class frame (suc last) count) class last (frame + 2 ^ last)
 
--- the first of these frames leaves a class's list, and what its block has above the wanted order is
--- put on the lists of the class `rest`
+-- the first of these frames leaves a class's list, and the halves of its block above the wanted
+-- order go to the lists of the class `rest`
 abbrev pub take_first : FreeAreas → (class rest : Class) → (order wanted : Order) → List Frame → Option Taken
 take_first a class rest order wanted [] = None
 take_first a class rest order wanted (frame ∷ frames) =
@@ -79,8 +79,8 @@ take_first a class rest order wanted (frame ∷ frames) =
 abbrev pub take_front : FreeAreas → (class rest : Class) → (order wanted : Order) → Option Taken
 take_front a class rest order wanted = take_first a class rest order wanted (free_list a class order)
 
--- the front block of the least order that is large enough, split down to the wanted order;
--- None if no order is (Knuth, volume 1, section 2.5, reservation; which end of the list is
+-- the front block of the least order that is large enough, split down to the wanted order; None if
+-- no such order has a block (Knuth, volume 1, section 2.5, reservation; which end of the list is
 -- this model's choice)
 unfoldable pub take_block : LayoutParts → FreeAreas → Class → Order → Option Taken
 take_block l a class wanted =

@@ -11,7 +11,7 @@ use Rattle.hp_units.specs.Step.{step}
 
 -- ---- what an event does to the list of steps
 
--- it only reads, undoes the steps above a serial, cancels an operation, or is a step
+-- an event only reads, undoes the steps above a serial, cancels an operation, or is a step
 pub data Effect : Type 0 where
   Looks : Effect
   Undoes : (serial : Serial) → Effect

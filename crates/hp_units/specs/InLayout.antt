@@ -1,5 +1,5 @@
--- The numbers in a state are within its layout, as each operation needs it of the state that it
--- works on. Every well placed state is such a state.
+-- The numbers in a state are within its layout. Each operation requires this of its state, and it
+-- is so in every well placed state.
 use Rattle.std.specs.Prelude.{◌≡◌, ◌+◌, ◌*◌, ◌^◌, ◌≤◌, true, List, Option, None, length, slice_index_or, IfSome}
 use Rattle.std.specs.List.{AllByRecursion}
 use Rattle.hp_numbers.specs.Numbers.{Frame, Order, Cpu, Owner, Page}
@@ -24,8 +24,8 @@ pub record AreFreeFramesOf (l : LayoutParts) (fs : FreeFrames) : Type 0 where
   pub cached : (cpu : Cpu) (pool : Pool) (frame : Frame) → is_on frame (cached_list fs cpu pool) ≡ true
       → IsFrame l frame
 
--- each owner has the layout's number of pages, each at a frame and with the
--- layout's number of words
+-- each owner has the layout's number of pages, each at a frame and with the layout's number of
+-- words
 pub record ArePagesOf (l : LayoutParts) (ps : Pages) : Type 0 where
   pub owners : length ps.table ≡ l.owners
   pub pages : AllByRecursion (λ row. length row ≡ l.pages) ps.table

@@ -1,5 +1,5 @@
--- Well placed states: each frame is in exactly one place, and each place agrees
--- with the blocks' rows.
+-- Well placed states: each frame is in exactly one place, and each place agrees with the blocks'
+-- rows.
 use Rattle.std.specs.Prelude.{◌≡◌, ℕ, ◌+◌, ◌*◌, ◌/◌, ◌%◌, ◌^◌, ◌<◌, ◌≤◌, Bool, true, false, ◌&&◌, ◌||◌, List, [], ◌∷◌, Option, Some, None, ◌==◌, nat_lt, nat_le, length, count_by, sum_by, slice_index_or, IfSome, IsSome, if◌then◌else◌}
 use Rattle.std.specs.List.{AllByRecursion, enumerate_from}
 use Rattle.std.specs.Option.{option_map, option_map_or}
@@ -60,7 +60,7 @@ kernel_places s frame =
     count_by (λ entry. option_map_or (λ order. covers frame order entry.0) entry.1 false)
     (enumerate_from 0 s.kernel)
 
--- the place of a frame whose block is offline or absent
+-- whether a block is offline or absent: then each of its frames has that as a place
 abbrev pub is_unplugged : Row → Bool
 is_unplugged row = is_offline row || is_absent row
 

@@ -1,4 +1,4 @@
--- When an event is refused, and why: the first refusal in its order that applies.
+-- When an event is refused, and why: the first check that fails, in the event's order of checks.
 use Rattle.std.specs.Prelude.{ℕ, ◌+◌, ◌*◌, ◌/◌, ◌%◌, Bool, not, ◌&&◌, List, [], ◌∷◌, Option, Some, None, ◌==◌, nat_lt, nat_le, length, find, map, flat_map, is_some, unwrap_or, if◌then◌else◌}
 use Rattle.std.specs.List.{list_any, list_all, range_with_len}
 use Rattle.std.specs.Bool.{then_some}

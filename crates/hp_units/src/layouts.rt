@@ -20,7 +20,8 @@ pub struct Parts<'a> {
     pub blocks: u64,
     /// Processors, 1 to 64.
     pub cpus: u64,
-    /// Frames by which a processor's list is refilled and spills, 1 to `high`.
+    /// The most frames that a refill adds to a processor's list, which is what a spill removes: 1
+    /// to `high`.
     pub batch: u64,
     /// Frames that a processor's list can hold before it spills, at most 1024.
     pub high: u64,
@@ -36,7 +37,7 @@ pub struct Parts<'a> {
     pub boot: &'a [Boot],
 }
 
-/// Why sizes are no layout: the first of these that applies.
+/// Why sizes do not make a layout: the first of these faults that applies.
 #[derive(Clone, Copy, Debug, PartialEq, Eq, Drop)]
 pub enum LayoutFault {
     /// The order is above 10.
@@ -195,7 +196,7 @@ impl Layout {
         self.cpus
     }
 
-    /// Returns by how many frames a processor's list is refilled and spills, 1 to `high`.
+    /// Returns the most frames that a refill adds, which is what a spill removes: 1 to `high`.
     pub fn batch(&self) -> u32
         ensures is { result ≡ self.now.batch }
         ensures layout { IsLayout self.now }

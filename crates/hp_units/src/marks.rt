@@ -7,14 +7,14 @@ use crate::events::Event;
 use crate::replies::Reply;
 use hp_numbers::Serial;
 
-/// What a step is to the operation that it may belong to.
+/// How a step relates to operations.
 #[derive(Clone, Copy, PartialEq, Eq, Drop)]
 pub enum Mark {
-    /// It is a Begin: its serial is the operation's number.
+    /// A Begin: its serial is the operation's number.
     Opens,
-    /// It is a drain or a migration of the operation `op`.
+    /// A drain or a migration of the operation `op`.
     Works { op: Serial },
-    /// It is any other step.
+    /// Any other step.
     Other,
 }
 
@@ -26,7 +26,7 @@ impl Mark {
         matches!(self, Mark::Opens)
     }
 
-    /// Returns whether the step is the operation's own work.
+    /// Returns whether the step is a drain or a migration of the operation `op`.
     pub fn is_work_of(self, op: Serial) -> bool
         ensures { result ≡ is_work_of op self }
     {

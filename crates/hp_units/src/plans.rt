@@ -11,12 +11,12 @@ use std::marker::Model;
 pub struct Item {
     /// The memory block.
     pub block: Block,
-    /// What it becomes.
+    /// What the block becomes.
     pub wish: Wish,
 }
 
-/// What an operation makes of memory blocks, in the order in which it is checked. The items are
-/// boxed, so that events stay small.
+/// What an operation makes of memory blocks: one item per block, in the order in which they are
+/// checked. The items are boxed, so that events stay small.
 #[derive(Drop)]
 pub struct Plan {
     items: Box<Vec<Item>>,

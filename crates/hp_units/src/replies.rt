@@ -4,8 +4,8 @@ ghost use Rattle.std.specs.Prelude.{◌≡◌, ◌↔◌, IsTrue};
 use crate::events::Event;
 use hp_numbers::{Block, Cpu, Frame, Serial};
 
-/// Why an event was refused: the first refusal in the event's order that applies. A refusal is
-/// recorded, and changes no state.
+/// Why an event was refused: the first check that fails, in the event's order of checks. A refusal
+/// is recorded and changes no state.
 #[derive(Clone, Copy, PartialEq, Eq, Drop)]
 pub enum Refusal {
     /// The owner is not in the layout.
@@ -40,8 +40,8 @@ pub enum Refusal {
     NotOnline { block: Block },
     /// The block is not offline.
     NotOffline { block: Block },
-    /// A kernel block starts at this frame of a block that is to go offline. It is the
-    /// lowest such frame.
+    /// A kernel block starts at this frame of a block that is to go offline. It is the lowest such
+    /// frame.
     Unmovable { frame: Frame },
     /// The operation is not live.
     NoOp,

@@ -43,8 +43,8 @@ impl Mobility {
 pub struct Kind {
     /// What the pageblock is used for. It changes only while the whole pageblock is one free block.
     pub mobility: Mobility,
-    /// True if nothing is taken from its free blocks. A frame of it on a processor's list can still
-    /// be handed out (Linux: MIGRATE_ISOLATE).
+    /// True if nothing is taken from the pageblock's free blocks (Linux: MIGRATE_ISOLATE). Its
+    /// frames on processors' lists can still be handed out.
     pub isolated: bool,
 }
 
@@ -250,20 +250,20 @@ pub struct Claim {
     pub wish: Wish,
 }
 
-/// A memory block's row. An online or going block has a zone; a block held by an
-/// operation has a claim.
+/// A memory block's row. An online or going block has a zone; a block that an operation holds has a
+/// claim.
 #[derive(Clone, Copy, PartialEq, Eq, Drop)]
 pub struct Row {
     /// Whether the block is there and in use.
     pub state: State,
-    /// Its zone, unless it is offline or absent.
+    /// The block's zone, unless the block is offline or absent.
     pub zone: Option<Zone>,
-    /// The operation that holds it, if any.
+    /// The claim of the operation that holds the block, if any.
     pub claim: Option<Claim>,
 }
 
 impl Row {
-    /// Creates a row without zone and claim.
+    /// Creates a row with neither a zone nor a claim.
     pub fn bare(state: State) -> Row
         ensures { result ≡ record offline_row { state = state } }
     {

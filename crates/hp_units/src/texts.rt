@@ -1,4 +1,4 @@
-//! The machine's words as printed, such as in a scenario's output.
+//! `Display` for layout faults, classes, pools, zones and the auto-online policy.
 ghost use Rattle.std.specs.Prelude.{Some};
 
 use crate::layouts::LayoutFault;

@@ -84,7 +84,7 @@ fn link_delta(class: Class, order: Order, frame: Frame, after: Option<Frame>) ->
     }
 }
 
-/// Returns the delta of a free block that left its position after another.
+/// Returns the delta of a free block that left its list, on which it came after another.
 fn unlink_delta(class: Class, order: Order, frame: Frame, after: Option<Frame>) -> Delta
     requires { order < 256 }
     ensures { result ≡ Unlink (Area class order) frame after }

@@ -1,4 +1,4 @@
-//! Joining a block that comes back with its buddies.
+//! Joins a block that comes back with its buddies.
 ghost use Rattle.std.specs.Prelude.{◌≡◌, ℕ, true, ◌-◌, ◌<◌, ◌≤◌};
 ghost use Rattle.hp_numbers.specs.Numbers.{ancestor};
 ghost use Rattle.hp_units.specs.Arithmetic.{buddy, frame_count};
@@ -12,7 +12,8 @@ use hp_tape::Tape;
 use hp_units::{Class, Frame, Order, Zone, buddy, pageblock_of};
 
 impl Buddy {
-    /// Returns the class of the free blocks in the frame's pageblock, which is in this zone.
+    /// Returns the class of the free blocks in the frame's pageblock. `zone` is the pageblock's
+    /// zone.
     pub(super) fn class_of(&self, zone: Zone, frame: Frame) -> Class
         requires { frame < frame_count self.now.layout }
         ensures { result ≡ class_of self.now.layout self.now.areas zone frame }

@@ -1,4 +1,4 @@
-//! Moving a pageblock's free blocks to another class.
+//! Moves a pageblock's free blocks to another class.
 ghost use Rattle.std.specs.Prelude.{◌≡◌, true, ◌+◌, ◌-◌, ◌*◌, ◌^◌, ◌<◌, ◌≤◌};
 ghost use Rattle.hp_units.specs.Arithmetic.{frame_count, pageblock_count, pageblock_size};
 ghost use Rattle.hp_units.specs.Isolation.{move_free, move_free_below};

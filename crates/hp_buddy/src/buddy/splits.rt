@@ -1,4 +1,4 @@
-//! Taking a block off the front of a list, and splitting it down.
+//! Takes a block off the front of a list, and splits it down.
 ghost use Rattle.std.specs.Prelude.{◌≡◌, ◌+◌, ◌-◌, ◌<◌, ◌≤◌, None, Some, MatchOption};
 ghost use Rattle.hp_units.specs.FreeAreas.{steal_front, take_front, with_halves};
 ghost use Rattle.hp_tape.specs.Tapes.{HasRoom, NotesAreas};
@@ -13,8 +13,8 @@ use hp_tape::Tape;
 use hp_units::{Class, Frame, Kind, Mobility, Order, Zone, pageblock_of};
 
 impl Buddy {
-    /// Takes the front block of an order, and puts what it has above the wanted order on the lists
-    /// of the class `rest`.
+    /// Takes the front block of an order, split down to the wanted order. Puts the other halves on
+    /// the lists of the class `rest`.
     pub(super) fn take_front(
         &mut self,
         class: Class,
@@ -45,8 +45,8 @@ impl Buddy {
         }
     }
 
-    /// Splits a block down from `order` to `last`, and puts the upper halves on
-    /// the lists of a class.
+    /// Splits a block down from `order` to `last`, and puts the upper halves on the lists of a
+    /// class.
     fn put_halves(&mut self, class: Class, frame: Frame, last: Order, order: Order, tape: &mut Tape)
         requires last { last ≤ order }
         requires layout { IsLayout self.old.layout }

@@ -1,4 +1,4 @@
-//! Moving frames between a processor's list and the free areas: refill, spill and drain.
+//! Moves frames between a processor's list and the free areas: refill, spill and drain.
 ghost use Rattle.std.specs.Prelude.{◌≡◌, ℕ, ◌+◌, ◌*◌, ◌<◌, ◌≤◌, ◌∷◌, [], length, nat_le, if◌then◌else◌};
 ghost use Rattle.hp_units.specs.FreeAreas.{give_block};
 ghost use Rattle.hp_units.specs.Memory.{with_cached_list};
@@ -14,7 +14,7 @@ use hp_tape::Tape;
 use hp_units::{Cpu, Frame, Order, Pool, Zone};
 
 impl Cpus {
-    /// Gives a frame, which is on no list, back to the free areas.
+    /// Gives a frame that is on no list back to the free areas.
     pub(super) fn give(&self, zone: Zone, frame: Frame, buddy: &mut Buddy, tape: &mut Tape)
         requires together { AreTogether self.now buddy.old }
         requires frame { MayBePut self.now buddy.old frame }
@@ -54,8 +54,8 @@ impl Cpus {
         }
     }
 
-    /// Puts a frame at the front of a list. If the list is then longer than `high`, it gives a
-    /// batch back.
+    /// Puts a frame at the front of a list. If the list is then longer than `high`, gives a batch
+    /// back.
     pub(super) fn put_cached(
         &mut self,
         cpu: Cpu,

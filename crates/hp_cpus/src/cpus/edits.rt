@@ -121,7 +121,7 @@ fn link_delta(cpu: Cpu, pool: Pool, frame: Frame, after: Option<Frame>) -> Delta
     }
 }
 
-/// Returns the delta of a frame that left its position after another on a processor's list.
+/// Returns the delta of a frame that left a processor's list, on which it came after another.
 fn unlink_delta(cpu: Cpu, pool: Pool, frame: Frame, after: Option<Frame>) -> Delta
     requires { cpu < 256 }
     ensures { result ≡ Unlink (CpuList pool cpu) frame after }

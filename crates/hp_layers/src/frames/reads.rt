@@ -54,8 +54,8 @@ impl Frames {
         }
     }
 
-    /// Returns how many frames there are from this one to the end of its free block, or
-    /// 0 if it is in none.
+    /// Returns how many frames there are from this one to the end of its free block, or 0 if it is
+    /// in none.
     pub(crate) fn free_from(&self, layout: &Layout, frame: Frame) -> u32
         requires same { self.now.buddy.layout ≡ layout.now }
         requires frame { frame < frame_count layout.now }

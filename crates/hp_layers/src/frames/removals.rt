@@ -1,4 +1,4 @@
-//! Removing memory blocks from the free areas.
+//! Removes memory blocks from the free areas.
 ghost use Rattle.std.specs.Prelude.{◌≡◌, ℕ, ◌*◌, ◌<◌, ◌≢◌, true};
 ghost use Rattle.hp_units.specs.Arithmetic.{pageblock_count, pageblock_size};
 ghost use Rattle.hp_units.specs.FreeAreas.{is_on};
@@ -38,7 +38,7 @@ impl Frames {
         }
     }
 
-    /// Removes a pageblock, which is one isolated free block, from the areas.
+    /// Removes a pageblock from the areas. It must be one isolated free block.
     fn remove_pageblock(
         &mut self,
         layout: &Layout,

@@ -1,4 +1,4 @@
-//! Beginning an operation.
+//! Begins operations.
 ghost use Rattle.std.specs.Prelude.{◌≡◌, ◌*◌, ◌≤◌, IfOk, OnErr};
 ghost use Rattle.hp_units.specs.declared.events.Event.TheVariants.{Begin};
 ghost use Rattle.hp_plain.specs.Asked.{opened};
@@ -12,7 +12,7 @@ use hp_units::{Item, Reply, Serial};
 use std::alloc::AllocError;
 
 impl Layers {
-    /// Begins an operation with the number of its event, unless the plan is refused.
+    /// Begins operation `op`, unless the plan is refused.
     #[tactic(auto, using(crate::proofs::Answers::refused))]
     pub(crate) fn begin(
         &mut self,
@@ -35,7 +35,7 @@ impl Layers {
         Ok(Reply::Opened { op })
     }
 
-    /// Returns room for all deltas that claiming the blocks of a plan may note.
+    /// Returns at least the most deltas that claiming the blocks of a plan may note.
     fn plan_room(&self, plan: &[Item]) -> usize
         ensures { claimed_below plan.now self.now.layout.blocks * moved_block_bound self.now.layout ≤ result }
     {

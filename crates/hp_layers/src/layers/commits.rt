@@ -1,4 +1,4 @@
-//! Committing an operation: all blocks that it holds get their wishes, or none does.
+//! Commits operations: all blocks that one holds get their wishes, or none does.
 ghost use Rattle.std.specs.Prelude.{◌≡◌, ℕ, ◌*◌, ◌<◌, true, find, fold, length, slice_index, IfOk, MatchOption, OnErr};
 ghost use Rattle.std.specs.List.{flat_map, list_all};
 ghost use Rattle.std.specs.Option.{option_map};
@@ -27,8 +27,8 @@ impl Layers {
     /// Commits an operation: its going blocks leave the free areas and are offline, and the others
     /// go online.
     ///
-    /// Refused while a frame of a going block is in use (Linux, memory hotplug: offlining). That it
-    /// is all or nothing is this model's choice.
+    /// Refused while a frame of a going block is in use (Linux, memory hotplug: offlining). All
+    /// blocks change or none does (this model's choice).
     #[tactic(auto, using(crate::proofs::Answers::refused))]
     pub(crate) fn commit(
         &mut self,
@@ -99,7 +99,7 @@ impl Layers {
         self.frames.is_all_free(&self.layout, zone, block)
     }
 
-    /// Returns the lowest frame in no free block, among the frames of the going blocks.
+    /// Returns the lowest frame of the going blocks that is in no free block.
     fn frame_in_use(&self, blocks: &[Block]) -> Option<Frame>
         requires one { AreOfOneLayout self.now }
         requires within { (k : ℕ) → k < length blocks.now
@@ -115,7 +115,7 @@ impl Layers {
         None
     }
 
-    /// Returns the lowest frame of a block in no free block, if the block is going.
+    /// Returns the lowest frame of a block that is in no free block, if the block is going.
     fn frame_in_use_of(&self, block: Block) -> Option<Frame>
         requires one { AreOfOneLayout self.now }
         requires block { block < self.now.layout.blocks }
@@ -128,7 +128,7 @@ impl Layers {
         self.lowest_in_use(block)
     }
 
-    /// Returns the lowest frame of a block in no free block. Skips free blocks whole.
+    /// Returns the lowest frame of a block that is in no free block. Skips free blocks whole.
     fn lowest_in_use(&self, block: Block) -> Option<Frame>
         requires one { AreOfOneLayout self.now }
         requires block { block < self.now.layout.blocks }
@@ -149,7 +149,7 @@ impl Layers {
         None
     }
 
-    /// Returns how many deltas a block of a commit may note.
+    /// Returns the most deltas that `commit_block` may note.
     fn committed_block_room(&self) -> usize
         ensures is { result ≡ committed_block_bound self.now.layout }
         ensures layout { IsLayout self.now.layout }
@@ -157,7 +157,7 @@ impl Layers {
         1 + 2 * self.layout.pageblocks() as usize
     }
 
-    /// Gives blocks of an operation their wishes, in their order, which is rising.
+    /// Gives blocks of an operation their wishes. The blocks must be in rising order.
     fn commit_blocks(&mut self, blocks: &[Block], tape: &mut Tape)
         requires placed { ArePlaced self.old }
         requires within { (k : ℕ) → k < length blocks.now

@@ -1,4 +1,4 @@
-//! Moving pages out of blocks that are going offline.
+//! Moves pages out of blocks that are going offline.
 ghost use Rattle.std.specs.Prelude.{◌≡◌, ◌<◌, IfOk, OnErr};
 ghost use Rattle.hp_units.specs.declared.events.Event.TheVariants.{Migrate};
 ghost use Rattle.hp_units.specs.Migrations.{migration_source};

@@ -1,4 +1,4 @@
-//! Taking memory blocks online.
+//! Takes memory blocks online.
 ghost use Rattle.std.specs.Prelude.{◌≡◌, ◌<◌, true};
 ghost use Rattle.hp_units.specs.Memory.{row_of};
 ghost use Rattle.hp_units.specs.Placement.{is_unplugged};
@@ -13,8 +13,7 @@ use hp_tape::Tape;
 use hp_units::{Block, Row, State, Zone};
 
 impl Layers {
-    /// Takes a block, which is offline or absent, online in a zone (Linux, memory hotplug:
-    /// onlining).
+    /// Takes an offline or absent block online in a zone (Linux, memory hotplug: onlining).
     #[tactic(auto, unfolding(hp_units::specs::Rows::online_block))]
     pub(crate) fn online_block(&mut self, zone: Zone, block: Block, tape: &mut Tape)
         requires placed { ArePlaced self.old }

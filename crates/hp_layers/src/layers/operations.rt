@@ -1,4 +1,4 @@
-//! Claiming memory blocks for an operation.
+//! Claims memory blocks for an operation.
 ghost use Rattle.std.specs.Prelude.{◌≡◌, ◌*◌, ◌<◌, None};
 ghost use Rattle.hp_units.specs.Memory.{row_of};
 ghost use Rattle.hp_units.specs.Rows.{begin_block, begin_plan, claim_block, zone_of_block};
@@ -21,8 +21,8 @@ use hp_tape::Tape;
 use hp_units::{Block, Item, Serial, Wish, Zone};
 
 impl Layers {
-    /// Claims the blocks of a plan for an operation, in rising order. No operation
-    /// may hold any of them.
+    /// Claims the blocks of a plan for an operation, in rising order. No operation may hold any of
+    /// them.
     #[tactic(auto, unfolding(hp_units::specs::Rows::begin_plan))]
     pub(crate) fn begin_plan(&mut self, op: Serial, plan: &[Item], tape: &mut Tape)
         requires one { AreOfOneLayout self.old }
@@ -39,7 +39,7 @@ impl Layers {
         }
     }
 
-    /// Claims a block if the plan has a wish for it. No operation may hold it then.
+    /// Claims a block if the plan has a wish for it. In that case no operation may hold the block.
     fn begin_block(&mut self, op: Serial, plan: &[Item], block: Block, tape: &mut Tape)
         requires one { AreOfOneLayout self.old }
         requires tidy { IsTidy self.old.frames }
@@ -54,8 +54,8 @@ impl Layers {
         }
     }
 
-    /// Claims a block, which no operation holds, and isolates it if it is to go offline (Linux,
-    /// memory hotplug: offlining).
+    /// Claims a block and isolates it if it is to go offline (Linux, memory hotplug: offlining). No
+    /// operation may hold it.
     fn claim_block(&mut self, op: Serial, block: Block, wish: Wish, tape: &mut Tape)
         requires one { AreOfOneLayout self.old }
         requires tidy { IsTidy self.old.frames }

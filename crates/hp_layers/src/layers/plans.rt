@@ -1,4 +1,4 @@
-//! The refusals of a plan.
+//! Finds why a plan is refused.
 ghost use Rattle.std.specs.Prelude.{◌≡◌, ◌<◌, ◌==◌, ◌&&◌, [], false, find, is_some, map, not};
 ghost use Rattle.std.specs.List.{list_any};
 ghost use Rattle.std.specs.Option.{option_map};
@@ -32,7 +32,7 @@ impl Layers {
         self.claim_refusal(plan)
     }
 
-    /// Returns why no operation can claim the blocks of a plan, if so.
+    /// Returns why the blocks of a plan cannot be claimed, if so.
     #[tactic(auto, using(crate::proofs::Plans::none_claimed))]
     fn claim_refusal(&self, plan: &[Item]) -> Option<Refusal>
         requires one { AreOfOneLayout self.now }

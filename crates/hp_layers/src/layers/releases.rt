@@ -1,4 +1,4 @@
-//! Releasing an operation.
+//! Cancels operations, and releases their blocks.
 ghost use Rattle.std.specs.Prelude.{◌≡◌, ℕ, ◌+◌, ◌*◌, ◌<◌, ◌≤◌, [], ◌∷◌, ◌++◌, None, IfOk, OnErr, OnOk, if◌then◌else◌, fold, length, slice_index};
 ghost use Rattle.hp_units.specs.declared.events.Event.TheVariants.{Cancel};
 ghost use Rattle.hp_units.specs.Rows.{blocks_of, is_claimed_by, online_again, release_block, with_block_row};
@@ -17,7 +17,8 @@ use hp_units::{Block, Refusal, Reply, Row, Serial, State};
 use std::alloc::{AllocError, Global};
 
 impl Layers {
-    /// Cancels an operation: its blocks are as before it (Linux, memory hotplug: undo_isolate).
+    /// Cancels an operation: its blocks are again as before the operation (Linux, memory hotplug:
+    /// undo_isolate).
     #[tactic(auto, using(crate::proofs::Answers::refused))]
     pub(crate) fn cancel(
         &mut self,
@@ -76,7 +77,7 @@ impl Layers {
         Ok(())
     }
 
-    /// Returns how many deltas isolating or releasing a memory block may note.
+    /// Returns the most deltas that isolating or releasing a memory block may note.
     pub(super) fn moved_block_room(&self) -> usize
         ensures is { result ≡ moved_block_bound self.now.layout }
         ensures layout { IsLayout self.now.layout }
@@ -85,7 +86,7 @@ impl Layers {
         1 + self.layout.pageblocks() as usize * (1 + 2 * size)
     }
 
-    /// Releases blocks of an operation, in their order.
+    /// Releases blocks of an operation, in the given order.
     fn release_blocks(&mut self, blocks: &[Block], tape: &mut Tape)
         requires one { AreOfOneLayout self.old }
         requires tidy { IsTidy self.old.frames }

@@ -1,5 +1,5 @@
-//! The events of single memory blocks: online, probe, remove, and setting what an
-//! added block becomes.
+//! The events of single memory blocks: online, probe, remove, and setting what an added block
+//! becomes.
 ghost use Rattle.std.specs.Prelude.{◌≡◌, ◌/◌, ◌<◌, true, IfOk, OnErr};
 ghost use Rattle.hp_units.specs.declared.events.Event.TheVariants.{Online, Probe, Remove, SetAuto};
 ghost use Rattle.hp_units.specs.Arithmetic.{block_bytes};
@@ -96,7 +96,7 @@ impl Layers {
         Ok(Reply::Done)
     }
 
-    /// Gives a block a row without zone and claim.
+    /// Gives a block a row with neither a zone nor a claim.
     fn set_bare(&mut self, state: State, block: Block, tape: &mut Tape)
         requires one { AreOfOneLayout self.old }
         requires tidy { IsTidy self.old.frames }
@@ -109,7 +109,7 @@ impl Layers {
         self.blocks.set(block, Row::bare(state), tape);
     }
 
-    /// Returns how many deltas a block that goes online may note.
+    /// Returns the most deltas that taking a block online may note.
     fn online_room(&self) -> usize
         ensures is { result ≡ online_bound self.now.layout }
         ensures layout { IsLayout self.now.layout }
@@ -135,7 +135,7 @@ impl Layers {
         }
     }
 
-    /// Returns why a block is not an offline block without a claim, if so.
+    /// Returns the refusal unless the block is offline and unclaimed.
     fn offline_refusal(&self, block: Block) -> Option<Refusal>
         requires one { AreOfOneLayout self.now }
         ensures { result ≡ first_some (event_refusals self.now.layout (state_of self.now) 0 (Remove block)) }
@@ -153,7 +153,7 @@ impl Layers {
         None
     }
 
-    /// Returns why no absent block is at a byte address, if so.
+    /// Returns the refusal unless an absent block is at the byte address.
     fn probe_refusal(&self, address: u64) -> Option<Refusal>
         requires one { AreOfOneLayout self.now }
         ensures { result ≡ first_some (event_refusals self.now.layout (state_of self.now) 0 (Probe address)) }

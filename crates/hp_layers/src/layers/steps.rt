@@ -1,4 +1,4 @@
-//! One step of any event.
+//! Carries out one step of any event.
 ghost use Rattle.std.specs.Prelude.{◌≡◌, IfOk, OnErr};
 ghost use Rattle.hp_units.specs.Step.{step};
 ghost use Rattle.hp_layers.specs.Layers.{ArePlaced, IsAnswered, state_of};
@@ -9,8 +9,8 @@ use hp_units::{Cpu, Event, Refusal, Reply, Serial};
 use std::alloc::{AllocError, Global};
 
 impl Layers {
-    /// Carries out one step of the definitions, and notes what it did on the tape
-    /// after the deltas there.
+    /// Carries out one step of the definitions. Appends to the tape the deltas of what the step
+    /// did.
     ///
     /// A Cancel only releases here, and an UndoAfter does nothing; the history does the rest. All
     /// memory is allocated before anything changes.

@@ -1,4 +1,4 @@
-//! Reading a memory's state and its layers.
+//! Reads a memory's state and its layers.
 ghost use Rattle.std.specs.Prelude.{◌≡◌, length, slice_get};
 ghost use Rattle.hp_units.specs.Memory.{free_list, kernel_order};
 ghost use Rattle.hp_units.specs.Pages.{frame_at};
@@ -58,8 +58,8 @@ impl Memory {
         self.layers.kernel.order_at(frame)
     }
 
-    /// Returns the row of a memory block, or `None` past the last one (Linux,
-    /// memory hotplug: state).
+    /// Returns the row of a memory block, or `None` past the last one (Linux, memory hotplug:
+    /// state).
     pub fn row(&self, block: Block) -> Option<Row>
         ensures { result ≡ slice_get self.now.state.blocks.rows block }
     {

@@ -1,4 +1,4 @@
-//! Undoing deltas.
+//! Undoes deltas.
 ghost use Rattle.std.specs.Prelude.{◌≡◌};
 ghost use Rattle.hp_tape.specs.FrameChanges.{frame_after};
 ghost use Rattle.hp_tape.specs.Deltas.{FitsPages, IsDeltaOf, pages_undo};
@@ -9,7 +9,7 @@ use hp_tape::{Delta, FrameChange};
 use hp_units::{Frame, Owner, Page};
 
 impl Pages {
-    /// Undoes a delta that fits and whose numbers are within the layout. A delta of another layer
+    /// Undoes a delta, which must fit and have numbers within the layout. A delta of another layer
     /// changes nothing.
     pub fn back(&mut self, delta: Delta)
         requires fits { FitsPages delta self.old.pages }

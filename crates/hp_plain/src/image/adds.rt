@@ -1,4 +1,4 @@
-//! Setting single parts of a state.
+//! Sets single parts of a state.
 ghost use Rattle.std.specs.Prelude.{◌≡◌, OnErr, OnOk};
 ghost use Rattle.hp_plain.specs.Image.{IsPartOf, with_part};
 ghost use Rattle.hp_plain.specs.declared.parts.Part.TheVariants.{Free, Cached, Mapped, Kernel, Kind as KindOf, Row as RowOf, Auto as AutoOf};
@@ -73,7 +73,8 @@ impl Image {
         self.blocks.set_row(block, row);
     }
 
-    /// Sets what an added block becomes.
+    /// Sets whether, and in which zone, an added block goes online at once (Linux:
+    /// auto_online_blocks).
     pub(super) fn add_auto(&mut self, auto: Auto)
         ensures { self.new ≡ record self.old { memory = with_part self.old.memory (AutoOf auto) } }
     {

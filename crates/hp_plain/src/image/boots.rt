@@ -1,4 +1,4 @@
-//! Bringing memory blocks to what a layout gives for them at boot.
+//! Brings memory blocks to what the layout gives for them at boot.
 ghost use Rattle.std.specs.Prelude.{◌≡◌, ◌<◌, OnOk};
 ghost use Rattle.hp_units.specs.Boot.{boot_block};
 ghost use Rattle.hp_units.specs.Rows.{online_block};

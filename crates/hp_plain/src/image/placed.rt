@@ -1,4 +1,4 @@
-//! The test for well placed states.
+//! Tests whether a state is well placed.
 ghost use Rattle.std.specs.Prelude.{◌≡◌, IfOk, MatchBool, ℕ};
 ghost use Rattle.hp_units.specs.Placement.{IsWellPlaced};
 ghost use Rattle.hp_placement.specs.Placing.{ArePlacedOnce, mark_of, unplugged};

@@ -1,4 +1,4 @@
-//! Many lists of frames: creating, copying and comparing them.
+//! Creates, copies and compares many lists of frames.
 ghost use Rattle.std.specs.Prelude.{◌≡◌, ◌≢◌, [], replicate, IfOk, MatchBool};
 
 use super::FrameList;

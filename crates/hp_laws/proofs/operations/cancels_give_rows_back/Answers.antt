@@ -1,4 +1,5 @@
--- A restoring Cancel leads back to the state before the Begin, and a release takes each claim off again.
+-- A restoring Cancel leads back to the state before the Begin, and a release takes each claim off
+-- again.
 use Rattle.hp_laws.proofs.OperationLaws.{given_back}
 use Rattle.hp_laws.proofs.operations.cancels_give_rows_back.Goals as goal
 

@@ -1,4 +1,5 @@
--- An operation that isn't over holds its rows, and a Commit gives each of them the wish of its claim.
+-- An operation that isn't over holds its rows, and a Commit gives each of them the wish of its
+-- claim.
 use Rattle.hp_laws.proofs.OperationLaws.{commit_granted, commit_held}
 use Rattle.hp_laws.proofs.operations.commits_grant_wishes.Goals as goal
 

@@ -1,4 +1,3 @@
-use Rattle.std.proofs.Common.{rules}
 -- The answer's reply is the record's, or the record is at fault.
 use Rattle.std.proofs.lemmas.Bool.{iff_false}
 use Rattle.hp_replays.proofs.Replays.{another_reply, followed}
@@ -15,21 +14,3 @@ returns-else-same-clause-err c =
     another_reply c.args.journal.now c.answer.new.self c.args.next.now _ c.args.at
     (c.expects.ensures.next.0 c.if-not-expects.false) c.in-Ok.ensures.ok
     (iff_false c.same.ensures c.if-same.false)
-
-pub returns-then-not-expects-clause-ok : goal.returns-then-not-expects-clause-ok
-returns-then-not-expects-clause-ok c = search rules
-
-pub returns-then-not-expects-clause-err : goal.returns-then-not-expects-clause-err
-returns-then-not-expects-clause-err c = search rules
-
-pub returns-then-same-clause-err : goal.returns-then-same-clause-err
-returns-then-same-clause-err c = search rules
-
-pub returns-else-same-clause-ok : goal.returns-else-same-clause-ok
-returns-else-same-clause-ok c = search rules
-
-pub returns-in-Err-clause-ok : goal.returns-in-Err-clause-ok
-returns-in-Err-clause-ok c = search rules
-
-pub returns-in-Err-clause-err : goal.returns-in-Err-clause-err
-returns-in-Err-clause-err c = search rules

@@ -1,7 +1,7 @@
 -- The journal goes on by each record that is not at fault; in the end it is that of all records.
 use Rattle.std.proofs.lemmas.Option.{slice_get_read}
 use Rattle.std.proofs.lemmas.Result.{err_from_is_err_and}
-use Rattle.std.proofs.Common.{length, refl, rules}
+use Rattle.std.proofs.Common.{length, refl}
 use Rattle.hp_replays.proofs.Replays.{fault_at, follow_one, refutes, starts, whole}
 use Rattle.hp_replays.proofs.replaying.followed.Goals as goal
 
@@ -43,12 +43,3 @@ returns-in_err-follow-clause-only c =
     (slice_get_read c.args.records.now (length c.args.records.now) c.loop-place.place
     c.index-records-place.result refl c.loop-place-test.true
     c.index-records-place.is) c.loop-place.invariant.course c.in_err-follow.ensures.err))
-
-pub returns-in_err-follow-clause-course : goal.returns-in_err-follow-clause-course
-returns-in_err-follow-clause-course c = search rules
-
-pub returns-clause-fault : goal.returns-clause-fault
-returns-clause-fault c = search rules
-
-pub returns-clause-only : goal.returns-clause-only
-returns-clause-only c = search rules

@@ -1,5 +1,5 @@
 -- What is found of the records over the journal that begins at the base is found over the base.
-use Rattle.std.proofs.Common.{◌≡◌, rules, subst}
+use Rattle.std.proofs.Common.{◌≡◌, subst}
 use Rattle.std.specs.Prelude.{IfErr, IfOk, OnOk}
 use Rattle.hp_units.specs.History.{IsLegal, value_of}
 use Rattle.hp_history.specs.Course.{CourseValue}
@@ -39,18 +39,3 @@ returns-clause-only c =
 
 pub returns-clause-placed : goal.returns-clause-placed
 returns-clause-placed c = c.image_after.ensures.placed
-
-pub returns-in_err-journal-clause-legal : goal.returns-in_err-journal-clause-legal
-returns-in_err-journal-clause-legal c = search rules
-
-pub returns-in_err-journal-clause-value : goal.returns-in_err-journal-clause-value
-returns-in_err-journal-clause-value c = search rules
-
-pub returns-in_err-journal-clause-placed : goal.returns-in_err-journal-clause-placed
-returns-in_err-journal-clause-placed c = search rules
-
-pub returns-in_err-journal-clause-fault : goal.returns-in_err-journal-clause-fault
-returns-in_err-journal-clause-fault c = search rules
-
-pub returns-in_err-journal-clause-only : goal.returns-in_err-journal-clause-only
-returns-in_err-journal-clause-only c = search rules

@@ -1,4 +1,4 @@
-use Rattle.std.proofs.Common.{◌<◌, ◌∙◌, ap, length, refl, arith, rules}
+use Rattle.std.proofs.Common.{◌<◌, ◌∙◌, ap, length, refl, arith}
 use Rattle.std.proofs.lemmas.Option.{slice_get_read}
 use Rattle.hp_shared.proofs.Sealing.{count_next, counted_next}
 use Rattle.hp_shared.proofs.volumes.wrong_volume.Goals as goal
@@ -17,12 +17,3 @@ loop-at-preserved c =
       counted_next vs at v get (c.if-volume-count.false ∙ i.0) i.1,
       omega (arith, i.2),
     )
-
-pub returns-then-volume-count-clause-right : goal.returns-then-volume-count-clause-right
-returns-then-volume-count-clause-right c = search rules
-
-pub returns-then-sealed-count-clause-right : goal.returns-then-sealed-count-clause-right
-returns-then-sealed-count-clause-right c = search rules
-
-pub returns-clause-wrong : goal.returns-clause-wrong
-returns-clause-wrong c = search rules

@@ -1,4 +1,4 @@
--- An order whose list is empty is passed by.
+-- An order whose list is empty is skipped.
 use Rattle.std.proofs.Common.{◌≡◌, ◌+◌, ◌-◌, ◌≤◌, ◌∙◌, arith, ap, ℕ}
 use Rattle.hp_units.specs.Memory.{free_list}
 use Rattle.hp_units.specs.FreeAreas.{greatest_order}

@@ -1,4 +1,4 @@
--- An order whose list is empty is passed by, and the first other one is the answer.
+-- An order whose list is empty is skipped, and the first other order is the result.
 use Rattle.std.proofs.Common.{◌≡◌, ◌+◌, ◌-◌, ◌∙◌, arith, ap, sym}
 use Rattle.hp_units.specs.Memory.{free_list}
 use Rattle.hp_units.specs.FreeAreas.{least_order}

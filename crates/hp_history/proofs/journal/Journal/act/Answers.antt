@@ -1,5 +1,5 @@
 -- The journal made its step.
-use Rattle.std.proofs.Common.{◌≡◌, ◌+◌, List, [], ◌∷◌, ◌++◌, length, refl, sym, subst, ◌∙◌, rules}
+use Rattle.std.proofs.Common.{◌≡◌, ◌+◌, List, [], ◌∷◌, ◌++◌, length, refl, sym, subst, ◌∙◌}
 use Rattle.hp_units.specs.declared.replies.Receipt.{Receipt}
 use Rattle.hp_history.specs.Course.{IsAnswered, record_of}
 use Rattle.hp_history.specs.Kept.{IsCourse}
@@ -99,18 +99,3 @@ returns-clause-ok c =
     (receipt step) c.new-entry.result c.step.new.self c.step.new.tape.deltas c.is_step.result
     c.keep_step.new.memory (longer here) c.keep_step.new.entries.items c.keep_step.new.deltas.deltas
     (made step) (left here)))
-
-pub returns-in_err-reserve-clause-err : goal.returns-in_err-reserve-clause-err
-returns-in_err-reserve-clause-err c = search rules
-
-pub returns-in_err-reserve-clause-ok : goal.returns-in_err-reserve-clause-ok
-returns-in_err-reserve-clause-ok c = search rules
-
-pub returns-in_err-reply-clause-err : goal.returns-in_err-reply-clause-err
-returns-in_err-reply-clause-err c = search rules
-
-pub returns-in_err-reply-clause-ok : goal.returns-in_err-reply-clause-ok
-returns-in_err-reply-clause-ok c = search rules
-
-pub returns-clause-err : goal.returns-clause-err
-returns-clause-err c = search rules

@@ -1,4 +1,4 @@
-use Rattle.std.proofs.Common.{refl, sym, subst, rules}
+use Rattle.std.proofs.Common.{refl, sym, subst}
 -- An event that is no UndoAfter and no Cancel is a step, and only a step may need memory.
 use Rattle.hp_history.specs.Kept.{IsStep}
 use Rattle.hp_history.proofs.Cuts.{acts, step_needs}
@@ -29,30 +29,6 @@ returns-in_default-clause-succeeds c =
     λ need. absurd (step_needs c.args.self.now c.args.cpu c.args.event.now
     (acts c.args.self.now c.args.cpu c.args.event.now c.in_default.not-UndoAfter c.in_default.not-Cancel)
     c.in_default.not-UndoAfter need)
-
-pub returns-in-UndoAfter-clause-err : goal.returns-in-UndoAfter-clause-err
-returns-in-UndoAfter-clause-err c = search rules
-
-pub returns-in-UndoAfter-clause-ok : goal.returns-in-UndoAfter-clause-ok
-returns-in-UndoAfter-clause-ok c = search rules
-
-pub returns-in-Some-clause-err : goal.returns-in-Some-clause-err
-returns-in-Some-clause-err c = search rules
-
-pub returns-in-Some-clause-ok : goal.returns-in-Some-clause-ok
-returns-in-Some-clause-ok c = search rules
-
-pub returns-in-None-clause-err : goal.returns-in-None-clause-err
-returns-in-None-clause-err c = search rules
-
-pub returns-in-None-clause-ok : goal.returns-in-None-clause-ok
-returns-in-None-clause-ok c = search rules
-
-pub returns-in_default-clause-err : goal.returns-in_default-clause-err
-returns-in_default-clause-err c = search rules
-
-pub returns-in_default-clause-ok : goal.returns-in_default-clause-ok
-returns-in_default-clause-ok c = search rules
 
 pub returns-in-UndoAfter-clause-back : goal.returns-in-UndoAfter-clause-back
 returns-in-UndoAfter-clause-back c = λ _. c.go_back.ensures.back

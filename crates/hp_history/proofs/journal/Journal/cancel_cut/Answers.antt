@@ -1,5 +1,5 @@
 -- A Cancel goes back where it is not refused and its operation is sole.
-use Rattle.std.proofs.Common.{◌≡◌, true, false, List, ap, map, sym, subst, ◌∙◌, rules}
+use Rattle.std.proofs.Common.{◌≡◌, true, false, List, ap, map, sym, subst, ◌∙◌}
 use Rattle.hp_units.specs.History.{net_of}
 use Rattle.hp_units.specs.Marks.{sole_at, tag_of}
 use Rattle.hp_units.specs.declared.marks.Tag.{Tag}
@@ -46,6 +46,3 @@ returns-else-may_cancel-clause-step c =
     rw (← c.self.view_is) (cancel_refused (seen c.self.inside) c.args.cpu c.args.op c.self.invariant.0.history
     (subst (λ (m : CourseValue). may_cancel m.layout m.state c.args.cpu c.args.op ≡ false)
     (sym c.self.view_is) (sym c.may_cancel.ensures ∙ c.if-may_cancel.false)))
-
-pub returns-else-may_cancel-clause-back : goal.returns-else-may_cancel-clause-back
-returns-else-may_cancel-clause-back c = search rules

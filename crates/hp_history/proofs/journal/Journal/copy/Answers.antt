@@ -1,5 +1,5 @@
 -- The memory, the records of the proofs, and the count of what was sealed are the same.
-use Rattle.std.proofs.Common.{◌≡◌, ◌∙◌, List, ap, length, rules, subst, sym}
+use Rattle.std.proofs.Common.{◌≡◌, ◌∙◌, List, ap, length, subst, sym}
 use Rattle.hp_memory.specs.Memory.{MemoryValue}
 use Rattle.hp_tape.specs.declared.deltas.Delta.{Delta}
 use Rattle.hp_history.specs.Course.{CourseValue}
@@ -10,15 +10,6 @@ use Rattle.hp_history.specs.declared.remembered.Remembered.{Remembered}
 use Rattle.hp_history.proofs.Courses.{value_with}
 use Rattle.hp_history.proofs.journal.Journal.copy.Goals as goal
 use Rattle.hp_history.proofs.journal.Journal.copy.Goals.{After-again}
-
-pub returns-in_err-memory : goal.returns-in_err-memory
-returns-in_err-memory c = search rules
-
-pub returns-in_err-entries : goal.returns-in_err-entries
-returns-in_err-entries c = search rules
-
-pub returns-in_err-deltas : goal.returns-in_err-deltas
-returns-in_err-deltas c = search rules
 
 -- the value is that of the journal
 same : (c : After-again)

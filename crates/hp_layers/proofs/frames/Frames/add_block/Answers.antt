@@ -6,7 +6,7 @@ use Rattle.hp_layers.proofs.Given.{given-further}
 use Rattle.hp_layers.proofs.Pageblocks.{pageblock-is}
 use Rattle.hp_layers.proofs.frames.Frames.add_block.Goals as goal
 
--- so many pageblocks and one more
+-- `number` pageblocks and one more
 further : (first number size : ℕ) → (first + number) * size + size ≡ (first + (number + 1)) * size
 further first number size =
     let e = suc-mul (first + number) size in
@@ -34,7 +34,7 @@ not_yet at first number count size p q here low later none o above below =
     let inside = among first number count size low in
     later o a ∙ none o (omega (arith, from, a)) (omega (arith, b, past, inside))
 
--- those after it have the places that they had
+-- the pageblocks after it have the places that they had
 behind : (at first number size : ℕ) (new p q : ℕ → ℕ) → at ≡ first + number
     → ((o : ℕ) → (first + number) * size ≤ o → p o ≡ q o) → ((o : ℕ) → at * size + size ≤ o → new o ≡ p o)
     → (o : ℕ) → (first + (number + 1)) * size ≤ o → new o ≡ q o

@@ -1,4 +1,3 @@
-use Rattle.std.proofs.Common.{rules}
 -- At its start a machine keeps what every machine keeps.
 use Rattle.hp_machine.proofs.Machines.{booted_machine}
 use Rattle.hp_machine.proofs.machine.Machine.boot.Goals as goal
@@ -7,9 +6,6 @@ pub invariant_of-result : goal.invariant_of-result
 invariant_of-result c =
     booted_machine c.args.layout.now c.in_ok-course.course c.in_ok-course.ensures.start
     c.in_ok-course.ensures.limits
-
-pub returns-in_err-course : goal.returns-in_err-course
-returns-in_err-course c = search rules
 
 pub returns : goal.returns
 returns c = c.in_ok-course.ensures.start

@@ -1,13 +1,10 @@
 -- A copy keeps what every machine keeps.
-use Rattle.std.proofs.Common.{◌∙◌, sym, subst, rules}
+use Rattle.std.proofs.Common.{◌∙◌, sym, subst}
 use Rattle.hp_machine.specs.Kept.{IsMachine}
 use Rattle.hp_machine.proofs.machine.Machine.copy.Goals as goal
 
 pub invariant_of-result : goal.invariant_of-result
 invariant_of-result c = subst IsMachine (sym c.in_ok-course.ensures) c.self.invariant
-
-pub returns-in_err-course : goal.returns-in_err-course
-returns-in_err-course c = search rules
 
 pub returns : goal.returns
 returns c = c.in_ok-course.ensures ∙ c.self.view_is

@@ -8,8 +8,5 @@ invariant_of-result c =
     booted_machine c.args.layout.now c.in_ok-journal.journal c.in_ok-journal.ensures.start
     c.in_ok-journal.ensures.limits
 
-pub returns-in_err-journal : goal.returns-in_err-journal
-returns-in_err-journal c = search rules
-
 pub returns : goal.returns
 returns c = search rules

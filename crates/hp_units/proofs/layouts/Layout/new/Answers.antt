@@ -1,4 +1,5 @@
--- The parts have no fault, so they are within their limits; the blocks at boot are the list that was copied.
+-- The parts have no fault, so they are within their limits; the blocks at boot are the list that
+-- was copied.
 use Rattle.std.proofs.Common.{ap, subst, sym, ◌∙◌, ◌≡◌, List, None, arith}
 use Rattle.hp_units.specs.LayoutParts.{IsLayout, layout_fault}
 use Rattle.hp_units.specs.PartsSeen.{parts_seen}

@@ -1,4 +1,4 @@
--- Work is the operation's own where it names its number.
+-- Work is the operation's own if it names the operation's number.
 use Rattle.std.proofs.Common.{rules}
 use Rattle.hp_units.proofs.marks.Mark.is_work_of.Goals as goal
 

@@ -1,5 +1,0 @@
-use Rattle.std.proofs.Common.{rules}
-use Rattle.hp_history.proofs.journal.Journal.next_serial.Goals as goal
-
-pub returns : goal.returns
-returns c = search rules

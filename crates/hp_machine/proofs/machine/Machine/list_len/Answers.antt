@@ -1,5 +1,0 @@
-use Rattle.std.proofs.Common.{rules}
-use Rattle.hp_machine.proofs.machine.Machine.list_len.Goals as goal
-
-pub returns : goal.returns
-returns c = search rules

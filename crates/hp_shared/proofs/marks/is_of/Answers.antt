@@ -1,8 +1,0 @@
-use Rattle.std.proofs.Common.{rules}
-use Rattle.hp_shared.proofs.marks.is_of.Goals as goal
-
-pub returns-then-same : goal.returns-then-same
-returns-then-same c = search rules
-
-pub returns-else-same : goal.returns-else-same
-returns-else-same c = search rules
