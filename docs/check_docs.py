@@ -219,7 +219,7 @@ def heading_anchor(title):
 def check_link(checks, where, document, target):
     name, _, anchor = target.partition("#")
     file = (document.parent / name).resolve() if name else document
-    titles = re.findall(r"(?m)^#+ (.*)$", file.read_text()) if file.is_file() else []
+    titles = re.findall(r"(?m)^#+ (.*)$", file.read_text()) if file.suffix == ".md" else []
     anchors = [heading_anchor(title) for title in titles]
     checks.holds(where, file.exists() and (not anchor or anchor in anchors), f"no {target}")
 

@@ -325,6 +325,8 @@ def check_lab(checks, lab):
                   ("explore", "--jobs", "2", "--find", "done"),
                   ("sum", "--json", "--scenario", "1"), ("sum", "--setup", "1"),
                   ("trace", "--json", "--from", "1"), ("trace", "--json", "--svg"),
+                  ("trace", "--html", "--from", "1"), ("trace", "--html", "--json"),
+                  ("trace", "--html", "--svg"), ("trace", "--html", "--log"),
                   ("trace", "--json", "--log"), ("trace", "--json", "--orders"),
                   ("trace", "a", "b"), ("trace", "--width"), ("trace", "--to", str(2**64))):
         status, out, error = lab.call(*words, scenario=whole)

@@ -170,7 +170,7 @@ def check_rows(checks, programs, name, scenario):
     head, *rows = map(json.loads, lines)
     checks.holds(where, (head["trace"], head["layout"], head["lines"]) == (1, layout, len(calls)),
                  f"begins with {lines[0]}")
-    texts = [json.loads(f'"{row["text"]}"') for row in rows if "text" in row]
+    texts = [row["text"] for row in rows if "text" in row]
     checks.holds(where, texts == ["boot", *calls], f"has the lines {texts}")
     numbers = [row["line"] for row in rows]
     checks.holds(where, numbers == sorted(numbers), f"has the lines {numbers}")

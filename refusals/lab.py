@@ -13,6 +13,7 @@ SCENARIOS = {
     "trace": ["0 map db 0", "0 write db 0 0 7", "0 plan 4 off 1", "0 cat memory1/state", "0 seal",
               "0 echo online memory0/state", "1 read db 0 0"],
     "trace --svg": ["0 map db 0", "0 plan 4 off 1"],
+    "trace --html": ["0 map db 0"],
 }
 FAULTS = {"memory": ["out of memory"], "io": ["reading failed", "writing failed"]}
 

@@ -5,11 +5,11 @@ use Rattle.hp_streams.specs.Reading.{IsReadFault}
 use Rattle.hp_streams.specs.declared.reading.ReadFault.{ReadFault}
 use Rattle.hp_streams.specs.declared.reading.ReadFault.TheVariants as reading
 use Rattle.hp_streams.proofs.Whole.{given}
-use Rattle.hp_lab_faults.specs.Faults.{read_fault_from}
+use Rattle.hp_search.specs.FaultOrigins.{read_fault_from}
 use Rattle.hp_lab_shell.specs.Needs.{IsPastEnd}
 use Rattle.hotplug_lab.specs.Words.{Answers, IsLabCause, IsPartCause, IsScenarioCause, IsServeFault, IsUnanswered, Serves}
-use Rattle.hp_lab_faults.specs.declared.program_fault.ProgramFault.{ProgramFault}
-use Rattle.hp_lab_faults.specs.declared.program_fault.ProgramFault.TheVariants.{Lab, NotOpened, Parts, PastEnd, ReadFailed, Scenario, TooLong, WriteFailed}
+use Rattle.hp_search.specs.declared.program_fault.LabProgramFault.{LabProgramFault}
+use Rattle.hp_search.specs.declared.program_fault.LabProgramFault.TheVariants.{Lab, NotOpened, Parts, PastEnd, ReadFailed, Scenario, TooLong, WriteFailed}
 use Rattle.hp_lab_shell.specs.declared.words.Word.{Word}
 
 -- a fault of reading is one of the program
@@ -21,7 +21,7 @@ read_fault word known read written reading.OutOfMemory h = inl refl
 
 -- a word has no answer to all that was read
 unanswered_of : (word : Word) (a b : Option (List ℕ)) (input : List ℕ) (read written : Type 0)
-    (fault : ProgramFault)
+    (fault : LabProgramFault)
     → Consumes a b input → IsAtEnd b → IsUnanswered word input fault → IsServeFault word a read written fault
 unanswered_of word a b input read written NotOpened p end h = absurd h
 unanswered_of word a b input read written ReadFailed p end h = absurd h
@@ -38,7 +38,7 @@ unanswered_of word a b input read written WriteFailed p end h = absurd h
 
 -- `seen` is the slice that was passed on
 pub unanswered : (word : Word) (a b : Option (List ℕ)) (input seen : List ℕ) (read written : Type 0)
-    (fault : ProgramFault)
+    (fault : LabProgramFault)
     → seen ≡ input → Consumes a b input → IsAtEnd b → IsUnanswered word seen fault
     → IsServeFault word a read written fault
 unanswered word a b input seen read written fault same p end h =

@@ -1,7 +1,7 @@
 -- The text and the exit status of each word, and when each fault comes.
 use Rattle.std.specs.Prelude.{◌≡◌, ◌⊎◌, ℕ, ◌<◌, ◌≤◌, Bool, List, length, Option, IfSome, if◌then◌else◌}
 use Rattle.std.specs.Io.KnownBytes.{Appends}
-use Rattle.hp_wanted.specs.declared.wanted.Wanted.{Wanted}
+use Rattle.hp_questions.specs.declared.wanted.Wanted.{Wanted}
 use Rattle.hp_search.specs.Explorations.{IsExplorationOf, IsFaultWithin}
 use Rattle.hp_search.specs.Findings.{IsFindFaultOf, IsFindingOf}
 use Rattle.hp_search.specs.Faults.{IsFaultOf}
@@ -17,24 +17,24 @@ use Rattle.hp_part_files.specs.Parts.{IsFullPart, IsPartOf}
 use Rattle.hp_part_files.specs.Sums.{IsSumOf}
 use Rattle.hp_lab_shell.specs.Checks.{IsCheckOf}
 use Rattle.hp_lab_shell.specs.Shown.{HasJson, HasLog, HasRows, HasTrace}
-use Rattle.hp_lab_faults.specs.declared.fault.LabFault.{LabFault}
-use Rattle.hp_lab_faults.specs.declared.fault.LabFault.TheVariants.{OutOfMemory}
-use Rattle.hp_lab_faults.specs.declared.part_fault.PartFault.{PartFault}
-use Rattle.hp_lab_faults.specs.declared.program_fault.ProgramFault.{ProgramFault}
-use Rattle.hp_lab_faults.specs.declared.program_fault.ProgramFault.TheVariants.{Lab, NotOpened, Parts, PastEnd, ReadFailed, Scenario, TooLong, WriteFailed}
-use Rattle.hp_lab_shell.specs.declared.words.Exploration.{Exploration}
+use Rattle.hp_search.specs.declared.lab_fault.LabFault.{LabFault}
+use Rattle.hp_search.specs.declared.lab_fault.LabFault.TheVariants.{OutOfMemory}
+use Rattle.hp_search.specs.declared.part_fault.PartFault.{PartFault}
+use Rattle.hp_search.specs.declared.program_fault.LabProgramFault.{LabProgramFault}
+use Rattle.hp_search.specs.declared.program_fault.LabProgramFault.TheVariants.{Lab, NotOpened, Parts, PastEnd, ReadFailed, Scenario, TooLong, WriteFailed}
+use Rattle.hp_lab_shell.specs.declared.words.ExploreOptions.{ExploreOptions}
 use Rattle.hp_lab_shell.specs.declared.words.Word.{Word}
 use Rattle.hp_lab_shell.specs.declared.words.Word.TheVariants.{Check, Explore, Find, Log, Never, Part, Picture, Sum, Told, Trace}
 use Rattle.hp_lab_shell.specs.Needs.{HasLines, IsPastEnd}
 
 -- the text of an exploration; the status is 0 if it finds what was asked for, and 3 if not
-abbrev pub IsExploringOf : Exploration → EndsForm → (input text : List ℕ) → (status : ℕ) → Type 0
+abbrev pub IsExploringOf : ExploreOptions → EndsForm → (input text : List ℕ) → (status : ℕ) → Type 0
 IsExploringOf asked form input text status =
     (found : Bool) × IsExplorationOf form input asked.setup asked.limit text found
     × (status ≡ (if found then 0 else 3))
 
 -- the text of one part; the text of the sum
-abbrev pub IsPartialOf : Exploration → NumberValue → (input text : List ℕ) → (status : ℕ) → Type 0
+abbrev pub IsPartialOf : ExploreOptions → NumberValue → (input text : List ℕ) → (status : ℕ) → Type 0
 IsPartialOf asked part input text status =
     (found : Bool) × IsPartOf part input asked.setup asked.limit text found
     × (status ≡ (if found then 0 else 3))
@@ -44,7 +44,7 @@ IsAddedOf form input text status =
     (found : Bool) × IsSumOf form input text found × (status ≡ (if found then 0 else 3))
 
 -- the text of a search; one status if it finds an interleaving, and another if there is none
-abbrev pub IsSearchOf : Exploration → List Wanted → ScheduleForm → (found_status absent_status : ℕ)
+abbrev pub IsSearchOf : ExploreOptions → List Wanted → ScheduleForm → (found_status absent_status : ℕ)
     → (input text : List ℕ) → (status : ℕ) → Type 0
 IsSearchOf asked wanted form found_status absent_status input text status =
     (found : Bool) × IsFindingOf form input asked.setup asked.limit wanted text found
@@ -61,7 +61,7 @@ IsAnswerOf (Never asked wanted form) input text status =
 IsAnswerOf (Trace view) input text status = HasTrace view input text × (status ≡ 0)
 IsAnswerOf (Picture drawing) input text status = HasRows drawing.view input × (status ≡ 0)
 IsAnswerOf Log input text status = HasLog input × (status ≡ 0)
-IsAnswerOf Told input text status = HasJson input text × (status ≡ 0)
+IsAnswerOf (Told form) input text status = HasJson form input text × (status ≡ 0)
 
 -- the text and the status of a word, for a scenario that has the lines that the word names
 abbrev pub Answers : Word → (input text : List ℕ) → (status : ℕ) → Type 0
@@ -81,7 +81,7 @@ IsLabCause (Never asked wanted form) input fault =
 IsLabCause (Trace view) input fault = fault ≡ OutOfMemory
 IsLabCause (Picture drawing) input fault = fault ≡ OutOfMemory
 IsLabCause Log input fault = fault ≡ OutOfMemory
-IsLabCause Told input fault = fault ≡ OutOfMemory
+IsLabCause (Told form) input fault = fault ≡ OutOfMemory
 
 abbrev pub IsScenarioCause : Word → (input : List ℕ) → ScenarioFault → Type 0
 IsScenarioCause (Check setup) input fault = ⊥
@@ -93,14 +93,14 @@ IsScenarioCause (Never asked wanted form) input fault = ⊥
 IsScenarioCause (Trace view) input fault = Fails fault (scenario_in input)
 IsScenarioCause (Picture drawing) input fault = Fails fault (scenario_in input)
 IsScenarioCause Log input fault = Fails fault (scenario_in input)
-IsScenarioCause Told input fault = Fails fault (scenario_in input)
+IsScenarioCause (Told form) input fault = Fails fault (scenario_in input)
 
 -- why parts cannot be added up
 abbrev pub IsPartCause : Word → (input : List ℕ) → PartFault → Type 0
 IsPartCause (Sum form) input fault = IsSumFault input fault
 IsPartCause word input fault = ⊥
 
-abbrev pub IsUnanswered : Word → (input : List ℕ) → ProgramFault → Type 0
+abbrev pub IsUnanswered : Word → (input : List ℕ) → LabProgramFault → Type 0
 IsUnanswered word input NotOpened = ⊥
 IsUnanswered word input ReadFailed = ⊥
 IsUnanswered word input TooLong = ⊥
@@ -119,7 +119,8 @@ Serves word known old new status =
 
 -- when each fault comes; `read` and `written` are that a call of the reader or the writer failed,
 -- and no file is opened here
-abbrev pub IsServeFault : Word → (known : Option (List ℕ)) → (read written : Type 0) → ProgramFault → Type 0
+abbrev pub IsServeFault : Word → (known : Option (List ℕ)) → (read written : Type 0) → LabProgramFault
+    → Type 0
 IsServeFault word known read written NotOpened = ⊥
 IsServeFault word known read written ReadFailed = read
 IsServeFault word known read written TooLong = IfSome known (λ input. limit < length input)

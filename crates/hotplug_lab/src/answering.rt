@@ -4,13 +4,14 @@ ghost use Rattle.std.specs.Prelude.{◌≡◌, if◌then◌else◌, IfErr, IfOk,
 ghost use Rattle.hotplug_lab.specs.Words.{IsAddedOf, IsAnswerOf, IsExploringOf, IsPartialOf, IsSearchOf, IsUnanswered};
 ghost use Rattle.hp_lab_shell.specs.declared.words.Word.TheVariants.{Explore, Find, Never, Part, Sum};
 
-use hp_lab_faults::ProgramFault;
-use hp_lab_shell::{Answer, Exploration, Word, checked, drawn, logged, told, traced};
+use hp_lab_shell::{ExploreOptions, TextAndStatus, Word, checked, drawn, logged, told, traced};
 use hp_part_files::{part_text, sum_text};
+use hp_questions::Wanted;
 use hp_schedules::ShardId;
-use hp_search::{EndsForm, ScheduleForm, SearchText, explore_text_with_jobs, find_text};
+use hp_search::{
+    EndsForm, LabProgramFault, ScheduleForm, SearchText, explore_text_with_jobs, find_text,
+};
 use hp_states::Watch;
-use hp_wanted::Wanted;
 use std::alloc::Global;
 use std::thread::Threads;
 
@@ -22,7 +23,7 @@ pub(crate) fn answer_to<W: Watch>(
     input: &[u8],
     word: Word<'_>,
     watch: &mut W,
-) -> Result<Answer, ProgramFault>
+) -> Result<TextAndStatus, LabProgramFault>
     ensures ok { IfOk result
         (λ answer. IsAnswerOf word.entry input.now (string_bytes answer.text) answer.status) }
     ensures err { IfErr result (IsUnanswered word.entry input.now) }
@@ -47,7 +48,7 @@ pub(crate) fn answer_to<W: Watch>(
         Word::Trace(view) => traced(alloc, input, view),
         Word::Picture(drawing) => drawn(alloc, input, drawing),
         Word::Log => logged(alloc, input),
-        Word::Told => told(alloc, input),
+        Word::Told(form) => told(alloc, input, form),
     }
 }
 
@@ -56,16 +57,16 @@ fn explored<W: Watch>(
     rt: &(impl Threads + Sync),
     alloc: Global,
     input: &[u8],
-    asked: Exploration,
+    asked: ExploreOptions,
     form: EndsForm,
     jobs: u32,
     watch: &mut W,
-) -> Result<Answer, ProgramFault>
+) -> Result<TextAndStatus, LabProgramFault>
     ensures ok { IfOk result
         (λ answer. IsExploringOf asked form input.now (string_bytes answer.text) answer.status) }
     ensures err { IfErr result (IsUnanswered (Explore asked form jobs) input.now) }
 {
-    let Exploration { setup, limit } = asked;
+    let ExploreOptions { setup, limit } = asked;
     let finding = explore_text_with_jobs(rt, alloc, input, setup, limit, form, jobs, watch)?;
     Ok(answer_with(finding, 0, 3))
 }
@@ -74,10 +75,10 @@ fn explored<W: Watch>(
 fn partial<W: Watch>(
     alloc: Global,
     input: &[u8],
-    asked: Exploration,
+    asked: ExploreOptions,
     part: &ShardId,
     watch: &mut W,
-) -> Result<Answer, ProgramFault>
+) -> Result<TextAndStatus, LabProgramFault>
     ensures ok { IfOk result
         (λ answer. IsPartialOf asked part.now input.now (string_bytes answer.text) answer.status) }
     ensures err { IfErr result (IsUnanswered (Part asked part.entry) input.now) }
@@ -87,7 +88,7 @@ fn partial<W: Watch>(
 }
 
 /// Adds up all parts of an exploration.
-fn summed(alloc: Global, input: &[u8], form: EndsForm) -> Result<Answer, ProgramFault>
+fn summed(alloc: Global, input: &[u8], form: EndsForm) -> Result<TextAndStatus, LabProgramFault>
     ensures ok { IfOk result
         (λ answer. IsAddedOf form input.now (string_bytes answer.text) answer.status) }
     ensures err { IfErr result (IsUnanswered (Sum form) input.now) }
@@ -101,11 +102,11 @@ fn summed(alloc: Global, input: &[u8], form: EndsForm) -> Result<Answer, Program
 fn found<W: Watch>(
     alloc: Global,
     input: &[u8],
-    asked: Exploration,
+    asked: ExploreOptions,
     wanted: &[Wanted],
     form: ScheduleForm,
     watch: &mut W,
-) -> Result<Answer, ProgramFault>
+) -> Result<TextAndStatus, LabProgramFault>
     ensures ok { IfOk result (λ answer.
         IsSearchOf asked wanted.now form 0 3 input.now (string_bytes answer.text) answer.status) }
     ensures err { IfErr result (IsUnanswered (Find asked wanted.entry form) input.now) }
@@ -118,11 +119,11 @@ fn found<W: Watch>(
 fn never<W: Watch>(
     alloc: Global,
     input: &[u8],
-    asked: Exploration,
+    asked: ExploreOptions,
     wanted: &[Wanted],
     form: ScheduleForm,
     watch: &mut W,
-) -> Result<Answer, ProgramFault>
+) -> Result<TextAndStatus, LabProgramFault>
     ensures ok { IfOk result (λ answer.
         IsSearchOf asked wanted.now form 3 0 input.now (string_bytes answer.text) answer.status) }
     ensures err { IfErr result (IsUnanswered (Never asked wanted.entry form) input.now) }
@@ -132,12 +133,12 @@ fn never<W: Watch>(
 }
 
 /// Returns a search's text, with the status `found` if it found something, and `absent` if not.
-fn answer_with(finding: SearchText, found: u8, absent: u8) -> Answer
+fn answer_with(finding: SearchText, found: u8, absent: u8) -> TextAndStatus
     ensures text { string_bytes result.text ≡ string_bytes finding.text }
     ensures status { result.status ≡ (if finding.is_found then found else absent) }
 {
     let status = if finding.is_found { found } else { absent };
-    Answer {
+    TextAndStatus {
         text: finding.text,
         status,
     }

@@ -16,8 +16,8 @@
 mod answering;
 mod serving;
 
-use hp_lab_faults::ProgramFault;
 use hp_lab_shell::{Laboratory, Served, Word, run_program};
+use hp_search::LabProgramFault;
 use hp_states::Watch;
 use hp_streams::{Sink, Source};
 use serving::serve_word;
@@ -38,7 +38,7 @@ impl Laboratory for Searches {
         reader: &mut R,
         writer: &mut W,
         watch: P,
-    ) -> Result<Served, ProgramFault> {
+    ) -> Result<Served, LabProgramFault> {
         serve_word(threads, alloc, word, reader, writer, watch)
     }
 }

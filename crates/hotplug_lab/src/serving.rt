@@ -8,8 +8,8 @@ ghost use Rattle.hotplug_lab.specs.Words.{Answers, IsServeFault, IsUnanswered, S
 ghost use Rattle.hp_scenario.specs.Scenario.{scenario_in};
 
 use crate::answering::answer_to;
-use hp_lab_faults::ProgramFault;
-use hp_lab_shell::{Answer, Served, Word, look_for_line, unbegun_of};
+use hp_lab_shell::{Served, TextAndStatus, Word, look_for_line, unbegun_of};
+use hp_search::LabProgramFault;
 use hp_states::Watch;
 use hp_streams::{Failed, Sink, Source, read_all, write_all};
 use std::alloc::Global;
@@ -25,7 +25,7 @@ pub fn serve_word<R: Source, W: Sink, P: Watch + Drop>(
     reader: &mut R,
     writer: &mut W,
     watch: P,
-) -> Result<Served, ProgramFault>
+) -> Result<Served, LabProgramFault>
     requires reader { R.failures reader.old < 2 ^ 64 - 1 }
     requires writer { W.failures writer.old < 2 ^ 64 - 1 }
 
@@ -39,7 +39,8 @@ pub fn serve_word<R: Source, W: Sink, P: Watch + Drop>(
         (λ input. served.unbegun.items ≡ unbegun_of word.entry (scenario_in input))) }
     // After any other fault, nothing was written.
     ensures silent { IfErr result
-        (λ fault. fault ≢ ProgramFault.WriteFailed → Keeps (W.contents writer.old) (W.contents writer.new)) }
+        (λ fault. fault ≢ LabProgramFault.WriteFailed
+        → Keeps (W.contents writer.old) (W.contents writer.new)) }
     // Each fault comes only from its cause.
     ensures err { IfErr result (IsServeFault word.entry (R.remaining reader.old)
         (R.failures reader.old < R.failures reader.new) (W.failures writer.old < W.failures writer.new)) }
@@ -52,17 +53,17 @@ pub fn serve_word<R: Source, W: Sink, P: Watch + Drop>(
 }
 
 /// Writes an answer's text, and returns its status.
-fn write_answer<W: Sink>(writer: &mut W, answer: &Answer) -> Result<u8, ProgramFault>
+fn write_answer<W: Sink>(writer: &mut W, answer: &TextAndStatus) -> Result<u8, LabProgramFault>
     requires { W.failures writer.old < 2 ^ 64 - 1 }
     ensures status { IfOk result (λ status. status ≡ answer.now.status) }
     ensures ok { OnOk result
         (Appends (W.contents writer.old) (W.contents writer.new) (string_bytes answer.now.text)) }
     ensures err { IfErr result
-        (λ fault. (fault ≡ ProgramFault.WriteFailed) × (W.failures writer.old < W.failures writer.new)) }
+        (λ fault. (fault ≡ LabProgramFault.WriteFailed) × (W.failures writer.old < W.failures writer.new)) }
 {
     match write_all(writer, answer.text.as_bytes()) {
         Ok(()) => Ok(answer.status),
-        Err(Failed) => Err(ProgramFault::WriteFailed),
+        Err(Failed) => Err(LabProgramFault::WriteFailed),
     }
 }
 
@@ -74,7 +75,7 @@ fn watched_answer<P: Watch + Drop>(
     input: &[u8],
     word: Word<'_>,
     mut watch: P,
-) -> Result<Answer, ProgramFault>
+) -> Result<TextAndStatus, LabProgramFault>
     ensures ok { IfOk result
         (λ answer. Answers word.entry input.now (string_bytes answer.text) answer.status) }
     ensures err { IfErr result (IsUnanswered word.entry input.now) }

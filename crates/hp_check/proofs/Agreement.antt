@@ -22,7 +22,7 @@ use Rattle.hp_check.specs.Ranges.{parts_in}
 use Rattle.hp_check.specs.declared.finding.Finding.{Finding}
 use Rattle.hp_check.specs.declared.finding.Finding.TheVariants as finding
 use Rattle.hp_check.specs.declared.finding.Key.{Key}
-use Rattle.hp_check.specs.declared.finding.Place.{Place}
+use Rattle.hp_check.specs.declared.finding.ScenarioObject.{ScenarioObject}
 use Rattle.hp_check.specs.declared.finding.Warning.{Warning}
 use Rattle.hp_check.proofs.Added.{both_added, by_cause, of_fault}
 use Rattle.hp_check.proofs.Entries.{calls_stop}
@@ -288,7 +288,8 @@ not_a_warning (BadLine n) number w h = h
 not_a_warning (NotForRun n) number w h = h
 not_a_warning OutOfMemory number w h = h
 
-not_a_repeat : (fault : ScenarioFault) (p : Place) (k : Key) → IsFindingOf fault (finding.Repeat p k) → ⊥
+not_a_repeat : (fault : ScenarioFault) (p : ScenarioObject) (k : Key)
+    → IsFindingOf fault (finding.Repeat p k) → ⊥
 not_a_repeat NotJson p k h = h
 not_a_repeat BadShape p k h = h
 not_a_repeat (Layout f) p k h = h

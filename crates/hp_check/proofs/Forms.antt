@@ -17,8 +17,8 @@ use Rattle.hp_check.specs.Findings.{key_name, keys_of, number_keys}
 use Rattle.hp_check.specs.Shape.{are_boots, are_parts, are_texts, has_its_keys, if_there, is_number, is_number_at, is_there}
 use Rattle.hp_check.specs.declared.finding.Key.{Key}
 use Rattle.hp_check.specs.declared.finding.Key.TheVariants as key
-use Rattle.hp_check.specs.declared.finding.Place.{Place}
-use Rattle.hp_check.specs.declared.finding.Place.TheVariants as place
+use Rattle.hp_check.specs.declared.finding.ScenarioObject.{ScenarioObject}
+use Rattle.hp_check.specs.declared.finding.ScenarioObject.TheVariants as place
 
 -- a test of what there may be, which is known
 pub seen_there : (f : Data → Bool) {a b : Option (Bor Value)} → a ≡ b
@@ -129,7 +129,7 @@ parts_are_numbers boot d =
 
 -- ---- the keys of an object
 
-pub counted_keys : (p : Place) (d : Data) (entries : List (String Global × Value)) (count : ℕ)
+pub counted_keys : (p : ScenarioObject) (d : Data) (entries : List (String Global × Value)) (count : ℕ)
     → count ≡ length entries
     → ((count == length (keys_of p)) && list_all (is_there d) (keys_of p))
     ≡ has_its_keys p d (members_view entries)

@@ -4,8 +4,8 @@ use Rattle.hp_check.specs.declared.finding.Finding.{Finding}
 use Rattle.hp_check.specs.declared.finding.Finding.TheVariants as finding
 use Rattle.hp_check.specs.declared.finding.Key.{Key}
 use Rattle.hp_check.specs.declared.finding.Key.TheVariants as key
-use Rattle.hp_check.specs.declared.finding.Place.{Place}
-use Rattle.hp_check.specs.declared.finding.Place.TheVariants.{Whole, Layout}
+use Rattle.hp_check.specs.declared.finding.ScenarioObject.{ScenarioObject}
+use Rattle.hp_check.specs.declared.finding.ScenarioObject.TheVariants.{Whole, Layout}
 
 -- all but warnings
 abbrev pub is_fault : Finding → Bool
@@ -39,7 +39,7 @@ number_keys =
     ∷ key.Words ∷ key.History ∷ []
 
 -- the keys that an object must have, and no others
-abbrev pub keys_of : Place → List Key
+abbrev pub keys_of : ScenarioObject → List Key
 keys_of Whole = key.Layout ∷ key.Calls ∷ []
 keys_of Layout =
     key.Order ∷ key.Pageblocks ∷ key.Blocks ∷ key.Cpus ∷ key.Batch ∷ key.High ∷ key.Owners ∷ key.Pages

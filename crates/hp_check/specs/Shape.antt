@@ -7,13 +7,13 @@ use Rattle.serde_json.specs.Find.{get, as_number, as_u64, as_str, as_array}
 use Rattle.hp_scenario.specs.Form.{boot_at, each_in, parts_of}
 use Rattle.hp_check.specs.Findings.{key_name, keys_of}
 use Rattle.hp_check.specs.declared.finding.Key.{Key}
-use Rattle.hp_check.specs.declared.finding.Place.{Place}
+use Rattle.hp_check.specs.declared.finding.ScenarioObject.{ScenarioObject}
 
 abbrev pub is_there : Data → Key → Bool
 is_there d k = is_some (get (key_name k) d)
 
 -- as many members as there are keys, and each key among them
-abbrev pub has_its_keys : Place → Data → Members → Bool
+abbrev pub has_its_keys : ScenarioObject → Data → Members → Bool
 has_its_keys place d ms = (members_len ms == length (keys_of place)) && list_all (is_there d) (keys_of place)
 
 -- a value that is missing is another fault

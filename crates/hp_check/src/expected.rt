@@ -1,10 +1,10 @@
-//! What was expected of a text that is no line.
+//! What was expected in place of a text that is not a line.
 use crate::slips::write_slip;
 use hp_units::number32;
 use std::alloc::AllocError;
 
-/// Writes why a text is no line: a space at one of its ends; or the word at fault, if that can be
-/// told, and what was expected.
+/// Writes why a text is not a line: a space at one of its ends, or the wrong word, if it can be
+/// found, and what was expected.
 pub(crate) fn write_expected(out: &mut String, text: &str) -> Result<(), AllocError> {
     if text.starts_with(' ') {
         return out.push_str("it begins with a space");
@@ -41,7 +41,7 @@ fn wanted_of(verb: &str) -> &'static str {
     "its second word is no verb"
 }
 
-/// Returns each verb with the form of its line, and then words that are likely to be meant for one.
+/// Returns each verb with the form of its line, and then words that were probably meant as a verb.
 fn forms() -> &'static [(&'static str, &'static str)] {
     &[
         ("kalloc", "wanted: C kalloc ORDER"),

@@ -6,23 +6,23 @@ use hp_requests::ControlFault;
 use hp_scenario::Unfit;
 use hp_units::{Serial, Text};
 
-/// One thing that is wrong with a scenario, or that is likely to be. Texts of `calls` are counted
+/// One thing that is wrong with a scenario, or that is likely to be. Texts of `calls` are numbered
 /// from 1.
 #[derive(Drop)]
 pub enum Finding {
-    /// The text is no JSON. The reader stopped at this line, counted from 1, and column, which may
+    /// The text is not JSON. The reader stopped at this line, counted from 1, and column, which may
     /// be 0.
     NotJson { hint: Hint, line: u64, column: u64 },
-    /// A key or the kind of a value is not a scenario's.
+    /// A key or the kind of a value does not belong in a scenario.
     Shape(Shape),
     /// A part of the layout is out of its range.
     Layout(OutOfRange),
-    /// A text of `calls` is no line.
+    /// A text of `calls` is not a line.
     BadCall { number: u64, text: Text },
-    /// A warning: an object of the text has a key more than once, and the last counts. Those of a
-    /// layout are reported only if no key of the whole comes twice.
-    Repeat { place: Place, key: Key },
-    /// A warning: a line hardly does what is wanted.
+    /// A warning: an object has a key more than once, and the last one counts. Repeated keys of the
+    /// layout are reported only if the scenario itself repeats none.
+    Repeat { place: ScenarioObject, key: Key },
+    /// A warning: a line probably does not do what it is meant to do.
     Warning { number: u64, warning: Warning },
 }
 
@@ -35,7 +35,7 @@ impl Finding {
     }
 }
 
-/// Why a text is likely to be no JSON: the first of these that applies.
+/// The likely reason why a text is not JSON: the first of these that applies.
 #[derive(Clone, Copy)]
 pub enum Hint {
     /// It has nothing but white space.
@@ -46,9 +46,9 @@ pub enum Hint {
     Comma,
     /// The reader stopped at this character: a control character, or one beyond ASCII.
     Unexpected(char),
-    /// It has more objects and lists in one another than the reader takes.
+    /// Its objects and lists are nested deeper than the reader allows.
     TooDeep,
-    /// It has a comment, as other languages have it.
+    /// It has a comment, which JSON does not allow.
     Comment,
     /// None of the above.
     Nothing,
@@ -56,8 +56,8 @@ pub enum Hint {
 
 /// An object of a scenario.
 #[derive(Clone, Copy)]
-pub enum Place {
-    /// The whole.
+pub enum ScenarioObject {
+    /// The scenario itself.
     Whole,
     /// The value of `layout`.
     Layout,
@@ -78,7 +78,7 @@ pub enum Key {
     Blocks,
     /// `cpus`: the number of processors.
     Cpus,
-    /// `batch`: how many frames a processor's list is refilled by and spills.
+    /// `batch`: how many frames a processor's list takes or gives back at once.
     Batch,
     /// `high`: how many frames a processor's list holds before it spills.
     High,
@@ -117,24 +117,24 @@ impl Key {
     }
 }
 
-/// A key, or the kind of a value, that is not a scenario's.
+/// A key, or the kind of a value, that does not belong in a scenario.
 #[derive(Drop)]
 pub enum Shape {
-    /// No object.
-    NotObject(Place),
-    /// An object of another number of keys.
-    KeyCount { place: Place, count: u64 },
+    /// A value that is not an object.
+    NotObject(ScenarioObject),
+    /// An object with the wrong number of keys.
+    KeyCount { place: ScenarioObject, count: u64 },
     /// A key that the object may not have.
-    UnknownKey { place: Place, key: Text },
+    UnknownKey { place: ScenarioObject, key: Text },
     /// A key that the object lacks.
-    MissingKey { place: Place, key: Key },
-    /// A value that is no integer from 0 to 2^64-1.
+    MissingKey { place: ScenarioObject, key: Key },
+    /// A value that is not an integer from 0 to 2^64-1.
     NotNumber(Key),
-    /// A value that is no list.
+    /// A value that is not a list.
     NotList(Key),
-    /// An entry of `boot` that is none of its words; they are counted from 1.
+    /// An entry of `boot` that is none of its words. Entries are numbered from 1.
     NotBoot { number: u64 },
-    /// An entry of `calls` that is no text; they are counted from 1.
+    /// An entry of `calls` that is not a text. Entries are numbered from 1.
     NotText { number: u64 },
 }
 
@@ -143,7 +143,7 @@ pub enum Shape {
 pub enum OutOfRange {
     /// The order, above 10.
     Order(u64),
-    /// Pageblocks of a memory block: no power of two up to 64.
+    /// Pageblocks of a memory block: not a power of two up to 64.
     Pageblocks(u64),
     /// Memory blocks: not 1 to 256.
     Blocks(u64),
@@ -186,24 +186,24 @@ pub enum What {
     Block,
 }
 
-/// Why a line hardly does what is wanted.
+/// Why a line probably does not do what it is meant to do.
 #[derive(Clone, Copy)]
 pub enum Warning {
-    /// A number past the layout, which has `count`, counted from 0: the call is refused.
+    /// A number past the layout, where numbers are below `count`: the call is refused.
     Past { what: What, number: u64, count: u64 },
-    /// A number of an operation that no line before it begins.
+    /// The number of an operation that no earlier line begins.
     NoBegin { op: Serial },
     /// More turns of a plan than a history of this many records has room for.
     Turns { turns: u32, history: u64 },
-    /// The lines before it since the last seal fill a history of this many records.
+    /// The earlier lines since the last seal fill a history of this many records.
     Full { history: u64 },
-    /// An `echo` or a `cat` with this character, which no word of a control file has.
+    /// An `echo` or a `cat` with this character, which no word of a control file contains.
     Unexpected(char),
     /// An `echo` that its control file does not take.
     Echo(ControlFault),
-    /// A `cat` that has this fault in every state: of no control file, of one that can only be
-    /// written, or of a memory block past the layout.
+    /// A `cat` that has this fault in every state: there is no such control file, it can only be
+    /// written, or its memory block is past the layout.
     Cat(ControlFault),
-    /// A line after the setup that cannot stand in a script.
+    /// A line after the setup that cannot be part of a script.
     NotForScript(Unfit),
 }

@@ -23,5 +23,5 @@ mod texts;
 mod warnings;
 
 pub use checking::{check, fault_count};
-pub use finding::{Finding, Hint, Key, OutOfRange, Place, Shape, Warning, What};
+pub use finding::{Finding, Hint, Key, OutOfRange, ScenarioObject, Shape, Warning, What};
 pub use report::write_report;

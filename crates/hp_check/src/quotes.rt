@@ -1,5 +1,5 @@
 //! Texts of a scenario as findings quote them.
-use hp_escapes::{Brackets, write_start};
+use hp_text::{Brackets, write_start};
 use std::alloc::AllocError;
 
 /// The most characters of a text that are shown.

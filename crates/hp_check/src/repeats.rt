@@ -3,7 +3,7 @@ ghost use Rattle.std.specs.Prelude.{OnOk};
 ghost use Rattle.std.specs.List.{All};
 ghost use Rattle.hp_check.specs.Adds.{IsRepeat};
 
-use crate::finding::{Finding, Place};
+use crate::finding::{Finding, ScenarioObject};
 use crate::shape::keys_of;
 use hp_call_lines::keys_at;
 use std::alloc::AllocError;
@@ -17,22 +17,26 @@ pub(crate) fn push_repeats(found: &mut Vec<Finding>, input: &[u8]) -> Result<(),
     ensures { OnOk result (All IsRepeat found.new.items) }
 {
     let before = found.len();
-    push_repeats_of(found, input, Place::Whole)?;
+    push_repeats_of(found, input, ScenarioObject::Whole)?;
     if found.len() > before {
         return Ok(());
     }
-    push_repeats_of(found, input, Place::Layout)
+    push_repeats_of(found, input, ScenarioObject::Layout)
 }
 
 /// Adds the keys of an object that the text has more than once.
-fn push_repeats_of(found: &mut Vec<Finding>, input: &[u8], place: Place) -> Result<(), AllocError>
+fn push_repeats_of(
+    found: &mut Vec<Finding>,
+    input: &[u8],
+    place: ScenarioObject,
+) -> Result<(), AllocError>
     requires { All IsRepeat found.old.items }
     ensures { OnOk result (All IsRepeat found.new.items) }
 {
     // At its keys, this many objects and lists are open.
     let depth = match place {
-        Place::Whole => 1,
-        Place::Layout => 2,
+        ScenarioObject::Whole => 1,
+        ScenarioObject::Layout => 2,
     };
     let keys = keys_of(place);
     for key in keys {

@@ -1,7 +1,7 @@
 //! The text of findings.
 use crate::checking::fault_count;
 use crate::expected::write_expected;
-use crate::finding::{Finding, Hint, OutOfRange, Place, Shape, Warning};
+use crate::finding::{Finding, Hint, OutOfRange, ScenarioObject, Shape, Warning};
 use crate::quotes::{write_quoted, write_unexpected};
 use crate::shape::keys_of;
 use hp_call_lines::call_lines;
@@ -107,7 +107,7 @@ fn write_shape(out: &mut String, lines: &[u64], shape: &Shape) -> Result<(), All
         Shape::MissingKey { place, key } => write_key(out, *place, key.name(), "is missing"),
         Shape::NotNumber(key) => write_key(
             out,
-            Place::Layout,
+            ScenarioObject::Layout,
             key.name(),
             "is no integer from 0 to 2^64-1",
         ),
@@ -127,7 +127,12 @@ fn write_shape(out: &mut String, lines: &[u64], shape: &Shape) -> Result<(), All
 }
 
 /// Writes a key of an object, and what is wrong with it.
-fn write_key(out: &mut String, place: Place, name: &str, what: &str) -> Result<(), AllocError> {
+fn write_key(
+    out: &mut String,
+    place: ScenarioObject,
+    name: &str,
+    what: &str,
+) -> Result<(), AllocError> {
     write!(out, "{place}: ")?;
     write_quoted(out, name)?;
     writeln!(out, " {what}")

@@ -8,7 +8,7 @@ ghost use Rattle.hp_check.specs.Adds.{Adds, IsShape, lacks};
 ghost use Rattle.hp_check.specs.Findings.{keys_of, number_keys};
 ghost use Rattle.hp_check.specs.Shape as means;
 
-use crate::finding::{Finding, Key, Place, Shape};
+use crate::finding::{Finding, Key, ScenarioObject, Shape};
 use hp_scenario::boot_at;
 use hp_units::Text;
 use serde_json::{Map, Value};
@@ -24,9 +24,9 @@ pub(crate) fn push_shape(
         (Adds IsShape (lacks (is_some (form_of (view value.now)))) found.old.items found.new.items) }
 {
     let Some(members) = value.as_object() else {
-        return push(found, Shape::NotObject(Place::Whole));
+        return push(found, Shape::NotObject(ScenarioObject::Whole));
     };
-    push_keys(found, alloc, Place::Whole, value, members)?;
+    push_keys(found, alloc, ScenarioObject::Whole, value, members)?;
     push_layout(found, alloc, value.get("layout"))?;
     push_calls(found, value.get("calls"))
 }
@@ -43,7 +43,7 @@ fn push(found: &mut Vec<Finding>, shape: Shape) -> Result<(), AllocError>
 fn push_keys(
     found: &mut Vec<Finding>,
     alloc: Global,
-    place: Place,
+    place: ScenarioObject,
     value: &Value,
     members: &Map<String, Value>,
 ) -> Result<(), AllocError>
@@ -61,12 +61,12 @@ fn push_keys(
 }
 
 /// Returns the keys that an object must have.
-pub(crate) fn keys_of(place: Place) -> &'static [Key]
+pub(crate) fn keys_of(place: ScenarioObject) -> &'static [Key]
     ensures { result.now ≡ keys_of place }
 {
     match place {
-        Place::Whole => &[Key::Layout, Key::Calls],
-        Place::Layout => &[
+        ScenarioObject::Whole => &[Key::Layout, Key::Calls],
+        ScenarioObject::Layout => &[
             Key::Order,
             Key::Pageblocks,
             Key::Blocks,
@@ -83,7 +83,7 @@ pub(crate) fn keys_of(place: Place) -> &'static [Key]
 }
 
 /// Returns whether an object of this many members has its keys and no others.
-fn has_its_keys(place: Place, value: &Value, count: usize) -> bool
+fn has_its_keys(place: ScenarioObject, value: &Value, count: usize) -> bool
     ensures { result ≡ ((count == length (keys_of place))
         && list_all (means.is_there (view value.now)) (keys_of place)) }
 {
@@ -91,14 +91,14 @@ fn has_its_keys(place: Place, value: &Value, count: usize) -> bool
 }
 
 /// Returns whether an object has each of its keys.
-fn has_all(place: Place, value: &Value) -> bool
+fn has_all(place: ScenarioObject, value: &Value) -> bool
     ensures { result ≡ list_all (means.is_there (view value.now)) (keys_of place) }
 {
     keys_of(place).iter().all(|key| is_there(value, *key))
 }
 
 /// Returns whether an object must have this many keys.
-fn has_count(place: Place, count: usize) -> bool
+fn has_count(place: ScenarioObject, count: usize) -> bool
     ensures { result ≡ (count == length (keys_of place)) }
 {
     count == keys_of(place).len()
@@ -112,7 +112,11 @@ fn is_there(value: &Value, key: Key) -> bool
 }
 
 /// Adds the number of the object's keys, if it must have another.
-fn push_count(found: &mut Vec<Finding>, place: Place, count: usize) -> Result<(), AllocError>
+fn push_count(
+    found: &mut Vec<Finding>,
+    place: ScenarioObject,
+    count: usize,
+) -> Result<(), AllocError>
     ensures { OnOk result
         (Adds IsShape (lacks (count == length (keys_of place))) found.old.items found.new.items) }
 {
@@ -127,7 +131,7 @@ fn push_count(found: &mut Vec<Finding>, place: Place, count: usize) -> Result<()
 fn push_unknown(
     found: &mut Vec<Finding>,
     alloc: Global,
-    place: Place,
+    place: ScenarioObject,
     members: &Map<String, Value>,
 ) -> Result<(), AllocError>
     ensures { OnOk result ((fine : Bool) × Adds IsShape (lacks fine) found.old.items found.new.items) }
@@ -145,12 +149,16 @@ fn push_unknown(
 }
 
 /// Returns whether the object may have a key.
-fn is_key_of(place: Place, name: &str) -> bool {
+fn is_key_of(place: ScenarioObject, name: &str) -> bool {
     keys_of(place).iter().any(|key| name == key.name())
 }
 
 /// Adds the keys that the object lacks.
-fn push_missing(found: &mut Vec<Finding>, place: Place, value: &Value) -> Result<(), AllocError>
+fn push_missing(
+    found: &mut Vec<Finding>,
+    place: ScenarioObject,
+    value: &Value,
+) -> Result<(), AllocError>
     ensures { OnOk result (Adds IsShape (lacks (list_all (means.is_there (view value.now)) (keys_of place)))
         found.old.items found.new.items) }
 {
@@ -179,9 +187,9 @@ fn push_layout(
         return Ok(());
     };
     let Some(members) = layout.as_object() else {
-        return push(found, Shape::NotObject(Place::Layout));
+        return push(found, Shape::NotObject(ScenarioObject::Layout));
     };
-    push_keys(found, alloc, Place::Layout, layout, members)?;
+    push_keys(found, alloc, ScenarioObject::Layout, layout, members)?;
     push_numbers(found, layout)?;
     push_boot(found, layout.get("boot"))
 }

@@ -1,12 +1,12 @@
 //! The names of what a finding speaks of.
-use crate::finding::{Place, What};
+use crate::finding::{ScenarioObject, What};
 use std::fmt;
 
-impl fmt::Display for Place {
+impl fmt::Display for ScenarioObject {
     fn fmt<W: fmt::Write>(&self, f: &mut fmt::Formatter<W>) -> fmt::Result {
         f.write_str(match self {
-            Place::Whole => "scenario",
-            Place::Layout => "layout",
+            ScenarioObject::Whole => "scenario",
+            ScenarioObject::Layout => "layout",
         })
     }
 }

@@ -7,9 +7,9 @@ use Rattle.hp_schedules.specs.Orders.{IsBefore}
 use Rattle.hp_schedules.specs.Outcomes.{OutcomeValue}
 use Rattle.hp_schedules.specs.declared.tally.Ending.{Ending}
 use Rattle.hp_schedules.proofs.Regions.{before_before, not_before_itself}
-use Rattle.hp_wanted.specs.Ends.{IsFirstSuchEnd}
-use Rattle.hp_wanted.specs.Wanted.{Meets}
-use Rattle.hp_wanted.specs.declared.wanted.Wanted.{Wanted}
+use Rattle.hp_questions.specs.Ends.{IsFirstSuchEnd}
+use Rattle.hp_questions.specs.Wanted.{Meets}
+use Rattle.hp_questions.specs.declared.wanted.Wanted.{Wanted}
 
 -- of what the ends count nothing with the lines stands before the first schedule of the first such end
 pub none_before : (E : List ℕ → OutcomeValue → Type 0) (ends : List Ending) (wanted : List Wanted)

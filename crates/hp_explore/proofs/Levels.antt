@@ -13,12 +13,12 @@ use Rattle.hp_explore.specs.declared.exploring.ExploreFault.{ExploreFault}
 use Rattle.hp_explore.specs.declared.exploring.ExploreFault.TheVariants.{HistoryFull, OutOfMemory}
 use Rattle.hp_schedules.specs.declared.tally.Ending.{Ending}
 use Rattle.hp_explore.specs.Changes.{changes}
-use Rattle.hp_wanted.specs.Ends.{HasNoSuchEnd, IsFirstSuchEnd}
+use Rattle.hp_questions.specs.Ends.{HasNoSuchEnd, IsFirstSuchEnd}
 use Rattle.hp_explore.specs.FindFaults.{IsFindCause, IsNearCause, IsPassCause, few_changes, find_fault_from}
 use Rattle.hp_explore.specs.Reaching.{HasRoomAlong, IsAbsent, IsAbsentAmongFirst, IsAmongFirst, IsFirstWithin, IsMetAmongFirst, IsNearest, IsNearestBelow, NeedsChanges, ReachesFirst}
-use Rattle.hp_wanted.specs.Wanted.{Meets}
+use Rattle.hp_questions.specs.Wanted.{Meets}
 use Rattle.hp_explore.specs.declared.fault.FindFault.TheVariants.{TooMany}
-use Rattle.hp_wanted.specs.declared.wanted.Wanted.{Wanted}
+use Rattle.hp_questions.specs.declared.wanted.Wanted.{Wanted}
 use Rattle.hp_schedules.proofs.Regions.{before_before}
 use Rattle.hp_explore.proofs.Firsts.{none_before}
 use Rattle.hp_explore.proofs.FindRooms.{room_before}

@@ -10,7 +10,7 @@ use Rattle.hp_schedules.proofs.Plays.{asks_within, none_through, stops}
 use Rattle.hp_schedules.proofs.Regions.{before_first, before_longer, before_next, extends_before}
 use Rattle.hp_explore.specs.Changes.{changes}
 use Rattle.hp_explore.specs.Reaching.{IsPassed, NeedsChanges, Reaches}
-use Rattle.hp_wanted.specs.declared.wanted.Wanted.{Wanted}
+use Rattle.hp_questions.specs.declared.wanted.Wanted.{Wanted}
 use Rattle.hp_explore.proofs.Growing.{changes_longer}
 
 -- at the start nothing is

@@ -20,10 +20,10 @@ use Rattle.hp_explore.specs.Changes.{changes}
 use Rattle.hp_explore.specs.FindFaults.{IsPassCause}
 use Rattle.hp_explore.specs.Reaching.{IsFirstWithin, IsPassed, NeedsChanges, Reaches}
 use Rattle.hp_explore.specs.Searches.{IsCloser, IsDown, IsSearching, IsTakenBack, IsTurned, IsUp, SearchValue, room_of, search_at}
-use Rattle.hp_wanted.specs.Wanted.{Meets}
+use Rattle.hp_questions.specs.Wanted.{Meets}
 use Rattle.hp_explore.specs.declared.searching.Turn.{Turn}
 use Rattle.hp_explore.specs.declared.searching.Turn.TheVariants.{On, Found, Over}
-use Rattle.hp_wanted.specs.declared.wanted.Wanted.{Wanted}
+use Rattle.hp_questions.specs.declared.wanted.Wanted.{Wanted}
 use Rattle.hp_explore.proofs.Growing.{changes_longer}
 use Rattle.hp_explore.proofs.Reaching.{passed_down, passed_far, passed_none, passed_over, passed_up, passed_whole}
 use Rattle.hp_explore.proofs.FindRooms.{room_back, room_none, room_push}

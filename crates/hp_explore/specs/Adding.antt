@@ -1,4 +1,4 @@
--- What adding ends to ends does.
+-- How ends are added to a list of ends.
 use Rattle.std.specs.Prelude.{◌≡◌, ℕ, ◌+◌, ◌⊎◌, List, [], ◌∷◌, ◌++◌, Some, if◌then◌else◌, slice_get, slice_set, sum_by}
 use Rattle.std.specs.Cmp.Lexicographic.{slice_cmp}
 use Rattle.std.specs.List.Sorted.{IsPermutation, IsSortedBy}
@@ -10,8 +10,8 @@ use Rattle.hp_schedules.specs.declared.tally.Ending.{Ending}
 abbrev pub earlier : List ℕ → List ℕ → List ℕ
 earlier s t = if is_lt (slice_cmp nat_cmp s t) then s else t
 
--- one of the ends has the outcome, and counts its schedules too; its first schedule is
--- the earlier of both
+-- the list already has the end's outcome: the counts are added, and the earlier of the two first
+-- schedules is kept
 pub record AddsMore (old : List Ending) (e : Ending) (new : List Ending) : Type 0 where
   pub at : ℕ
   pub entry : Ending
@@ -23,7 +23,7 @@ pub record AddsMore (old : List Ending) (e : Ending) (new : List Ending) : Type 
   pub first : more.first.items ≡ earlier e.first.items entry.first.items
   pub new_is : new ≡ slice_set old at more
 
--- none of the ends has the outcome, and the end is added after them
+-- the list does not have the end's outcome: the end is appended
 pub record AddsOther (old : List Ending) (e : Ending) (new : List Ending) : Type 0 where
   pub entry : Ending
   pub none : HasNoEnd old e.outcome
@@ -32,7 +32,7 @@ pub record AddsOther (old : List Ending) (e : Ending) (new : List Ending) : Type
   pub first : entry.first.items ≡ e.first.items
   pub new_is : new ≡ old ++ entry ∷ []
 
--- an end is added to ends
+-- an end is added to a list
 abbrev pub AddsEnd : List Ending → Ending → List Ending → Type 0
 AddsEnd old e new = AddsMore old e new ⊎ AddsOther old e new
 
@@ -46,7 +46,7 @@ abbrev pub AddsLists : List Ending → List (List Ending) → List Ending → Ty
 AddsLists old [] new = new ≡ old
 AddsLists old (ends ∷ lists) new = (next : List Ending) × AddsEnds old ends next × AddsLists next lists new
 
--- how many schedules the lists of ends count
+-- the number of schedules that the lists count
 abbrev pub counted_by : List (List Ending) → ℕ
 counted_by lists = sum_by (λ ends. sum_by (λ e. e.count) ends) lists
 

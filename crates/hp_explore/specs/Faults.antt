@@ -13,7 +13,7 @@ use Rattle.hp_units.specs.declared.replies.CallFault.{CallFault}
 use Rattle.hp_units.specs.declared.replies.CallFault.TheVariants.{HistoryFull as CallFull, OutOfMemory as CallMemory}
 use Rattle.hp_schedules.specs.Parts.{ComesTo, PartValue}
 
--- the history has no room for a call that a processor has to make, where some schedule leads
+-- some schedule leads to a call for which the history has no room
 abbrev pub FillsHistory : Setting → Type 0
 FillsHistory g = (s : List ℕ) × HasNoRoom g s
 
@@ -21,7 +21,7 @@ FillsHistory g = (s : List ℕ) × HasNoRoom g s
 abbrev pub FillsAlong : Setting → List ℕ → Type 0
 FillsAlong g schedule = (s : List ℕ) × (h : HasNoRoom g s) × Extends schedule (s ++ h.cpu ∷ [])
 
--- the history has no room for the call that a processor has to make after the new records
+-- the history has no room for the processor's next call after the new records
 abbrev pub FillsHere : Setting → List Record → (cpu : ℕ) → Type 0
 FillsHere g news cpu =
     (event : Event) × (next_call g cpu news ≡ Some event) × (is_full_after g news ≡ true)
@@ -38,8 +38,7 @@ IsCause g OutOfMemory = Unit {0}
 
 -- ---- for one part
 
--- the history has no room for a call that a processor has to make, where a schedule of the part's
--- search leads
+-- some schedule of the part's search leads to a call for which the history has no room
 abbrev pub FillsPart : Setting → PartValue → Type 0
 FillsPart g part = (s : List ℕ) × HasNoRoom g s × ComesTo (length g.scripts) part s
 
@@ -51,7 +50,7 @@ IsCausePart g part OutOfMemory = Unit {0}
 -- ---- in a search with a limit
 
 -- the search reaches a call for which the history has no room: the first such call in the order of
--- the walk, with no more complete schedules before it than the limit
+-- the walk, with at most `limit` complete schedules before it
 pub record FillsWithin (g : Setting) (limit : ℕ) : Type 0 where
   pub place : List ℕ
   pub call : HasNoRoom g place
@@ -67,7 +66,7 @@ pub record FillsPartWithin (g : Setting) (part : PartValue) (limit : ℕ) : Type
   pub few :
       HasMoreThan (λ s. (x : OutcomeValue) × BeforeInPart g part (place ++ call.cpu ∷ []) s x) limit → ⊥
 
--- the causes of their faults
+-- the cause of a fault of such a search
 abbrev pub IsCauseWithin : Setting → (limit : ℕ) → ExploreFault → Type 0
 IsCauseWithin g limit HistoryFull = FillsWithin g limit
 IsCauseWithin g limit OutOfMemory = Unit {0}

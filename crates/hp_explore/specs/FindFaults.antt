@@ -1,4 +1,4 @@
--- Why nothing was found, and what a result excludes.
+-- Why a search failed, and what its result rules out.
 use Rattle.std.specs.Prelude.{ℕ, ◌<◌, ◌≤◌, ◌⊎◌, List, [], ◌∷◌, ◌++◌}
 use Rattle.hp_explore.specs.Faults.{FillsHistory, FillsWithin}
 use Rattle.hp_states.specs.Rooms.{HasNoRoom}
@@ -12,7 +12,7 @@ use Rattle.hp_explore.specs.declared.fault.FindFault.{FindFault}
 use Rattle.hp_explore.specs.declared.fault.FindFault.TheVariants.{TooMany, HistoryFull, OutOfMemory}
 use Rattle.hp_explore.specs.declared.finding.Found.{Found}
 use Rattle.hp_explore.specs.declared.finding.Found.TheVariants.{Nearest, Absent}
-use Rattle.hp_wanted.specs.declared.wanted.Wanted.{Wanted}
+use Rattle.hp_questions.specs.declared.wanted.Wanted.{Wanted}
 
 -- schedules with fewer changes than this are searched before all are counted
 abbrev pub few_changes : ℕ
@@ -20,16 +20,16 @@ few_changes = 3
 
 -- ---- a full history
 
--- the history has no room for a call of a search within this budget, and no schedule before that
--- call ends as wanted
+-- a search within this budget reaches a call for which the history has no room, and no schedule
+-- that it passed before that call ends as wanted
 pub record FillsPass (g : Setting) (wanted : List Wanted) (budget : ℕ) : Type 0 where
   pub place : List ℕ
   pub call : HasNoRoom g place
   pub few : changes (place ++ call.cpu ∷ []) ≤ budget
   pub passed : IsPassed g wanted budget (place ++ call.cpu ∷ [])
 
--- the history has no room for a call up to which there are fewer than `below` changes; no schedule
--- that ends as wanted has fewer changes than this call, and none before it has as many
+-- the history has no room for a call that fewer than `below` changes lead to. No schedule that ends
+-- as wanted has fewer changes than lead to this call, and none before it has as many
 pub record FillsNear (g : Setting) (wanted : List Wanted) (below : ℕ) : Type 0 where
   pub place : List ℕ
   pub call : HasNoRoom g place
@@ -37,7 +37,7 @@ pub record FillsNear (g : Setting) (wanted : List Wanted) (below : ℕ) : Type 0
   pub needs : NeedsChanges g wanted (changes (place ++ call.cpu ∷ []))
   pub passed : IsPassed g wanted (changes (place ++ call.cpu ∷ [])) (place ++ call.cpu ∷ [])
 
--- there are more schedules than the limit, one of the first ones ends as wanted, and the history
+-- there are more schedules than the limit, one of the first `limit` ends as wanted, and the history
 -- has no room for a call with fewer changes than that one
 abbrev pub FillsLed : Setting → List Wanted → (limit : ℕ) → Type 0
 FillsLed g wanted limit =
@@ -55,9 +55,10 @@ IsNearCause g wanted below explore.OutOfMemory = Unit {0}
 
 -- ---- for the whole search
 
--- the cause of a fault. Too many: no schedule with few changes ends as wanted, and none of the
--- first ones. Full history: a call with few changes; or, if no schedule with few changes ends so, a
--- call that the count reaches within its limit, or one to which the first ones led
+-- the cause of a fault. `TooMany`: neither a schedule with few changes nor one of the first `limit`
+-- ends as wanted. `HistoryFull`: there is no room for a call with few changes; or, if no schedule
+-- with few changes ends as wanted, for a call that the count reaches within its limit, or to which
+-- one of the first schedules led
 abbrev pub IsFindCause : Setting → List Wanted → (limit : ℕ) → FindFault → Type 0
 IsFindCause g wanted limit TooMany =
     NeedsChanges g wanted few_changes × HasMoreThan (IsComplete g) limit × IsAbsentAmongFirst g wanted limit
@@ -66,15 +67,16 @@ IsFindCause g wanted limit HistoryFull =
     ⊎ (NeedsChanges g wanted few_changes × (FillsWithin g limit ⊎ FillsLed g wanted limit))
 IsFindCause g wanted limit OutOfMemory = Unit {0}
 
--- what the count found is within the limit: a schedule is absent only if there are no more
--- schedules, and one with more changes was found through one of the first ones
+-- the result keeps to the limit: `Absent` only if there are no more schedules than the limit. If
+-- there are more, a schedule with `few_changes` changes or more is found only if one of the first
+-- `limit` ends as wanted
 abbrev pub IsWithin : Setting → List Wanted → (limit : ℕ) → Found → Type 0
 IsWithin g wanted limit (Nearest schedule) =
     few_changes ≤ changes schedule.items → HasMoreThan (IsComplete g) limit → IsMetAmongFirst g wanted limit
 IsWithin g wanted limit (Absent schedules) = HasMoreThan (IsComplete g) limit → ⊥
 
--- no schedule fills the history if none ends as wanted, or if one with more changes does and there
--- are no more schedules than the limit
+-- no schedule fills the history if the result is `Absent`, or if it is a schedule with
+-- `few_changes` changes or more and there are no more schedules than the limit
 abbrev pub SparesHistory : Setting → (limit : ℕ) → Found → Type 0
 SparesHistory g limit (Nearest schedule) =
     few_changes ≤ changes schedule.items → (HasMoreThan (IsComplete g) limit → ⊥) → FillsHistory g → ⊥

@@ -6,10 +6,10 @@ use Rattle.hp_schedules.specs.Outcomes.{OutcomeValue}
 use Rattle.hp_schedules.specs.Schedules.{EndsWith, IsComplete, Setting}
 use Rattle.hp_states.specs.Walks.{Before}
 use Rattle.hp_explore.specs.Changes.{changes}
-use Rattle.hp_wanted.specs.Wanted.{Meets}
+use Rattle.hp_questions.specs.Wanted.{Meets}
 use Rattle.hp_explore.specs.declared.finding.Found.{Found}
 use Rattle.hp_explore.specs.declared.finding.Found.TheVariants.{Nearest, Absent}
-use Rattle.hp_wanted.specs.declared.wanted.Wanted.{Wanted}
+use Rattle.hp_questions.specs.declared.wanted.Wanted.{Wanted}
 
 -- a complete schedule of the scripts whose end has all wanted lines
 abbrev pub Reaches : Setting → List Wanted → List ℕ → Type 0
@@ -36,8 +36,7 @@ ReachesFirst g wanted s = Reaches g wanted s × ((t : List ℕ) → Reaches g wa
 abbrev pub IsAbsent : Setting → List Wanted → ℕ → Type 0
 IsAbsent g wanted n = ((s : List ℕ) → Reaches g wanted s → ⊥) × HasCount (IsComplete g) n
 
--- the schedules before some place are as many as the limit. Of these first ones none ends as
--- wanted; or this one does; or some one does
+-- of the first `limit` schedules, none ends as wanted; this one does; some one does
 abbrev pub IsAbsentAmongFirst : Setting → List Wanted → (limit : ℕ) → Type 0
 IsAbsentAmongFirst g wanted limit =
     (place : List ℕ) × HasCount (λ s. (x : OutcomeValue) × Before g place s x) limit
@@ -60,14 +59,14 @@ abbrev pub IsFound : Setting → List Wanted → Found → Type 0
 IsFound g wanted (Nearest schedule) = IsNearest g wanted schedule.items
 IsFound g wanted (Absent schedules) = IsAbsent g wanted schedules
 
--- the nearest schedule, with fewer than `below` changes, all of whose calls have room; if None,
--- each that ends as wanted has `below` changes or more
+-- the nearest schedule that ends as wanted, with fewer than `below` changes; the history has room
+-- for all its calls. None: every schedule that ends as wanted has at least `below` changes
 abbrev pub IsNearestBelow : Setting → List Wanted → (below : ℕ) → Option (List ℕ) → Type 0
 IsNearestBelow g wanted below None = NeedsChanges g wanted below
 IsNearestBelow g wanted below (Some s) = IsNearest g wanted s × (changes s < below) × HasRoomAlong g s
 
--- the first schedule with at most `budget` changes, all of whose calls have room; if None, each
--- that ends as wanted has more
+-- the first schedule that ends as wanted with at most `budget` changes; the history has room for
+-- all its calls. None: every schedule that ends as wanted has more changes
 abbrev pub IsFirstWithin : Setting → List Wanted → (budget : ℕ) → Option (List ℕ) → Type 0
 IsFirstWithin g wanted budget None = NeedsChanges g wanted (budget + 1)
 IsFirstWithin g wanted budget (Some s) =

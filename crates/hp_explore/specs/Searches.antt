@@ -6,7 +6,7 @@ use Rattle.hp_explore.specs.Changes.{changes}
 use Rattle.hp_explore.specs.Reaching.{HasRoomAlong, IsFirstWithin, IsPassed}
 use Rattle.hp_explore.specs.declared.searching.Turn.{Turn}
 use Rattle.hp_explore.specs.declared.searching.Turn.TheVariants.{On, Found, Over}
-use Rattle.hp_wanted.specs.declared.wanted.Wanted.{Wanted}
+use Rattle.hp_questions.specs.declared.wanted.Wanted.{Wanted}
 
 -- ---- how many turns are left
 

@@ -1,4 +1,4 @@
--- How far the walk over all schedules is.
+-- How far the walk over all schedules has come.
 use Rattle.std.specs.Prelude.{◌≡◌, ℕ, ◌+◌, ◌<◌, ◌≤◌, Bool, true, false, List, [], ◌∷◌, ◌++◌, Option, Some, None, length, drop}
 use Rattle.hp_units.specs.History.{Effect, Looks, Undoes, Cancels, Acts}
 use Rattle.hp_units.specs.declared.events.Event.{Event}

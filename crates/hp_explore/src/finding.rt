@@ -10,9 +10,9 @@ use crate::fault::FindFault;
 use crate::searching::first_within;
 use crate::{ExploreFault, Watch, explore};
 use hp_machine::Machine;
+use hp_questions::{Wanted, end_with};
 use hp_schedules::{CallScript, total_of};
 use hp_units::Cpu;
-use hp_wanted::{Wanted, end_with};
 use std::alloc::Global;
 
 /// Schedules with fewer changes than this are searched before all schedules are counted.

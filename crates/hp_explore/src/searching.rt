@@ -11,9 +11,9 @@ ghost use Rattle.hp_explore.specs.Searches.{IsDown, IsSearching, IsTurned, IsUp}
 use crate::changes::changes_with;
 use crate::{ExploreFault, Path, is_over};
 use hp_machine::Machine;
+use hp_questions::{Wanted, are_met};
 use hp_schedules::CallScript;
 use hp_units::Cpu;
-use hp_wanted::{Wanted, are_met};
 use std::alloc::{AllocError, Global};
 use std::marker::Model;
 

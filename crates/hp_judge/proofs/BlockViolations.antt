@@ -55,7 +55,7 @@ leaving t block f e own h =
     (sym (block_frames t.size block f) ∙ here) in
     record { low = parts.0; high = parts.1 }
 
--- the laws of frames, where no frame is left behind
+-- the laws of frames, if no frame is left behind
 frames_quiet : (t : Tables) (block : ℕ) (e : LogEvent) → is_of block e ≡ true
     → NoneInUse t (block * 2 ^ t.size.block_order) (2 ^ t.size.block_order)
     → (law : Law) (f : ℕ) → rank law < 6 → violation_in t e law f ≡ None
@@ -105,7 +105,7 @@ phase_none t block e own none c g n o Offline b inside =
     elsewhere e block b (not (is_online_begin e)) (offline_since (block_at t.blocks b).phase) own
     (λ same. subst (λ (k : ℕ). violation_in t e Offline k ≡ None) same o)
 
--- the law of a phase holds at a block that the event is not of
+-- the law of a phase holds at every block but the event's own
 apart_from : (t : Tables) (block b : ℕ) (e : LogEvent) (law : Law) → is_of block e ≡ true → b < block
     → rank law ≡ 6 → violation_in t e law b ≡ None
 apart_from t block b e GoingOnline own less r = rw (not_of block b e own less) refl

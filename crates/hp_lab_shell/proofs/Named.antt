@@ -2,8 +2,8 @@
 use Rattle.std.proofs.Common.{◌≡◌, ℕ, ◌<◌, true, List, Option, Some, None, refl, subst, sym, ◌∙◌, arith, le-leb}
 use Rattle.hp_scenario.specs.Scenario.{scenario_in}
 use Rattle.hp_lab_shell.specs.Scripts.{count_of}
-use Rattle.hp_lab_faults.specs.declared.program_fault.ProgramFault.{ProgramFault}
-use Rattle.hp_lab_faults.specs.declared.program_fault.ProgramFault.TheVariants.{Lab, NotOpened, Parts, PastEnd, ReadFailed, Scenario, TooLong, WriteFailed}
+use Rattle.hp_search.specs.declared.program_fault.LabProgramFault.{LabProgramFault}
+use Rattle.hp_search.specs.declared.program_fault.LabProgramFault.TheVariants.{Lab, NotOpened, Parts, PastEnd, ReadFailed, Scenario, TooLong, WriteFailed}
 use Rattle.hp_lab_shell.specs.declared.words.Word.{Word}
 use Rattle.hp_lab_shell.specs.Needs.{HasLines, IsLineFault, IsPast, has_line, last_named}
 
@@ -17,7 +17,7 @@ none_needed word input none =
     subst (λ (n : ℕ). has_line n (count_of (scenario_in input)) ≡ true) (sym none)
     (any_has (count_of (scenario_in input)))
 
-pub past_is_fault : (word : Word) (input : List ℕ) (asked : ℕ) (count : Option ℕ) (fault : ProgramFault)
+pub past_is_fault : (word : Word) (input : List ℕ) (asked : ℕ) (count : Option ℕ) (fault : LabProgramFault)
     → asked ≡ last_named word → count ≡ count_of (scenario_in input) → IsPast asked count fault
     → IsLineFault word input fault
 past_is_fault word input asked count NotOpened named is h = absurd h

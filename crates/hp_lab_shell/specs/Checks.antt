@@ -2,7 +2,7 @@
 use Rattle.std.specs.Prelude.{◌≡◌, ℕ, ◌-◌, ◌^◌, ◌==◌, Bool, true, false, List, [], ◌++◌, Result, Ok, Err}
 use Rattle.hp_scenario.specs.Scenario.{ScenarioValue, scenario_in}
 use Rattle.hp_scenario.specs.declared.fault.ScenarioFault.{ScenarioFault}
-use Rattle.hp_scripts.specs.Counting.{IsCountTold}
+use Rattle.hp_questions.specs.Counting.{IsCountTold}
 
 -- the most interleavings that are counted if no limit is given
 abbrev pub usual_limit : ℕ

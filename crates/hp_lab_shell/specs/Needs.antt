@@ -2,12 +2,12 @@
 use Rattle.std.specs.Prelude.{◌≡◌, ℕ, ◌-◌, ◌^◌, ◌<◌, ◌==◌, Bool, true, List, [], Option, Some, None, Result, nat_le, if◌then◌else◌}
 use Rattle.hp_scenario.specs.Scenario.{ScenarioValue, scenario_in}
 use Rattle.hp_scenario.specs.declared.fault.ScenarioFault.{ScenarioFault}
-use Rattle.hp_scripts.specs.declared.unbegun.Unbegun.{Unbegun}
+use Rattle.hp_questions.specs.declared.unbegun.Unbegun.{Unbegun}
 use Rattle.hp_trace.specs.declared.view.View.{View}
 use Rattle.hp_lab_shell.specs.Scripts.{count_of, unbegun_in}
-use Rattle.hp_lab_faults.specs.declared.fault.LabFault.TheVariants.{OutOfMemory}
-use Rattle.hp_lab_faults.specs.declared.program_fault.ProgramFault.{ProgramFault}
-use Rattle.hp_lab_faults.specs.declared.program_fault.ProgramFault.TheVariants.{Lab, PastEnd}
+use Rattle.hp_search.specs.declared.lab_fault.LabFault.TheVariants.{OutOfMemory}
+use Rattle.hp_search.specs.declared.program_fault.LabProgramFault.{LabProgramFault}
+use Rattle.hp_search.specs.declared.program_fault.LabProgramFault.TheVariants.{Lab, PastEnd}
 use Rattle.hp_lab_shell.specs.declared.words.Word.{Word}
 use Rattle.hp_lab_shell.specs.declared.words.Word.TheVariants.{Check, Explore, Find, Log, Never, Part, Picture, Sum, Told, Trace}
 
@@ -23,7 +23,7 @@ unbegun_of (Never asked wanted form) read = unbegun_in asked.setup read
 unbegun_of (Trace view) read = []
 unbegun_of (Picture drawing) read = []
 unbegun_of Log read = []
-unbegun_of Told read = []
+unbegun_of (Told form) read = []
 
 -- the first line that is shown, where one is asked for by its number
 abbrev pub first_shown : View → ℕ
@@ -44,7 +44,7 @@ last_named (Never asked wanted form) = asked.setup
 last_named (Trace view) = first_shown view
 last_named (Picture drawing) = first_shown drawing.view
 last_named Log = 0
-last_named Told = 0
+last_named (Told form) = 0
 
 -- there is a line of this number, where it is known how many there are
 abbrev pub has_line : (asked : ℕ) → (count : Option ℕ) → Bool
@@ -61,12 +61,12 @@ IsPastEnd word input asked lines =
     (asked ≡ last_named word) × (count_of (scenario_in input) ≡ Some lines) × (lines < asked)
 
 -- a fault that says so of such a number
-abbrev pub IsPast : (asked : ℕ) → (count : Option ℕ) → ProgramFault → Type 0
+abbrev pub IsPast : (asked : ℕ) → (count : Option ℕ) → LabProgramFault → Type 0
 IsPast asked count (PastEnd number lines) = (number ≡ asked) × (count ≡ Some lines) × (lines < asked)
 IsPast asked count fault = ⊥
 
 -- the fault of a word for which the scenario is too short; or memory is out
-abbrev pub IsLineFault : Word → (input : List ℕ) → ProgramFault → Type 0
+abbrev pub IsLineFault : Word → (input : List ℕ) → LabProgramFault → Type 0
 IsLineFault word input (Lab fault) = fault ≡ OutOfMemory
 IsLineFault word input (PastEnd asked lines) = IsPastEnd word input asked lines
 IsLineFault word input fault = ⊥

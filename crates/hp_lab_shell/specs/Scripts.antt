@@ -2,8 +2,8 @@
 use Rattle.std.specs.Prelude.{ℕ, List, [], length, Option, Some, None, Result, Ok, Err}
 use Rattle.hp_scenario.specs.Scenario.{ScenarioValue}
 use Rattle.hp_scenario.specs.declared.fault.ScenarioFault.{ScenarioFault}
-use Rattle.hp_scripts.specs.Unbegun.{unbegun_lines}
-use Rattle.hp_scripts.specs.declared.unbegun.Unbegun.{Unbegun}
+use Rattle.hp_questions.specs.Unbegun.{unbegun_lines}
+use Rattle.hp_questions.specs.declared.unbegun.Unbegun.{Unbegun}
 
 -- the lines of scripts that work on operation 0 where their processor has begun none
 abbrev pub unbegun_in : (setup : ℕ) → Result ScenarioValue ScenarioFault → List Unbegun

@@ -1,7 +1,10 @@
 -- What is shown of a scenario.
-use Rattle.std.specs.Prelude.{ℕ, List}
+use Rattle.std.specs.Prelude.{ℕ, ◌≡◌, List, ◌++◌}
 use Rattle.hp_judge.specs.declared.events.LogEvent.{LogEvent}
-use Rattle.hp_pictures.specs.Rows.{RowValue}
+use Rattle.hp_map.specs.Rows.{RowValue}
+use Rattle.hp_lab_shell.specs.declared.words.JsonForm.{JsonForm}
+use Rattle.hp_lab_shell.specs.declared.words.JsonForm.TheVariants.{Lines, Page}
+use Rattle.hp_page.specs.Pages.{viewer_after, viewer_before}
 use Rattle.hp_search.specs.Holding.{InScenario}
 use Rattle.hp_trace.specs.Logs.{IsLogOfScenario}
 use Rattle.hp_trace.specs.Traces.{AreRowsOf, IsJsonOf, IsTraceOf}
@@ -11,9 +14,15 @@ use Rattle.hp_trace.specs.declared.view.View.{View}
 abbrev pub HasTrace : View → (input text : List ℕ) → Type 0
 HasTrace view input text = InScenario input (λ s. IsTraceOf view s text)
 
+-- the text has these lines of JSON in a form
+abbrev pub IsJsonText : JsonForm → (lines text : List ℕ) → Type 0
+IsJsonText Lines lines text = text ≡ lines
+IsJsonText Page lines text = text ≡ viewer_before ++ lines ++ viewer_after
+
 -- the bytes are a scenario, and the text is its trace as JSON
-abbrev pub HasJson : (input text : List ℕ) → Type 0
-HasJson input text = InScenario input (λ s. IsJsonOf s text)
+abbrev pub HasJson : JsonForm → (input text : List ℕ) → Type 0
+HasJson form input text =
+    InScenario input (λ s. (lines : List ℕ) × IsJsonOf s lines × IsJsonText form lines text)
 
 -- the bytes are a scenario, and its trace has rows
 abbrev pub HasRows : View → (input : List ℕ) → Type 0

@@ -1,15 +1,15 @@
 //! What is wrong with a scenario, and how many interleavings it has.
 ghost use Rattle.std.specs.Prelude.{◌≡◌, ◌≢◌, ◌-◌, ◌^◌, ◌==◌, [], IfErr, IfOk, OnOk, if◌then◌else◌, string_bytes};
 ghost use Rattle.hp_scenario.specs.Scenario.{scenario_in};
-ghost use Rattle.hp_lab_faults.specs.declared.fault.LabFault.TheVariants.{OutOfMemory};
-ghost use Rattle.hp_lab_faults.specs.declared.program_fault.ProgramFault.TheVariants.{Lab};
+ghost use Rattle.hp_search.specs.declared.lab_fault.LabFault.TheVariants.{OutOfMemory};
+ghost use Rattle.hp_search.specs.declared.program_fault.LabProgramFault.TheVariants.{Lab};
 ghost use Rattle.hp_lab_shell.specs.Checks.{IsCheckOf, IsCountIn, IsCountOf};
 
-use crate::answer::Answer;
+use crate::text_and_status::TextAndStatus;
 use hp_check::{check, fault_count, write_report};
-use hp_lab_faults::ProgramFault;
+use hp_questions::interleavings_line;
 use hp_scenario::{Scenario, ScenarioFault};
-use hp_scripts::interleavings_line;
+use hp_search::LabProgramFault;
 use std::alloc::{AllocError, Global};
 
 /// The most interleavings that are counted if no limit is given.
@@ -21,7 +21,7 @@ pub(crate) const ALL: u64 = u64::MAX;
 /// Reports what is wrong with a scenario whose first `setup` lines are the setup, and how many
 /// interleavings the scripts after it have. The status is 0 if nothing is wrong but warnings, else 1.
 #[tactic(auto, using(crate::proofs::Judged::status_is))]
-pub fn checked(alloc: Global, input: &[u8], setup: u64) -> Result<Answer, ProgramFault>
+pub fn checked(alloc: Global, input: &[u8], setup: u64) -> Result<TextAndStatus, LabProgramFault>
     ensures ok { IfOk result (λ answer. IsCheckOf setup input.now (string_bytes answer.text) answer.status) }
     ensures err { IfErr result (λ fault. fault ≡ Lab OutOfMemory) }
 {
@@ -31,7 +31,7 @@ pub fn checked(alloc: Global, input: &[u8], setup: u64) -> Result<Answer, Progra
     let counted = count_line(alloc, input, setup)?;
     text.push_str(&counted)?;
     let status = status_of(fault_count(&found));
-    Ok(Answer { text, status })
+    Ok(TextAndStatus { text, status })
 }
 
 /// Returns the exit status of a check that found this many faults.

@@ -1,7 +1,7 @@
 //! Several files as one text.
 
 use crate::messages::file_name;
-use hp_lab_faults::ProgramFault;
+use hp_search::LabProgramFault;
 use hp_streams::{Counted, read_all};
 use std::alloc::Global;
 use std::fs;
@@ -13,7 +13,7 @@ pub(crate) struct Unread<'a> {
     /// The name of the file; none of standard input.
     pub name: Option<&'a str>,
     /// What failed.
-    pub fault: ProgramFault,
+    pub fault: LabProgramFault,
 }
 
 /// The bytes of files, one after another; `-` names standard input.
@@ -31,13 +31,13 @@ pub(crate) fn bytes_of<'a>(rt: &HostRuntime, names: &[&'a str]) -> Result<Vec<u8
 }
 
 /// Adds the bytes of a file.
-fn push_file(rt: &HostRuntime, bytes: &mut Vec<u8>, name: &str) -> Result<(), ProgramFault> {
+fn push_file(rt: &HostRuntime, bytes: &mut Vec<u8>, name: &str) -> Result<(), LabProgramFault> {
     if name == "-" {
         return push_input(rt.alloc(), bytes, rt.stdin());
     }
     match fs::open(rt, name) {
         Ok(input) => push_input(rt.alloc(), bytes, input),
-        Err(_) => Err(ProgramFault::NotOpened),
+        Err(_) => Err(LabProgramFault::NotOpened),
     }
 }
 
@@ -46,7 +46,7 @@ fn push_input<R: Read + Drop>(
     alloc: Global,
     bytes: &mut Vec<u8>,
     input: R,
-) -> Result<(), ProgramFault> {
+) -> Result<(), LabProgramFault> {
     let mut reader = Counted::new(input);
     let more = read_all(alloc, &mut reader)?;
     bytes.extend_from_slice(&more)?;

@@ -1,13 +1,13 @@
 //! The word that judges a log.
 
+use crate::arguments::{ALLOW, BLOCK_FRAMES, BLOCKS, FILE, FTRACE, JSON, MOST, SVG};
 use crate::messages::file_name;
 use clap::ArgMatches;
-use hp_escapes::{Brackets, write_escaped};
-use hp_lab_command::{ALLOW, BLOCK_FRAMES, BLOCKS, FILE, FTRACE, JSON, MOST, SVG};
 use hp_log_pictures::draw_log;
 use hp_logs::{LineFault, LogFault, LogForm};
 use hp_numbers::number64;
 use hp_streams::Counted;
+use hp_text::{Brackets, write_escaped};
 use hp_verdicts::{
     AllowedKinds, BlockRange, JudgeFault, JudgeOptions, ReportForm, SizeFault, judge_log,
 };

@@ -3,8 +3,8 @@ ghost use Rattle.std.specs.Prelude.{◌<◌, ◌-◌, ◌^◌};
 ghost use Rattle.std.specs.Thread.{IsSync};
 
 use crate::words::Word;
-use hp_lab_faults::ProgramFault;
-use hp_scripts::Unbegun;
+use hp_questions::Unbegun;
+use hp_search::LabProgramFault;
 use hp_states::Watch;
 use hp_streams::{Sink, Source};
 use std::alloc::Global;
@@ -31,7 +31,7 @@ pub trait Laboratory {
         reader: &mut R,
         writer: &mut W,
         watch: P,
-    ) -> Result<Served, ProgramFault>
+    ) -> Result<Served, LabProgramFault>
         requires threads { IsSync T.row }
         requires reader { R.failures reader.old < 2 ^ 64 - 1 }
         requires writer { W.failures writer.old < 2 ^ 64 - 1 };

@@ -1,8 +1,8 @@
 //! What standard error has of faults and warnings.
 
-use hp_escapes::{Brackets, write_escaped};
-use hp_lab_faults::ProgramFault;
-use hp_scripts::Unbegun;
+use hp_questions::Unbegun;
+use hp_search::LabProgramFault;
+use hp_text::{Brackets, write_escaped};
 use std::alloc::{AllocError, Global};
 
 /// Says on standard error which lines of scripts work on no operation.
@@ -22,7 +22,7 @@ pub(crate) fn file_name(name: &str) -> Option<&str> {
 
 /// Says on standard error what failed, by the name of the file where that was not read, and what says
 /// more where the input is no scenario.
-pub(crate) fn say_fault(rt: &HostRuntime, file: Option<&str>, fault: ProgramFault) {
+pub(crate) fn say_fault(rt: &HostRuntime, file: Option<&str>, fault: LabProgramFault) {
     let _ = match unread_name(rt.alloc(), file, fault) {
         Some(name) => eprintln!(rt; "hotplug_lab: {name}: {fault}"),
         None => eprintln!(rt; "hotplug_lab: {fault}"),
@@ -33,7 +33,7 @@ pub(crate) fn say_fault(rt: &HostRuntime, file: Option<&str>, fault: ProgramFaul
 }
 
 /// The name of the file that was not read, as JSON has it; none where there is no memory for it.
-fn unread_name(alloc: Global, file: Option<&str>, fault: ProgramFault) -> Option<String> {
+fn unread_name(alloc: Global, file: Option<&str>, fault: LabProgramFault) -> Option<String> {
     if !fault.is_of_input() {
         return None;
     }
@@ -45,10 +45,10 @@ fn unread_name(alloc: Global, file: Option<&str>, fault: ProgramFault) -> Option
 }
 
 /// Says what the words may be, or what the program is, and answers the exit status.
-pub(crate) fn say_words(rt: &HostRuntime, error: &clap::Error) -> Result<u8, ProgramFault> {
+pub(crate) fn say_words(rt: &HostRuntime, error: &clap::Error) -> Result<u8, LabProgramFault> {
     let status = error.exit_code() as u8;
     match error.print(rt) {
-        Err(_) if status == 0 => Err(ProgramFault::WriteFailed),
+        Err(_) if status == 0 => Err(LabProgramFault::WriteFailed),
         _ => Ok(status),
     }
 }

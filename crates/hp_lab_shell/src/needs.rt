@@ -6,8 +6,8 @@ ghost use Rattle.hp_lab_shell.specs.Needs.{HasLines, IsLineFault, IsPast, first_
 use crate::checks::ALL;
 use crate::scripts::{line_count, unbegun_in};
 use crate::words::Word;
-use hp_lab_faults::ProgramFault;
-use hp_scripts::Unbegun;
+use hp_questions::Unbegun;
+use hp_search::LabProgramFault;
 use hp_trace::View;
 use std::alloc::{AllocError, Global};
 
@@ -26,13 +26,13 @@ pub fn unbegun_of(alloc: Global, input: &[u8], word: Word<'_>) -> Result<Vec<Unb
         Word::Trace(_) => Ok(Vec::new(alloc)),
         Word::Picture(_) => Ok(Vec::new(alloc)),
         Word::Log => Ok(Vec::new(alloc)),
-        Word::Told => Ok(Vec::new(alloc)),
+        Word::Told(_) => Ok(Vec::new(alloc)),
     }
 }
 
 /// Looks whether the scenario, where the bytes are one, has the line that a word names.
 #[tactic(auto, using(crate::proofs::Named::none_needed))]
-pub fn look_for_line(alloc: Global, input: &[u8], word: Word<'_>) -> Result<(), ProgramFault>
+pub fn look_for_line(alloc: Global, input: &[u8], word: Word<'_>) -> Result<(), LabProgramFault>
     ensures ok { OnOk result (HasLines word.entry input.now) }
     ensures err { IfErr result (IsLineFault word.entry input.now) }
 {
@@ -45,14 +45,14 @@ pub fn look_for_line(alloc: Global, input: &[u8], word: Word<'_>) -> Result<(), 
 }
 
 /// Looks whether there is a line of this number among so many, where it is known how many there are.
-fn look_among(asked: u64, count: Option<u64>) -> Result<(), ProgramFault>
+fn look_among(asked: u64, count: Option<u64>) -> Result<(), LabProgramFault>
     ensures ok { OnOk result (has_line asked count ≡ true) }
     ensures err { IfErr result (IsPast asked count) }
 {
     match count {
         Some(lines) => {
             if lines < asked {
-                Err(ProgramFault::PastEnd { asked, lines })
+                Err(LabProgramFault::PastEnd { asked, lines })
             } else {
                 Ok(())
             }
@@ -75,7 +75,7 @@ fn last_named(word: Word<'_>) -> u64
         Word::Trace(view) => first_shown(view),
         Word::Picture(drawing) => first_shown(drawing.view),
         Word::Log => 0,
-        Word::Told => 0,
+        Word::Told(_) => 0,
     }
 }
 

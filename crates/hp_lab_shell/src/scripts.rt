@@ -3,8 +3,8 @@ ghost use Rattle.std.specs.Prelude.{◌≡◌, IfOk};
 ghost use Rattle.hp_scenario.specs.Scenario.{scenario_in};
 ghost use Rattle.hp_lab_shell.specs.Scripts.{count_of, unbegun_in};
 
+use hp_questions::{Unbegun, unbegun_lines};
 use hp_scenario::{Scenario, ScenarioFault};
-use hp_scripts::{Unbegun, unbegun_lines};
 use std::alloc::{AllocError, Global};
 
 /// How many lines the scenario has; none where the bytes are no scenario. An error is out of memory.

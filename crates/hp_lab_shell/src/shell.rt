@@ -1,5 +1,6 @@
 //! The command line, from its words to the exit status.
 
+use crate::command::lab_command;
 use crate::files::bytes_of;
 use crate::judging::serve_judge;
 use crate::laboratory::Laboratory;
@@ -8,10 +9,9 @@ use crate::progress::{Progress, Shown, shown_on};
 use crate::words::{Request, Word, is_past_the_found, part_from, request_from, texts_from};
 use clap::ArgMatches;
 use clap::error::ErrorKind;
-use hp_lab_command::lab_command;
-use hp_lab_faults::ProgramFault;
+use hp_questions::{Wanted, wanted_line};
+use hp_search::LabProgramFault;
 use hp_streams::Counted;
-use hp_wanted::{Wanted, wanted_line};
 use std::alloc::{AllocError, Global};
 use std::io::{IsTerminal, Read};
 use std::process::ExitCode;
@@ -48,7 +48,7 @@ fn serve_request<L: Laboratory, T: Threads + Sync>(
 
 /// The exit status that a word came to; or 1 after a fault, which standard error has, with the name of
 /// the file where that was not read.
-fn status_of(rt: &HostRuntime, file: Option<&str>, served: Result<u8, ProgramFault>) -> u8 {
+fn status_of(rt: &HostRuntime, file: Option<&str>, served: Result<u8, LabProgramFault>) -> u8 {
     match served {
         Ok(status) => status,
         Err(fault) => {
@@ -66,13 +66,13 @@ fn serve_file<L: Laboratory, T: Threads + Sync>(
     word: Word<'_>,
     name: &str,
     shown: Shown,
-) -> Result<u8, ProgramFault> {
+) -> Result<u8, LabProgramFault> {
     if name == "-" {
         return serve_input(rt, lab, threads, word, rt.stdin(), shown);
     }
     match fs::open(rt, name) {
         Ok(input) => serve_input(rt, lab, threads, word, input, shown),
-        Err(_) => Err(ProgramFault::NotOpened),
+        Err(_) => Err(LabProgramFault::NotOpened),
     }
 }
 
@@ -84,7 +84,7 @@ fn serve_input<L: Laboratory, T: Threads + Sync, R: Read + Drop>(
     word: Word<'_>,
     input: R,
     shown: Shown,
-) -> Result<u8, ProgramFault> {
+) -> Result<u8, LabProgramFault> {
     let mut reader = Counted::new(input);
     let mut writer = Counted::new(rt.stdout());
     let progress = Progress::new(rt.stderr(), shown);
@@ -105,7 +105,7 @@ fn serve_input<L: Laboratory, T: Threads + Sync, R: Read + Drop>(
 fn wanted_from(
     rt: &HostRuntime,
     matches: &ArgMatches<'_>,
-) -> Result<Option<Vec<Wanted>>, ProgramFault> {
+) -> Result<Option<Vec<Wanted>>, LabProgramFault> {
     let mut wanted = Vec::new(rt.alloc());
     let Some(texts) = texts_from(matches) else {
         return Ok(Some(wanted));
@@ -137,7 +137,7 @@ fn serve_matches<L: Laboratory, T: Threads + Sync>(
     lab: &L,
     threads: &T,
     matches: &ArgMatches<'_>,
-) -> Result<u8, ProgramFault> {
+) -> Result<u8, LabProgramFault> {
     match matches.subcommand() {
         Some(("judge", words)) => Ok(serve_judge(rt, words)),
         _ => serve_scenario(rt, lab, threads, matches),
@@ -150,7 +150,7 @@ fn serve_scenario<L: Laboratory, T: Threads + Sync>(
     lab: &L,
     threads: &T,
     matches: &ArgMatches<'_>,
-) -> Result<u8, ProgramFault> {
+) -> Result<u8, LabProgramFault> {
     if is_past_the_found(matches) {
         let _ = eprintln!(rt; "hotplug_lab: a search tells one interleaving: --scenario 1");
         return Ok(2);
@@ -174,11 +174,13 @@ fn run<L: Laboratory, T: Threads + Sync>(
     lab: &L,
     threads: &T,
     words: &[String],
-) -> Result<u8, ProgramFault> {
+) -> Result<u8, LabProgramFault> {
     let command = lab_command(rt.alloc())?;
     match command.try_get_matches_from(words) {
         Ok(matches) => serve_matches(rt, lab, threads, &matches),
-        Err(error) if error.kind() == ErrorKind::OutOfMemory => Err(ProgramFault::from(AllocError)),
+        Err(error) if error.kind() == ErrorKind::OutOfMemory => Err(LabProgramFault::from(
+            AllocError,
+        )),
         Err(error) => say_words(rt, &error),
     }
 }
@@ -188,14 +190,14 @@ fn run_words<L: Laboratory, T: Threads + Sync>(
     rt: &HostRuntime,
     lab: &L,
     threads: &T,
-) -> Result<u8, ProgramFault> {
+) -> Result<u8, LabProgramFault> {
     match env::args(rt) {
         Ok(arguments) => {
             let words: Vec<String> = arguments.collect(rt.alloc())?;
             run(rt, lab, threads, &words)
         }
         Err(error) if error.kind() == io::ErrorKind::OutOfMemory => {
-            Err(ProgramFault::from(AllocError))
+            Err(LabProgramFault::from(AllocError))
         }
         Err(_) => {
             let _ = eprintln!(rt; "hotplug_lab: a word of the command line is not UTF-8");

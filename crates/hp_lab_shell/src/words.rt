@@ -1,13 +1,13 @@
 //! The words that the program is called with.
 
+use crate::arguments::{FILE, FIND, HTML, JOBS, JSON, LOG, NEVER, PART, PROGRESS, SCENARIO};
 use crate::checks::{ALL, LIMIT};
 use clap::ArgMatches;
-use hp_lab_command::{FILE, FIND, JOBS, JSON, LOG, NEVER, PART, PROGRESS, SCENARIO};
 use hp_numbers::number64;
+use hp_questions::Wanted;
 use hp_schedules::ShardId;
 use hp_search::{EndsForm, ScheduleForm};
 use hp_trace::View;
-use hp_wanted::Wanted;
 
 /// The pixels of a cell where no number is given, and the most there may be.
 const CELL: u64 = 8;
@@ -32,7 +32,7 @@ const MOST_JOBS: u64 = 256;
 
 /// What is asked of an exploration.
 #[derive(Clone, Copy)]
-pub struct Exploration {
+pub struct ExploreOptions {
     /// How many lines of the scenario are run in order first.
     pub setup: u64,
     /// The most interleavings that are counted.
@@ -50,6 +50,15 @@ pub struct Drawing {
     pub scale: u16,
 }
 
+/// How a trace is written as JSON.
+#[derive(Clone, Copy)]
+pub enum JsonForm {
+    /// An object a line.
+    Lines,
+    /// These lines in a page, which steps through them.
+    Page,
+}
+
 /// What is to be made of a scenario.
 #[derive(Clone, Copy)]
 pub enum Word<'a> {
@@ -58,26 +67,26 @@ pub enum Word<'a> {
     Check(u64),
     /// Every interleaving of its scripts, by so many threads.
     Explore {
-        asked: Exploration,
+        asked: ExploreOptions,
         form: EndsForm,
         jobs: u32,
     },
     /// One part of these.
     Part {
-        asked: Exploration,
+        asked: ExploreOptions,
         part: &'a ShardId,
     },
     /// All of these, in a form, where the text is no scenario, but those of all parts.
     Sum(EndsForm),
     /// An interleaving whose end has each of these lines.
     Find {
-        asked: Exploration,
+        asked: ExploreOptions,
         wanted: &'a [Wanted],
         form: ScheduleForm,
     },
     /// That no interleaving has such an end.
     Never {
-        asked: Exploration,
+        asked: ExploreOptions,
         wanted: &'a [Wanted],
         form: ScheduleForm,
     },
@@ -87,8 +96,8 @@ pub enum Word<'a> {
     Picture(Drawing),
     /// What happens to frames and memory blocks, as a log that `judge` reads.
     Log,
-    /// The trace as JSON, an object a line.
-    Told,
+    /// The trace as JSON.
+    Told(JsonForm),
 }
 
 /// What the program is asked for, and the files that are named.
@@ -204,7 +213,7 @@ fn exploring_word<'a>(
 }
 
 /// The word that asks for every interleaving.
-fn whole_word<'a>(asked: Exploration, words: &ArgMatches<'_>) -> Result<Word<'a>, &'static str> {
+fn whole_word<'a>(asked: ExploreOptions, words: &ArgMatches<'_>) -> Result<Word<'a>, &'static str> {
     let jobs = words.get_one::<u64>(JOBS).unwrap_or(1);
     if jobs == 0 || jobs > MOST_JOBS {
         return Err("--jobs may be 1 to 256");
@@ -222,7 +231,10 @@ fn tracing_word<'a>(words: &ArgMatches<'_>) -> Result<Word<'a>, &'static str> {
         return Ok(Word::Log);
     }
     if words.get_flag(JSON) {
-        return Ok(Word::Told);
+        return Ok(Word::Told(JsonForm::Lines));
+    }
+    if words.get_flag(HTML) {
+        return Ok(Word::Told(JsonForm::Page));
     }
     let view = view_from(words);
     if view.from > view.to {
@@ -258,8 +270,8 @@ fn drawing_from(words: &ArgMatches<'_>, view: View) -> Result<Drawing, &'static 
 }
 
 /// What is asked of an exploration.
-fn exploration_from(words: &ArgMatches<'_>) -> Exploration {
-    Exploration {
+fn exploration_from(words: &ArgMatches<'_>) -> ExploreOptions {
+    ExploreOptions {
         setup: words.get_one::<u64>("setup").unwrap_or(0),
         limit: words.get_one::<u64>("limit").unwrap_or(LIMIT),
     }

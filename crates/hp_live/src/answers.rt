@@ -30,13 +30,13 @@ pub enum Did {
 /// The answer to a line: what it did, the calls of its plan, and the text that `hotplug serial`
 /// writes for it. One answer can be used for line after line; it keeps its memory.
 #[derive(Drop)]
-pub struct Answer {
+pub struct LineAnswer {
     pub(crate) text: String,
     pub(crate) calls: Vec<Receipt>,
     pub(crate) did: Did,
 }
 
-impl Model for Answer {
+impl Model for LineAnswer {
     ghost use Rattle.std.specs.Prelude.{string_bytes};
     ghost use Rattle.hp_live.specs.Answers.{AnswerValue};
 
@@ -45,12 +45,12 @@ impl Model for Answer {
     ghost view = { λ a. record { text = string_bytes a.text; calls = a.calls.items; did = a.did } };
 }
 
-impl Answer {
+impl LineAnswer {
     /// Returns an empty answer.
-    pub fn new(alloc: Global) -> Answer
+    pub fn new(alloc: Global) -> LineAnswer
         ensures { result ≡ untold }
     {
-        Answer {
+        LineAnswer {
             text: String::new(alloc),
             calls: Vec::new(alloc),
             did: Did::NoLine,

@@ -14,7 +14,7 @@ mod runs;
 mod session;
 mod words;
 
-pub use answers::{Answer, Did};
+pub use answers::{Did, LineAnswer};
 pub use laws::answers_are_what_serial_writes;
 pub use objects::write_object;
 pub use session::{Lack, Session};

@@ -2,7 +2,7 @@
 ghost use Rattle.std.specs.Prelude.{IfOk, OnOk};
 ghost use Rattle.hp_live.specs.Objects.{Adds, AddsObject, Appends, WritesObject, head_of};
 
-use crate::answers::{Answer, Did};
+use crate::answers::{Did, LineAnswer};
 use hp_text::{write_event, write_reply_words};
 use hp_units::{Event, Receipt};
 use indexmap::IndexSet;
@@ -18,7 +18,7 @@ pub fn write_object(
     alloc: Global,
     out: Vec<u8>,
     number: u64,
-    answer: &Answer,
+    answer: &LineAnswer,
     hint: &str,
 ) -> Result<Vec<u8>, AllocError>
     ensures { IfOk result (λ new. WritesObject out.items number answer.now.text new.items) }
@@ -35,7 +35,7 @@ fn write_tokens(
     writer: &mut Writer,
     alloc: Global,
     number: u64,
-    answer: &Answer,
+    answer: &LineAnswer,
     hint: &str,
 ) -> Result<(), AllocError>
     ensures { OnOk result (AddsObject writer.old number answer.now.text writer.new) }
@@ -60,7 +60,7 @@ fn begin(writer: &mut Writer, number: u64, text: &str) -> Result<(), AllocError>
 fn write_parts(
     writer: &mut Writer,
     alloc: Global,
-    answer: &Answer,
+    answer: &LineAnswer,
     hint: &str,
 ) -> Result<(), AllocError>
     ensures { OnOk result (Appends writer.old writer.new) }

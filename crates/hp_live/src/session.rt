@@ -4,7 +4,7 @@ ghost use Rattle.hp_scenario.specs.Asked.{asked_by};
 ghost use Rattle.hp_live.specs.Answers.{Answers, IsDone, untold};
 ghost use Rattle.hp_live.specs.Sessions.{AnswersText, IsLost, started};
 
-use crate::answers::Answer;
+use crate::answers::LineAnswer;
 use crate::runs::answer_line;
 use hp_machine::UnrecordedMachine;
 use hp_scenario::{Line, read_line};
@@ -56,7 +56,7 @@ impl Session {
     ///
     /// Whether there is memory to keep the line is known before it is run. After an error, `out` has
     /// no meaning.
-    pub fn answer(&mut self, alloc: Global, text: &str, out: &mut Answer) -> Result<(), Lack>
+    pub fn answer(&mut self, alloc: Global, text: &str, out: &mut LineAnswer) -> Result<(), Lack>
         ensures ok { OnOk result (AnswersText self.old text.now out.new self.new) }
         ensures err { IfErr result (λ lack. IsLost lack self.old text.now self.new) }
     {
@@ -81,7 +81,7 @@ fn run_and_keep(
     machine: &mut UnrecordedMachine,
     alloc: Global,
     line: Line,
-    out: &mut Answer,
+    out: &mut LineAnswer,
 ) -> Result<(), AllocError>
     requires room { vec_len lines.old < vec_capacity lines.old }
     requires empty { out.old ≡ untold }

@@ -1,11 +1,10 @@
 //! What a session shows without a call: its scenario, its state, and the forms of lines.
 ghost use Rattle.std.specs.Prelude.{◌≡◌, ◌++◌, [], OnOk, string_bytes};
-ghost use Rattle.hp_spelling.specs.Scenarios.{scenario_text};
+ghost use Rattle.hp_text.specs.Scenarios.{scenario_text};
 ghost use Rattle.hp_text.specs.State.{state_text};
 
 use crate::session::Session;
-use hp_spelling::write_scenario;
-use hp_text::write_state;
+use hp_text::{write_scenario, write_state};
 use std::alloc::{AllocError, Global};
 
 /// The verbs with their arguments, one per line.

@@ -1,4 +1,5 @@
-//! A band of the picture: its shades, its frames in use, and the signs of its ends.
+//! The band of a memory block in a picture: its shades, its frames in use, and the signs of onlines
+//! and offlines that ended.
 ghost use Rattle.std.specs.Prelude.{◌≤◌};
 
 use crate::columns::Columns;
@@ -70,7 +71,8 @@ impl Shade {
     }
 }
 
-/// Writes a band.
+/// Draws the band of a memory block: its shades, then its frames in use, then the signs of its
+/// ends.
 pub(crate) fn write_band(
     out: &mut String,
     scale: &Scale,
@@ -123,7 +125,7 @@ fn write_run(
     write_box(out, from, top, width, BAND, shade.fill())
 }
 
-/// Writes the frames in use as an area.
+/// Draws the frames in use as a filled area.
 fn write_peaks(
     out: &mut String,
     scale: &Scale,
@@ -148,7 +150,7 @@ fn write_peaks(
     writeln!(out, "H{right}V{base}Z' fill='{IN_USE}'/>")
 }
 
-/// Writes a sign in each column in which an online or an offline ended. Those that went well are
+/// Writes a sign in each column in which an online or an offline ended. Those that succeeded are
 /// above those that failed.
 fn write_ends(
     out: &mut String,

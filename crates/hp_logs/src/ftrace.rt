@@ -1,4 +1,4 @@
-//! Events in the text of Linux's ftrace.
+//! Reads events from the text of Linux's ftrace.
 
 use crate::faults::LineFault;
 use hp_judge::LogEvent;
@@ -10,8 +10,8 @@ use memchr::memchr;
 ///
 /// The page events are the kernel's `mm_page_alloc` and `mm_page_free`. Onlines and offlines are
 /// marks that a test writes into trace_marker around each write to a file of a memory block: `begin
-/// memory32/state offline`, then `end memory32/state offline ok`, or another word than `ok`. Every
-/// other line is `LogEvent::Other`.
+/// memory32/state offline`, then `end memory32/state offline ok`, or another word in place of `ok`.
+/// Every other line is `LogEvent::Other`.
 pub fn ftrace_event(line: &[u8]) -> Result<LogEvent, LineFault> {
     match traced(line) {
         Some((b"mm_page_alloc", fields)) => alloc_event(fields),
@@ -100,8 +100,8 @@ fn frame_number(text: &str) -> Option<u32> {
     }
 }
 
-/// Returns whether the flags of an alloc allow its page to be moved. Linux writes some flags under
-/// one name, as GFP_TRANSHUGE: include/trace/events/mmflags.h has the names.
+/// Returns whether the flags of an alloc allow its page to be moved. Linux writes some sets of
+/// flags as one name, such as GFP_TRANSHUGE: include/trace/events/mmflags.h has the names.
 fn is_movable(flags: &str) -> bool {
     flags.split('|').any(|flag| {
         matches!(
@@ -175,7 +175,7 @@ enum StateWrite {
 }
 
 impl StateWrite {
-    /// Returns the event at its start.
+    /// Returns the event at the start of the write.
     fn begin(self, block: Block) -> LogEvent {
         match self {
             StateWrite::Online(zone) => LogEvent::OnlineBegins { block, zone },
@@ -183,7 +183,7 @@ impl StateWrite {
         }
     }
 
-    /// Returns the event at its end.
+    /// Returns the event at the end of the write.
     fn end(self, block: Block, ok: bool) -> LogEvent {
         match self {
             StateWrite::Online(_) => LogEvent::OnlineEnds { block, ok },

@@ -1,4 +1,4 @@
-//! The lines of a stream.
+//! Reads the lines of a stream.
 ghost use Rattle.std.specs.Prelude.{◌≡◌, ◌<◌, ◌≤◌, ◌+◌, ◌-◌, ◌^◌, OnOk, length, vec_len};
 
 use crate::faults::{LineFault, LogFault};
@@ -19,7 +19,7 @@ pub struct LineReader {
     /// The start and the end of the current line.
     line_start: usize,
     line_end: usize,
-    /// The start of the bytes after it, and the end of those that were read.
+    /// The start of the bytes after the current line, and the end of the bytes that were read.
     start: usize,
     end: usize,
     number: u64,

@@ -1,4 +1,4 @@
-//! Events as lines of JSON.
+//! Reads events from lines of JSON.
 
 use crate::faults::LineFault;
 use hp_judge::LogEvent;
@@ -6,7 +6,7 @@ use hp_numbers::{Block, Frame, Order};
 use hp_units::Zone;
 use json::{Reader, Scratch, Token};
 
-/// No object has more keys than this if none comes twice.
+/// An object in which no key comes twice has at most this many keys.
 const MOST_KEYS: usize = 12;
 
 /// Reads a line as an event. These are `LogEvent::Other`: an empty line, an object with only a
@@ -157,7 +157,7 @@ impl Keys {
         self.order.is_some() || self.movable.is_some()
     }
 
-    /// Returns the alloc that starts at a frame.
+    /// Returns the `Alloc` event of the piece that starts at `frame`.
     fn alloc_event(&self, frame: Frame) -> Result<LogEvent, LineFault> {
         if self.is_of_blocks() {
             return Err(LineFault::NotAnEvent);
@@ -169,7 +169,7 @@ impl Keys {
         })
     }
 
-    /// Returns the free that starts at a frame.
+    /// Returns the `Free` event of the piece that starts at `frame`.
     fn free_event(&self, frame: Frame) -> Result<LogEvent, LineFault> {
         if self.is_of_blocks() || self.movable.is_some() {
             return Err(LineFault::NotAnEvent);
@@ -180,7 +180,7 @@ impl Keys {
         })
     }
 
-    /// Returns the start or the end of an online.
+    /// Returns the event that starts or ends an online of `block`.
     fn online_event(&self, block: Block) -> Result<LogEvent, LineFault> {
         if self.is_of_pieces() || self.to.is_some() {
             return Err(LineFault::NotAnEvent);
@@ -195,7 +195,7 @@ impl Keys {
         }
     }
 
-    /// Returns the start or the end of an offline.
+    /// Returns the event that starts or ends an offline of `block`.
     fn offline_event(&self, block: Block) -> Result<LogEvent, LineFault> {
         if self.is_of_pieces() || self.to.is_some() || self.zone.is_some() {
             return Err(LineFault::NotAnEvent);
@@ -206,7 +206,7 @@ impl Keys {
         }
     }
 
-    /// Returns the move of a page.
+    /// Returns the `Move` event of the page at `from`.
     fn move_event(&self, from: Frame) -> Result<LogEvent, LineFault> {
         if self.is_of_pieces() || self.zone.is_some() || self.end.is_some() {
             return Err(LineFault::NotAnEvent);
@@ -276,7 +276,7 @@ fn set_end(slot: &mut Option<bool>, value: Option<Token<'_>>) -> Result<(), Line
     checked(slot.is_some())
 }
 
-/// Returns a number of 32 bits.
+/// Returns the token's value if it is a number below 2^32.
 fn number_of(value: Option<Token<'_>>) -> Option<u32> {
     match value {
         Some(Token::Number(text)) => text.parse::<u32>().ok(),

@@ -1,4 +1,4 @@
-//! The events of a log.
+//! Reads the events of a log.
 ghost use Rattle.std.specs.Prelude.{◌≡◌, ◌<◌, ◌-◌, ◌^◌, OnOk};
 
 use crate::faults::{LineFault, LogFault};

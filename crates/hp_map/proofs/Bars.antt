@@ -3,7 +3,7 @@ use Rattle.std.proofs.Common.{◌≡◌, ℕ, ◌+◌, ◌*◌, Bool, true, fals
 use Rattle.std.proofs.lemmas.Bool.{ne_eqb}
 use Rattle.std.proofs.lemmas.List.{map-append}
 use Rattle.std.specs.List.{flat_map, range_with_len}
-use Rattle.hp_pictures.proofs.Texts.{items_more}
+use Rattle.hp_map.proofs.Texts.{items_more}
 use Rattle.hp_units.specs.Arithmetic.{block_size}
 use Rattle.hp_units.specs.LayoutParts.{LayoutParts}
 use Rattle.hp_map.specs.Cells.{bars_in, block_bars, cell_bars, cell_text, cells_text, frame_text, is_bar, place_at, starts_later}

@@ -3,9 +3,9 @@ use Rattle.std.proofs.Common.{◌≡◌, ℕ, zero, suc, ◌+◌, List, [], ◌�
 use Rattle.std.proofs.lemmas.List.{length-append}
 use Rattle.hp_units.specs.LayoutParts.{LayoutParts}
 use Rattle.hp_units.specs.Memory.{Memory}
-use Rattle.hp_pictures.specs.Blocks.{BlockValue, block_with}
-use Rattle.hp_pictures.specs.declared.block_picture.FreeBlock.{FreeBlock}
-use Rattle.hp_pictures.specs.declared.block_picture.KernelBlock.{KernelBlock}
+use Rattle.hp_map.specs.BlockPictures.{BlockValue, block_with}
+use Rattle.hp_map.specs.declared.block_picture.FreeBlock.{FreeBlock}
+use Rattle.hp_map.specs.declared.block_picture.KernelBlock.{KernelBlock}
 use Rattle.hp_map.proofs.Bars.{cells_bars}
 use Rattle.hp_map.specs.Blocks.{free_of, kernel_of}
 use Rattle.hp_map.specs.Cells.{bars_in, block_bars, cells_text}

@@ -7,8 +7,8 @@ use Rattle.hp_units.specs.Memory.{FreeAreas, Memory, kernel_order}
 use Rattle.hp_units.specs.declared.rows.Class.{Class}
 use Rattle.hp_units.specs.declared.rows.Class.TheVariants.{Nu, Nm, Mm, IsoN, IsoM}
 use Rattle.hp_buddy.specs.Buddy.{place_of}
-use Rattle.hp_pictures.specs.declared.block_picture.FreeBlock.{FreeBlock}
-use Rattle.hp_pictures.specs.declared.block_picture.KernelBlock.{KernelBlock}
+use Rattle.hp_map.specs.declared.block_picture.FreeBlock.{FreeBlock}
+use Rattle.hp_map.specs.declared.block_picture.KernelBlock.{KernelBlock}
 use Rattle.hp_map.specs.Cells.{cell_at}
 
 abbrev pub is_isolated_class : Class → Bool

@@ -1,6 +1,9 @@
+pub mod BlockPictures
 pub mod Blocks
 pub mod Cells
+pub mod Counts
 pub mod Marks
 pub mod Names
 pub mod Pictures
 pub mod Places
+pub mod Rows

@@ -2,7 +2,7 @@
 use Rattle.std.specs.Prelude.{ℕ, ◌≡◌, Bool, List, [], length, slice_get, IfSome, if◌then◌else◌}
 use Rattle.hp_units.specs.LayoutParts.{LayoutParts}
 use Rattle.hp_units.specs.Memory.{Memory}
-use Rattle.hp_pictures.specs.Blocks.{BlockValue}
+use Rattle.hp_map.specs.BlockPictures.{BlockValue}
 use Rattle.hp_map.specs.Blocks.{free_of, kernel_of}
 use Rattle.hp_map.specs.Cells.{bars_in, cells_text}
 use Rattle.hp_map.specs.Places.{ArePlacesOf}

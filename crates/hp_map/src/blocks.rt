@@ -3,9 +3,9 @@ ghost use Rattle.std.specs.Prelude.{◌≡◌, ◌<◌, ◌^◌, ◌++◌, IfOk,
 ghost use Rattle.hp_map.specs.Blocks.{free_at, free_of, is_isolated_class, kernel_at, kernel_of};
 ghost use Rattle.hp_map.specs.Cells.{cell_at};
 
+use crate::block_picture::{FreeBlock, KernelBlock};
 use crate::cells::first_of;
 use hp_machine::Machine;
-use hp_pictures::{FreeBlock, KernelBlock};
 use hp_units::{Block, Class, Frame, Layout, Order};
 use std::alloc::{AllocError, Global};
 

@@ -2,6 +2,7 @@
 ghost use Rattle.std.specs.Prelude.{◌≡◌, ◌<◌, IfOk};
 ghost use Rattle.hp_map.specs.Pictures.{ArePictures, IsBlockPicture, IsPicture};
 
+use crate::block_picture::BlockPicture;
 use crate::blocks::{free_of, kernel_of};
 use crate::cells::draw_cells;
 use crate::kinds::draw_kinds;
@@ -9,7 +10,6 @@ use crate::map::places_of;
 use crate::orders::draw_orders;
 use crate::places::Place;
 use hp_machine::Machine;
-use hp_pictures::BlockPicture;
 use hp_units::{Block, Row, State, Text, Wish, Zone};
 use std::alloc::{AllocError, Global};
 

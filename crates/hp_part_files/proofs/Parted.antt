@@ -14,9 +14,9 @@ use Rattle.hp_explore.specs.Faults.{FillsPart, IsCause, IsCausePartWithin}
 use Rattle.hp_search.specs.Ends.{IsMore}
 use Rattle.hp_search.specs.Faults.{IsFaultOf, IsFaultWith, IsFull}
 use Rattle.hp_search.specs.Holding.{HoldsAfter, InScenario, IsStoppedAfter}
-use Rattle.hp_lab_faults.specs.declared.fault.LabFault.{LabFault}
+use Rattle.hp_search.specs.declared.lab_fault.LabFault.{LabFault}
 use Rattle.hp_scenario.specs.declared.lines.Line.{Line}
-use Rattle.hp_lab_faults.specs.declared.fault.LabFault.TheVariants as lab
+use Rattle.hp_search.specs.declared.lab_fault.LabFault.TheVariants as lab
 use Rattle.hp_schedules.specs.Parts.{EndsInPart, IsCompleteInPart, PartValue}
 use Rattle.hp_scenario.specs.Gives.{◌>>=◌}
 use Rattle.hp_scenario.specs.Scenario.{scenario_in, scenario_of}

@@ -22,13 +22,13 @@ use Rattle.hp_part_files.specs.Gathered.{IsGathered, IsGathering, IsOwn, lines_o
 use Rattle.std.specs.Global.{Vec}
 use Rattle.hp_search.specs.Faults.{IsUntold}
 use Rattle.hp_search.specs.Prepared.{IsPrepared, names_of, setting_of}
-use Rattle.hp_lab_faults.specs.declared.fault.LabFault.{LabFault}
-use Rattle.hp_lab_faults.specs.declared.fault.LabFault.TheVariants as lab
+use Rattle.hp_search.specs.declared.lab_fault.LabFault.{LabFault}
+use Rattle.hp_search.specs.declared.lab_fault.LabFault.TheVariants as lab
 use Rattle.hp_search.specs.declared.prepared.Prepared.{Prepared}
 use Rattle.hp_search.proofs.Known.{held_in}
 use Rattle.hp_part_files.specs.Faults.{IsCauseAlong, IsCauseIn, IsLineFault, IsMisplaced, IsTooMany, IsUnplayed, IsUnpushed, IsUnsummedIn, IsUntoldSum, fault_of_line}
-use Rattle.hp_lab_faults.specs.declared.part_fault.PartFault.{PartFault}
-use Rattle.hp_lab_faults.specs.declared.part_fault.PartFault.TheVariants as part
+use Rattle.hp_search.specs.declared.part_fault.PartFault.{PartFault}
+use Rattle.hp_search.specs.declared.part_fault.PartFault.TheVariants as part
 use Rattle.hp_part_files.specs.declared.line_fault.LineFault.{LineFault}
 use Rattle.hp_part_files.specs.declared.line_fault.LineFault.TheVariants.{NotPart, OtherSearch, NotOfPart, Changed, Stopped, OtherCount, Lab}
 use Rattle.hp_part_files.specs.Taking.{HasRead, IsPushed, IsTaken}

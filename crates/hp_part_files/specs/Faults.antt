@@ -9,8 +9,8 @@ use Rattle.hp_explore.specs.declared.exploring.ExploreFault.TheVariants as explo
 use Rattle.hp_search.specs.Faults.{IsUntold}
 use Rattle.hp_search.specs.Holding.{HoldsIn}
 use Rattle.hp_search.specs.Prepared.{IsUnprepared}
-use Rattle.hp_lab_faults.specs.declared.fault.LabFault.{LabFault}
-use Rattle.hp_lab_faults.specs.declared.fault.LabFault.TheVariants.{OutOfMemory}
+use Rattle.hp_search.specs.declared.lab_fault.LabFault.{LabFault}
+use Rattle.hp_search.specs.declared.lab_fault.LabFault.TheVariants.{OutOfMemory}
 use Rattle.hp_schedules.specs.Parts.{EndsInPart}
 use Rattle.hp_explore.specs.Adding.{counted_by}
 use Rattle.hp_part_files.specs.Cuts.{HasNoNewline, IsLineAt, line_number}
@@ -23,8 +23,8 @@ use Rattle.hp_part_files.specs.declared.ordering.OrderFault.TheVariants as order
 use Rattle.hp_part_files.specs.declared.reading.PartLine.TheVariants.{Head, End, Stop, Other}
 use Rattle.hp_part_files.specs.Gathered.{IsGathered, IsGathering, IsLastOther}
 use Rattle.hp_part_files.specs.Texts.{end_line}
-use Rattle.hp_lab_faults.specs.declared.part_fault.PartFault.{PartFault}
-use Rattle.hp_lab_faults.specs.declared.part_fault.PartFault.TheVariants as part
+use Rattle.hp_search.specs.declared.part_fault.PartFault.{PartFault}
+use Rattle.hp_search.specs.declared.part_fault.PartFault.TheVariants as part
 use Rattle.hp_part_files.specs.declared.line_fault.LineFault.{LineFault}
 use Rattle.hp_part_files.specs.declared.line_fault.LineFault.TheVariants.{NotPart, OtherSearch, NotOfPart, Changed, Stopped, OtherCount, Lab}
 use Rattle.std.specs.Global.{Vec}
@@ -49,13 +49,13 @@ abbrev pub IsOtherHead : SearchValue → (text : List ℕ) → Type 0
 IsOtherHead s text =
     (number : ℕ) × (ends : ℕ) × IsLine text (Head number ends) × (IsOwnHead s text number ends → ⊥)
 
--- the head of a part of the search, while the part before it has another number of ends than its
--- own head names
+-- the head of a part of the search, but the part before it does not have as many ends as its own
+-- head says
 abbrev pub IsAfterOther : SearchValue → GatheringValue → (text : List ℕ) → (before : ℕ) → Type 0
 IsAfterOther s v text before =
     IsLastOther v before × (number : ℕ) × (ends : ℕ) × IsOwnHead s text number ends
 
--- an end whose schedule is not a complete one of the part
+-- an end whose schedule is not a complete schedule of the part
 pub record IsOfNoPart (g : Setting) (s : SearchValue) (v : GatheringValue) (text : List ℕ) : Type 0 where
   pub count : ℕ
   pub schedule : Vec ℕ
@@ -85,7 +85,7 @@ IsCauseIn text g explore.OutOfMemory = Unit {0}
 abbrev pub IsUnplayed : Setting → (schedule : List ℕ) → LineFault → Type 0
 IsUnplayed g schedule fault = (why : LabFault) × (fault ≡ Lab why) × IsUntold (IsCauseAlong schedule) g why
 
--- an end is not added to a part
+-- why an end cannot be added to a part
 abbrev pub IsUnpushed : (names : List (List ℕ)) → Setting → GatheringValue → (text : List ℕ) → Ending
     → LineFault → Type 0
 IsUnpushed names g v text end Changed = text ≡ end_line names g (length v.last.ends + 1) end → ⊥
@@ -110,20 +110,20 @@ fault_of_order (order.Missing number) = part.Missing number
 fault_of_order (order.Twice number) = part.Twice number
 fault_of_order order.OutOfMemory = part.Lab OutOfMemory
 
--- the parts are not all there once
+-- some part is missing or there twice
 abbrev pub IsMisplaced : List PartEndsValue → (of : ℕ) → PartFault → Type 0
 IsMisplaced parts of fault = (why : OrderFault) × (fault ≡ fault_of_order why) × IsOrderFault parts of why
 
 -- ---- the whole
 
--- a line after the first head is refused, and each line before it is taken
+-- a line after the first head is refused, and each line before it is accepted
 abbrev pub IsUnread : (input : List ℕ) → (names : List (List ℕ)) → Setting → SearchValue → PartFault → Type 0
 IsUnread input names g s fault =
     (place : ℕ) × (text : List ℕ) × (v : GatheringValue) × (cause : LineFault)
     × (fault ≡ fault_of_line cause (line_number input place)) × IsLineAt input place text
     × IsGathering names g s (take place input) v × IsLineFault names g s v text cause
 
--- the last line has no newline, and the lines before it are taken
+-- the last line has no newline, and the lines before it are accepted
 abbrev pub IsUnended : (input : List ℕ) → (names : List (List ℕ)) → Setting → SearchValue → PartFault
     → Type 0
 IsUnended input names g s fault =
@@ -131,7 +131,7 @@ IsUnended input names g s fault =
     × (fault ≡ part.NotPart (line_number input place)) × HasNoNewline input place
     × IsGathering names g s (take place input) v
 
--- the last part has another number of ends than its head names
+-- the last part does not have as many ends as its head says
 abbrev pub IsLastCut : (input : List ℕ) → (names : List (List ℕ)) → Setting → SearchValue → PartFault
     → Type 0
 IsLastCut input names g s fault =
@@ -144,7 +144,7 @@ IsTooMany lists part.TooMany = 2 ^ 64 ≤ counted_by lists
 IsTooMany lists (part.Lab fault) = fault ≡ OutOfMemory
 IsTooMany lists fault = ⊥
 
--- the parts are not all there once, or there are too many interleavings
+-- some part is missing or there twice, or there are too many interleavings
 pub record IsUnsummed (input : List ℕ) (names : List (List ℕ)) (g : Setting) (s : SearchValue)
     (fault : PartFault) : Type 0 where
   pub parts : List PartEndsValue
@@ -161,7 +161,7 @@ IsUntoldSum input names g s fault =
     ⊎ (IsUnended input names g s fault
     ⊎ (IsLastCut input names g s fault ⊎ IsUnsummed input names g s fault)))
 
--- the scenario cannot be made ready, or its parts cannot be added up
+-- the scenario cannot be prepared, or its parts cannot be added up
 abbrev pub IsUnsummedIn : (input : List ℕ) → SearchValue → PartFault → Type 0
 IsUnsummedIn input s fault =
     ((why : LabFault) × (fault ≡ part.Lab why) × IsUnprepared s.scenario s.setup why)
@@ -177,7 +177,7 @@ BeginsWithNone input =
     HasNoNewline input 0
     ⊎ ((text : List ℕ) × IsLineAt input 0 text × ((h : HeadValue) → IsHead text h → ⊥))
 
--- when each fault comes
+-- the cause of each fault
 abbrev pub IsSumFault : (input : List ℕ) → PartFault → Type 0
 IsSumFault input fault =
     (((fault ≡ part.NotPart 1) × BeginsWithNone input) ⊎ (fault ≡ part.Lab OutOfMemory))

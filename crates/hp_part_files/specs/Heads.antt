@@ -2,8 +2,8 @@
 use Rattle.std.specs.Prelude.{◌≡◌, ℕ, ◌≤◌, List, ◌++◌, codes, Option, Some, None, nat_le, ◌&&◌, Bool, if◌then◌else◌, option_and_then}
 use Rattle.std.specs.Fmt.{decimal}
 use Rattle.serde_json.specs.Data.{Data}
-use Rattle.hp_escapes.specs.Escapes.{escaped_text}
-use Rattle.hp_escapes.specs.declared.escapes.Brackets.TheVariants.{Kept}
+use Rattle.hp_text.specs.Escapes.{escaped_text}
+use Rattle.hp_text.specs.declared.escapes.Brackets.TheVariants.{Kept}
 use Rattle.hp_schedules.specs.Parts.{PartValue}
 use Rattle.hp_scenario.specs.Form.{◌>>=◌, number_at}
 use Rattle.hp_scenario.specs.Scenario.{json_of}

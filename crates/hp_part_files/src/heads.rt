@@ -4,8 +4,8 @@ ghost use Rattle.serde_json.specs.View.{view};
 ghost use Rattle.hp_part_files.specs.Heads.{IsNumber, head_calls, head_counts, head_from as head, head_line, head_of, head_part, head_with as with_numbers, part_in};
 
 use crate::reading::{narrow, number_at, text_at};
-use hp_escapes::{Brackets, write_escaped};
 use hp_schedules::{Shard, ShardId};
+use hp_text::{Brackets, write_escaped};
 use serde_json::Value;
 use std::alloc::{AllocError, Global};
 use std::marker::Model;

@@ -2,7 +2,7 @@
 ghost use Rattle.std.specs.Prelude.{◌≡◌};
 ghost use Rattle.hp_part_files.specs.Faults.{fault_of_line};
 
-use hp_lab_faults::{LabFault, PartFault};
+use hp_search::{LabFault, PartFault};
 use std::alloc::AllocError;
 
 /// Why a line is refused after the lines before it.
@@ -43,7 +43,7 @@ impl LineFault {
 
 impl From<AllocError> for LineFault {
     ghost use Rattle.std.specs.Prelude.{◌≡◌};
-    ghost use Rattle.hp_lab_faults.specs.declared.fault.LabFault.TheVariants.{OutOfMemory};
+    ghost use Rattle.hp_search.specs.declared.lab_fault.LabFault.TheVariants.{OutOfMemory};
     ghost use Rattle.hp_part_files.specs.declared.line_fault.LineFault.TheVariants.{Lab};
 
     ghost from_gives = { λ _ e. e ≡ Lab OutOfMemory };

@@ -8,9 +8,8 @@ ghost use Rattle.hp_part_files.specs.Parts.{IsFullPart, IsPartCause, IsPartOf, I
 use crate::Search;
 use crate::writing::write_part;
 use hp_explore::{Exploration, ExploreFault, Watch, calls_for, explore_part};
-use hp_lab_faults::LabFault;
 use hp_schedules::{ShardId, total_of};
-use hp_search::{Prepared, SearchText, prepare, write_more};
+use hp_search::{LabFault, Prepared, SearchText, prepare, write_more};
 use simdutf8::basic::from_utf8;
 use std::alloc::Global;
 

@@ -1,10 +1,10 @@
 //! The processors of a schedule, as the line of an end names them.
 ghost use Rattle.std.specs.Prelude.{◌≡◌, ◌++◌, OnOk, codes, string_bytes, true};
 ghost use Rattle.std.specs.Fmt.{decimal};
-ghost use Rattle.hp_spelling.specs.Separated.{separated};
+ghost use Rattle.hp_text.specs.Separated.{separated};
 ghost use Rattle.hp_part_files.specs.Processors.{processor_list};
 
-use hp_spelling::write_mark;
+use hp_text::write_mark;
 use hp_units::Cpu;
 use std::alloc::AllocError;
 

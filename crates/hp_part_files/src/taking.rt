@@ -15,9 +15,8 @@ use crate::ends::end_of;
 use crate::line_fault::LineFault;
 use crate::writing::write_end;
 use crate::{Gathering, Head, PartEnds, PartLine, Search, is_head, line_at, line_in, line_number};
-use hp_lab_faults::PartFault;
 use hp_schedules::{Ending, Outcome};
-use hp_search::Prepared;
+use hp_search::{PartFault, Prepared};
 use hp_units::Cpu;
 use std::alloc::{AllocError, Global};
 

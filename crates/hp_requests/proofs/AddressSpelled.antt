@@ -1,4 +1,4 @@
--- A text is an address just where it is spelled so.
+-- A text is an address exactly if it is `0x` and 1 to 16 hexadecimal digits.
 use Rattle.std.proofs.Common.{◌≡◌, ℕ, ◌+◌, ◌*◌, ◌<◌, ◌≤◌, Bool, true, false, cond, ◌&&◌, eqb, ltb, List, [], ◌∷◌, ◌++◌, length, drop, Some, None, refl, ap, ◌∙◌, codes, ◌↔◌}
 use Rattle.std.specs.Prelude.{nat_le}
 use Rattle.std.specs.Char.{digit_value}
@@ -30,7 +30,7 @@ first_made : (test : Bool) (number byte : ℕ) (bytes : List ℕ) (made : ℕ)
 first_made true number byte bytes made small rest e = ((small refl, (rest e).0), (rest e).1)
 first_made false number byte bytes made small rest e = absurd cc
 
--- and where bytes make a number, they are such digits
+-- and if bytes make a number, they are such digits
 made_of_digits : (number : ℕ) (bytes : List ℕ) (made : ℕ) → hex_after number bytes ≡ Some made
     → AllDigits 16 bytes × (digits_value_after 16 number bytes ≡ made)
 made_of_digits number [] made e = (tt, cc)

@@ -1,4 +1,4 @@
--- A path stands for a file of a memory block just where it is spelled so.
+-- A path stands for a file of a memory block exactly if it is spelled as one.
 use Rattle.std.proofs.Common.{◌≡◌, ℕ, suc, ◌+◌, ◌^◌, ◌<◌, ◌≤◌, Bool, true, false, cond, eqb, ltb, List, [], ◌∷◌, ◌++◌, length, get_or, take, drop, Option, Some, None, refl, sym, ap, ◌∙◌, arith, add-one, codes, ◌↔◌, drop-cons}
 use Rattle.std.specs.Fmt.{decimal}
 use Rattle.std.specs.List.{AllByRecursion, position_or_len, starts_with}
@@ -43,7 +43,7 @@ directory_no_slash block small = (
   ),
 )
 
--- the first slash stands after a text that has none
+-- the first slash comes after a text that has none
 slash_at : (front rest : List ℕ) → AllByRecursion (λ byte. eqb byte 47 ≡ false) front
     → position_or_len (λ byte. eqb byte 47) (front ++ 47 ∷ rest) ≡ length front
 slash_at [] rest h = refl
@@ -76,7 +76,7 @@ abbrev behind : Option (List ℕ × List ℕ) → List ℕ
 behind None = []
 behind (Some halves) = halves.1
 
--- a list is what stands before a place, the element there and what stands after it
+-- a list is what comes before a place, the element there, and what comes after it
 whole : (path : List ℕ) (n byte : ℕ) → n < length path → get_or path n 0 ≡ byte
     → path ≡ take n path ++ byte ∷ drop (n + 1) path
 whole path n byte within there =
@@ -168,7 +168,7 @@ from_halves path (Some h) cut block file e =
       directory.1,
     )
 
--- it was not the first of the choices
+-- a file that was not the first of the choices is one of the others
 not_first : (test : Bool) (first : File) (others : Option File) (file : File)
     → cond test (Some first) others ≡ Some file → (first ≡ file → ⊥) → others ≡ Some file
 not_first true first others file e ne = absurd (ne cc)

@@ -1,4 +1,4 @@
--- What writing to a control file asks for (Linux guide, Memory Hot(Un)Plug).
+-- The requests made by writing to control files (Linux guide, Memory Hot(Un)Plug).
 use Rattle.std.specs.Prelude.{ℕ, List, [], ◌∷◌, ◌++◌, codes, Option, Some, None, Result, Ok, Err, if◌then◌else◌}
 use Rattle.std.specs.Option.{option_map}
 use Rattle.std.specs.Str.{bytes_eq}
@@ -41,7 +41,7 @@ block_request block OnlineFile text = online_request block text
 block_request block ZonesFile text = Err ReadOnly
 block_request block RemovableFile text = Err ReadOnly
 
--- what a block becomes when it is added, from the word for it
+-- the word for what a block becomes when it is added
 unfoldable pub auto_of : List ℕ → Option Auto
 auto_of text =
     if bytes_eq text (codes "offline") then Some OfflineAuto
@@ -65,10 +65,10 @@ request_of path bytes = do
   file ← or_fault NoFile (file_at path)
   request_to file (without_newline bytes)
 
--- what a word asks for when `echo` writes it, with a newline
+-- what a word asks for if `echo` writes it, with a newline
 abbrev pub echo_request : (path word : List ℕ) → Result Request ControlFault
 echo_request path word = request_of path (word ++ codes "\n")
 
--- how many migrations a plan that a control file asks for may try
+-- the most migrations that a plan from a control file may try
 abbrev pub control_turns : ℕ
 control_turns = 1024

@@ -1,4 +1,4 @@
-//! What writing to a control file asks for.
+//! Parses what is written to a control file.
 ghost use Rattle.std.specs.Prelude.{◌≡◌, IfOk};
 ghost use Rattle.hp_requests.specs.Gives.{Gives};
 ghost use Rattle.hp_requests.specs.Writes as means;
@@ -9,10 +9,10 @@ use crate::words::{address_from, without_newline};
 use hp_units::{Auto, Block, Event, Item, Plan, Wish, Zone};
 use std::alloc::{AllocError, Global};
 
-/// How many migrations a plan that a control file asks for may try.
+/// The most migrations that a plan from a control file may try.
 pub const CONTROL_TURNS: u32 = 1024;
 
-/// What a written text asks for.
+/// A request made by writing to a control file.
 #[derive(Drop)]
 pub enum Request {
     /// One event.
@@ -21,9 +21,9 @@ pub enum Request {
     Plan(Plan),
 }
 
-/// Returns what bytes written to the control file at a path ask for (Linux guide, Memory
-/// Hot(Un)Plug). Takes one final newline off; the rest must be one of the words. No machine is
-/// read: a block that is not there is refused later.
+/// Parses bytes written to the control file at `path` (Linux guide, Memory Hot(Un)Plug). Drops one
+/// final newline; the rest must be one of the words below. No machine is read: a block that is not
+/// there is refused later.
 ///
 /// `memoryN/state`: `online` and `online_kernel` for zone Normal, `online_movable` for zone
 /// Movable, `offline`. `memoryN/online`: `1` for zone Normal, `0` for offline. `probe`: `0x` and 1
@@ -42,7 +42,7 @@ pub fn parse_write(alloc: Global, path: &str, bytes: &[u8]) -> Result<Request, C
     }
 }
 
-/// Returns what a word asks for when it is written with a newline. Fails like `parse_write`.
+/// Parses a word that is written with a newline. Fails like `parse_write`.
 fn parse_echo(alloc: Global, path: &str, word: &str) -> Result<Request, ControlFault>
     ensures { Gives (λ request. request) result (means.echo_request path.now word.now) }
 {
@@ -51,8 +51,7 @@ fn parse_echo(alloc: Global, path: &str, word: &str) -> Result<Request, ControlF
     parse_write(alloc, path, line.as_bytes())
 }
 
-/// Returns what a word asks for that `echo` writes, with a newline, to the control file at a path,
-/// or why the file does not take it.
+/// Parses `echo WORD` into the control file at `path`: the request, or why the file refuses it.
 pub fn echo_answer(
     alloc: Global,
     path: &str,
@@ -67,7 +66,7 @@ pub fn echo_answer(
     }
 }
 
-/// Returns what a text written to a file asks for.
+/// Parses a text written to `file`.
 #[tactic(auto, unfolding(crate::specs::Writes::request_to))]
 fn request_to(alloc: Global, file: File, text: &[u8]) -> Result<Request, ControlFault>
     ensures { Gives (λ request. request) result (means.request_to file text.now) }
@@ -86,7 +85,7 @@ fn request_to(alloc: Global, file: File, text: &[u8]) -> Result<Request, Control
     }
 }
 
-/// Returns what a text written to a file of a memory block asks for.
+/// Parses a text written to a file of a memory block.
 fn block_request(
     alloc: Global,
     block: Block,
@@ -102,7 +101,7 @@ fn block_request(
     }
 }
 
-/// Returns what a text written to a block's `state` asks for.
+/// Parses a text written to a block's `state`.
 #[tactic(auto, unfolding(crate::specs::Writes::state_request))]
 fn state_request(alloc: Global, block: Block, text: &[u8]) -> Result<Request, ControlFault>
     ensures { Gives (λ request. request) result (means.state_request block text.now) }
@@ -118,7 +117,7 @@ fn state_request(alloc: Global, block: Block, text: &[u8]) -> Result<Request, Co
     }
 }
 
-/// Returns what a text written to a block's `online` asks for.
+/// Parses a text written to a block's `online`.
 #[tactic(auto, unfolding(crate::specs::Writes::online_request))]
 fn online_request(alloc: Global, block: Block, text: &[u8]) -> Result<Request, ControlFault>
     ensures { Gives (λ request. request) result (means.online_request block text.now) }
@@ -132,14 +131,14 @@ fn online_request(alloc: Global, block: Block, text: &[u8]) -> Result<Request, C
     }
 }
 
-/// Returns the request that a block go online in a zone.
+/// Returns the request to put a block online in `zone`.
 fn online(block: Block, zone: Zone) -> Request
     ensures { result ≡ means.online block zone }
 {
     Request::Event(Event::Online { block, zone })
 }
 
-/// Returns the request that a block go offline.
+/// Returns the request to take a block offline.
 fn offline(alloc: Global, block: Block) -> Result<Request, AllocError>
     ensures { IfOk result (λ request. request ≡ means.offline block) }
 {
@@ -152,7 +151,7 @@ fn offline(alloc: Global, block: Block) -> Result<Request, AllocError>
     Ok(Request::Plan(plan))
 }
 
-/// Returns what a block becomes when it is added, from the word for it.
+/// Parses the word for what a block becomes when it is added.
 #[tactic(auto, unfolding(crate::specs::Writes::auto_of))]
 fn auto_from(text: &[u8]) -> Option<Auto>
     ensures { result ≡ means.auto_of text.now }

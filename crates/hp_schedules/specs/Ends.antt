@@ -1,13 +1,14 @@
--- What a list of ends states about the schedules of a kind.
+-- What a list of ends says about a set of schedules.
 use Rattle.std.specs.Prelude.{◌≡◌, ℕ, ◌<◌, List, Some, slice_get, sum_by}
 use Rattle.hp_schedules.specs.declared.tally.Ending.{Ending}
 use Rattle.hp_schedules.specs.Orders.{HasCount, IsBefore, IsFirst}
 use Rattle.hp_schedules.specs.Outcomes.{OutcomeValue}
 use Rattle.hp_schedules.specs.Schedules.{EndsWith, Setting}
 
--- the ends count the schedules s that have an outcome x, which is what E s x means. An end's count
--- is the number of schedules that end so, and it names the first of them. Each schedule's end is
--- listed; no two ends are equal; the counts add up to the number of all schedules
+-- the ends count the schedules s in the set; E s x states that s is in it and has the outcome x. An
+-- end's count is the number of schedules that end in this way, and it names the first of them.
+-- Every schedule's end is listed, no two ends are equal, and the counts add up to the number of
+-- schedules
 pub record AreCounted (E : List ℕ → OutcomeValue → Type 0) (ends : List Ending) : Type 0 where
   pub counts : (k : ℕ) (e : Ending) → slice_get ends k ≡ Some e → HasCount (λ s. E s e.outcome) e.count
   pub firsts : (k : ℕ) (e : Ending) → slice_get ends k ≡ Some e → IsFirst (λ s. E s e.outcome) e.first.items

@@ -22,8 +22,8 @@ Opening = OpeningWith Memory
 abbrev pub NumberedOpening : Type 0
 NumberedOpening = OpeningWith ℕ
 
--- the operations that a Cancel can take back whole, latest first. Only the first is sole; its
--- Cancel leads back to the state before its Begin, in which the others are such a list
+-- the operations that a Cancel can take back whole, latest first. Only the first is sole. Its
+-- Cancel leads back to the state before its Begin, where the rest of the list is such a list again
 abbrev pub AreOpen : LayoutParts → Memory → (net : List Record) → List Opening → Type 0
 AreOpen l base net [] = (op : ℕ) → sole_at op (map tag_of net) ≡ None
 AreOpen l base net (o ∷ os) =
@@ -31,7 +31,8 @@ AreOpen l base net (o ∷ os) =
     × ((op : ℕ) → sole_at op (map tag_of net) ≡ (if o.op == op then Some place else None))
     × (o.memory ≡ run l base (take place net)) × AreOpen l base (take place net) os
 
--- those left after an operation's own work, and after its Cancel: none if another is first
+-- the operations left after work of the operation `op`, and after its Cancel; none if another
+-- operation is first
 abbrev pub after_work : {S : Type 0} → (op : ℕ) → List (OpeningWith S) → List (OpeningWith S)
 after_work op [] = []
 after_work op (o ∷ os) = if o.op == op then o ∷ os else []
@@ -40,8 +41,8 @@ abbrev pub after_cancel : {S : Type 0} → (op : ℕ) → List (OpeningWith S) �
 after_cancel op [] = []
 after_cancel op (o ∷ os) = if o.op == op then os else []
 
--- how a record changes them: a refusal or a read does nothing; a step that is no operation's work
--- ends them all
+-- how a record changes the list: a refusal or a read leaves it as it is; any step other than a
+-- Begin, a Cancel, a DrainFor or a Migrate empties it
 abbrev pub change_by : Event → Change
 change_by (Read owner page index) = Stays
 change_by (Begin plan) = Begins

@@ -12,7 +12,7 @@ use Rattle.hp_explore.specs.Settings.{setting}
 use Rattle.hp_schedules.specs.declared.scripts.Step.{Step}
 use Rattle.hp_schedules.specs.Schedules.{IsComplete, Setting}
 use Rattle.hp_search.specs.declared.forms.EndsForm.{EndsForm}
-use Rattle.hp_lab_faults.specs.declared.fault.LabFault.{LabFault}
+use Rattle.hp_search.specs.declared.lab_fault.LabFault.{LabFault}
 use Rattle.hp_search.specs.Ends.{IsMore, IsTold}
 use Rattle.hp_search.specs.Faults.{IsFaultOf, IsToldAs}
 use Rattle.hp_search.specs.Prepared.{IsPrepared, IsUnprepared, before_of, names_of, setting_of}

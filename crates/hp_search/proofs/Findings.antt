@@ -4,10 +4,10 @@ use Rattle.hp_explore.specs.declared.exploring.ExploreFault.TheVariants as explo
 use Rattle.hp_explore.specs.FindFaults.{IsFindCause}
 use Rattle.hp_explore.specs.declared.fault.FindFault.{FindFault}
 use Rattle.hp_explore.specs.declared.fault.FindFault.TheVariants as search
-use Rattle.hp_wanted.specs.Limits.{AreWithin}
-use Rattle.hp_wanted.specs.declared.wanted.Wanted.{Wanted}
-use Rattle.hp_lab_faults.specs.declared.fault.LabFault.{LabFault}
-use Rattle.hp_lab_faults.specs.declared.fault.LabFault.TheVariants.{NotJson, BadShape, Layout, BadLine, NotForScript, PastLayout, TooMany, HistoryFull, OutOfMemory}
+use Rattle.hp_questions.specs.Limits.{AreWithin}
+use Rattle.hp_questions.specs.declared.wanted.Wanted.{Wanted}
+use Rattle.hp_search.specs.declared.lab_fault.LabFault.{LabFault}
+use Rattle.hp_search.specs.declared.lab_fault.LabFault.TheVariants.{NotJson, BadShape, Layout, BadLine, NotForScript, PastLayout, TooMany, HistoryFull, OutOfMemory}
 use Rattle.hp_search.specs.Faults.{IsFaultWith}
 use Rattle.hp_search.specs.Prepared.{IsPrepared, setting_of}
 use Rattle.hp_search.specs.declared.prepared.Prepared.{Prepared}

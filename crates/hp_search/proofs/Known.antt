@@ -8,17 +8,17 @@ use Rattle.hp_explore.specs.declared.exploring.ExploreFault.{ExploreFault}
 use Rattle.hp_explore.specs.declared.exploring.ExploreFault.TheVariants as explore
 use Rattle.hp_schedules.specs.declared.tally.Ending.{Ending}
 use Rattle.hp_schedules.specs.Schedules.{Setting}
-use Rattle.hp_lab_faults.specs.Faults.{start_fault_from}
-use Rattle.hp_lab_faults.specs.declared.fault.LabFault.{LabFault}
-use Rattle.hp_lab_faults.specs.declared.fault.LabFault.TheVariants.{NotJson, BadShape, Layout, BadLine, NotForScript, PastLayout, TooMany, HistoryFull, OutOfMemory}
+use Rattle.hp_search.specs.FaultOrigins.{start_fault_from}
+use Rattle.hp_search.specs.declared.lab_fault.LabFault.{LabFault}
+use Rattle.hp_search.specs.declared.lab_fault.LabFault.TheVariants.{NotJson, BadShape, Layout, BadLine, NotForScript, PastLayout, TooMany, HistoryFull, OutOfMemory}
 use Rattle.hp_search.specs.Ends.{IsNumbered}
 use Rattle.hp_search.specs.Faults.{IsFaultWith, IsFull, IsFullTold, IsToldAs, IsUntold}
 use Rattle.hp_search.specs.Holding.{HoldsIn, InScenario, IsStoppedAfter}
 use Rattle.hp_search.specs.Prepared.{IsPrepared, IsUnprepared, before_of, names_of, setting_of}
 use Rattle.hp_search.specs.declared.prepared.Prepared.{Prepared}
-use Rattle.hp_scripts.specs.Starts.{HasNoStart}
-use Rattle.hp_scripts.specs.declared.fault.StartFault.{StartFault}
-use Rattle.hp_scripts.specs.declared.fault.StartFault.TheVariants as start
+use Rattle.hp_questions.specs.Starts.{HasNoStart}
+use Rattle.hp_questions.specs.declared.start_fault.StartFault.{StartFault}
+use Rattle.hp_questions.specs.declared.start_fault.StartFault.TheVariants as start
 
 -- ---- a line that cannot stand in a script
 

@@ -10,7 +10,7 @@ use Rattle.hp_explore.specs.Faults.{FillsHistory, IsCauseWithin}
 use Rattle.hp_explore.specs.Fronts.{AreFirst}
 use Rattle.hp_scenario.specs.declared.lines.Line.{Line}
 use Rattle.hp_search.specs.declared.forms.EndsForm.{EndsForm}
-use Rattle.hp_lab_faults.specs.declared.fault.LabFault.{LabFault}
+use Rattle.hp_search.specs.declared.lab_fault.LabFault.{LabFault}
 use Rattle.hp_search.specs.Ends.{AreEndsTold}
 use Rattle.hp_search.specs.Faults.{IsFaultWith}
 use Rattle.hp_search.specs.Holding.{HoldsIn}
@@ -44,7 +44,7 @@ abbrev pub IsExplorationOf : EndsForm → (input : List ℕ) → (setup limit : 
 IsExplorationOf form input setup limit text found =
     HoldsIn (λ names before g. IsExploredOn form names before g limit text found) input setup
 
--- when each fault comes; a full history only from a call that the search makes within its limit
+-- the cause of each fault; for a full history, a call that the search makes within its limit
 abbrev pub IsFaultWithin : (input : List ℕ) → (setup limit : ℕ) → LabFault → Type 0
 IsFaultWithin input setup limit fault =
     IsFaultWith (λ g. ⊥) (λ g. IsCauseWithin g limit) input setup limit fault

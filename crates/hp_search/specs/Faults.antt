@@ -8,10 +8,10 @@ use Rattle.hp_explore.specs.declared.exploring.ExploreFault.{ExploreFault}
 use Rattle.hp_explore.specs.declared.exploring.ExploreFault.TheVariants as explore
 use Rattle.hp_scenario.specs.declared.fault.ScenarioFault.{ScenarioFault}
 use Rattle.hp_scenario.specs.Scenario.{scenario_in}
-use Rattle.hp_scripts.specs.Starts.{IsUnfitAfter}
-use Rattle.hp_lab_faults.specs.Faults.{fault_from}
-use Rattle.hp_lab_faults.specs.declared.fault.LabFault.{LabFault}
-use Rattle.hp_lab_faults.specs.declared.fault.LabFault.TheVariants.{NotJson, BadShape, Layout, BadLine, NotForScript, PastLayout, TooMany, HistoryFull, OutOfMemory}
+use Rattle.hp_questions.specs.Starts.{IsUnfitAfter}
+use Rattle.hp_search.specs.FaultOrigins.{fault_from}
+use Rattle.hp_search.specs.declared.lab_fault.LabFault.{LabFault}
+use Rattle.hp_search.specs.declared.lab_fault.LabFault.TheVariants.{NotJson, BadShape, Layout, BadLine, NotForScript, PastLayout, TooMany, HistoryFull, OutOfMemory}
 use Rattle.hp_search.specs.Holding.{InScenario, IsStoppedAfter}
 
 -- ---- on a machine

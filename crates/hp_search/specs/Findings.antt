@@ -8,12 +8,12 @@ use Rattle.hp_explore.specs.declared.fault.FindFault.{FindFault}
 use Rattle.hp_explore.specs.declared.fault.FindFault.TheVariants as search
 use Rattle.hp_explore.specs.declared.finding.Found.{Found}
 use Rattle.hp_explore.specs.declared.finding.Found.TheVariants.{Nearest, Absent}
-use Rattle.hp_wanted.specs.Limits.{AreWithin, IsFirstPast}
-use Rattle.hp_wanted.specs.declared.wanted.Wanted.{Wanted}
+use Rattle.hp_questions.specs.Limits.{AreWithin, IsFirstPast}
+use Rattle.hp_questions.specs.declared.wanted.Wanted.{Wanted}
 use Rattle.hp_scenario.specs.declared.lines.Line.{Line}
 use Rattle.hp_search.specs.declared.forms.ScheduleForm.{ScheduleForm}
-use Rattle.hp_lab_faults.specs.declared.fault.LabFault.{LabFault}
-use Rattle.hp_lab_faults.specs.declared.fault.LabFault.TheVariants.{PastLayout, TooMany, OutOfMemory}
+use Rattle.hp_search.specs.declared.lab_fault.LabFault.{LabFault}
+use Rattle.hp_search.specs.declared.lab_fault.LabFault.TheVariants.{PastLayout, TooMany, OutOfMemory}
 use Rattle.hp_search.specs.Faults.{IsFaultWith, IsFullTold}
 use Rattle.hp_search.specs.Holding.{HoldsIn, InScenario, IsStoppedAfter}
 use Rattle.hp_search.specs.FoundTexts.{absent_told, found_text}

@@ -7,8 +7,8 @@ use Rattle.hp_schedules.specs.Schedules.{Setting}
 use Rattle.hp_explore.specs.Settings.{setting}
 use Rattle.hp_scenario.specs.declared.lines.Line.{Line}
 use Rattle.hp_scenario.specs.Scenario.{ScenarioValue, scenario_in}
-use Rattle.hp_scripts.specs.Checks.{AreFit}
-use Rattle.hp_scripts.specs.Starts.{IsStart}
+use Rattle.hp_questions.specs.Checks.{AreFit}
+use Rattle.hp_questions.specs.Starts.{IsStart}
 
 -- `P` holds of the machine after `before`, run in order from boot, with the scripts of `after`
 pub record HoldsAfter (P : Setting → Type 0) (l : LayoutParts) (before after : List Line) : Type 0 where

@@ -1,5 +1,7 @@
 pub mod Ends
 pub mod Explorations
+pub mod FaultOrigins
+pub mod FaultTexts
 pub mod Faults
 pub mod Findings
 pub mod FoundTexts

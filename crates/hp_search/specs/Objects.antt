@@ -9,8 +9,8 @@ use Rattle.hp_text.specs.State.{state_words}
 use Rattle.hp_schedules.specs.declared.multinomials.HowMany.{HowMany}
 use Rattle.hp_schedules.specs.declared.multinomials.HowMany.TheVariants.{Exactly, MoreThanLimit, Unknown}
 use Rattle.hp_schedules.specs.declared.tally.Ending.{Ending}
-use Rattle.hp_spelling.specs.Entries.{calls_text}
-use Rattle.hp_spelling.specs.Separated.{separated}
+use Rattle.hp_text.specs.Entries.{calls_text}
+use Rattle.hp_text.specs.Separated.{separated}
 
 -- ---- an end
 

@@ -8,10 +8,10 @@ use Rattle.hp_explore.specs.Settings.{setting}
 use Rattle.hp_scenario.specs.declared.lines.Line.{Line}
 use Rattle.hp_scenario.specs.Scenario.{scenario_in}
 use Rattle.hp_scenario.specs.Seen.{scenario_seen}
-use Rattle.hp_scripts.specs.Checks.{AreFit}
+use Rattle.hp_questions.specs.Checks.{AreFit}
 use Rattle.hp_search.specs.Faults.{IsFaultWith}
-use Rattle.hp_scripts.specs.Starts.{IsStart}
-use Rattle.hp_lab_faults.specs.declared.fault.LabFault.{LabFault}
+use Rattle.hp_questions.specs.Starts.{IsStart}
+use Rattle.hp_search.specs.declared.lab_fault.LabFault.{LabFault}
 use Rattle.hp_search.specs.declared.prepared.Prepared.{Prepared}
 
 -- the machine and scripts of a search, the names of the owners, and the lines of the setup

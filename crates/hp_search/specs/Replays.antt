@@ -3,7 +3,7 @@ use Rattle.std.specs.Prelude.{ℕ, List, [], Option, Some, None}
 use Rattle.hp_units.specs.LayoutParts.{LayoutParts}
 use Rattle.hp_units.specs.declared.replies.Record.{Record}
 use Rattle.hp_scenario.specs.declared.lines.Line.{Line}
-use Rattle.hp_spelling.specs.Scenarios.{scenario_text}
+use Rattle.hp_text.specs.Scenarios.{scenario_text}
 
 -- the lines of the setup, then the schedule's calls; empty if it cannot be played
 abbrev pub replayed_text : (names : List (List ℕ)) → (before : List Line) → LayoutParts

@@ -11,7 +11,7 @@ use Rattle.hp_text.specs.State.{block_line, newline, texts_below}
 use Rattle.hp_schedules.specs.declared.multinomials.HowMany.{HowMany}
 use Rattle.hp_schedules.specs.declared.multinomials.HowMany.TheVariants.{Exactly, MoreThanLimit, Unknown}
 use Rattle.hp_schedules.specs.declared.tally.Ending.{Ending}
-use Rattle.hp_spelling.specs.Entries.{calls_text}
+use Rattle.hp_text.specs.Entries.{calls_text}
 
 -- ---- the outcome
 
@@ -46,7 +46,7 @@ end_text names l number e calls =
     ++ processors_text l.cpus e.outcome.replies ++ blocks_text l.blocks e.outcome.blocks ++ codes "first:\n"
     ++ played_text names calls
 
--- ---- how many there are
+-- ---- how many interleavings and ends there are
 
 -- how many interleavings there are, if not all were counted
 abbrev pub many_text : (counted : ℕ) → HowMany → List ℕ
@@ -54,7 +54,7 @@ many_text counted (Exactly count) = decimal count ++ codes " interleavings"
 many_text counted MoreThanLimit = codes "more than " ++ decimal counted ++ codes " interleavings"
 many_text counted Unknown = codes "more than " ++ decimal counted ++ codes " interleavings"
 
--- how many there are; if not all were counted, also how many were
+-- the number of interleavings; if not all were counted, also the number that was
 abbrev pub total_text : (counted : ℕ) → Option HowMany → List ℕ
 total_text counted None = codes "interleavings: " ++ decimal counted
 total_text counted (Some known) =

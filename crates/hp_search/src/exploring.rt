@@ -5,9 +5,9 @@ ghost use Rattle.hp_search.specs.Faults.{IsFaultOf};
 ghost use Rattle.hp_search.specs.Prepared.{before_of, names_of, setting_of};
 ghost use Rattle.hp_search.specs.Explorations.{IsExplorationOf, IsExploredOn, IsFaultWithin};
 
+use crate::lab_fault::LabFault;
 use crate::{EndsForm, Prepared, SearchText, prepare};
 use hp_explore::{ExploreFault, Watch, explore};
-use hp_lab_faults::LabFault;
 use std::alloc::Global;
 
 /// Explores the scenario in `input`: counts all interleavings of its scripts' calls, or the first

@@ -2,18 +2,18 @@
 ghost use Rattle.std.specs.Prelude.{◌≡◌, ◌^◌, ◌<◌, IfErr, IfOk, length, option_map, string_bytes};
 ghost use Rattle.hp_explore.specs.FindFaults.{IsFindCause};
 ghost use Rattle.hp_search.specs.Prepared.{before_of, names_of, setting_of};
-ghost use Rattle.hp_wanted.specs.Limits.{AreWithin};
+ghost use Rattle.hp_questions.specs.Limits.{AreWithin};
 ghost use Rattle.hp_search.specs.Findings.{IsFindFaultOf, IsFindTold, IsFindingOf, IsFoundOn, IsFoundTold};
 ghost use Rattle.hp_search.specs.FoundTexts.{absent_told, found_text, schedule_text};
 
+use crate::lab_fault::LabFault;
 use crate::{
     Prepared, ScheduleForm, SearchText, absent_object, absent_text, found_object, nearest_text,
     prepare,
 };
 use hp_explore::{ExploreFault, FindFault, Found, Watch, changes_of, find};
-use hp_lab_faults::LabFault;
+use hp_questions::{Wanted, first_past};
 use hp_units::{Cpu, Record};
-use hp_wanted::{Wanted, first_past};
 use std::alloc::{AllocError, Global};
 
 /// Searches the scenario in `input` for an interleaving whose end has each of the wanted lines,

@@ -1,13 +1,15 @@
-//! What a scenario does in every interleaving of its processors' calls, as text.
+//! What a scenario does in every interleaving of its processors' calls, as text; and the faults of
+//! the laboratory, each with its text.
 //!
-//! hp_scripts runs a scenario's setup and makes the scripts, and hp_explore searches. This crate
+//! hp_questions runs a scenario's setup and makes the scripts, and hp_explore searches. This crate
 //! joins them (`prepared`), returns what each search found (`exploring`, `threads`, `finding`), and
-//! spells ends and schedules as words, as JSON and as a scenario (`words`, `objects`, `replays`). It
-//! owns the conditions on a scenario's bytes and when each fault comes. It opens no file and no
-//! stream.
+//! spells ends and schedules as words, as JSON and as a scenario (`words`, `objects`, `replays`).
+//! It owns the conditions on a scenario's bytes, when each fault of a search comes, and the faults
+//! of the program and of a sum of parts; the crates that return those say when. It opens no file
+//! and no stream.
 //!
 //! Read specs/Prepared and specs/Holding first, then specs/Explorations: what `explore_text`
-//! promises; specs/Findings; specs/Words.
+//! promises; specs/Findings; specs/Words; specs/FaultTexts and specs/FaultOrigins.
 #![tactic(auto)]
 
 mod ends;
@@ -15,9 +17,13 @@ mod exploring;
 mod finding;
 mod forms;
 mod found;
+mod lab_fault;
 mod objects;
+mod part_fault;
 mod prepared;
+mod program_fault;
 mod replays;
+mod said;
 mod threads;
 mod words;
 
@@ -25,8 +31,11 @@ pub use exploring::explore_text;
 pub use finding::find_text;
 pub use forms::{EndsForm, ScheduleForm};
 pub use found::SearchText;
+pub use lab_fault::LabFault;
 pub use objects::{absent_object, found_object, write_keys, write_more};
+pub use part_fault::PartFault;
 pub use prepared::{Prepared, prepare};
+pub use program_fault::LabProgramFault;
 pub use replays::replay_text;
 pub use threads::explore_text_with_jobs;
 pub use words::{absent_text, nearest_text, write_counts, write_end};

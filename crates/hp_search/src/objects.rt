@@ -1,12 +1,11 @@
 //! Ends, and a schedule that was found, as JSON, one object per line.
 ghost use Rattle.std.specs.Prelude.{◌≡◌, ◌++◌, IfOk, OnOk, codes, option_map, string_bytes, true};
-ghost use Rattle.hp_spelling.specs.Separated.{separated};
+ghost use Rattle.hp_text.specs.Separated.{separated};
 ghost use Rattle.hp_text.specs.State.{zone_word};
 ghost use Rattle.hp_search.specs.Objects.{absent_object, answer_list, block_string, first_object, found_object, keys_text, more_object, played_list, reply_string};
 
 use hp_schedules::{Ending, HowMany, Replies};
-use hp_spelling::{write_calls, write_mark};
-use hp_text::write_reply_words;
+use hp_text::{write_calls, write_mark, write_reply_words};
 use hp_units::{Record, Reply, Row, State, Text, Zone};
 use indexmap::IndexSet;
 use std::alloc::{AllocError, Global};

@@ -9,13 +9,13 @@ ghost use Rattle.hp_search.specs.Replays.{replayed_text};
 ghost use Rattle.hp_search.specs.Faults.{IsToldAs};
 ghost use Rattle.hp_search.specs.Prepared.{GoesOn, IsPrepared, IsUnprepared, before_of, calls_in, names_of, setting_of};
 
+use crate::lab_fault::LabFault;
 use crate::replay_text;
 use hp_explore::{ExploreFault, play, room_needed};
-use hp_lab_faults::LabFault;
 use hp_machine::Machine;
+use hp_questions::{Start, front_of, start_of};
 use hp_scenario::{Line, Scenario};
 use hp_schedules::{HowMany, interleavings_of};
-use hp_scripts::{Start, front_of, start_of};
 use hp_units::{Cpu, Record};
 use std::alloc::{AllocError, Global};
 

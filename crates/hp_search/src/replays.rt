@@ -3,7 +3,7 @@ ghost use Rattle.std.specs.Prelude.{◌≡◌, IfOk, option_map, string_bytes};
 ghost use Rattle.hp_search.specs.Replays.{replayed_text};
 
 use hp_scenario::Line;
-use hp_spelling::write_scenario;
+use hp_text::write_scenario;
 use hp_units::{Layout, Record, Text};
 use indexmap::IndexSet;
 use std::alloc::{AllocError, Global};

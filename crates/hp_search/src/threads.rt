@@ -5,9 +5,9 @@ ghost use Rattle.hp_search.specs.Faults.{IsFaultOf};
 ghost use Rattle.hp_search.specs.Prepared.{before_of, names_of, setting_of};
 ghost use Rattle.hp_search.specs.Explorations.{IsExplorationOf, IsExploredOn, IsFaultWithin};
 
+use crate::lab_fault::LabFault;
 use crate::{EndsForm, Prepared, SearchText, prepare};
 use hp_explore::{ExploreFault, Watch, explore_with_jobs};
-use hp_lab_faults::LabFault;
 use std::alloc::Global;
 use std::thread::Threads;
 

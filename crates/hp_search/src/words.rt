@@ -6,8 +6,7 @@ ghost use Rattle.hp_text.specs.State.{block_line};
 ghost use Rattle.hp_search.specs.Words.{absent_text, answers_text, blocks_text, counts_text, end_text, nearest_text, played_text, processors_text, total_text};
 
 use hp_schedules::{Ending, HowMany, Replies, total_of};
-use hp_spelling::write_calls;
-use hp_text::{write_reply, write_row};
+use hp_text::{write_calls, write_reply, write_row};
 use hp_units::{Block, Cpu, Layout, Record, Reply, Row, Text};
 use indexmap::IndexSet;
 use std::alloc::{AllocError, Global};

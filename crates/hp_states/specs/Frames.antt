@@ -1,4 +1,4 @@
--- What a walk knows of a place, and what it keeps of it when it leaves.
+-- What a walk knows about a place, and what it stores when it leaves it.
 use Rattle.std.specs.Prelude.{◌≡◌, true, List, Option, None, Some, length, map, option_map, Box}
 use Rattle.std.specs.declared.alloc.Global.{Global}
 use Rattle.hp_units.specs.declared.replies.Record.{Record}
@@ -19,7 +19,7 @@ use Rattle.hp_schedules.specs.declared.cursors.Cursor.{Cursor}
 use Rattle.hp_schedules.specs.declared.rows.Share.{Share}
 use Rattle.hp_schedules.specs.declared.tally.Ending.{Ending}
 
--- what a place keeps while it is walked: the count of each end when the walk reached it
+-- what a place stores while it is walked: the count of each end when the walk reached it
 pub record IsPlaceKept (g : Setting) (part : PartValue) (news : List Record) (ends : List Ending)
     (kept : Kept) : Type 0 where
   pub old : List Ending
@@ -42,14 +42,14 @@ pub record IsFrame (g : Setting) (part : PartValue) (news : List Record) (ends :
   pub comes : ComesTo (length g.scripts) part (schedule_of news)
   pub kept : (k : Kept) → kept_of frame ≡ Some k → IsPlaceKept g part news ends k
 
--- all schedules from the place belong to a part and are walked, and this is kept of it
+-- all schedules from the place belong to one part and are walked; `kept` is what the place stores
 pub record IsPlaceWalked (g : Setting) (news : List Record) (ends : List Ending) (kept : Kept) : Type 0 where
   pub part : PartValue
   pub all : AllOfPart (length g.scripts) part (schedule_of news)
   pub place : IsPlaceKept g part news ends kept
   pub through : IsPartWalkedThrough g part (schedule_of news) ends
 
--- each end's count grew by its share; or the place is to be walked, since there is no room for all
+-- each end's count grew by its share; or not all counts have room, and the place must be walked
 abbrev pub IsAdded : (old : List Ending) → (shares : List Share) → (new : List Ending) → Entry → Type 0
 IsAdded old shares new Counted = AddsShares old shares new
 IsAdded old shares new (Open frame) =
@@ -61,7 +61,7 @@ IsEntered g news part old new Counted = IsPartWalkedThrough g part (schedule_of 
 IsEntered g news part old new (Open frame) =
     (new ≡ old) × (frame.next ≡ 0) × (frame.is_over ≡ true) × IsFrame g part news new frame
 
--- the same for each part that all schedules from there belong to and that is walked up to the place
+-- the same for each part that has all schedules from the place and is walked up to the place
 abbrev pub IsEnteredWithin : Setting → List Record → (old new : List Ending) → Entry → Type 0
 IsEnteredWithin g news old new entry =
     (part : PartValue) → AllOfPart (length g.scripts) part (schedule_of news)
@@ -69,7 +69,7 @@ IsEnteredWithin g news old new entry =
 
 -- ---- what is known when a walk reaches a place, and when it leaves it
 
--- the kept places are right, and so are the numbers of the place where the walk is
+-- the stored places are right, and so are the numbers of the place where the walk is
 pub record IsStood (g : Setting) (news : List Record) (memory : MemoryValue) (cursors : List Cursor)
     (ends : List Ending) (memo : MemoValue) : Type 0 where
   pub place : IsPlace g news memory cursors
@@ -83,7 +83,7 @@ pub record IsArrival (g : Setting) (part : PartValue) (news : List Record) (memo
   pub walked : IsPartWalkedBefore g part (schedule_of news) ends
   pub on : IsOn (length g.scripts) part (schedule_of news)
 
--- the search of a part leaves a place, all of which is walked, and its frame
+-- the search of a part leaves a place, with its frame; all schedules from there are walked
 pub record IsLeaving (g : Setting) (part : PartValue) (news : List Record) (cursors : List Cursor)
     (ends : List Ending) (memo : MemoValue) (frame : Level) : Type 0 where
   pub played : plays g (schedule_of news) ≡ Some news
@@ -93,7 +93,7 @@ pub record IsLeaving (g : Setting) (part : PartValue) (news : List Record) (curs
   pub memo_is : IsMemo g ends memo
   pub way : IsOnWay g news memo
 
--- it leaves a place that is to be kept, with what is kept of it
+-- the search leaves a place that will be stored, with the counts from its arrival there
 pub record IsKeeping (g : Setting) (news : List Record) (cursors : List Cursor) (ends : List Ending)
     (memo : MemoValue) (kept : Kept) : Type 0 where
   pub played : plays g (schedule_of news) ≡ Some news

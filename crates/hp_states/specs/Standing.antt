@@ -1,4 +1,4 @@
--- Where a walk is, in numbers.
+-- The numbers that describe the place where a walk is.
 use Rattle.std.specs.Prelude.{◌≡◌, ℕ, ◌+◌, ◌*◌, ◌<◌, List, ◌∷◌, Some, length, reverse, slice_get, [], ◌++◌}
 use Rattle.hp_states.specs.Codes.{KeepCodes}
 use Rattle.hp_units.specs.Receipts.{receipts_of}
@@ -11,8 +11,9 @@ use Rattle.hp_schedules.specs.Schedules.{Setting}
 use Rattle.hp_schedules.specs.Scripts.{own_operation}
 use Rattle.hp_states.specs.declared.standing.Stop.{Stop}
 
--- the meaning of each number of a state, of openings and of exchanges; each processor's number; and
--- the numbers of this place and of those before it on the way
+-- what each number of a state, of a list of cancellable operations and of exchanges means; the
+-- number of each processor's exchanges; and the numbers of this place and of those that the walk
+-- came through
 pub record StandingValue : Type 0 where
   pub codes : List (List ℕ)
   pub lists : List (List NumberedOpening)
@@ -20,7 +21,7 @@ pub record StandingValue : Type 0 where
   pub here : Stop
   pub before : List Stop
 
--- these are the numbers of the places on a way, the latest first
+-- the numbers of the places that the new records lead through, the latest first
 abbrev pub AreStops : Setting → (codes : List (List ℕ)) → List (List NumberedOpening) → (news : List Record)
     → List Stop → Type 0
 AreStops g codes lists news [] = Unit {0}
@@ -39,7 +40,7 @@ pub record KeepMeanings (old new : StandingValue) : Type 0 where
   pub lists : KeepNumbers old.lists new.lists
   pub chains : KeepNumbers old.exchanged.chains new.exchanged.chains
 
--- the same meanings; only the place differs
+-- all numbers keep their meaning; only the place differs
 abbrev pub AreSameNumbers : (old new : StandingValue) → Type 0
 AreSameNumbers old new =
     (new.codes ≡ old.codes) × (new.lists ≡ old.lists) × (new.exchanged.chains ≡ old.exchanged.chains)

@@ -1,4 +1,4 @@
--- How far the walk over all schedules is.
+-- How far the walk over all schedules has come.
 use Rattle.std.specs.Prelude.{◌≡◌, ℕ, ◌<◌, ◌⊎◌, Bool, true, false, List, [], ◌∷◌, ◌++◌, Some, None, length}
 use Rattle.hp_units.specs.History.{value_of}
 use Rattle.hp_units.specs.declared.events.Event.{Event}
@@ -13,21 +13,20 @@ use Rattle.hp_schedules.specs.Parts.{ComesTo, EndsInPart, IsOfPart, PartValue}
 use Rattle.hp_schedules.specs.Schedules.{EndsWith, Setting, next_call, plays, schedule_of}
 use Rattle.hp_states.specs.Rooms.{HasNoRoom}
 
--- the steps are where a schedule of the scripts leads, and their records are the new ones
+-- a schedule of the scripts leads to the state of the steps, and its records are theirs
 pub record IsAt (g : Setting) (p : StepsValue) : Type 0 where
   pub layout : p.layout ≡ g.layout
   pub played : plays g (schedule_of p.records) ≡ Some p.records
   pub state : p.state ≡ value_of g.layout g.base (g.start ++ p.records)
 
--- the complete schedules before a place of the walk, and those up to the last
--- that continues from it
+-- the complete schedules before a place of the walk; and these with those that continue from it
 abbrev pub Before : Setting → List ℕ → List ℕ → OutcomeValue → Type 0
 Before g place s x = IsBefore s place × EndsWith g s x
 
 abbrev pub Through : Setting → List ℕ → List ℕ → OutcomeValue → Type 0
 Through g place s x = (IsBefore s place ⊎ Extends s place) × EndsWith g s x
 
--- the history has room for each call before a place, and for each call at it or later
+-- the history has room for each call before a place; and for each call from the place on
 abbrev pub HasRoomBefore : Setting → List ℕ → Type 0
 HasRoomBefore g place = (s : List ℕ) (h : HasNoRoom g s) → IsBefore (s ++ h.cpu ∷ []) place → ⊥
 
@@ -43,15 +42,15 @@ pub record IsWalkedBefore (g : Setting) (place : List ℕ) (ends : List Ending) 
 
 -- ---- for one part
 
--- the part's complete schedules before a place, and those up to the last that continues from it
+-- the part's complete schedules before a place; and these with those that continue from it
 abbrev pub BeforeInPart : Setting → PartValue → List ℕ → List ℕ → OutcomeValue → Type 0
 BeforeInPart g part place s x = IsBefore s place × EndsInPart g part s x
 
 abbrev pub ThroughInPart : Setting → PartValue → List ℕ → List ℕ → OutcomeValue → Type 0
 ThroughInPart g part place s x = (IsBefore s place ⊎ Extends s place) × EndsInPart g part s x
 
--- the history has room for each call of the part's search before a place, and for
--- each at it or later
+-- the history has room for each call of the part's search before a place; and for each from the
+-- place on
 abbrev pub HasPartRoomBefore : Setting → PartValue → List ℕ → Type 0
 HasPartRoomBefore g part place =
     (s : List ℕ) (h : HasNoRoom g s) → ComesTo (length g.scripts) part s
@@ -68,7 +67,7 @@ pub record IsPartWalkedBefore (g : Setting) (part : PartValue) (place : List ℕ
   pub ordered : AreInOrder ends
   pub room : HasPartRoomBefore g part place
 
--- and all that continues from the place
+-- the same, and all that continues from the place is walked too
 pub record IsPartWalkedThrough (g : Setting) (part : PartValue) (place : List ℕ)
     (ends : List Ending) : Type 0 where
   pub counted : AreCounted (ThroughInPart g part place) ends
@@ -81,7 +80,7 @@ abbrev pub IsEndNoted : (processors : ℕ) → StepsValue → List Ending → Li
 IsEndNoted processors p old new =
     IsNoted old (outcome processors p.records p.layout p.state) (schedule_of p.records) new
 
--- it is noted if it ends here; otherwise the ends stay
+-- the schedule is noted if it ends here; otherwise the ends stay as they are
 abbrev pub IsNotedAtEnd : (is_end : Bool) → (processors : ℕ) → StepsValue → List Ending → List Ending → Type 0
 IsNotedAtEnd true processors p old new = IsEndNoted processors p old new
 IsNotedAtEnd false processors p old new = new ≡ old

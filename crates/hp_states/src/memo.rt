@@ -1,4 +1,4 @@
-//! The places walked so far, with the counts that are reused at places alike.
+//! The places walked so far, with the counts that are reused at equivalent places.
 ghost use Rattle.std.specs.Prelude.{◌≡◌, ◌++◌, ◌∷◌, [], IfOk, IfSome, IsTrue, List, None, OnOk, Some, cond, length, replicate, true};
 ghost use Rattle.hp_units.specs.History.{effect_of};
 ghost use Rattle.hp_units.specs.declared.replies.Record.{Record as NewRecord};
@@ -64,7 +64,7 @@ impl Drop for Memo {
 
 impl Memo {
     /// Creates an empty memo for a walk at the beginning of the scripts. With `is_on` false, no
-    /// place is ever kept.
+    /// place is ever stored.
     ///
     /// `is_closed` states that no Cancel can drop a step that led there.
     pub fn start(
@@ -122,11 +122,11 @@ impl Memo {
         }
     }
 
-    /// Gives the state at the place a number, writes the place's key, and returns
-    /// whether it has one.
+    /// Gives the state at the place a number, writes the place's key, and returns whether it has
+    /// one.
     ///
-    /// It has none if places are not kept, or if it is unknown which operations a
-    /// Cancel can take back.
+    /// It has none if no places are stored, or if it is unknown which operations a Cancel can take
+    /// back.
     pub(crate) fn come_to(
         &mut self,
         alloc: Global,
@@ -154,8 +154,8 @@ impl Memo {
         self.standing.key(positions, processors, &mut self.key)
     }
 
-    /// Writes the key of the place where the walk is, after `come_to`, and returns
-    /// whether it has one.
+    /// Writes the key of the place where the walk is, after `come_to`, and returns whether it has
+    /// one.
     pub(crate) fn write_key(
         &mut self,
         positions: &Positions,
@@ -175,8 +175,8 @@ impl Memo {
         self.standing.key(positions, processors, &mut self.key)
     }
 
-    /// Returns the shares of a place with the key written last, if it is the newest
-    /// place with its hash.
+    /// Returns the shares of a place with the key written last, if it is the newest place with its
+    /// hash.
     pub(crate) fn shares(&self) -> Option<&[Share]>
         ensures { IfSome result (λ shares. IsRowAmong self.now.keys self.now.rows self.now.key shares.now) }
     {
@@ -190,7 +190,8 @@ impl Memo {
         self.rows.row(*place)
     }
 
-    /// Stores a place under the key written last, with what each end counts more than in `earlier`.
+    /// Stores a place under the key written last, with how much each end's count has grown since
+    /// `earlier`.
     pub(crate) fn keep(&mut self, earlier: &[u64], tally: &Tally) -> Result<(), AllocError>
         requires { AreNoMore earlier.now tally.now.ends }
         ensures same { (self.new.is_on ≡ self.old.is_on) × (self.new.standing ≡ self.old.standing) }

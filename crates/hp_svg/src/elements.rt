@@ -7,7 +7,7 @@ use std::alloc::AllocError;
 /// The attributes of the line of a page that moved.
 pub(crate) const MOVE_LOOK: &str = " stroke='#b91c1c' stroke-width='1.2' marker-end='url(#arrow)'";
 
-/// Writes a character for XML. One that no XML document may contain, a tab and a line end become
+/// Writes a character, escaped for XML. A tab, a line end and any character that XML forbids become
 /// question marks.
 fn write_escaped(out: &mut String, c: char) -> Result<(), AllocError> {
     match c {
@@ -28,13 +28,14 @@ fn write_content(out: &mut String, text: &str) -> Result<(), AllocError> {
     out.push_str("</text>")
 }
 
-/// Writes a text.
+/// Writes a text whose baseline starts at (`x`, `y`).
 pub(crate) fn write_text(out: &mut String, x: u128, y: u128, text: &str) -> Result<(), AllocError> {
     write!(out, "<text x='{x}' y='{y}'>")?;
     write_content(out, text)
 }
 
-/// Writes a text, squeezed into the width of `room` letters if it is longer; a letter is 6 wide.
+/// Writes a text that is squeezed to the width of `room` letters if it is longer. A letter is 6
+/// wide.
 pub(crate) fn write_fitted_text(
     out: &mut String,
     x: u128,
@@ -68,7 +69,7 @@ fn write_box(
     )
 }
 
-/// Writes the character of cells on them, in a colour that is seen there.
+/// Writes the character of cells on them, in a colour that is readable there.
 fn write_letter(out: &mut String, x: u128, y: u128, mark: u8) -> Result<(), AllocError> {
     let ink = ink_of(mark);
     let letter = char::from(mark);
@@ -78,7 +79,7 @@ fn write_letter(out: &mut String, x: u128, y: u128, mark: u8) -> Result<(), Allo
     )
 }
 
-/// Draws cells in the colour of their character, with the character on them if it has room.
+/// Draws cells in the colour of their character, with the character on them if it fits.
 pub(crate) fn write_cell(
     out: &mut String,
     x: u128,
@@ -111,7 +112,7 @@ pub(crate) fn write_strip(
     }
 }
 
-/// Returns how wide `count` cells of this width are.
+/// Returns the width of `count` cells of this width.
 pub(crate) fn cells_of(cell: u8, count: usize) -> u128
     ensures is { result ≡ cell * count }
     ensures low { result < 2 ^ 72 }
@@ -147,7 +148,7 @@ pub(crate) fn write_outline(
     )
 }
 
-/// Writes the order of a block of frames in it, with a rim in the colour of its cells or near it.
+/// Writes the order of a block of frames inside it, outlined in about the colour of its cells.
 pub(crate) fn write_order(
     out: &mut String,
     x: u128,

@@ -1,10 +1,10 @@
 //! The characters of cells: their colours, and what they mean.
 ghost use Rattle.std.specs.Prelude.{◌≡◌, ◌≤◌, IsTrue, map};
-ghost use Rattle.hp_pictures.specs.Counts.{known_marks};
+ghost use Rattle.hp_map.specs.Counts.{known_marks};
 ghost use Rattle.hp_svg.specs.Marks.{all_differ, fill_in};
 
+use hp_map::{MARKS, RowPicture};
 use hp_numbers::Text;
-use hp_pictures::{MARKS, RowPicture};
 use indexmap::IndexSet;
 use std::alloc::{AllocError, Global};
 

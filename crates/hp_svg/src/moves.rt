@@ -3,7 +3,7 @@ ghost use Rattle.std.specs.Prelude.{◌+◌, ◌<◌, ◌≤◌, ◌^◌};
 
 use crate::elements::{MOVE_LOOK, write_path};
 use crate::sheets::{Sheet, texts_height};
-use hp_pictures::{Move, RowPicture};
+use hp_map::{Move, RowPicture};
 use std::alloc::AllocError;
 
 /// Draws the line of a move; `above` and `here` are where the blocks begin in the row above and in

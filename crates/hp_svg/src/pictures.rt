@@ -9,8 +9,8 @@ use crate::marks::{marks_in, write_label};
 use crate::moves::write_moves;
 use crate::rows::write_rows;
 use crate::sheets::{Sheet, legend_left, legend_top};
+use hp_map::RowPicture;
 use hp_numbers::Text;
-use hp_pictures::RowPicture;
 use indexmap::IndexSet;
 use std::alloc::{AllocError, Global};
 

@@ -7,7 +7,7 @@ use crate::elements::{
 };
 use crate::runs::{Run, runs_of};
 use crate::sheets::{ANSWER, ASKED, Sheet, lines_above};
-use hp_pictures::{BlockPicture, RowPicture};
+use hp_map::{BlockPicture, RowPicture};
 use std::alloc::{AllocError, Global};
 
 /// Draws rows, one under another from `start` on.

@@ -1,17 +1,17 @@
 //! Where things are in a picture. Lengths are in pixels.
 //!
-//! From left to right a row has what was asked, what was answered, and its memory blocks, each with
-//! its head before its cells. Blocks that have no room go on below in a further strip.
+//! From left to right, a row shows what was asked, the answer, and the memory blocks, each with its
+//! head before its cells. Blocks that do not fit continue below, in a further strip.
 ghost use Rattle.std.specs.Prelude.{◌<◌, ◌≤◌, ◌^◌};
 
 use crate::elements::cells_of;
+use hp_map::{BlockPicture, RowPicture, frames_in};
 use hp_numbers::Frame;
-use hp_pictures::{BlockPicture, RowPicture, frames_in};
 
-/// How many letters of what was asked have room.
+/// How many letters of what was asked fit in its column.
 pub(crate) const ASKED: usize = 29;
 
-/// How many letters of an answer have room.
+/// How many letters of an answer fit in its column.
 pub(crate) const ANSWER: usize = 25;
 
 /// The size of a row.
@@ -63,7 +63,7 @@ impl Sheet {
         }
     }
 
-    /// Returns how wide the cells of a block are.
+    /// Returns the width of the cells of a block.
     pub(crate) fn cells_width(&self) -> u128
         ensures { result < 2 ^ 40 }
     {
@@ -75,7 +75,7 @@ impl Sheet {
         self.cell >= 4
     }
 
-    /// Returns how wide a block is, with its head.
+    /// Returns the width of a block, with its head.
     fn block_width(&self) -> u128
         ensures low { result < 2 ^ 41 }
         ensures some { 0 < result }
@@ -83,7 +83,7 @@ impl Sheet {
         48 + self.cells_width()
     }
 
-    /// Returns how wide `count` blocks are, side by side.
+    /// Returns the width of `count` blocks side by side.
     fn blocks_width(&self, count: u128) -> u128
         requires { count < 2 ^ 64 }
         ensures { result < 2 ^ 105 }
@@ -93,7 +93,7 @@ impl Sheet {
         all
     }
 
-    /// Returns how many blocks are side by side: as many as have room in a picture of 1,600, and at
+    /// Returns how many blocks are side by side: as many as fit in a picture of width 1,600, and at
     /// least one.
     fn per_strip(&self) -> u128
         ensures low { result ≤ 1216 }
@@ -112,7 +112,7 @@ impl Sheet {
         (self.blocks as u128).saturating_sub(1) / per_strip + 1
     }
 
-    /// Returns in which strip of a row a block is.
+    /// Returns the strip of its row in which a block is.
     fn strip_of(&self, block: usize) -> u128
         ensures { result < 2 ^ 64 }
     {
@@ -128,7 +128,7 @@ impl Sheet {
         block as u128 % per_strip
     }
 
-    /// Returns how high the blocks of a row are, with a gap below them if there are several strips.
+    /// Returns the height of a row's blocks, with a gap below them if there are several strips.
     fn blocks_height(&self) -> u128
         ensures { result < 2 ^ 38 }
     {
@@ -150,7 +150,7 @@ impl Sheet {
         self.head_at(block) + 48
     }
 
-    /// Returns how far the strip of a block is below the first of its row.
+    /// Returns how far a block's strip is below the first strip of its row.
     pub(crate) fn strip_top(&self, block: usize) -> u128
         ensures { result < 2 ^ 70 }
     {
@@ -164,7 +164,7 @@ impl Sheet {
         block as u128 * self.frames as u128
     }
 
-    /// Returns in which block a frame is.
+    /// Returns the block in which a frame is.
     fn block_of(&self, frame: Frame) -> usize {
         (frame.0 / self.frames.max(1)) as usize
     }
@@ -176,7 +176,7 @@ impl Sheet {
         (frame.0 % self.frames.max(1)) as u64
     }
 
-    /// Returns how many frames a pageblock has; between two pageblocks is a bar.
+    /// Returns the number of frames per pageblock. A bar separates two pageblocks.
     fn pageblock_size(&self) -> u64
         ensures { 0 < result }
     {
@@ -184,7 +184,7 @@ impl Sheet {
         (self.frames as u64 / (bars + 1)).max(1)
     }
 
-    /// Returns where the cell begins of the frame after `offset` others of its block.
+    /// Returns where the cell of the frame at `offset` in its block begins.
     pub(crate) fn cell_left(&self, block: usize, offset: u64) -> u128
         requires { offset < 2 ^ 32 }
         ensures { result < 2 ^ 108 }
@@ -193,8 +193,8 @@ impl Sheet {
         self.cells_at(block) + cells_of(self.cell, (offset + bars) as usize)
     }
 
-    /// Returns how many frames there are from one number above the cells of a block to the next,
-    /// if the longest has this many digits of 5 pixels: 1 if each cell has room for its number, a
+    /// Returns the step from one frame number above the cells of a block to the next, if the
+    /// longest number has this many digits of 5 pixels: 1 if a cell has room for its number, a
     /// pageblock if that has, and otherwise a whole block.
     pub(crate) fn number_step(&self, digits: usize) -> u64
         ensures { 0 < result }
@@ -210,13 +210,14 @@ impl Sheet {
         }
     }
 
-    /// Returns the middle of a frame's cell, across.
+    /// Returns the x coordinate of the middle of a frame's cell.
     pub(crate) fn frame_left(&self, frame: Frame) -> u128 {
         let left = self.cell_left(self.block_of(frame), self.offset_of(frame));
         left + self.cell as u128 / 2
     }
 
-    /// Returns the middle of a frame's cell, down, if the blocks of its row begin at `here`.
+    /// Returns the y coordinate of the middle of a frame's cell, if the blocks of its row begin at
+    /// `here`.
     pub(crate) fn frame_top(&self, here: u128, frame: Frame) -> u128
         requires { here < 2 ^ 106 }
     {
@@ -246,7 +247,7 @@ impl Sheet {
         numbers_at(entries) + 24 * self.strips() - 6
     }
 
-    /// Returns how high a row is.
+    /// Returns the height of a row.
     pub(crate) fn row_height(&self, row: &RowPicture) -> u128
         ensures { result < 2 ^ 40 }
     {
@@ -268,29 +269,28 @@ impl Sheet {
     }
 }
 
-/// Returns how much lower than a text the next thing begins: a text longer than `room` letters has
-/// a line of its own.
+/// Returns the extra height if a text is longer than `room` letters and so needs a line of its own.
 pub(crate) fn lines_above(room: usize, text: &str) -> u128
     ensures { result ≤ 14 }
 {
     if text.len() > room { 14 } else { 0 }
 }
 
-/// Returns how high the texts of a row are that are above its blocks.
+/// Returns the height of the texts of a row that are above its blocks.
 pub(crate) fn texts_height(row: &RowPicture) -> u128
     ensures { result ≤ 28 }
 {
     lines_above(ASKED, row.asked()) + lines_above(ANSWER, row.answer())
 }
 
-/// Returns where an entry of the legend is across, by its place.
+/// Returns the x coordinate of an entry of the legend, by its place.
 pub(crate) fn legend_left(place: usize) -> u128
     ensures { result < 2 ^ 100 }
 {
     8 + 160 * (place as u128 % 5)
 }
 
-/// Returns where an entry of the legend is down, by its place.
+/// Returns the y coordinate of an entry of the legend, by its place.
 pub(crate) fn legend_top(place: usize) -> u128
     ensures { result < 2 ^ 100 }
 {

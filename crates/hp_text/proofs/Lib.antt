@@ -1,1 +1,3 @@
+pub mod Joined
+mod Started
 pub mod Texts

@@ -1,5 +1,11 @@
 pub mod Answers
+pub mod Entries
+pub mod Escapes
 pub mod Files
+pub mod Layouts
+pub mod Lines
 pub mod Plans
+pub mod Scenarios
+pub mod Separated
 pub mod Spelling
 pub mod State

@@ -13,7 +13,7 @@ use Rattle.hp_lawful.specs.Logs.{log_of, log_of_all, step_log}
 use Rattle.hp_lawful.proofs.Histories.{log-push}
 use Rattle.hp_lawful.proofs.Unchanged.{step_none}
 use Rattle.hp_machine.specs.Machine.{IsCalled, MachineValue, booted, record_of, sealed}
-use Rattle.hp_pictures.specs.declared.row_picture.Move.{Move}
+use Rattle.hp_map.specs.declared.row_picture.Move.{Move}
 use Rattle.hp_trace.specs.Logs.{histories}
 use Rattle.hp_trace.specs.Rows.{Row, drawing, words}
 

@@ -2,7 +2,7 @@
 use Rattle.std.proofs.Common.{◌≡◌, ℕ, Bool, List, ◌++◌, Some, Result, Ok, Err, OnOk, append_assoc, ap, refl, subst, sym}
 use Rattle.std.specs.Prelude.{codes}
 use Rattle.hp_machine.specs.Machine.{MachineValue}
-use Rattle.hp_pictures.specs.Rows.{RowValue}
+use Rattle.hp_map.specs.Rows.{RowValue}
 use Rattle.hp_trace_json.specs.Ascii.{AddsLine}
 use Rattle.hp_trace_json.specs.Parts.{state_of}
 use Rattle.hp_trace_json.specs.Traces.{TraceValue}

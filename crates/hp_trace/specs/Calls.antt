@@ -15,7 +15,7 @@ use Rattle.hp_requests.specs.declared.fault.ControlFault.{ControlFault}
 use Rattle.hp_control.specs.Reads.{file_text}
 use Rattle.hp_machine.specs.Machine.{MachineValue, IsCalled, is_full, sealed}
 use Rattle.hp_scenario.specs.Asked as asks
-use Rattle.hp_pictures.specs.declared.row_picture.Move.{Move}
+use Rattle.hp_map.specs.declared.row_picture.Move.{Move}
 use Rattle.hp_text.specs.Answers.{sealed_line, unrecorded_line}
 use Rattle.hp_text.specs.Files.{read_fault_line, write_fault_line}
 use Rattle.hp_text.specs.Plans.{plan_line}

@@ -4,9 +4,9 @@ use Rattle.std.proofs.Common.{subst}
 use Rattle.std.specs.Str.Lines.{lines}
 use Rattle.hp_machine.specs.Machine.{MachineValue}
 use Rattle.hp_map.specs.Pictures.{IsPicture}
-use Rattle.hp_pictures.specs.Blocks.{BlockValue}
-use Rattle.hp_pictures.specs.Rows.{RowValue, row_with}
-use Rattle.hp_pictures.specs.declared.row_picture.Move.{Move}
+use Rattle.hp_map.specs.BlockPictures.{BlockValue}
+use Rattle.hp_map.specs.Rows.{RowValue, row_with}
+use Rattle.hp_map.specs.declared.row_picture.Move.{Move}
 use Rattle.hp_text.specs.State.{newline}
 use Rattle.hp_trace.specs.StateLogs.{IsLogged, LogValue, no_log}
 use Rattle.hp_trace_json.specs.Ascii.{AddsLine}

@@ -1,16 +1,16 @@
 -- A scenario traced.
 use Rattle.std.specs.Prelude.{ℕ, ◌≡◌, ◌+◌, ◌-◌, ◌^◌, nat_le, nat_lt, Bool, List, [], ◌∷◌, ◌++◌, codes, drop, length, take, None, if◌then◌else◌}
 use Rattle.std.specs.Fmt.{decimal, format_spec, styled_decimal}
-use Rattle.hp_escapes.specs.declared.escapes.Brackets.TheVariants.{Escaped}
+use Rattle.hp_text.specs.declared.escapes.Brackets.TheVariants.{Escaped}
 use Rattle.hp_machine.specs.Machine.{MachineValue, booted}
 use Rattle.hp_scenario.specs.Scenario.{ScenarioValue}
 use Rattle.hp_scenario.specs.Asked.{asked_by}
 use Rattle.hp_scenario.specs.declared.lines.Line.{Line}
-use Rattle.hp_pictures.specs.Rows.{RowValue}
+use Rattle.hp_map.specs.Rows.{RowValue}
 use Rattle.hp_trace.specs.Calls.{MakesWork}
 use Rattle.hp_trace.specs.Rows.{AreDrawn, DrawsIf, Row, RowsValue, no_rows}
 use Rattle.hp_trace_json.specs.Ascii.{AddsLine}
-use Rattle.hp_spelling.specs.Lines.{shown_line}
+use Rattle.hp_text.specs.Lines.{shown_line}
 use Rattle.hp_trace.specs.Views.{shows, whole_view}
 use Rattle.hp_trace.specs.declared.rows.Form.{Form}
 use Rattle.hp_trace.specs.declared.rows.Form.TheVariants.{Kept, Told, Written}

@@ -2,7 +2,7 @@
 ghost use Rattle.std.specs.Prelude.{◌≡◌, ◌++◌, OnOk, string_bytes};
 ghost use Rattle.hp_trace.specs.Rows.{IsRowIn};
 
-use hp_pictures::RowPicture;
+use hp_map::RowPicture;
 use std::alloc::{AllocError, Global};
 
 /// Writes a row with its memory as text. A text that is too long for its columns has a line of its

@@ -1,13 +1,13 @@
-//! The memory blocks of a row as text, in lines of a width.
+//! The memory blocks of a row as text, in lines of limited width.
 ghost use Rattle.std.specs.Prelude.{◌≡◌, IfOk};
 
 use crate::view::View;
-use hp_pictures::BlockPicture;
+use hp_map::BlockPicture;
 use std::alloc::{AllocError, Global};
 
 /// How rows are written.
 #[derive(Clone, Copy)]
-pub(crate) struct Paper {
+pub(crate) struct RowLayout {
     /// How many columns a line has for memory blocks.
     room: u64,
     /// Whether free frames are shown by the orders of their blocks.
@@ -16,60 +16,60 @@ pub(crate) struct Paper {
     changes: bool,
 }
 
-impl Paper {
-    /// Returns the paper of a view, for rows with all memory blocks.
-    pub(crate) fn new(view: View) -> Paper
+impl RowLayout {
+    /// Returns how the rows of a view are written, with all memory blocks.
+    pub(crate) fn new(view: View) -> RowLayout
         ensures { result.orders ≡ view.orders }
     {
-        Paper {
+        RowLayout {
             room: view.width.saturating_sub(55).max(1),
             orders: view.orders,
             changes: false,
         }
     }
 
-    /// Returns the paper after a row with these memory blocks. If it is the first and they take more
-    /// than one line, later rows have only the blocks that changed.
+    /// Returns how rows are written after one with these memory blocks. If the first row takes more
+    /// than one line, later rows show only the blocks that changed.
     pub(crate) fn after(
         self,
         alloc: Global,
         is_first: bool,
         blocks: &[BlockPicture],
-    ) -> Result<Paper, AllocError>
-        ensures { IfOk result (λ paper. paper.orders ≡ self.orders) }
+    ) -> Result<RowLayout, AllocError>
+        ensures { IfOk result (λ row_layout. row_layout.orders ≡ self.orders) }
     {
         if !is_first {
             return Ok(self);
         }
-        let endless = Paper {
+        let endless = RowLayout {
             room: u64::MAX,
             ..self
         };
         let line = memory_text(alloc, endless, &[], blocks)?;
-        Ok(Paper {
+        Ok(RowLayout {
             changes: line.len() as u64 > self.room,
             ..self
         })
     }
 }
 
-/// Returns a memory as text: all memory blocks, or those that changed, or a sign if none did.
+/// Returns a memory as text: all memory blocks, or those that changed, or ` =` if none did.
 pub(crate) fn memory_text(
     alloc: Global,
-    paper: Paper,
+    row_layout: RowLayout,
     before: &[BlockPicture],
     blocks: &[BlockPicture],
 ) -> Result<String, AllocError> {
-    let mut lines = Lines::new(alloc, paper.room);
+    let mut lines = Lines::new(alloc, row_layout.room);
     for (number, block) in blocks.iter().enumerate() {
-        if !paper.changes || is_changed(before, number, block) {
-            lines.put_block(alloc, paper, block)?;
+        if !row_layout.changes || is_changed(before, number, block) {
+            lines.put_block(alloc, row_layout, block)?;
         }
     }
     lines.into_text()
 }
 
-/// Returns whether a memory block is drawn otherwise than it was.
+/// Returns whether a memory block is drawn differently than before.
 fn is_changed(before: &[BlockPicture], number: usize, block: &BlockPicture) -> bool {
     match before.get(number) {
         Some(before) => !before.is_same(block),
@@ -77,7 +77,7 @@ fn is_changed(before: &[BlockPicture], number: usize, block: &BlockPicture) -> b
     }
 }
 
-/// Memory blocks as text so far.
+/// The text of the memory blocks so far.
 #[derive(Drop)]
 struct Lines {
     text: String,
@@ -88,7 +88,7 @@ struct Lines {
 }
 
 impl Lines {
-    /// Makes an empty text, whose lines have this many columns.
+    /// Makes an empty text with lines of this many columns.
     fn new(alloc: Global, room: u64) -> Lines {
         Lines {
             text: String::new(alloc),
@@ -97,24 +97,25 @@ impl Lines {
         }
     }
 
-    /// Adds a memory block. One that takes more columns than a line has is counted.
+    /// Adds a memory block. If it is wider than a line, it is written as counts of its frames.
     fn put_block(
         &mut self,
         alloc: Global,
-        paper: Paper,
+        row_layout: RowLayout,
         block: &BlockPicture,
     ) -> Result<(), AllocError> {
         let mut drawn = String::from_str(alloc, " ")?;
-        block.write(&mut drawn, paper.orders)?;
+        block.write(&mut drawn, row_layout.orders)?;
         if drawn.len() as u64 <= self.room {
             return self.put(drawn.as_str());
         }
         let mut counted = String::new(alloc);
-        block.write_counted(&mut counted, paper.orders)?;
+        block.write_counted(&mut counted, row_layout.orders)?;
         self.put_counted(alloc, counted.as_str())
     }
 
-    /// Adds a counted memory block: whole if a line has room for it, or else broken before counts.
+    /// Adds a memory block written as counts: in one piece if it fits on a line, otherwise broken
+    /// before counts.
     fn put_counted(&mut self, alloc: Global, counted: &str) -> Result<(), AllocError> {
         let is_whole = (counted.len() as u64) < self.room;
         let mut word = String::new(alloc);
@@ -130,7 +131,7 @@ impl Lines {
         self.put(word.as_str())
     }
 
-    /// Adds a piece, on a further line if this one has no room for it.
+    /// Adds a piece, on a new line if it does not fit on this one.
     fn put(&mut self, piece: &str) -> Result<(), AllocError> {
         let columns = piece.len() as u64;
         if self.left < columns && self.left < self.room {
@@ -142,7 +143,7 @@ impl Lines {
         self.text.push_str(piece)
     }
 
-    /// Returns the text, or a sign if there is none.
+    /// Returns the text, or ` =` if it is empty.
     fn into_text(self) -> Result<String, AllocError> {
         let Lines {
             text: mut all,

@@ -5,8 +5,8 @@ ghost use Rattle.hp_trace_json.specs.Parts.{state_of};
 ghost use Rattle.hp_trace_json.specs.Traces.{no_trace};
 
 use hp_machine::Machine;
-use hp_scenario::Line;
-use hp_spelling::write_line;
+use hp_scenario::{Line, Work};
+use hp_text::write_line;
 use hp_trace_json::{JsonTrace, TraceRow};
 use hp_units::{Cpu, Receipt, Text};
 use indexmap::IndexSet;
@@ -65,7 +65,7 @@ impl JsonRows {
             self.names = names_of(alloc, names)?;
         }
         let mut text = String::new(alloc);
-        write_line(&mut text, names, line)?;
+        write_own_text(&mut text, names, line)?;
         self.number = number;
         self.text = Some(text);
         self.cpu = Some(line.cpu);
@@ -122,6 +122,23 @@ impl JsonRows {
             sealed: _,
         } = self;
         trace.into_text()
+    }
+}
+
+/// Writes a line as it is, without escapes.
+fn write_own_text(out: &mut String, names: &IndexSet<Text>, line: &Line) -> Result<(), AllocError> {
+    let cpu = line.cpu;
+    match &line.work {
+        Work::Echo(echo) => {
+            let word = echo.word();
+            let path = echo.path();
+            write!(out, "{cpu} echo {word} {path}")
+        }
+        Work::Cat { path } => {
+            let path = path.as_str();
+            write!(out, "{cpu} cat {path}")
+        }
+        _ => write_line(out, names, line),
     }
 }
 

@@ -7,11 +7,10 @@ ghost use Rattle.hp_trace.specs.Traces.{AreRowsOf, IsJsonOf, IsScenarioTraced, I
 use crate::calls::trace_work;
 use crate::rows::{Form, Rows};
 use crate::view::{View, whole_view};
-use hp_escapes::Brackets;
 use hp_machine::Machine;
-use hp_pictures::RowPicture;
+use hp_map::RowPicture;
 use hp_scenario::{Line, Scenario};
-use hp_spelling::write_shown_line;
+use hp_text::{Brackets, write_shown_line};
 use hp_trace_json::head_line;
 use hp_units::Text;
 use indexmap::IndexSet;

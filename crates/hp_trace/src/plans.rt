@@ -7,8 +7,8 @@ ghost use Rattle.hp_trace.specs.Rows.{Adds, DrawsIf, Says};
 
 use crate::rows::Rows;
 use hp_machine::Machine;
+use hp_map::Move;
 use hp_ops::{Port, run_plan};
-use hp_pictures::Move;
 use hp_text::{write_event, write_plan_end, write_reply_words};
 use hp_units::{CallFault, Cpu, Event, OpEnd, Plan, Receipt, Reply};
 use indexmap::IndexSet;

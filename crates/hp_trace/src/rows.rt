@@ -2,17 +2,16 @@
 ghost use Rattle.std.specs.Prelude.{◌≡◌, ◌++◌, IfOk, OnOk, string_bytes};
 ghost use Rattle.std.specs.Str.Lines.{lines};
 ghost use Rattle.hp_trace.specs.Rows.{AddsRow, AreDrawn, DrawsIf, IsRow, IsRowLogged, IsRowTold, IsTextTold, IsWritten, Says, line_rows, no_rows, noted};
-ghost use Rattle.hp_pictures.specs.Rows.{row_with};
+ghost use Rattle.hp_map.specs.Rows.{row_with};
 
 use crate::columns::write_row;
-use crate::folds::{Paper, memory_text};
+use crate::folds::{RowLayout, memory_text};
 use crate::json_rows::JsonRows;
 use crate::state_logs::StateLog;
 use crate::view::View;
 use hp_judge::LogEvent;
 use hp_machine::Machine;
-use hp_map::picture_of;
-use hp_pictures::{BlockPicture, Move, RowPicture};
+use hp_map::{BlockPicture, Move, RowPicture, picture_of};
 use hp_scenario::Line;
 use hp_units::{Receipt, Text};
 use indexmap::IndexSet;
@@ -38,7 +37,7 @@ pub(crate) enum Form {
 #[derive(Drop)]
 pub(crate) struct Rows {
     form: Form,
-    paper: Paper,
+    row_layout: RowLayout,
     text: String,
     /// All rows as values, or for a text the last one.
     kept: Vec<RowPicture>,
@@ -54,7 +53,7 @@ impl Model for Rows {
 
     ghost view = { λ r. record {
       form = r.form;
-      orders = r.paper.orders;
+      orders = r.row_layout.orders;
       text = string_bytes r.text;
       kept = r.kept.items;
       log = r.log;
@@ -69,7 +68,7 @@ impl Rows {
     {
         Rows {
             form,
-            paper: Paper::new(view),
+            row_layout: RowLayout::new(view),
             text: String::new(alloc),
             kept: Vec::new(alloc),
             log: StateLog::new(alloc),
@@ -155,7 +154,7 @@ impl Rows {
         ensures { OnOk result
             (IsRow self.old.form machine.now asked.now answer.now moved self.old self.new) }
     {
-        let blocks = picture_of(alloc, machine, self.paper.orders)?;
+        let blocks = picture_of(alloc, machine, self.row_layout.orders)?;
         let row = row_with(alloc, asked, answer, moved, blocks)?;
         self.add(alloc, row)
     }
@@ -178,10 +177,10 @@ impl Rows {
     fn write(&mut self, alloc: Global, row: RowPicture) -> Result<(), AllocError>
         ensures { OnOk result (IsWritten row self.old self.new) }
     {
-        let memory = memory_text(alloc, self.paper, self.blocks_before(), row.blocks())?;
+        let memory = memory_text(alloc, self.row_layout, self.blocks_before(), row.blocks())?;
         let is_first = self.text.is_empty();
-        let paper = self.paper.after(alloc, is_first, row.blocks())?;
-        self.paper = paper;
+        let row_layout = self.row_layout.after(alloc, is_first, row.blocks())?;
+        self.row_layout = row_layout;
         write_row(&mut self.text, alloc, &row, memory.as_str())?;
         self.kept.clear();
         self.kept.push(row)?;
@@ -236,7 +235,7 @@ impl Rows {
     {
         let Rows {
             form: _,
-            paper: _,
+            row_layout: _,
             text: all,
             kept: _,
             log: _,
@@ -251,7 +250,7 @@ impl Rows {
     {
         let Rows {
             form: _,
-            paper: _,
+            row_layout: _,
             text: _,
             kept: all,
             log: _,
@@ -266,7 +265,7 @@ impl Rows {
     {
         let Rows {
             form: _,
-            paper: _,
+            row_layout: _,
             text: _,
             kept: _,
             log,
@@ -281,7 +280,7 @@ impl Rows {
     {
         let Rows {
             form: _,
-            paper: _,
+            row_layout: _,
             text: _,
             kept: _,
             log: _,

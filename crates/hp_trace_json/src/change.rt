@@ -13,7 +13,7 @@ use std::alloc::{AllocError, Global};
 use std::marker::Model;
 
 /// How a state differs from the one before it, in parts; each has what changed, and nothing else.
-pub struct Change {
+pub struct StateChange {
     /// The memory blocks.
     pub blocks: Vec<BlockNow>,
     /// The pageblocks, by their mobility.
@@ -33,9 +33,9 @@ pub struct Change {
 }
 
 /// Keeps callers from proving again how each field is dropped.
-impl Drop for Change {
+impl Drop for StateChange {
     fn drop(self) {
-        let Change {
+        let StateChange {
             blocks: _blocks,
             pageblocks: _pageblocks,
             free_lists: _free_lists,
@@ -48,7 +48,7 @@ impl Drop for Change {
     }
 }
 
-impl Model for Change {
+impl Model for StateChange {
     ghost use Rattle.hp_trace_json.specs.Changes.{ChangeValue};
 
     ghost Value = { ChangeValue };
@@ -66,7 +66,11 @@ impl Model for Change {
 }
 
 /// Returns how a state differs from the one before it; from nothing, if there is none.
-pub fn change_between(alloc: Global, was: &Option<Image>, now: &Image) -> Result<Change, AllocError>
+pub fn change_between(
+    alloc: Global,
+    was: &Option<Image>,
+    now: &Image,
+) -> Result<StateChange, AllocError>
     ensures { IfOk result (IsChange was.now now.now) }
 {
     let blocks = blocks_told(alloc, was, now)?;
@@ -77,7 +81,7 @@ pub fn change_between(alloc: Global, was: &Option<Image>, now: &Image) -> Result
     let pages = pages_told(alloc, was, now)?;
     let words = words_told(alloc, was, now)?;
     let auto = auto_told(auto_in(was), now.auto());
-    Ok(Change {
+    Ok(StateChange {
         blocks,
         pageblocks,
         free_lists,

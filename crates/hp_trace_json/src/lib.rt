@@ -1,6 +1,6 @@
 //! The rows of a trace as JSON: a line for each row, with how the state differs from the row above.
 //!
-//! The crate owns what a row tells of a state (`Change`), what is kept of the rows above
+//! The crate owns what a row tells of a state (`StateChange`), what is kept of the rows above
 //! (`SeenState`), and the text. It runs nothing: its caller makes the calls and hands over the
 //! machine after each. Read specs/Told first, then specs/Changes: a reader that follows the rows has
 //! the machine's state, and is told of nothing that stayed. The text is safe and tested: ASCII, one
@@ -20,11 +20,11 @@ mod words;
 mod writing;
 
 pub use blocks::{BlockNow, PageblockNow};
-pub use change::{Change, change_between};
+pub use change::{StateChange, change_between};
 pub use frames::{KernelNow, PageNow};
 pub use lists::{CpuListNow, FreeListNow};
 pub use seen::SeenState;
 pub use splices::{Splice, splice_between};
-pub use steps::Steps;
+pub use steps::NetSerials;
 pub use trace::{JsonTrace, TraceRow, head_line};
 pub use words::WordNow;

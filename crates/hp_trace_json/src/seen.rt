@@ -3,7 +3,7 @@ ghost use Rattle.std.specs.Prelude.{◌≡◌, IfOk, OnErr, OnOk, Some, length};
 ghost use Rattle.hp_trace_json.specs.Changes.{IsChange};
 ghost use Rattle.hp_trace_json.specs.Parts.{state_of};
 
-use crate::change::{Change, change_between};
+use crate::change::{StateChange, change_between};
 use hp_machine::Machine;
 use hp_plain::Image;
 use std::alloc::{AllocError, Global};
@@ -33,7 +33,7 @@ impl SeenState {
     }
 
     /// Returns how a machine's state differs from the one that was seen last, and has seen it.
-    pub fn observe(&mut self, alloc: Global, machine: &Machine) -> Result<Change, AllocError>
+    pub fn observe(&mut self, alloc: Global, machine: &Machine) -> Result<StateChange, AllocError>
         ensures change { IfOk result (IsChange self.old (state_of machine.now)) }
         ensures seen { OnOk result (self.new ≡ Some (state_of machine.now)) }
         ensures err { OnErr result (self.new ≡ self.old) }

@@ -8,11 +8,11 @@ use std::marker::Model;
 
 /// The serials of the steps that are not undone, oldest first.
 #[derive(Drop)]
-pub struct Steps {
+pub struct NetSerials {
     serials: Vec<Serial>,
 }
 
-impl Model for Steps {
+impl Model for NetSerials {
     ghost use Rattle.std.specs.Prelude.{List, ℕ};
 
     ghost Value = { List ℕ };
@@ -20,12 +20,12 @@ impl Model for Steps {
     ghost view = { λ s. s.serials.items };
 }
 
-impl Steps {
+impl NetSerials {
     /// Makes a list of no steps.
-    pub fn new(alloc: Global) -> Steps
+    pub fn new(alloc: Global) -> NetSerials
         ensures { result ≡ [] }
     {
-        Steps {
+        NetSerials {
             serials: Vec::new(alloc),
         }
     }

@@ -8,9 +8,9 @@ ghost use Rattle.hp_trace_json.specs.Steps.{steps_after};
 ghost use Rattle.hp_trace_json.specs.Traces.{no_trace};
 
 use crate::ascii::write_line;
-use crate::change::Change;
+use crate::change::StateChange;
 use crate::seen::SeenState;
-use crate::steps::Steps;
+use crate::steps::NetSerials;
 use crate::writing::{RowJson, head_json, output_json, row_json};
 use hp_machine::Machine;
 use hp_units::{Cpu, Layout, Receipt, Serial, Text};
@@ -38,7 +38,7 @@ pub struct TraceRow<'a> {
 pub struct JsonTrace {
     text: String,
     seen: SeenState,
-    steps: Steps,
+    steps: NetSerials,
 }
 
 impl Model for JsonTrace {
@@ -58,7 +58,7 @@ impl JsonTrace {
         JsonTrace {
             text: String::new(alloc),
             seen: SeenState::new(),
-            steps: Steps::new(alloc),
+            steps: NetSerials::new(alloc),
         }
     }
 

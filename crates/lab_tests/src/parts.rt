@@ -1,10 +1,9 @@
 //! Parts of explorations, and their sums.
 use crate::explorations::scenario;
 use hp_explore::Silent;
-use hp_lab_faults::PartFault;
 use hp_part_files::{part_text, sum_text};
 use hp_schedules::ShardId;
-use hp_search::{EndsForm, explore_text};
+use hp_search::{EndsForm, PartFault, explore_text};
 use std::alloc::{AllocError, Global};
 use std::test::Fail;
 

@@ -1,10 +1,9 @@
 //! Scenarios that are not explored, and why.
 use super::explorations::scenario;
 use hp_explore::Silent;
-use hp_lab_faults::LabFault;
 use hp_requests::ControlFault;
 use hp_scenario::Unfit;
-use hp_search::{EndsForm, explore_text};
+use hp_search::{EndsForm, LabFault, explore_text};
 use std::alloc::{AllocError, Global};
 use std::test::Fail;
 

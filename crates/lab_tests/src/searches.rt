@@ -1,9 +1,8 @@
 //! Searches for an end, and their text.
 use super::explorations::scenario;
 use hp_explore::Silent;
-use hp_lab_faults::LabFault;
-use hp_search::{ScheduleForm, find_text};
-use hp_wanted::{Wanted, wanted_line};
+use hp_questions::{Wanted, wanted_line};
+use hp_search::{LabFault, ScheduleForm, find_text};
 use std::alloc::{AllocError, Global};
 use std::test::Fail;
 

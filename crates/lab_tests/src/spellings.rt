@@ -1,8 +1,8 @@
 //! Scenarios as the text that reads them.
 use super::replays::LAST;
+use hp_questions::{Unbegun, unbegun_lines};
 use hp_scenario::{Line, Scenario};
-use hp_scripts::{Unbegun, unbegun_lines};
-use hp_spelling::{write_calls, write_line, write_mark, write_scenario};
+use hp_text::{write_calls, write_line, write_mark, write_scenario};
 use hp_units::{Cpu, Event, Record, Reply, Serial, Text};
 use indexmap::IndexSet;
 use std::alloc::{AllocError, Global};

@@ -2,8 +2,7 @@
 //! and with free blocks of each order.
 use crate::looks::{Look, finds_at_boot, finds_in_four_blocks};
 use hp_machine::Machine;
-use hp_map::{Place, picture_of, places_of};
-use hp_pictures::{BlockPicture, FreeBlock, KernelBlock, frames_in};
+use hp_map::{BlockPicture, FreeBlock, KernelBlock, Place, frames_in, picture_of, places_of};
 use hp_units::{Block, Boot, Cpu, Event, Item, Layout, Order, Owner, Page, Parts, Plan, Wish};
 use layouts_for_tests::LAST_ABSENT;
 use std::alloc::{AllocError, Global};

@@ -2,8 +2,7 @@
 use crate::trouble::{Outcome, expect};
 use crate::values::machine_of;
 use hp_machine::Machine;
-use hp_map::{Place, picture_of, places_of};
-use hp_pictures::BlockPicture;
+use hp_map::{BlockPicture, Place, picture_of, places_of};
 use std::alloc::Global;
 
 /// Looks for the places of all frames at boot, and for their picture.

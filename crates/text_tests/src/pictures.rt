@@ -3,7 +3,7 @@ use crate::picture_parts::{
     EMPTY, FOLDED, FOLDED_ROWS, FOURFOLD, KERNEL, KERNEL_NUMBERS, KERNEL_ROWS, LEGEND, MARKED,
     NAMES, NARROW, NARROW_ROW, QUARTER, THIRD, UNNAMED,
 };
-use hp_pictures::{BlockPicture, FreeBlock, KernelBlock, Move, RowPicture};
+use hp_map::{BlockPicture, FreeBlock, KernelBlock, Move, RowPicture};
 use hp_scenario::Scenario;
 use hp_svg::picture_of;
 use hp_trace::{View, trace_rows};

@@ -30,6 +30,12 @@ const LAYOUT: &str = concat!(
 /// The end of a line that was done.
 const DONE: LineEnd = LineEnd::Reply(Reply::Done);
 
+/// The end of a read of a word that nobody has written.
+const NO_WORD: LineEnd = LineEnd::Reply(Reply::Word(0));
+
+/// A map by the first processor, and two reads of its page by the second.
+const READS_AFTER_A_MAP: &str = r#""0 map db 0","1 read db 0 0","1 read db 0 0""#;
+
 /// The ends of two processors' lines, how many records there are, and the state.
 struct Outcome {
     ends: Vec<Ends>,
@@ -151,16 +157,16 @@ fn two_workers_meet(rt: HostRuntime) -> Result<(), Fail> {
 
 #[test]
 fn a_gate_opens_after_the_call_was_made(rt: HostRuntime) -> Result<(), Fail> {
-    // The second worker reads while the first waits at the gate after its map.
+    // The second worker's first call is over before the first worker leaves the gate after its map.
     let points = [
         Point::After(0, 1),
         Point::Before(1, 1),
-        Point::After(1, 1),
+        Point::Before(1, 2),
         Point::After(0, 1),
     ];
     let gate = InOrder::new(points.as_slice());
-    let outcome = run_lines(&rt, rt.alloc(), r#""0 map db 0","1 read db 0 0""#, &gate)?;
-    assert!(rt; outcome.is(&[DONE], &[LineEnd::Reply(Reply::Word(0))], 2));
+    let outcome = run_lines(&rt, rt.alloc(), READS_AFTER_A_MAP, &gate)?;
+    assert!(rt; outcome.is(&[DONE], &[NO_WORD, NO_WORD], 3));
     assert!(rt; gate.was_met());
     Ok(())
 }

@@ -1,4 +1,4 @@
-//! What an event changes in the judge's tables.
+//! Updates the judge's tables with an event.
 ghost use Rattle.std.specs.Prelude.{◌≡◌, ◌<◌, ◌^◌, false, length, true};
 ghost use Rattle.hp_judge.specs.Events.{block_of, is_move, is_of, is_online_begin, is_piece, is_well_formed};
 ghost use Rattle.hp_judge.specs.Tables.{LiesBelow, StepsAt};
@@ -10,7 +10,7 @@ use hp_numbers::{Block, Frame, Order};
 use hp_units::Zone;
 
 impl Judge {
-    /// Updates the tables by an event of this machine, lawful or not.
+    /// Updates the tables with an event of this machine, lawful or not.
     #[inline(always)]
     pub(super) fn apply(&mut self, event: &LogEvent)
         requires formed { is_well_formed self.old.size event.now ≡ true }
@@ -54,7 +54,7 @@ impl Judge {
         self.count += 1;
     }
 
-    /// Updates the tables by an alloc.
+    /// Updates the tables with an alloc.
     fn apply_alloc(&mut self, start: Frame, order: Order, movable: bool)
         requires piece { is_piece self.old.size start order ≡ true }
         requires room { block_of self.old.size start < length self.old.blocks }
@@ -71,7 +71,7 @@ impl Judge {
         );
     }
 
-    /// Updates the tables by a free.
+    /// Updates the tables with a free.
     fn apply_free(&mut self, start: Frame, order: Order)
         requires piece { is_piece self.old.size start order ≡ true }
         requires room { block_of self.old.size start < length self.old.blocks }
@@ -88,7 +88,7 @@ impl Judge {
         );
     }
 
-    /// Updates the tables by a move.
+    /// Updates the tables with a move.
     fn apply_move(&mut self, from: Frame, to: Frame)
         requires is_move { is_move self.old.size from to ≡ true }
         requires from_room { block_of self.old.size from < length self.old.blocks }
@@ -105,7 +105,7 @@ impl Judge {
             .set(to.0, 1, FrameState::InUse { since: number });
     }
 
-    /// Updates the tables by the start of an online.
+    /// Updates the tables with the start of an online.
     fn apply_online(&mut self, block: Block, zone: Zone)
         requires inside { block < self.old.size.blocks }
         requires room { block < length self.old.blocks }
@@ -123,7 +123,7 @@ impl Judge {
         self.blocks.set(at, state);
     }
 
-    /// Updates the tables by another event of a memory block.
+    /// Updates the tables with another event of a memory block.
     fn apply_transition(&mut self, block: Block, event: &LogEvent)
         requires inside { block < self.old.size.blocks }
         requires room { block < length self.old.blocks }

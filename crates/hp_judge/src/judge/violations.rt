@@ -129,7 +129,7 @@ impl Judge {
         self.wrong_transition(block, event)
     }
 
-    /// Returns the first law that an event breaks which leaves its block offline.
+    /// Returns the first law that is broken by an event that takes `block` offline.
     fn violation_of_offlining(&self, block: Block, event: &LogEvent) -> Option<Violation>
         requires inside { block < self.now.size.blocks }
         requires room { block < length self.now.blocks }
@@ -148,7 +148,7 @@ impl Judge {
         self.wrong_transition(block, event)
     }
 
-    /// Returns the law that an event breaks against the phase of its block.
+    /// Returns the law that an event breaks in the present phase of its block.
     fn wrong_transition(&self, block: Block, event: &LogEvent) -> Option<Violation>
         requires { block < length self.now.blocks }
         ensures { result ≡ transition_violation (block_at self.now.blocks block).phase block event.now }
@@ -157,7 +157,7 @@ impl Judge {
     }
 }
 
-/// Returns the law that an event breaks against the phase of its block.
+/// Returns the law that an event breaks in the present phase of its block.
 fn wrong_transition(phase: Phase, block: Block, event: &LogEvent) -> Option<Violation>
     ensures { result ≡ transition_violation phase block event.now }
 {

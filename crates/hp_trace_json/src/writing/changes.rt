@@ -1,6 +1,6 @@
 //! How a state differs from that of the row above.
 use crate::blocks::{BlockNow, PageblockNow};
-use crate::change::Change;
+use crate::change::StateChange;
 use crate::frames::{KernelNow, PageNow};
 use crate::lists::{CpuListNow, FreeListNow};
 use crate::splices::Splice;
@@ -16,7 +16,7 @@ pub(super) fn write_change(
     out: &mut Writer,
     alloc: Global,
     names: &IndexSet<Text>,
-    change: &Change,
+    change: &StateChange,
 ) -> Result<(), AllocError> {
     if is_empty(change) {
         return Ok(());
@@ -39,7 +39,7 @@ pub(super) fn write_change(
 }
 
 /// Returns whether nothing changed.
-fn is_empty(change: &Change) -> bool {
+fn is_empty(change: &StateChange) -> bool {
     change.blocks.is_empty()
         && change.pageblocks.is_empty()
         && change.free_lists.is_empty()
@@ -48,7 +48,7 @@ fn is_empty(change: &Change) -> bool {
 }
 
 /// Returns whether nothing changed of what is in use.
-fn are_none_in_use(change: &Change) -> bool {
+fn are_none_in_use(change: &StateChange) -> bool {
     change.kernel.is_empty()
         && change.pages.is_empty()
         && change.words.is_empty()

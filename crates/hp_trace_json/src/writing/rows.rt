@@ -1,5 +1,5 @@
 //! The rows of a trace.
-use crate::change::Change;
+use crate::change::StateChange;
 use crate::trace::TraceRow;
 use crate::writing::changes::write_change;
 use crate::writing::deltas::write_deltas;
@@ -20,7 +20,7 @@ pub(crate) struct RowJson<'a> {
     /// The steps that it dropped.
     pub dropped: &'a [Serial],
     /// How the state differs from that of the row above.
-    pub change: &'a Change,
+    pub change: &'a StateChange,
 }
 
 /// Returns the JSON of a row.

@@ -30,4 +30,4 @@ returns-in-Log-clause-err g c =
 pub returns-in-Told-clause-err : goal.returns-in-Told-clause-err
 returns-in-Told-clause-err g c =
     IfErr-weaker c.told.result _ _
-    (λ fault h. not_told c.args.word c.args.input.now fault c.in-Told.is h) c.told.ensures.err
+    (λ fault h. not_told c.args.word c.in-Told.form c.args.input.now fault c.in-Told.is h) c.told.ensures.err

@@ -9,6 +9,3 @@ returns-clause-ok c =
     reached c.args.volumes.now.items c.args.machine.now c.as_slice.result.now c.layout.result.now
     c.in_ok-base.base c.base.result.now same c.layout.ensures c.in_ok-base.ensures.chain
     c.in_ok-base.ensures.value c.base.ensures (first_case c.same.result _ _ c.same.ensures alike)
-
-pub returns-then-not-same-clause-err : goal.returns-then-not-same-clause-err
-returns-then-not-same-clause-err c = search rules

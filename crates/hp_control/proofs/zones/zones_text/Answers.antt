@@ -5,9 +5,6 @@ use Rattle.hp_control.proofs.zones.zones_text.Goals as goal
 pub returns-in_err-write_zone : goal.returns-in_err-write_zone
 returns-in_err-write_zone c = search rules
 
-pub returns-in_err-write_zone-2 : goal.returns-in_err-write_zone-2
-returns-in_err-write_zone-2 c = search rules
-
 pub returns : goal.returns
 unfolding buddyinfo_text
 returns c = search rules

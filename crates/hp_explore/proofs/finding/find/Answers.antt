@@ -5,7 +5,7 @@ use Rattle.std.proofs.lemmas.Result.{err_from_is_err_and}
 use Rattle.hp_units.specs.declared.Cpu.{Cpu}
 use Rattle.hp_explore.specs.Settings.{setting}
 use Rattle.hp_schedules.specs.declared.tally.Ending.{Ending}
-use Rattle.hp_wanted.specs.Ends.{HasNoSuchEnd, IsFirstSuchEnd}
+use Rattle.hp_questions.specs.Ends.{HasNoSuchEnd, IsFirstSuchEnd}
 use Rattle.hp_explore.specs.Changes.{changes}
 use Rattle.hp_explore.specs.FindFaults.{IsNearCause, few_changes}
 use Rattle.hp_explore.specs.Reaching.{HasRoomAlong, IsAbsent, NeedsChanges, ReachesFirst}

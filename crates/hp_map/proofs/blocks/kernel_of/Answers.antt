@@ -1,6 +1,6 @@
 use Rattle.std.proofs.Common.{◌≡◌, [], refl}
 use Rattle.hp_map.specs.Blocks.{kernel_at, kernel_frame}
-use Rattle.hp_pictures.proofs.Texts.{items_more}
+use Rattle.hp_map.proofs.Texts.{items_more}
 use Rattle.hp_map.proofs.blocks.kernel_of.Goals as goal
 
 pub loop-number-preserved : goal.loop-number-preserved

@@ -1,6 +1,6 @@
 use Rattle.std.proofs.Common.{◌≡◌, [], refl}
 use Rattle.hp_map.specs.Cells.{cell_text, frame_text}
-use Rattle.hp_pictures.proofs.Texts.{items_more}
+use Rattle.hp_map.proofs.Texts.{items_more}
 use Rattle.hp_map.proofs.cells.draw_cells.Goals as goal
 
 pub loop-number-preserved : goal.loop-number-preserved

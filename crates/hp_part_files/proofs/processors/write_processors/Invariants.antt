@@ -1,6 +1,6 @@
 use Rattle.std.proofs.Common.{◌≡◌, ◌++◌, codes, drop, string_bytes, true}
 use Rattle.std.specs.Fmt.{decimal}
-use Rattle.hp_spelling.specs.Separated.{separated}
+use Rattle.hp_text.specs.Separated.{separated}
 use Rattle.hp_part_files.proofs.processors.write_processors.Given as goal
 
 abbrev pub invariant-loop-cpu : goal.invariant-loop-cpu

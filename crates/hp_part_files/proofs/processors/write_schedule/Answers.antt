@@ -1,6 +1,6 @@
 use Rattle.std.proofs.Common.{codes, string_bytes, true}
 use Rattle.std.specs.Fmt.{decimal}
-use Rattle.hp_spelling.specs.Separated.{separated}
+use Rattle.hp_text.specs.Separated.{separated}
 use Rattle.hp_part_files.proofs.Written.{three_written}
 use Rattle.hp_part_files.proofs.processors.write_schedule.Goals as goal
 

@@ -4,7 +4,7 @@ use Rattle.hp_part_files.specs.Heads.{HeadValue, SearchValue}
 use Rattle.hp_part_files.specs.Gathered.{IsGathering}
 use Rattle.hp_part_files.specs.Taking.{IsTaken}
 use Rattle.hp_part_files.specs.Faults.{IsLineFault}
-use Rattle.hp_lab_faults.specs.declared.part_fault.PartFault.TheVariants as part
+use Rattle.hp_search.specs.declared.part_fault.PartFault.TheVariants as part
 use Rattle.hp_part_files.proofs.Read.{all_read, last_cut, line_passed, unread}
 use Rattle.hp_part_files.proofs.taking.gather.Goals as goal
 

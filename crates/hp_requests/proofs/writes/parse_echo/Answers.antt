@@ -1,14 +1,8 @@
-use Rattle.std.proofs.Common.{◌∙◌, ℕ, List, ◌++◌, codes, ap, rules, subst}
+use Rattle.std.proofs.Common.{◌∙◌, ℕ, List, ◌++◌, codes, ap, subst}
 use Rattle.hp_requests.specs.Gives.{Gives}
 use Rattle.hp_requests.specs.Writes.{request_of}
 use Rattle.hp_requests.specs.declared.writes.Request.{Request}
 use Rattle.hp_requests.proofs.writes.parse_echo.Goals as goal
-
-pub returns-in_err-line : goal.returns-in_err-line
-returns-in_err-line c = search rules
-
-pub returns-in_err-push_str : goal.returns-in_err-push_str
-returns-in_err-push_str c = search rules
 
 pub returns : goal.returns
 returns c =

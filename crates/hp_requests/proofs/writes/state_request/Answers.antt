@@ -3,9 +3,6 @@ use Rattle.hp_requests.specs.Names.{MovableZone}
 use Rattle.hp_requests.specs.Writes.{online, state_request}
 use Rattle.hp_requests.proofs.writes.state_request.Goals as goal
 
-pub returns-in_err-offline : goal.returns-in_err-offline
-returns-in_err-offline c = search rules
-
 pub returns-then-eq-2 : goal.returns-then-eq-2
 unfolding state_request
 returns-then-eq-2 c = search rules

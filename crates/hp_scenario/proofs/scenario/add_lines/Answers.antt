@@ -1,4 +1,4 @@
-use Rattle.std.proofs.Common.{arith, rules}
+use Rattle.std.proofs.Common.{arith}
 use Rattle.hp_scenario.proofs.LineLoop.{line_goes_on, line_stops, lines_done}
 use Rattle.hp_scenario.proofs.scenario.add_lines.Goals as goal
 
@@ -24,6 +24,3 @@ returns c =
     lines_done c.args.texts.now c.loop-index.index
     (record { names = c.loop-index.names.keys; lines = c.loop-index.lines.items }) _
     (omega (arith, c.loop-index-test.false, c.len-index-end.ensures)) c.loop-index.invariant.0
-
-pub returns-in_err-line : goal.returns-in_err-line
-returns-in_err-line c = search rules

@@ -2,7 +2,7 @@
 use Rattle.std.proofs.Common.{string_bytes, subst}
 use Rattle.std.proofs.lemmas.Result.{err_from_is_err_and}
 use Rattle.hp_units.specs.LayoutParts.{LayoutParts}
-use Rattle.hp_wanted.specs.Limits.{AreWithin, IsFirstPast}
+use Rattle.hp_questions.specs.Limits.{AreWithin, IsFirstPast}
 use Rattle.hp_search.proofs.Known.{held_in, stopped_in, unprepared_known}
 use Rattle.hp_search.specs.Findings.{IsFoundOn, IsPastLayout, IsSearchCause, IsTooMany}
 use Rattle.hp_search.proofs.Findings.{not_found, not_past}

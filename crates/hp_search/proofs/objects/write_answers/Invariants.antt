@@ -1,5 +1,5 @@
 use Rattle.std.proofs.Common.{◌≡◌, ◌++◌, codes, drop, string_bytes, true}
-use Rattle.hp_spelling.specs.Separated.{separated}
+use Rattle.hp_text.specs.Separated.{separated}
 use Rattle.hp_search.specs.Objects.{answer_list}
 use Rattle.hp_search.proofs.objects.write_answers.Given as goal
 

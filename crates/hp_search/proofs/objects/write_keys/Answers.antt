@@ -1,7 +1,7 @@
 use Rattle.std.proofs.Common.{◌≡◌, List, Bor, codes, option_map, refl, string_bytes, true}
 use Rattle.std.specs.Fmt.{decimal}
 use Rattle.hp_units.specs.declared.replies.Record.{Record}
-use Rattle.hp_spelling.specs.Separated.{separated}
+use Rattle.hp_text.specs.Separated.{separated}
 use Rattle.hp_search.specs.Objects.{answer_list, block_string, played_list}
 use Rattle.hp_search.proofs.Written.{chained, five, said}
 use Rattle.hp_search.proofs.objects.write_keys.Goals as goal

@@ -1,5 +1,5 @@
 use Rattle.std.proofs.Common.{ℕ, List, ap, ◌∙◌}
-use Rattle.hp_pictures.specs.Rows.{row_with}
+use Rattle.hp_map.specs.Rows.{row_with}
 use Rattle.hp_trace.proofs.rows.row_with.Goals as goal
 
 pub returns : goal.returns

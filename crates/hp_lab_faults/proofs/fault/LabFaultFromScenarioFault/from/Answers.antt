@@ -1,5 +1,0 @@
-use Rattle.std.proofs.Common.{rules}
-use Rattle.hp_lab_faults.proofs.fault.LabFaultFromScenarioFault.from.Goals as goal
-
-pub returns-in-BadShape : goal.returns-in-BadShape
-returns-in-BadShape c = search rules

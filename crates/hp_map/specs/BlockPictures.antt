@@ -1,0 +1,24 @@
+-- A memory block as it is drawn.
+use Rattle.std.specs.Prelude.{ℕ, ◌&&◌, Bool, List}
+use Rattle.std.specs.Str.{bytes_eq}
+use Rattle.hp_map.specs.declared.block_picture.FreeBlock.{FreeBlock}
+use Rattle.hp_map.specs.declared.block_picture.KernelBlock.{KernelBlock}
+
+-- what comes before its cells; its cells, and the same with each free block by its order; its free
+-- blocks, and the kernel's; and a letter for each of its frames, by the mobility of its pageblock
+pub record BlockValue : Type 0 where
+  pub head : List ℕ
+  pub cells : List ℕ
+  pub ordered : List ℕ
+  pub free : List FreeBlock
+  pub kernel : List KernelBlock
+  pub kinds : List ℕ
+
+abbrev pub block_with : (head cells ordered : List ℕ) → List FreeBlock → List KernelBlock → (kinds : List ℕ)
+    → BlockValue
+block_with head cells ordered free kernel kinds =
+    record { head = head; cells = cells; ordered = ordered; free = free; kernel = kernel; kinds = kinds }
+
+-- whether two are the same text
+abbrev pub is_same : BlockValue → BlockValue → Bool
+is_same a b = (bytes_eq a.head b.head && bytes_eq a.cells b.cells) && bytes_eq a.ordered b.ordered

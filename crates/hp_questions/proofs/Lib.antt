@@ -1,0 +1,4 @@
+mod Below
+pub mod Lists
+pub mod Scripted
+pub mod Started

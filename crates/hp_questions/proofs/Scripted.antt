@@ -1,0 +1,157 @@
+-- How many interleavings scripts have does not depend on the operations that were begun before them.
+use Rattle.std.proofs.Common.{◌≡◌, ℕ, ◌≤◌, ◌^◌, ◌==◌, Bool, true, false, if◌then◌else◌, List, [], ◌∷◌, ◌++◌, drop, length, map, Option, Some, None, refl, ap, sym, subst, ◌∙◌}
+use Rattle.std.specs.Prelude.{◌&&◌, ◌||◌}
+use Rattle.std.specs.List.{list_all, range_with_len}
+use Rattle.std.specs.Option.{option_map_or}
+use Rattle.std.proofs.lemmas.List.{length-map, map-append}
+use Rattle.std.proofs.lemmas.Option.{none-some, slice_get_within}
+use Rattle.hp_units.specs.declared.events.Event.{Event}
+use Rattle.hp_schedules.specs.Interleavings.{IsKnown, holds_no_plan, is_one_call, script_lengths}
+use Rattle.hp_schedules.specs.Multinomials.{IsMultinomial, sum}
+use Rattle.hp_schedules.specs.declared.multinomials.HowMany.{HowMany}
+use Rattle.hp_schedules.specs.declared.multinomials.HowMany.TheVariants.{Exactly, MoreThanLimit, Unknown}
+use Rattle.hp_schedules.specs.declared.scripts.Step.{Step}
+use Rattle.hp_schedules.specs.declared.scripts.Step.TheVariants.{Ask}
+use Rattle.hp_schedules.specs.declared.scripts.StepWork as own
+use Rattle.hp_scenario.specs.Asked as asks
+use Rattle.hp_scenario.specs.declared.lines.Line.{Line}
+use Rattle.hp_questions.specs.Begins.{last_begun, line_begins}
+use Rattle.hp_questions.specs.Checks.{AreFit, IsUnfit}
+use Rattle.hp_questions.specs.Counting.{AreKnownAs, AreScripts, IsKnownAfter}
+use Rattle.hp_questions.specs.Scripts.{called, explored, line_for, own_step, own_work, script_of, scripts_of, steps_in, steps_of}
+use Rattle.hp_questions.specs.declared.begins.Begin.{Begin}
+use Rattle.hp_questions.specs.declared.start_fault.StartFault.{StartFault}
+use Rattle.hp_questions.specs.declared.start_fault.StartFault.TheVariants.{NotForScript, OutOfMemory}
+
+-- which lines of a script are one call
+abbrev shape : List Step → List Bool
+shape steps = map is_one_call steps
+
+-- ---- one line
+
+own_one : (op : ℕ) (begun : Bool) (w : own.StepWork) → is_one_call (own_step op begun w) ≡ true
+own_one op true w = refl
+own_one op false w = refl
+
+called_one : (op : ℕ) (begun : Bool) (e : Event) → is_one_call (called op begun e) ≡ true
+called_one op begun e = by_work (own_work e)
+  where
+    by_work : (o : Option own.StepWork) → is_one_call (option_map_or (own_step op begun) o (Ask e)) ≡ true
+    by_work None = refl
+    by_work (Some w) = own_one op begun w
+
+called_alike : (op other : ℕ) (begun : Bool) (e : Event)
+    → is_one_call (called op begun e) ≡ is_one_call (called other begun e)
+called_alike op other begun e = called_one op begun e ∙ sym (called_one other begun e)
+
+explored_alike : (op other : ℕ) (begun : Bool) (m : asks.Meaning)
+    → shape (steps_of (explored op begun m)) ≡ shape (steps_of (explored other begun m))
+explored_alike op other begun (asks.event e) = ap (λ (b : Bool). b ∷ []) (called_alike op other begun e)
+explored_alike op other begun (asks.plan items turns) = refl
+explored_alike op other begun (asks.not_taken fault) = refl
+explored_alike op other begun (asks.cat path) = refl
+explored_alike op other begun asks.seal = refl
+
+line_alike : (op other : ℕ) (begun : Bool) (m : asks.Meaning) (own : Bool)
+    → shape (if own then steps_of (explored op begun m) else [])
+    ≡ shape (if own then steps_of (explored other begun m) else [])
+line_alike op other begun m true = explored_alike op other begun m
+line_alike op other begun m false = refl
+
+-- ---- all lines
+
+steps_alike : (cpu op other : ℕ) (begun : Bool) (lines : List Line)
+    → shape (steps_in cpu op begun lines) ≡ shape (steps_in cpu other begun lines)
+steps_alike cpu op other begun [] = refl
+steps_alike cpu op other begun (line ∷ lines) =
+    map-append is_one_call (line_for cpu op begun line) (steps_in cpu op (later line) lines)
+    ∙ (ap (λ (bs : List Bool). bs ++ shape (steps_in cpu op (later line) lines))
+    (line_alike op other begun (asks.asked_by line.work) (line.cpu == cpu))
+    ∙ (ap (λ (bs : List Bool). shape (line_for cpu other begun line) ++ bs)
+    (steps_alike cpu op other (later line) lines)
+    ∙ sym (map-append is_one_call (line_for cpu other begun line) (steps_in cpu other (later line) lines))))
+  where
+    later : Line → Bool
+    later line = begun || line_begins cpu line
+
+scripts_alike : (begins others : List Begin) (lines : List Line) (cpus : List ℕ)
+    → map shape (map (script_of begins lines) cpus) ≡ map shape (map (script_of others lines) cpus)
+scripts_alike begins others lines [] = refl
+scripts_alike begins others lines (cpu ∷ cpus) =
+    ap (λ (s : List Bool). s ∷ map shape (map (script_of begins lines) cpus))
+    (steps_alike cpu (last_begun cpu begins) (last_begun cpu others) false lines)
+    ∙ ap (λ (ss : List (List Bool)). shape (script_of others lines cpu) ∷ ss)
+    (scripts_alike begins others lines cpus)
+
+-- ---- what is known by them
+
+lengths_by : (scripts : List (List Step))
+    → script_lengths scripts ≡ map (λ (bs : List Bool). length bs) (map shape scripts)
+lengths_by [] = refl
+lengths_by (s ∷ scripts) =
+    ap (λ (n : ℕ). n ∷ script_lengths scripts) (sym (length-map s is_one_call))
+    ∙ ap (λ (ns : List ℕ). length (shape s) ∷ ns) (lengths_by scripts)
+
+lines_by : (s : List Step) → holds_no_plan s ≡ list_all (λ (b : Bool). b) (shape s)
+lines_by [] = refl
+lines_by (line ∷ s) = ap (λ (b : Bool). is_one_call line && b) (lines_by s)
+
+calls_by : (scripts : List (List Step))
+    → list_all holds_no_plan scripts
+    ≡ list_all (λ (bs : List Bool). list_all (λ (b : Bool). b) bs) (map shape scripts)
+calls_by [] = refl
+calls_by (s ∷ scripts) =
+    ap (λ (b : Bool). b && list_all holds_no_plan scripts) (lines_by s)
+    ∙ ap (λ (b : Bool). list_all (λ (c : Bool). c) (shape s) && b) (calls_by scripts)
+
+known_alike : (scripts others : List (List Step)) (limit : ℕ) (known : HowMany)
+    → script_lengths scripts ≡ script_lengths others
+    → list_all holds_no_plan scripts ≡ list_all holds_no_plan others
+    → IsKnown scripts limit known → IsKnown others limit known
+known_alike scripts others limit (Exactly m) lengths calls h =
+    (sym calls ∙ h.0, subst (λ (ns : List ℕ). IsMultinomial ns m) lengths h.1, h.2)
+known_alike scripts others limit MoreThanLimit lengths calls h =
+    (sym calls ∙ h.0, λ m is. h.1 m (subst (λ (ns : List ℕ). IsMultinomial ns m) (sym lengths) is))
+known_alike scripts others limit Unknown lengths calls h =
+    λ one. subst (λ (ns : List ℕ). 2 ^ 64 ≤ sum ns) lengths (h (calls ∙ one))
+
+-- of the scripts of lines after any operations
+pub known_after_any : (cpus : ℕ) (begins others : List Begin) (lines : List Line) (limit : ℕ)
+    (known : HowMany)
+    → IsKnown (scripts_of cpus begins lines) limit known → IsKnown (scripts_of cpus others lines) limit known
+known_after_any cpus begins others lines limit known h =
+    let same = scripts_alike begins others lines (range_with_len 0 cpus) in
+    known_alike (scripts_of cpus begins lines) (scripts_of cpus others lines) limit known
+    (lengths_by (scripts_of cpus begins lines)
+    ∙ (ap (map (λ (bs : List Bool). length bs)) same ∙ sym (lengths_by (scripts_of cpus others lines))))
+    (calls_by (scripts_of cpus begins lines)
+    ∙ (ap (list_all (λ (bs : List Bool). list_all (λ (b : Bool). b) bs)) same
+    ∙ sym (calls_by (scripts_of cpus others lines)))) h
+
+-- ---- a line that cannot stand in a script
+
+pub not_fit : (cpus before : ℕ) (lines : List Line) (fault : StartFault) → IsUnfit cpus before lines fault
+    → AreFit cpus lines (length lines) → ⊥
+not_fit cpus before lines (NotForScript place why) h fit =
+    none-some why (sym (fit h.at h.line (slice_get_within lines h.at h.line h.here) h.here) ∙ h.cause)
+not_fit cpus before lines OutOfMemory h fit = h
+
+-- the lines after the first so many
+pub scripted : (cpus setup : ℕ) (lines after : List Line) → after ≡ drop setup lines
+    → AreFit cpus after (length after) → AreScripts cpus setup lines
+scripted cpus setup lines after is fit = subst (λ (xs : List Line). AreFit cpus xs (length xs)) is fit
+
+pub unscripted : (cpus setup before : ℕ) (lines after : List Line) (fault : StartFault)
+    → after ≡ drop setup lines → IsUnfit cpus before after fault → AreScripts cpus setup lines → ⊥
+unscripted cpus setup before lines after fault is unfit scripts =
+    not_fit cpus before after fault unfit
+    (subst (λ (xs : List Line). AreFit cpus xs (length xs)) (sym is) scripts)
+
+-- what is known of their scripts
+pub known_there : (cpus setup limit : ℕ) (lines after : List Line) (known : HowMany)
+    → after ≡ drop setup lines → AreFit cpus after (length after) → AreKnownAs cpus after limit known
+    → IsKnownAfter cpus setup lines limit (Some known)
+known_there cpus setup limit lines after known is fit h = (
+  scripted cpus setup lines after is fit,
+  subst (λ (xs : List Line). AreKnownAs cpus xs limit known) is h,
+)

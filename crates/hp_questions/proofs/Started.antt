@@ -1,0 +1,90 @@
+-- From what the parts of a start say to where a search begins.
+use Rattle.std.proofs.Common.{◌≡◌, ℕ, ◌<◌, ◌^◌, List, [], ◌++◌, length, take, drop, ap, subst, ◌∙◌, arith}
+use Rattle.std.proofs.lemmas.List.FromFn.{length-map-range_with_len}
+use Rattle.hp_units.specs.LayoutParts.{LayoutParts}
+use Rattle.hp_machine.specs.Machine.{MachineValue, booted}
+use Rattle.hp_scenario.specs.declared.lines.Line.{Line}
+use Rattle.hp_scenario.specs.declared.unfit.Unfit.{Unfit}
+use Rattle.hp_scenario.specs.Scenario.{ScenarioValue}
+use Rattle.hp_schedules.specs.declared.scripts.Step.{Step}
+use Rattle.hp_questions.specs.Begins.{begins_in}
+use Rattle.hp_questions.specs.Checks.{AreFit, IsFirstUnfit, IsUnfit}
+use Rattle.hp_questions.specs.Scripts.{script_of, scripts_of}
+use Rattle.hp_questions.specs.Setup.{RunsLines}
+use Rattle.hp_questions.specs.Starts.{HasNoStart, HasStart, IsStart, IsUnfitAfter}
+use Rattle.hp_questions.specs.declared.begins.Begin.{Begin}
+use Rattle.hp_questions.specs.declared.start_fault.StartFault.{StartFault}
+use Rattle.hp_questions.specs.declared.start_fault.StartFault.TheVariants.{NotForScript, OutOfMemory}
+
+-- the lines of a scenario in two parts, and the number of its processors
+pub record AreParts (s : ScenarioValue) (setup cpus : ℕ) (before after : List Line) : Type 0 where
+  pub processors : cpus ≡ s.layout.cpus
+  pub front : before ≡ take setup s.lines
+  pub rest : after ≡ drop setup s.lines
+
+pub parted : (s : ScenarioValue) (setup cpus : ℕ) (lines before after : List Line) → cpus ≡ s.layout.cpus
+    → lines ≡ s.lines → before ≡ take setup lines → after ≡ drop setup lines
+    → AreParts s setup cpus before after
+parted s setup cpus lines before after processors all front rest =
+    record { processors = processors; front = front ∙ ap (take setup) all; rest = rest ∙ ap (drop setup) all }
+
+unfit_at : (s : ScenarioValue) (setup cpus : ℕ) (before after : List Line) (place : ℕ) (why : Unfit)
+    → AreParts s setup cpus before after → IsFirstUnfit cpus (length before) after place why
+    → IsUnfitAfter setup place why s
+unfit_at s setup cpus before after place why parts h =
+    subst (λ (xs : List Line). IsFirstUnfit s.layout.cpus (length (take setup s.lines)) xs place why)
+    parts.rest
+    (subst (λ (xs : List Line). IsFirstUnfit s.layout.cpus (length xs) after place why) parts.front
+    (subst (λ (k : ℕ). IsFirstUnfit k (length before) after place why) parts.processors h))
+
+pub no_start : (s : ScenarioValue) (setup cpus : ℕ) (before after : List Line) (fault : StartFault)
+    → AreParts s setup cpus before after → IsUnfit cpus (length before) after fault → HasNoStart s setup fault
+no_start s setup cpus before after (NotForScript place why) parts h =
+    unfit_at s setup cpus before after place why parts h
+no_start s setup cpus before after OutOfMemory parts h = absurd h
+
+fit_after : (s : ScenarioValue) (setup cpus : ℕ) (before after : List Line)
+    → AreParts s setup cpus before after → AreFit cpus after (length after)
+    → AreFit s.layout.cpus (drop setup s.lines) (length (drop setup s.lines))
+fit_after s setup cpus before after parts h =
+    subst (λ (xs : List Line). AreFit s.layout.cpus xs (length xs)) parts.rest
+    (subst (λ (k : ℕ). AreFit k after (length after)) parts.processors h)
+
+pub started : (l : LayoutParts) (cpus : ℕ) (before after : List Line) (boot start : MachineValue)
+    (none sealed all : List Begin) (scripts : List (List Step))
+    → boot ≡ booted l → none ≡ [] → RunsLines boot none before start sealed
+    → all ≡ sealed ++ begins_in start.history → cpus ≡ l.cpus → scripts ≡ scripts_of cpus all after
+    → IsStart l before after start scripts
+started l cpus before after boot start none sealed all scripts at_boot at_first ran all_is count are =
+    record {
+      sealed = sealed;
+      run =
+          subst (λ (b : List Begin). RunsLines (booted l) b before start sealed) at_first
+          (subst (λ (m : MachineValue). RunsLines m none before start sealed) at_boot ran);
+      are =
+          are ∙ (ap (λ (k : ℕ). scripts_of k all after) count
+          ∙ ap (λ (b : List Begin). scripts_of l.cpus b after) all_is);
+    }
+
+-- the same of the lines of a scenario
+pub start_known : (s : ScenarioValue) (setup cpus : ℕ) (before after : List Line) (start : MachineValue)
+    (scripts : List (List Step))
+    → AreParts s setup cpus before after → AreFit cpus after (length after)
+    → IsStart s.layout before after start scripts → HasStart s setup start scripts
+start_known s setup cpus before after start scripts parts fit begun = record {
+  fit = fit_after s setup cpus before after parts fit;
+  begun =
+      subst (λ (xs : List Line). IsStart s.layout (take setup s.lines) xs start scripts) parts.rest
+      (subst (λ (xs : List Line). IsStart s.layout xs after start scripts) parts.front begun);
+}
+
+pub scripts_fit : (cpus : ℕ) (begins : List Begin) (lines : List Line) (scripts : List (List Step))
+    → cpus < 2 ^ 32
+    → scripts ≡ scripts_of cpus begins lines → length scripts < 2 ^ 32
+scripts_fit cpus begins lines scripts fits are =
+    omega (
+      arith,
+      fits,
+      ap (λ (xs : List (List Step)). length xs) are,
+      length-map-range_with_len (script_of begins lines) 0 cpus,
+    )

@@ -1,0 +1,11 @@
+pub mod Begins
+pub mod Checks
+pub mod Counting
+pub mod Ends
+pub mod Limits
+pub mod Scripts
+pub mod Setup
+pub mod Starts
+pub mod Unbegun
+pub mod Wanted
+pub mod WantedLines

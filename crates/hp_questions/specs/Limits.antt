@@ -1,0 +1,53 @@
+-- Wanted lines that name something outside the layout.
+use Rattle.std.specs.Prelude.{ℕ, ◌≡◌, ◌+◌, ◌<◌, ◌≤◌, ◌⊎◌, List, Some, None, slice_get}
+use Rattle.hp_units.specs.Arithmetic.{frame_count}
+use Rattle.hp_units.specs.LayoutParts.{LayoutParts}
+use Rattle.hp_units.specs.declared.replies.Refusal.{Refusal}
+use Rattle.hp_units.specs.declared.replies.Refusal.TheVariants.{Twice, Busy, NotOnline, NotOffline, Unmovable, NotFree, NotAbsent}
+use Rattle.hp_units.specs.declared.replies.Reply.{Reply}
+use Rattle.hp_units.specs.declared.replies.Reply.TheVariants.{Frame, Moved, Refused}
+use Rattle.hp_questions.specs.declared.wanted.Pattern.{Pattern}
+use Rattle.hp_questions.specs.declared.wanted.Pattern.TheVariants.{Exactly, AnyOf}
+use Rattle.hp_questions.specs.declared.wanted.Wanted.{Wanted}
+use Rattle.hp_questions.specs.declared.wanted.Wanted.TheVariants.{Answer, Block}
+
+-- the refusal, or the reply, names a frame or a memory block outside the layout
+abbrev pub IsRefusalPast : LayoutParts → Refusal → Type 0
+IsRefusalPast l (Twice block) = l.blocks ≤ block
+IsRefusalPast l (Busy block) = l.blocks ≤ block
+IsRefusalPast l (NotOnline block) = l.blocks ≤ block
+IsRefusalPast l (NotOffline block) = l.blocks ≤ block
+IsRefusalPast l (NotAbsent block) = l.blocks ≤ block
+IsRefusalPast l (Unmovable frame) = frame_count l ≤ frame
+IsRefusalPast l (NotFree frame) = frame_count l ≤ frame
+IsRefusalPast l refusal = ⊥
+
+abbrev pub IsReplyPast : LayoutParts → Reply → Type 0
+IsReplyPast l (Frame frame) = frame_count l ≤ frame
+IsReplyPast l (Moved from to) = (frame_count l ≤ from) ⊎ (frame_count l ≤ to)
+IsReplyPast l (Refused refusal) = IsRefusalPast l refusal
+IsReplyPast l reply = ⊥
+
+-- the pattern does; a kind of refusals names nothing
+abbrev pub IsPatternPast : LayoutParts → Pattern → Type 0
+IsPatternPast l (Exactly reply) = IsReplyPast l reply
+IsPatternPast l (AnyOf refusal) = ⊥
+
+-- the line does, or names a processor or a memory block outside the layout
+abbrev pub IsPast : LayoutParts → Wanted → Type 0
+IsPast l (Answer None reply) = IsPatternPast l reply
+IsPast l (Answer (Some cpu) reply) = (l.cpus ≤ cpu) ⊎ IsPatternPast l reply
+IsPast l (Block block row) = l.blocks ≤ block
+
+-- none of the lines does
+abbrev pub AreWithin : LayoutParts → List Wanted → Type 0
+AreWithin l wanted = (k : ℕ) (line : Wanted) → slice_get wanted k ≡ Some line → IsPast l line → ⊥
+
+-- the line with this number, counted from 1, is the first that does
+pub record IsFirstPast (l : LayoutParts) (wanted : List Wanted) (number : ℕ) : Type 0 where
+  pub place : ℕ
+  pub line : Wanted
+  pub counted : number ≡ place + 1
+  pub found : slice_get wanted place ≡ Some line
+  pub past : IsPast l line
+  pub first : (k : ℕ) (other : Wanted) → k < place → slice_get wanted k ≡ Some other → IsPast l other → ⊥

@@ -1,0 +1,162 @@
+-- The text of a wanted line.
+use Rattle.std.specs.Prelude.{ℕ, ◌==◌, List, [], ◌∷◌, codes, Option, Some, None, if◌then◌else◌, option_map}
+use Rattle.std.specs.List.{slice_split}
+use Rattle.std.specs.Str.{bytes_eq}
+use Rattle.hp_numbers.specs.NumberWords.{number_of}
+use Rattle.hp_units.specs.declared.replies.Refusal.{Refusal}
+use Rattle.hp_units.specs.declared.replies.Refusal.TheVariants.{NoOwner, NoPage, NoWord, AlreadyMapped, NotMapped, BadOrder, NoFrame, NoSuchFrame, NotKernel, NoCpu, NoBlock, EmptyPlan, Twice, Busy, NotOnline, NotOffline, Unmovable, NoOp, NothingToMove, NotFree, Gone, BadAddress, NotAbsent}
+use Rattle.hp_units.specs.declared.replies.Reply.{Reply}
+use Rattle.hp_units.specs.declared.replies.Reply.TheVariants.{Done, Frame, Word, Moved, Opened, Restored, Released, Undone, Refused}
+use Rattle.hp_units.specs.declared.rows.Row.{Row}
+use Rattle.hp_units.specs.declared.rows.State.{State}
+use Rattle.hp_units.specs.declared.rows.State.TheVariants.{Offline, Online, Going, Absent}
+use Rattle.hp_units.specs.declared.rows.Zone.{Zone}
+use Rattle.hp_scenario.specs.Lines.{◌>>=◌, only_number, zone_of}
+use Rattle.hp_scenario.specs.Words.{words_of}
+use Rattle.hp_questions.specs.declared.wanted.Pattern.{Pattern}
+use Rattle.hp_questions.specs.declared.wanted.Pattern.TheVariants.{Exactly, AnyOf}
+use Rattle.hp_questions.specs.declared.wanted.Wanted.{Wanted}
+use Rattle.hp_questions.specs.declared.wanted.Wanted.TheVariants.{Answer, Block}
+
+-- the parts between colons
+abbrev pub parts_of : List ℕ → List (List ℕ)
+parts_of text = slice_split (λ b. b == 58) text
+
+-- ---- refusals
+
+-- the refusal with this name, for the frame or block with this number
+unfoldable pub numbered_refusal : (name : List ℕ) → (number : ℕ) → Option Refusal
+numbered_refusal name number =
+    if bytes_eq name (codes "Twice") then Some (Twice number)
+    else (if bytes_eq name (codes "Busy") then Some (Busy number)
+    else (if bytes_eq name (codes "NotOnline") then Some (NotOnline number)
+    else (if bytes_eq name (codes "NotOffline") then Some (NotOffline number)
+    else (if bytes_eq name (codes "Unmovable") then Some (Unmovable number)
+    else (if bytes_eq name (codes "NotFree") then Some (NotFree number)
+    else (if bytes_eq name (codes "NotAbsent") then Some (NotAbsent number)
+    else None))))))
+
+-- the refusal with this name, with 0 for its frame or block
+unfoldable pub named_refusal : (name : List ℕ) → Option Refusal
+named_refusal name =
+    if bytes_eq name (codes "NoOwner") then Some NoOwner
+    else (if bytes_eq name (codes "NoPage") then Some NoPage
+    else (if bytes_eq name (codes "NoWord") then Some NoWord
+    else (if bytes_eq name (codes "AlreadyMapped") then Some AlreadyMapped
+    else (if bytes_eq name (codes "NotMapped") then Some NotMapped
+    else (if bytes_eq name (codes "BadOrder") then Some BadOrder
+    else (if bytes_eq name (codes "NoFrame") then Some NoFrame
+    else (if bytes_eq name (codes "NoSuchFrame") then Some NoSuchFrame
+    else (if bytes_eq name (codes "NotKernel") then Some NotKernel
+    else (if bytes_eq name (codes "NoCpu") then Some NoCpu
+    else (if bytes_eq name (codes "NoBlock") then Some NoBlock
+    else (if bytes_eq name (codes "EmptyPlan") then Some EmptyPlan
+    else (if bytes_eq name (codes "NoOp") then Some NoOp
+    else (if bytes_eq name (codes "NothingToMove") then Some NothingToMove
+    else (if bytes_eq name (codes "Gone") then Some Gone
+    else (if bytes_eq name (codes "BadAddress") then Some BadAddress
+    else numbered_refusal name 0)))))))))))))))
+
+-- a name alone matches every refusal of its kind
+unfoldable pub refusal_of : List (List ℕ) → Option Pattern
+refusal_of (name ∷ []) = option_map (λ r. AnyOf r) (named_refusal name)
+refusal_of (name ∷ number ∷ []) = do
+  n ← number_of 32 number
+  r ← numbered_refusal name n
+  Some (Exactly (Refused r))
+refusal_of _ = None
+
+-- ---- replies
+
+-- a reply without arguments
+unfoldable pub bare_reply : Reply → List (List ℕ) → Option Pattern
+bare_reply reply [] = Some (Exactly reply)
+bare_reply reply _ = None
+
+unfoldable pub moved_reply : List (List ℕ) → Option Pattern
+moved_reply (from ∷ to ∷ []) = do
+  f ← number_of 32 from
+  t ← number_of 32 to
+  Some (Exactly (Moved f t))
+moved_reply _ = None
+
+-- the argument of `opened` must be 0: an end does not show the operation's number
+unfoldable pub opened_reply : List (List ℕ) → Option Pattern
+opened_reply args = do
+  op ← only_number 64 args
+  if op == 0 then Some (Exactly (Opened 0)) else None
+
+-- a reply from its first word and the other words
+unfoldable pub reply_of : List ℕ → List (List ℕ) → Option Pattern
+reply_of word args =
+    if bytes_eq word (codes "done") then bare_reply Done args
+    else (if bytes_eq word (codes "restored") then bare_reply Restored args
+    else (if bytes_eq word (codes "released") then bare_reply Released args
+    else (if bytes_eq word (codes "frame") then option_map (λ n. Exactly (Frame n)) (only_number 32 args)
+    else (if bytes_eq word (codes "word") then option_map (λ n. Exactly (Word n)) (only_number 64 args)
+    else (if bytes_eq word (codes "undone") then option_map (λ n. Exactly (Undone n)) (only_number 64 args)
+    else (if bytes_eq word (codes "moved") then moved_reply args
+    else (if bytes_eq word (codes "opened") then opened_reply args
+    else (if bytes_eq word (codes "refused") then refusal_of args
+    else None))))))))
+
+-- ---- memory blocks
+
+-- a block's row, without a claim
+abbrev pub row_with : State → Option Zone → Row
+row_with state zone = record { state = state; zone = zone; claim = None }
+
+-- the row of a block that is offline or absent
+unfoldable pub bare_row : State → List (List ℕ) → Option Row
+bare_row state [] = Some (row_with state None)
+bare_row state _ = None
+
+-- the row of a block that is online or going, in a zone
+unfoldable pub zone_row : State → List (List ℕ) → Option Row
+zone_row state (word ∷ []) = option_map (λ z. row_with state (Some z)) (zone_of word)
+zone_row state _ = None
+
+unfoldable pub row_of : List ℕ → List (List ℕ) → Option Row
+row_of word args =
+    if bytes_eq word (codes "offline") then bare_row Offline args
+    else (if bytes_eq word (codes "absent") then bare_row Absent args
+    else (if bytes_eq word (codes "online") then zone_row Online args
+    else (if bytes_eq word (codes "going") then zone_row Going args
+    else None)))
+
+unfoldable pub block_of : List (List ℕ) → Option Wanted
+block_of (number ∷ word ∷ args) = do
+  b ← number_of 32 number
+  row ← row_of word args
+  Some (Block b row)
+block_of _ = None
+
+-- ---- lines
+
+-- a reply to any processor
+unfoldable pub any_of : List ℕ → List (List ℕ) → Option Wanted
+any_of word args = option_map (λ reply. Answer None reply) (reply_of word args)
+
+-- a reply to any processor, or a memory block
+unfoldable pub line_by : List ℕ → List (List ℕ) → Option Wanted
+line_by word args = if bytes_eq word (codes "block") then block_of args else any_of word args
+
+unfoldable pub line_of : List (List ℕ) → Option Wanted
+line_of [] = None
+line_of (word ∷ args) = line_by word args
+
+-- a reply to one processor, after the space that follows the colon
+unfoldable pub answer_of : (cpu : ℕ) → List (List ℕ) → Option Wanted
+answer_of cpu ([] ∷ word ∷ args) = option_map (λ reply. Answer (Some cpu) reply) (reply_of word args)
+answer_of cpu _ = None
+
+-- a line from the parts between its colons
+unfoldable pub line_in : List (List ℕ) → Option Wanted
+line_in (line ∷ []) = line_of (words_of line)
+line_in (cpu ∷ line ∷ []) = do
+  c ← number_of 32 cpu
+  answer_of c (words_of line)
+line_in _ = None
+
+unfoldable pub wanted_line : List ℕ → Option Wanted
+wanted_line text = line_in (parts_of text)

@@ -1,0 +1,35 @@
+//! What a search is asked: where it starts, with the scripts of a scenario's lines, and the lines
+//! that an end must have.
+//!
+//! The first lines of a scenario are its setup, run in order on one machine as `hotplug serial`
+//! does; each later line goes to the script of its processor. The crate owns which lines may be in
+//! a script, what step each becomes, and which operation the number 0 names. It parses wanted lines
+//! (a reply to a processor, or what became of a memory block, as an end is printed), matches them,
+//! and checks them against a layout. It searches nothing: hp_explore does, and hp_search writes
+//! what it finds.
+//!
+//! Read specs/Scripts first, then specs/Setup, specs/Begins and specs/Starts; of wanted lines
+//! specs/Wanted, then specs/Ends, specs/Limits and specs/WantedLines.
+#![tactic(auto)]
+
+mod begins;
+mod checks;
+mod counting;
+mod ends;
+mod limits;
+mod scripts;
+mod setup;
+mod start_fault;
+mod starts;
+mod unbegun;
+mod wanted;
+mod wanted_lines;
+
+pub use counting::interleavings_line;
+pub use ends::end_with;
+pub use limits::first_past;
+pub use start_fault::StartFault;
+pub use starts::{Start, front_of, start_of};
+pub use unbegun::{Unbegun, unbegun_lines};
+pub use wanted::{Pattern, Wanted, are_met};
+pub use wanted_lines::wanted_line;

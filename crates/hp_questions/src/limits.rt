@@ -1,0 +1,76 @@
+//! Wanted lines that name something outside the layout.
+ghost use Rattle.std.specs.Prelude.{◌↔◌, IfNone, IfSome, IsTrue};
+ghost use Rattle.hp_questions.specs.Limits.{AreWithin, IsFirstPast, IsPast, IsPatternPast, IsRefusalPast, IsReplyPast};
+
+use crate::wanted::{Pattern, Wanted};
+use hp_units::{Layout, Refusal, Reply};
+
+/// Returns the number, from 1, of the first line that names a processor, a memory block or a frame
+/// outside the layout. No end can have such a line.
+pub fn first_past(wanted: &[Wanted], layout: &Layout) -> Option<u64>
+    ensures some { IfSome result (IsFirstPast layout.now wanted.now) }
+    ensures none { IfNone result (AreWithin layout.now wanted.now) }
+{
+    for index in 0..wanted.len() {
+        if wanted[index].is_past(layout) {
+            return Some(index as u64 + 1);
+        }
+    }
+    None
+}
+
+impl Wanted {
+    /// Returns whether it names something outside the layout.
+    fn is_past(&self, layout: &Layout) -> bool
+        ensures { IsTrue result ↔ IsPast layout.now self.now }
+    {
+        match self {
+            Wanted::Answer { cpu: None, reply } => reply.is_past(layout),
+            Wanted::Answer {
+                cpu: Some(cpu),
+                reply,
+            } => cpu.0 >= layout.cpus() || reply.is_past(layout),
+            Wanted::Block { block, row: _ } => block.0 >= layout.blocks(),
+        }
+    }
+}
+
+impl Pattern {
+    /// Returns whether it names something outside the layout.
+    fn is_past(&self, layout: &Layout) -> bool
+        ensures { IsTrue result ↔ IsPatternPast layout.now self.now }
+    {
+        match self {
+            Pattern::Exactly(reply) => is_reply_past(reply, layout),
+            Pattern::AnyOf(_) => false,
+        }
+    }
+}
+
+/// Returns whether the reply names a frame or a memory block outside the layout.
+fn is_reply_past(reply: &Reply, layout: &Layout) -> bool
+    ensures { IsTrue result ↔ IsReplyPast layout.now reply.now }
+{
+    match reply {
+        Reply::Frame(frame) => frame.0 >= layout.frames(),
+        Reply::Moved { from, to } => from.0 >= layout.frames() || to.0 >= layout.frames(),
+        Reply::Refused(refusal) => is_refusal_past(*refusal, layout),
+        _ => false,
+    }
+}
+
+/// Returns whether the refusal names a frame or a memory block outside the layout.
+fn is_refusal_past(refusal: Refusal, layout: &Layout) -> bool
+    ensures { IsTrue result ↔ IsRefusalPast layout.now refusal }
+{
+    match refusal {
+        Refusal::Twice { block } => block.0 >= layout.blocks(),
+        Refusal::Busy { block } => block.0 >= layout.blocks(),
+        Refusal::NotOnline { block } => block.0 >= layout.blocks(),
+        Refusal::NotOffline { block } => block.0 >= layout.blocks(),
+        Refusal::NotAbsent { block } => block.0 >= layout.blocks(),
+        Refusal::Unmovable { frame } => frame.0 >= layout.frames(),
+        Refusal::NotFree { frame } => frame.0 >= layout.frames(),
+        _ => false,
+    }
+}

@@ -1,0 +1,141 @@
+//! Wanted lines, and which ends have them.
+ghost use Rattle.std.specs.Prelude.{◌≡◌, ◌↔◌, IsTrue, None, Some, slice_get};
+ghost use Rattle.hp_questions.specs.Wanted.{HasAnswer, HasLine, HasReply, IsAsWanted, IsKindOf, Meets, kind_of};
+
+use hp_schedules::{Outcome, Replies};
+use hp_units::{Block, Cpu, Frame, Refusal, Reply, Row};
+
+/// A pattern for a reply.
+#[derive(Clone, Copy, PartialEq, Eq, Drop)]
+pub enum Pattern {
+    /// Exactly this reply.
+    Exactly(Reply),
+    /// Any refusal for this reason, whatever frame or block it names.
+    AnyOf(Refusal),
+}
+
+/// A line that an end must have.
+#[derive(Clone, Copy, PartialEq, Eq, Drop)]
+pub enum Wanted {
+    /// This processor got such a reply at some time; any processor did, if `cpu` is `None`.
+    Answer { cpu: Option<Cpu>, reply: Pattern },
+    /// The memory block has this row at the end. Rows never name an operation here.
+    Block { block: Block, row: Row },
+}
+
+impl Pattern {
+    /// Returns whether the reply matches.
+    fn is_met_by(&self, reply: &Reply) -> bool
+        ensures { IsTrue result ↔ IsAsWanted self.now reply.now }
+    {
+        match self {
+            Pattern::Exactly(wanted) => reply.same(wanted),
+            Pattern::AnyOf(wanted) => is_of_kind(*wanted, reply),
+        }
+    }
+
+    /// Returns whether one of the replies matches.
+    fn is_among(&self, replies: &[Reply]) -> bool
+        ensures { IsTrue result ↔ HasReply self.now replies.now }
+    {
+        for index in 0..replies.len() {
+            if self.is_met_by(&replies[index]) {
+                return true;
+            }
+        }
+        false
+    }
+
+    /// Returns whether one of any processor's replies matches.
+    fn is_among_all(&self, all: &[Replies]) -> bool
+        ensures { IsTrue result ↔ HasAnswer self.now all.now None }
+    {
+        for index in 0..all.len() {
+            if self.is_among(all[index].as_slice()) {
+                return true;
+            }
+        }
+        false
+    }
+
+    /// Returns whether one of this processor's replies matches, or one of any processor's if `cpu`
+    /// is `None`.
+    fn is_answered(&self, all: &[Replies], cpu: Option<Cpu>) -> bool
+        ensures { IsTrue result ↔ HasAnswer self.now all.now cpu }
+    {
+        match cpu {
+            Some(cpu) => match all.get(cpu.0 as usize) {
+                Some(answers) => self.is_among(answers.as_slice()),
+                None => false,
+            },
+            None => self.is_among_all(all),
+        }
+    }
+}
+
+impl Wanted {
+    /// Returns whether the end has the line.
+    fn is_in(&self, outcome: &Outcome) -> bool
+        ensures { IsTrue result ↔ HasLine outcome.now self.now }
+    {
+        match self {
+            Wanted::Answer { cpu, reply } => reply.is_answered(outcome.replies(), *cpu),
+            Wanted::Block { block, row } => has_row(outcome.blocks(), *block, row),
+        }
+    }
+}
+
+/// Returns whether the end has all wanted lines.
+pub fn are_met(wanted: &[Wanted], outcome: &Outcome) -> bool
+    ensures { IsTrue result ↔ Meets wanted.now outcome.now }
+{
+    for index in 0..wanted.len() {
+        if !wanted[index].is_in(outcome) {
+            return false;
+        }
+    }
+    true
+}
+
+/// Returns whether this is the memory block's row.
+fn has_row(rows: &[Row], block: Block, row: &Row) -> bool
+    ensures { IsTrue result ↔ (slice_get rows.now block ≡ Some row.now) }
+{
+    match rows.get(block.0 as usize) {
+        Some(found) => same_row(found, row),
+        None => false,
+    }
+}
+
+/// Returns whether both rows are equal.
+fn same_row(row: &Row, other: &Row) -> bool
+    ensures { IsTrue result ↔ (row.now ≡ other.now) }
+{
+    *row == *other
+}
+
+/// Returns whether the reply is a refusal for the same reason.
+fn is_of_kind(wanted: Refusal, reply: &Reply) -> bool
+    ensures { IsTrue result ↔ IsKindOf wanted reply.now }
+{
+    match reply {
+        Reply::Refused(refusal) => kind_of(*refusal).same(kind_of(wanted)),
+        _ => false,
+    }
+}
+
+/// Returns the refusal with 0 in place of the frame or block that it names.
+fn kind_of(refusal: Refusal) -> Refusal
+    ensures { result ≡ kind_of refusal }
+{
+    match refusal {
+        Refusal::Twice { .. } => Refusal::Twice { block: Block(0) },
+        Refusal::Busy { .. } => Refusal::Busy { block: Block(0) },
+        Refusal::NotOnline { .. } => Refusal::NotOnline { block: Block(0) },
+        Refusal::NotOffline { .. } => Refusal::NotOffline { block: Block(0) },
+        Refusal::Unmovable { .. } => Refusal::Unmovable { frame: Frame(0) },
+        Refusal::NotFree { .. } => Refusal::NotFree { frame: Frame(0) },
+        Refusal::NotAbsent { .. } => Refusal::NotAbsent { block: Block(0) },
+        _ => refusal,
+    }
+}

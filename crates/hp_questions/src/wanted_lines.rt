@@ -1,0 +1,304 @@
+//! Parses a wanted line.
+ghost use Rattle.std.specs.Prelude.{◌≡◌, IfOk, OnOk, Some, map, option_map};
+ghost use Rattle.hp_questions.specs.declared.wanted.Wanted.TheVariants.{Answer};
+ghost use Rattle.hp_scenario.specs.Words.{words_of};
+ghost use Rattle.hp_questions.specs.WantedLines as says;
+
+use crate::wanted::{Pattern, Wanted};
+use hp_scenario::{only32, only64, zone_from};
+use hp_units::{Block, Claim, Cpu, Frame, Refusal, Reply, Row, Serial, State, Zone, number32};
+use std::alloc::{AllocError, Global};
+
+/// Parses a line as `explore` prints it, or returns `None` if no end can have the text as a line.
+///
+/// A line is a reply to any processor, such as `refused NotFree 3`; a reply to one processor, such
+/// as `0: done`; or a memory block, such as `block 1 offline`. A refusal without its frame or
+/// block, such as `refused NotFree`, matches every refusal of its kind.
+#[tactic(auto, unfolding(crate::specs::WantedLines::wanted_line))]
+pub fn wanted_line(alloc: Global, text: &str) -> Result<Option<Wanted>, AllocError>
+    ensures { IfOk result (λ line. line ≡ says.wanted_line text.now) }
+{
+    let mut parts = Vec::new(alloc);
+    split_parts(&mut parts, text)?;
+    line_in(alloc, parts.as_slice())
+}
+
+/// Splits the text at its colons into `parts`.
+fn split_parts<'a>(parts: &mut Vec<&'a str>, text: &'a str) -> Result<(), AllocError>
+    ensures { OnOk result (map (λ w. w.now) parts.new.items ≡ says.parts_of text.now) }
+{
+    parts.clear();
+    parts.extend(text.split(':'))
+}
+
+/// Splits the text at its spaces into `words`.
+fn split_words<'a>(words: &mut Vec<&'a str>, text: &'a str) -> Result<(), AllocError>
+    ensures { OnOk result (map (λ w. w.now) words.new.items ≡ words_of text.now) }
+{
+    words.clear();
+    words.extend(text.split(' '))
+}
+
+/// Parses a line that is split at its colons.
+#[tactic(auto, unfolding(crate::specs::WantedLines::line_in))]
+fn line_in(alloc: Global, parts: &[&str]) -> Result<Option<Wanted>, AllocError>
+    ensures { IfOk result (λ line. line ≡ says.line_in (map (λ w. w.now) parts.now)) }
+{
+    match parts {
+        [line] => lone_line(alloc, line),
+        [cpu, line] => match number32(cpu) {
+            Some(cpu) => line_of_cpu(alloc, Cpu(cpu), line),
+            None => Ok(None),
+        },
+        _ => Ok(None),
+    }
+}
+
+/// Parses a line without a colon.
+fn lone_line(alloc: Global, text: &str) -> Result<Option<Wanted>, AllocError>
+    ensures { IfOk result (λ line. line ≡ says.line_of (words_of text.now)) }
+{
+    let mut words = Vec::new(alloc);
+    split_words(&mut words, text)?;
+    Ok(line_from(words.as_slice()))
+}
+
+/// Parses what follows `CPU:`.
+fn line_of_cpu(alloc: Global, cpu: Cpu, text: &str) -> Result<Option<Wanted>, AllocError>
+    ensures { IfOk result (λ line. line ≡ says.answer_of cpu (words_of text.now)) }
+{
+    let mut words = Vec::new(alloc);
+    split_words(&mut words, text)?;
+    Ok(answer_from(cpu, words.as_slice()))
+}
+
+/// Parses a reply to any processor, or a memory block.
+#[tactic(auto, unfolding(crate::specs::WantedLines::line_of))]
+fn line_from(words: &[&str]) -> Option<Wanted>
+    ensures { result ≡ says.line_of (map (λ w. w.now) words.now) }
+{
+    let [word, args @ ..] = words else {
+        return None;
+    };
+    line_by(word, args)
+}
+
+/// Parses a reply to any processor, or a memory block, from its first word and the other words.
+#[tactic(auto, unfolding(crate::specs::WantedLines::line_by))]
+fn line_by(word: &str, args: &[&str]) -> Option<Wanted>
+    ensures { result ≡ says.line_by word.now (map (λ w. w.now) args.now) }
+{
+    match word {
+        "block" => block_from(args),
+        _ => any_answer(word, args),
+    }
+}
+
+/// Parses a reply to any processor.
+#[tactic(auto, unfolding(crate::specs::WantedLines::any_of))]
+fn any_answer(word: &str, args: &[&str]) -> Option<Wanted>
+    ensures { result ≡ says.any_of word.now (map (λ w. w.now) args.now) }
+{
+    let reply = reply_from(word, args)?;
+    Some(Wanted::Answer { cpu: None, reply })
+}
+
+/// Parses a reply to this processor. The first word is empty, since a space follows the colon.
+#[tactic(auto, unfolding(crate::specs::WantedLines::answer_of))]
+fn answer_from(cpu: Cpu, words: &[&str]) -> Option<Wanted>
+    ensures { result ≡ says.answer_of cpu (map (λ w. w.now) words.now) }
+{
+    match words {
+        [space, word, args @ ..] => {
+            if space.is_empty() {
+                cpu_answer(cpu, word, args)
+            } else {
+                None
+            }
+        }
+        _ => None,
+    }
+}
+
+/// Parses a reply to this processor from its first word and the other words.
+fn cpu_answer(cpu: Cpu, word: &str, args: &[&str]) -> Option<Wanted>
+    ensures { result ≡ option_map (λ reply. Answer (Some cpu) reply)
+        (says.reply_of word.now (map (λ w. w.now) args.now)) }
+{
+    let reply = reply_from(word, args)?;
+    Some(Wanted::Answer {
+        cpu: Some(cpu),
+        reply,
+    })
+}
+
+/// Parses a reply from its first word and the other words.
+#[tactic(auto, unfolding(crate::specs::WantedLines::reply_of))]
+fn reply_from(word: &str, args: &[&str]) -> Option<Pattern>
+    ensures { result ≡ says.reply_of word.now (map (λ w. w.now) args.now) }
+{
+    match word {
+        "done" => bare_reply(Reply::Done, args),
+        "restored" => bare_reply(Reply::Restored, args),
+        "released" => bare_reply(Reply::Released, args),
+        "frame" => Some(Pattern::Exactly(Reply::Frame(Frame(only32(args)?)))),
+        "word" => Some(Pattern::Exactly(Reply::Word(only64(args)?))),
+        "undone" => Some(Pattern::Exactly(Reply::Undone {
+            count: only64(args)?,
+        })),
+        "moved" => moved(args),
+        "opened" => opened(args),
+        "refused" => refused(args),
+        _ => None,
+    }
+}
+
+/// Returns a pattern for a reply without arguments.
+#[tactic(auto, unfolding(crate::specs::WantedLines::bare_reply))]
+fn bare_reply(reply: Reply, args: &[&str]) -> Option<Pattern>
+    ensures { result ≡ says.bare_reply reply (map (λ w. w.now) args.now) }
+{
+    match args {
+        [] => Some(Pattern::Exactly(reply)),
+        [_, ..] => None,
+    }
+}
+
+#[tactic(auto, unfolding(crate::specs::WantedLines::moved_reply))]
+fn moved(args: &[&str]) -> Option<Pattern>
+    ensures { result ≡ says.moved_reply (map (λ w. w.now) args.now) }
+{
+    let [from, to] = args else { return None };
+    let from = Frame(number32(from)?);
+    let to = Frame(number32(to)?);
+    Some(Pattern::Exactly(Reply::Moved { from, to }))
+}
+
+/// Parses the argument of `opened`, which must be 0: an end does not show the operation's number.
+#[tactic(auto, unfolding(crate::specs::WantedLines::opened_reply))]
+fn opened(args: &[&str]) -> Option<Pattern>
+    ensures { result ≡ says.opened_reply (map (λ w. w.now) args.now) }
+{
+    let op = only64(args)?;
+    if op == 0 {
+        Some(Pattern::Exactly(Reply::Opened { op: Serial(0) }))
+    } else {
+        None
+    }
+}
+
+/// Parses a refusal. A name alone matches every refusal of its kind.
+#[tactic(auto, unfolding(crate::specs::WantedLines::refusal_of))]
+fn refused(args: &[&str]) -> Option<Pattern>
+    ensures { result ≡ says.refusal_of (map (λ w. w.now) args.now) }
+{
+    match args {
+        [name] => Some(Pattern::AnyOf(named_refusal(name)?)),
+        [name, number] => {
+            let number = number32(number)?;
+            let refusal = numbered_refusal(name, number)?;
+            Some(Pattern::Exactly(Reply::Refused(refusal)))
+        }
+        _ => None,
+    }
+}
+
+/// Returns the refusal with this name, with 0 for its frame or block.
+#[tactic(auto, unfolding(crate::specs::WantedLines::named_refusal))]
+fn named_refusal(name: &str) -> Option<Refusal>
+    ensures { result ≡ says.named_refusal name.now }
+{
+    match name {
+        "NoOwner" => Some(Refusal::NoOwner),
+        "NoPage" => Some(Refusal::NoPage),
+        "NoWord" => Some(Refusal::NoWord),
+        "AlreadyMapped" => Some(Refusal::AlreadyMapped),
+        "NotMapped" => Some(Refusal::NotMapped),
+        "BadOrder" => Some(Refusal::BadOrder),
+        "NoFrame" => Some(Refusal::NoFrame),
+        "NoSuchFrame" => Some(Refusal::NoSuchFrame),
+        "NotKernel" => Some(Refusal::NotKernel),
+        "NoCpu" => Some(Refusal::NoCpu),
+        "NoBlock" => Some(Refusal::NoBlock),
+        "EmptyPlan" => Some(Refusal::EmptyPlan),
+        "NoOp" => Some(Refusal::NoOp),
+        "NothingToMove" => Some(Refusal::NothingToMove),
+        "Gone" => Some(Refusal::Gone),
+        "BadAddress" => Some(Refusal::BadAddress),
+        _ => numbered_refusal(name, 0),
+    }
+}
+
+/// Returns the refusal with this name, for the frame or block with this number.
+#[tactic(auto, unfolding(crate::specs::WantedLines::numbered_refusal))]
+fn numbered_refusal(name: &str, number: u32) -> Option<Refusal>
+    ensures { result ≡ says.numbered_refusal name.now number }
+{
+    let block = Block(number);
+    let frame = Frame(number);
+    match name {
+        "Twice" => Some(Refusal::Twice { block }),
+        "Busy" => Some(Refusal::Busy { block }),
+        "NotOnline" => Some(Refusal::NotOnline { block }),
+        "NotOffline" => Some(Refusal::NotOffline { block }),
+        "Unmovable" => Some(Refusal::Unmovable { frame }),
+        "NotFree" => Some(Refusal::NotFree { frame }),
+        "NotAbsent" => Some(Refusal::NotAbsent { block }),
+        _ => None,
+    }
+}
+
+/// Parses a wanted memory block: its number and its final row.
+#[tactic(auto, unfolding(crate::specs::WantedLines::block_of))]
+fn block_from(args: &[&str]) -> Option<Wanted>
+    ensures { result ≡ says.block_of (map (λ w. w.now) args.now) }
+{
+    let [number, word, args @ ..] = args else {
+        return None;
+    };
+    let block = Block(number32(number)?);
+    let row = row_from(word, args)?;
+    Some(Wanted::Block { block, row })
+}
+
+/// Parses a memory block's row from its state and the other words.
+#[tactic(auto, unfolding(crate::specs::WantedLines::row_of))]
+fn row_from(word: &str, args: &[&str]) -> Option<Row>
+    ensures { result ≡ says.row_of word.now (map (λ w. w.now) args.now) }
+{
+    match word {
+        "offline" => bare_row(State::Offline, args),
+        "absent" => bare_row(State::Absent, args),
+        "online" => zone_row(State::Online, args),
+        "going" => zone_row(State::Going, args),
+        _ => None,
+    }
+}
+
+/// Returns the row of a block that is offline or absent.
+#[tactic(auto, unfolding(crate::specs::WantedLines::bare_row))]
+fn bare_row(state: State, args: &[&str]) -> Option<Row>
+    ensures { result ≡ says.bare_row state (map (λ w. w.now) args.now) }
+{
+    let zone: Option<Zone> = None;
+    let claim: Option<Claim> = None;
+    match args {
+        [] => Some(Row { state, zone, claim }),
+        [_, ..] => None,
+    }
+}
+
+/// Parses the row of a block that is online or going, which has a zone.
+#[tactic(auto, unfolding(crate::specs::WantedLines::zone_row))]
+fn zone_row(state: State, args: &[&str]) -> Option<Row>
+    ensures { result ≡ says.zone_row state (map (λ w. w.now) args.now) }
+{
+    let [word] = args else { return None };
+    let zone = zone_from(word)?;
+    let claim: Option<Claim> = None;
+    Some(Row {
+        state,
+        zone: Some(zone),
+        claim,
+    })
+}

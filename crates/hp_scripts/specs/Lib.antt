@@ -1,7 +1,0 @@
-pub mod Begins
-pub mod Checks
-pub mod Counting
-pub mod Scripts
-pub mod Setup
-pub mod Starts
-pub mod Unbegun

@@ -1,0 +1,12 @@
+use Rattle.std.proofs.Common.{◌∙◌, ap, codes, sym, append_assoc}
+use Rattle.std.specs.Fmt.{decimal}
+use Rattle.std.proofs.Output.{has_written_of_eq}
+use Rattle.hp_search.specs.FaultTexts.{said_text}
+use Rattle.hp_search.proofs.said.SaidDisplay.fmt.Goals as goal
+
+pub returns-in-Past-clause-writes : goal.returns-in-Past-clause-writes
+returns-in-Past-clause-writes g c plain ok =
+    has_written_of_eq _ _ _ _ _
+    (sym (append_assoc (decimal c.in-Past.asked) (codes " is past the last line, ") (decimal c.in-Past.lines))
+    ∙ sym (ap said_text c.in-Past.is))
+    (c.write-in-Past.ensures.writes plain ok)

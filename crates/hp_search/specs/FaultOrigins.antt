@@ -1,0 +1,56 @@
+-- The conversions from the faults of the crates below, and which faults concern the input.
+use Rattle.std.specs.Prelude.{Bool, true, false}
+use Rattle.hp_scenario.specs.declared.fault.ScenarioFault.{ScenarioFault}
+use Rattle.hp_scenario.specs.declared.fault.ScenarioFault.TheVariants as scenario
+use Rattle.hp_questions.specs.declared.start_fault.StartFault.{StartFault}
+use Rattle.hp_questions.specs.declared.start_fault.StartFault.TheVariants as start
+use Rattle.hp_streams.specs.declared.reading.ReadFault.{ReadFault}
+use Rattle.hp_streams.specs.declared.reading.ReadFault.TheVariants as reading
+use Rattle.hp_search.specs.declared.lab_fault.LabFault.{LabFault}
+use Rattle.hp_search.specs.declared.lab_fault.LabFault.TheVariants.{NotJson, BadShape, Layout, BadLine, NotForScript, OutOfMemory}
+use Rattle.hp_search.specs.declared.program_fault.LabProgramFault.{LabProgramFault}
+use Rattle.hp_search.specs.declared.program_fault.LabProgramFault.TheVariants.{Lab, NotOpened, ReadFailed, Scenario, TooLong}
+
+-- a scenario cannot be read; `NotForRun` comes only from making workers' scripts, never from
+-- reading
+abbrev pub fault_from : ScenarioFault → LabFault
+fault_from scenario.NotJson = NotJson
+fault_from scenario.BadShape = BadShape
+fault_from (scenario.Layout fault) = Layout fault
+fault_from (scenario.BadLine line) = BadLine line
+fault_from (scenario.NotForRun line) = BadLine line
+fault_from scenario.OutOfMemory = OutOfMemory
+
+-- a search cannot start
+abbrev pub start_fault_from : StartFault → LabFault
+start_fault_from (start.NotForScript line why) = NotForScript line why
+start_fault_from start.OutOfMemory = OutOfMemory
+
+-- the input cannot be read
+abbrev pub read_fault_from : ReadFault → LabProgramFault
+read_fault_from reading.ReadFailed = ReadFailed
+read_fault_from reading.TooLong = TooLong
+read_fault_from reading.OutOfMemory = Lab OutOfMemory
+
+-- ---- which faults concern the input
+
+-- the input could not be read
+abbrev pub is_of_input : LabProgramFault → Bool
+is_of_input NotOpened = true
+is_of_input ReadFailed = true
+is_of_input TooLong = true
+is_of_input fault = false
+
+-- the input is not a scenario, by an exploration's fault and by any fault
+abbrev pub is_of_text : LabFault → Bool
+is_of_text NotJson = true
+is_of_text BadShape = true
+is_of_text (Layout fault) = true
+is_of_text (BadLine line) = true
+is_of_text fault = false
+
+abbrev pub is_of_scenario : LabProgramFault → Bool
+is_of_scenario (Scenario scenario.OutOfMemory) = false
+is_of_scenario (Scenario fault) = true
+is_of_scenario (Lab fault) = is_of_text fault
+is_of_scenario fault = false

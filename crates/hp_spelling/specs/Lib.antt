@@ -1,5 +1,0 @@
-pub mod Entries
-pub mod Layouts
-pub mod Lines
-pub mod Scenarios
-pub mod Separated

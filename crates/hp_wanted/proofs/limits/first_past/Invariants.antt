@@ -1,9 +1,0 @@
--- No line so far names what is past the layout.
-use Rattle.hp_wanted.specs.Limits.{IsPast}
-use Rattle.hp_wanted.specs.declared.wanted.Wanted.{Wanted}
-use Rattle.hp_wanted.proofs.Below.{Below}
-use Rattle.hp_wanted.proofs.limits.first_past.Given as goal
-
-abbrev pub invariant-loop-index : goal.invariant-loop-index
-invariant-loop-index l =
-    record { none : Below (λ (line : Wanted). IsPast l.layout line → ⊥) l.wanted l.index }

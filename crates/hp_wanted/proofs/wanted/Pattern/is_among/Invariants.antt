@@ -1,9 +1,0 @@
--- No reply so far is as wanted.
-use Rattle.hp_units.specs.declared.replies.Reply.{Reply}
-use Rattle.hp_wanted.specs.Wanted.{IsAsWanted}
-use Rattle.hp_wanted.proofs.Below.{Below}
-use Rattle.hp_wanted.proofs.wanted.Pattern.is_among.Given as goal
-
-abbrev pub invariant-loop-index : goal.invariant-loop-index
-invariant-loop-index l =
-    record { none : Below (λ (reply : Reply). IsAsWanted l.self reply → ⊥) l.replies l.index }

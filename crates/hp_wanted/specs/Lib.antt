@@ -1,4 +1,0 @@
-pub mod Ends
-pub mod Limits
-pub mod Wanted
-pub mod WantedLines
