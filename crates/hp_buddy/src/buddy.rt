@@ -72,8 +72,8 @@ impl Buddy {
         self.layout.pageblock_size()
     }
 
-    /// Creates areas with nothing free, and every pageblock movable and not isolated. Allocates the
-    /// same number of times for every layout.
+    /// Creates areas without free blocks. Every pageblock is movable and not isolated. Allocates
+    /// the same number of times for every layout.
     pub fn new(alloc: Global, layout: &Layout) -> Result<Buddy, AllocError>
         ensures value { IfOk result
             (λ b. b ≡ record { layout = layout.now; areas = empty_areas layout.now }) }
@@ -316,7 +316,7 @@ impl Buddy {
         self.back_by(&delta);
     }
 
-    /// Undoes a delta that the caller owns, so that none is dropped at each exit here.
+    /// Undoes a borrowed delta. The caller drops it, so that no exit here has to.
     #[inline(always)]
     fn back_by(&mut self, delta: &Delta)
         requires fits { FitsAreas delta.now self.old.areas }

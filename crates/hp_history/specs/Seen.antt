@@ -1,8 +1,9 @@
--- A journal's fields as its value.
+-- The value of a journal, made from its fields.
 use Rattle.hp_history.specs.Course.{CourseValue}
 use Rattle.hp_history.specs.declared.journal.Journal.TheInside.{Inside}
 
--- a journal's value: layout and state from its memory, base state and records from its proofs
+-- the layout and the state are the memory's; the base state and the records are those that the
+-- journal remembers for proofs
 abbrev pub seen : Inside → CourseValue
 seen m = record {
   layout = m.memory.layout;

@@ -26,7 +26,7 @@ IsHeldByNone plan bs block = IfSome (wish_of plan block) (λ wish. (row_of bs bl
 abbrev pub AreHeldByNone : List Item → Blocks → Type 0
 AreHeldByNone plan bs = (block : ℕ) → IsHeldByNone plan bs block
 
--- 1 if the plan has a wish for the block, and for how many of the blocks below a number it has one
+-- 1 if the plan has a wish for the block, otherwise 0; and how many blocks below a limit have one
 abbrev pub claimed_at : List Item → ℕ → ℕ
 claimed_at plan block = if is_some (wish_of plan block) then 1 else 0
 

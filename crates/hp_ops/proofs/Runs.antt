@@ -1,11 +1,10 @@
 -- Steps of a driver's run, and its ends.
 use Rattle.std.proofs.Common.{◌⊎◌, one-mul, ◌≡◌, ℕ, ◌+◌, ◌*◌, ◌-◌, ◌<◌, Bool, true, false, cond, if◌then◌else◌, List, [], ◌∷◌, ◌++◌, Option, Some, None, refl, ap, sym, subst, ◌∙◌, arith, inl, inr}
-use Rattle.std.specs.Prelude.{nat_lt}
+use Rattle.std.specs.Prelude.{nat_lt, ◌||◌}
 use Rattle.std.specs.List.{last_or}
 use Rattle.std.specs.Option.{option_map_or}
 use Rattle.std.proofs.lemmas.Bool.{le-ltb, ltb-true}
 use Rattle.std.proofs.Math.Nat.{add-mul}
-use Rattle.std.specs.Prelude.{◌||◌}
 use Rattle.hp_units.specs.Driver.{AllNext, Ends, IsDriverRun, cause_after, cause_of, end_after, is_migrate, next_after, next_event, next_drain, migrate_or_cancel, opened_by, operation_of, tried}
 use Rattle.hp_ops.specs.Names.{Item, Event, Begin, DrainFor, Migrate, Commit, Cancel, Reply, Done, Moved, Opened, Refused, Refusal, NoFrame, NoOp, NothingToMove, NotFree, Receipt, OpEnd, EndsDone, EndsRefused, EndsCancelled, EndsUndone, EndsLeft, CallFault, Driver, Stage, Begins, DrainsFor, Migrates, Commits, Cancels, Ended}
 use Rattle.hp_ops.specs.Ports.{IsBeginReply, IsDriverReply, IsGiven, IsLiveReply, PortValue, has_opened, is_opened, with_receipts}
@@ -251,9 +250,7 @@ fewer_left cpus turns plan d new event next reply rs r at asked replied moves wo
     (subst (λ (n : ℕ). new.left * (cpus + 3) + calls_to_turn cpus next
     < d.left * (n + 3) + calls_to_turn n event) (sym at.after.processors) all)
 
--- ---- the end
-
--- the replies that the next event can have
+-- ---- the end: the replies that the next event can have
 abbrev IsKnown : (cpus : ℕ) → List Item → Event → Reply → Type 0
 IsKnown cpus plan event reply =
     (event ≡ Begin plan → IsBeginReply reply)

@@ -1,4 +1,4 @@
--- How many pages a frame holds, and which, by a sum of places.
+-- How many pages a frame holds, and the sum of the places of these pages.
 use Rattle.std.specs.Prelude.{◌≡◌, ℕ, zero, suc, ◌+◌, ◌-◌, ◌*◌, ◌^◌, ◌<◌, ◌≤◌, List, [], ◌∷◌, Option, Some, None, IfSome, length, count_by, nat_lt, slice_index, slice_set, sum_by, if◌then◌else◌}
 use Rattle.std.specs.List.{AllByRecursion}
 use Rattle.hp_units.specs.Memory.{entry_of}
@@ -23,7 +23,8 @@ place_of pages owner page = 1 + owner * pages + page
 abbrev pub held : ℕ → Option ℕ → ℕ → ℕ
 held frame entry place = if holds frame entry then place else 0
 
--- the sum of the places at which a frame is in a row that begins at `place`; the same in a table
+-- the sum of the places in a row at which the frame is, if the row begins at `place`; the same for
+-- a table
 abbrev pub row_sum : (place : ℕ) → List (Option ℕ) → (frame : ℕ) → ℕ
 row_sum place [] frame = 0
 row_sum place (entry ∷ row) frame = held frame entry place + row_sum (place + 1) row frame
@@ -35,7 +36,7 @@ table_sum pages place (row ∷ table) frame =
 
 -- ---- the sums of all frames
 
--- the place is added to the sum of the entry's frame; it is subtracted
+-- the sums after the place is added to that of the entry's frame; and after it is subtracted
 abbrev pub joined : List ℕ → Option ℕ → (place : ℕ) → List ℕ
 joined sums None place = sums
 joined sums (Some frame) place = slice_set sums frame (slice_index sums frame + place)
@@ -44,7 +45,7 @@ abbrev pub left : List ℕ → Option ℕ → (place : ℕ) → List ℕ
 left sums None place = sums
 left sums (Some frame) place = slice_set sums frame (slice_index sums frame - place)
 
--- the place may be added to the frame's sum; it may be subtracted
+-- adding the place to the frame's sum does not overflow; subtracting it does not go below 0
 pub record CanJoin (sums : List ℕ) (place frame : ℕ) : Type 0 where
   pub frame_in : frame < length sums
   pub fits : slice_index sums frame + place < 2 ^ 64

@@ -17,18 +17,18 @@ pub record StandsAfter (l : LayoutParts) (volumes : List Volume) (at : ℕ) (v :
   pub here : slice_get volumes at ≡ Some v
   pub chain : IsChain l (take at volumes)
 
--- its count is wrong
+-- such a volume has a wrong count of earlier records
 pub record HasWrongCount (l : LayoutParts) (volumes : List Volume) (at : ℕ) (v : Volume) : Type 0 where
   pub first : StandsAfter l volumes at v
   pub count : v.before ≢ records_in (take at volumes)
 
--- its count is right, and its base is wrong
+-- such a volume has the right count and a wrong base
 pub record HasWrongBase (l : LayoutParts) (volumes : List Volume) (at : ℕ) (v : Volume) : Type 0 where
   pub first : StandsAfter l volumes at v
   pub count : v.before ≡ records_in (take at volumes)
   pub base : v.base ≢ pictured l (state_after l (take at volumes))
 
--- its count and its base are right, and its records are at fault
+-- such a volume has the right count and base, and its records have a fault
 pub record HasWrongRecords (l : LayoutParts) (volumes : List Volume) (at : ℕ) (v : Volume)
     (fault : ReplayFault) : Type 0 where
   pub first : StandsAfter l volumes at v
@@ -44,7 +44,7 @@ IsChainFault l volumes (WrongBase at) = (v : Volume) × HasWrongBase l volumes a
 IsChainFault l volumes (Replay at fault) = (v : Volume) × HasWrongRecords l volumes at v fault
 IsChainFault l volumes OutOfMemory = Unit {0}
 
--- the volumes do not follow one another; nothing if memory ran out
+-- the volumes do not follow one another; if memory ran out, this claims nothing
 abbrev pub RefutesChain : LayoutParts → List Volume → ChainFault → Type 0
 RefutesChain l volumes (WrongCount at) = IsChain l volumes → ⊥
 RefutesChain l volumes (WrongBase at) = IsChain l volumes → ⊥
@@ -73,7 +73,7 @@ IsFaultAfter end at v (Replay place fault) =
     × (fault ≢ ReplayOutOfMemory)
 IsFaultAfter end at v OutOfMemory = Unit {0}
 
--- the fault of a volume whose records are at fault
+-- the fault of a volume whose records have this fault
 abbrev pub chain_fault : ℕ → ReplayFault → ChainFault
 chain_fault at (WrongReply serial) = Replay at (WrongReply serial)
 chain_fault at (WrongSerial place) = Replay at (WrongSerial place)

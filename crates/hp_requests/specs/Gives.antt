@@ -1,8 +1,9 @@
--- Results in a row, each of which may be a fault, and functions that may run out of memory.
+-- How results that may be faults are chained, and what a function that may run out of memory
+-- returns.
 use Rattle.std.specs.Prelude.{◌≡◌, Option, Some, None, Result, Ok, Err}
 use Rattle.hp_requests.specs.Names.{ControlFault, OutOfMemory}
 
--- what is there, or a fault
+-- the value, or this fault if there is none
 abbrev pub or_fault : {A : Type 0} → ControlFault → Option A → Result A ControlFault
 or_fault fault None = Err fault
 or_fault fault (Some x) = Ok x
@@ -14,12 +15,12 @@ abbrev pub ◌>>=◌ : {A B : Type 0} → Result A ControlFault → (A → Resul
 (Ok x) >>= f = f x
 (Err fault) >>= f = Err fault
 
--- out of memory may come in place of any result, and each other fault only if it is the result
+-- `OutOfMemory` may replace any result; any other fault must be the result itself
 abbrev pub Fails : {A : Type 0} → ControlFault → Result A ControlFault → Type 0
 Fails OutOfMemory answer = Unit {0}
 Fails fault answer = answer ≡ Err fault
 
--- what a function returned, seen by `view`, is the result, or memory ran out
+-- the function returned the result, seen through `view`, or ran out of memory
 abbrev pub Gives : {X Y : Type 0} → (X → Y) → Result X ControlFault → Result Y ControlFault → Type 0
 Gives view (Ok x) answer = answer ≡ Ok (view x)
 Gives view (Err fault) answer = Fails fault answer

@@ -54,15 +54,15 @@ first_seat cpu = record { cpu = cpu; receipts = []; sealed = 0; fulls = 0 }
 abbrev pub first_seats : (cpus : ℕ) → List SeatValue
 first_seats cpus = map first_seat (range_with_len 0 cpus)
 
--- of all records `sealed` are sealed, and the others fill a history; or no serial is left
+-- the records without the `sealed` ones fill a history, or no serial is left
 abbrev pub IsFilled : LayoutParts → (sealed all : ℕ) → Type 0
 IsFilled l sealed all = (l.history + sealed ≤ all) ⊎ (18446744073709551615 ≤ all)
 
--- all records are as many as a history may hold, or no serial is left
+-- there are at least as many records as a history holds, or no serial is left
 abbrev pub IsReached : LayoutParts → (all : ℕ) → Type 0
 IsReached l all = (l.history ≤ all) ⊎ (18446744073709551615 ≤ all)
 
--- if a seat found the history full, all records reach the limit
+-- if a seat found the history full, the number of all records has reached that limit
 abbrev pub HasReached : LayoutParts → (all : ℕ) → SeatValue → Type 0
 HasReached l all seat = 0 < seat.fulls → IsReached l all
 
@@ -78,20 +78,19 @@ left_by seat HistoryFull =
     record { cpu = seat.cpu; receipts = seat.receipts; sealed = seat.sealed; fulls = seat.fulls + 1 }
 left_by seat OutOfMemory = seat
 
--- as far as a seat can know, the history may be full: with one processor, its receipts without the
--- records that its seals handed out are as many as the history may hold
+-- the seat's receipts do not rule out that the history is full: with one processor, its receipts
+-- without those of sealed records are at least as many as the history holds
 abbrev pub MayBeFull : LayoutParts → SeatValue → Type 0
 MayBeFull l seat = l.cpus ≡ 1 → l.history + seat.sealed ≤ length seat.receipts
 
--- a receipt is that of the last record of a machine's history, a record of the processor
+-- the receipt is that of the last record of the machine's history, which is the processor's
 pub record IsLastOf (m : MachineValue) (cpu : ℕ) (r : Receipt) : Type 0 where
   pub earlier : List Record
   pub history : m.history ≡ earlier ++ record_of cpu r ∷ []
   pub serial : r.serial ≡ last_serial m
 
--- a processor's turn under the lock: the receipt is of the event that was asked, and is that of the
--- last record of some state of the shared machine, whose serial is at least the seat's number of
--- receipts
+-- a processor's turn under the lock: the receipt is for this event and belongs to the last record
+-- of some state of the shared machine. Its serial is at least the seat's number of receipts
 pub record IsTurn (l : LayoutParts) (cpu : ℕ) (event : Event) (r : Receipt) (receipts : ℕ) : Type 0 where
   pub asked : r.event ≡ event
   pub seen : LockedValue

@@ -120,9 +120,9 @@ impl<L: Job> NotClosed<L> {
 
 impl<L: Job> Locked<L> {
     /// Closes the machine, if each seat's receipts are exactly its processor's records, in order,
-    /// and there are no other records: those of the volumes, which must be all that the machine
-    /// sealed, then the machine's own. If there are as many seats as processors, they have as many
-    /// receipts as this machine has records.
+    /// and there are no other records. The records are those of the volumes, which must be all that
+    /// the machine sealed, then the machine's own. If there are as many seats as processors, they
+    /// have as many receipts as there are records, sealed ones included.
     ///
     /// Errors are those of `check`; each hands back this very machine, all seats and all volumes.
     pub fn close(
@@ -145,7 +145,7 @@ impl<L: Job> Locked<L> {
     {
         let mut locked = self;
         let mut seats = seats;
-        // No effect at run time: from this call the proof reads what the seats count.
+        // No effect at run time: the proof learns from this call what the seats counted.
         audit_all(&mut locked, &mut seats);
         match locked.check(alloc, &seats, &volumes) {
             Ok(records) => Ok(Closed {
@@ -165,8 +165,8 @@ impl<L: Job> Locked<L> {
     /// Checks that the machine may be closed: there is exactly one seat per processor, the volumes
     /// are all that the machine sealed, and each seat's receipts are exactly its processor's
     /// records, in the volumes and then in the machine. Returns how many records there are in all.
-    /// Takes linear time in the records and receipts if the seats are in processor order, and
-    /// quadratic time in the seats; memory is one mark per seat.
+    /// Takes time linear in the records and receipts if the seats are in processor order, and
+    /// quadratic in the seats. Memory is one mark per seat.
     ///
     /// Errors, checked in this order: `SeatMissing`, `WrongVolume`, `Mismatch`. `OutOfMemory` may
     /// replace `Mismatch` or `Ok`.

@@ -38,7 +38,7 @@ with_back a class order frame = with_free_list a class order (free_list a class 
 abbrev pub without_free : FreeAreas → Class → Order → Frame → FreeAreas
 without_free a class order frame = with_free_list a class order (without frame (free_list a class order))
 
--- an order if its list has a block, otherwise another result
+-- this order if the list has a block, otherwise `other`
 abbrev pub order_or : List Frame → Order → Option Order → Option Order
 order_or [] order other = other
 order_or (frame ∷ frames) order other = Some order
@@ -125,8 +125,9 @@ with_mobility l mobility taken =
           (record (kind_of taken.areas (pageblock_of l taken.frame)) { mobility = mobility });
     }
 
--- the front block of an order of the other mobility. A whole pageblock changes to the wanted
--- mobility, and the rest of the block with it; otherwise the rest stays where it was
+-- steals the front block of this order from the other mobility. A whole pageblock changes to the
+-- wanted mobility, and the halves that are left go to its lists; the halves of a smaller block keep
+-- their mobility
 abbrev pub steal_front : LayoutParts → FreeAreas → Mobility → (order wanted : Order) → Option Taken
 steal_front l a mobility order wanted =
     let from = usable_class NormalZone (other_mobility mobility) in

@@ -36,7 +36,7 @@ covers frame order first = nat_le first frame && nat_lt frame (first + 2 ^ order
 abbrev pub covered : (frame : Frame) (order : Order) (first : Frame) → ℕ
 covered frame order first = if covers frame order first then 1 else 0
 
--- how many blocks on one list contain the frame, and how many on all lists from a number on; a
+-- how many blocks on one list contain the frame; how many on this list and all later ones do. A
 -- list's number is five times its order plus its class
 abbrev pub list_places : (frame : Frame) (order : Order) → List Frame → ℕ
 list_places frame order frames = count_by (covers frame order) frames
@@ -60,7 +60,7 @@ kernel_places s frame =
     count_by (λ entry. option_map_or (λ order. covers frame order entry.0) entry.1 false)
     (enumerate_from 0 s.kernel)
 
--- whether a block is offline or absent: then each of its frames has that as a place
+-- whether a block is offline or absent, which counts as one place of each of its frames
 abbrev pub is_unplugged : Row → Bool
 is_unplugged row = is_offline row || is_absent row
 
@@ -72,7 +72,7 @@ places_of l s frame =
     free_places s.free.areas frame + cached_places s.free frame + mapped_places s.pages frame
     + kernel_places s frame + offline_places l s frame
 
--- ---- what a place demands of a frame
+-- ---- what must hold of free blocks, kernel blocks, rows and pages
 
 -- a pageblock's row and kind, and the class of its free blocks and the pool of its single frames;
 -- None without a zone
@@ -102,8 +102,8 @@ pub record IsKernelAt (l : LayoutParts) (rows : List Row) (first : Frame) (order
   pub aligned : first % 2 ^ order ≡ 0
   pub normal : (row_at l rows (pageblock_of l first)).zone ≡ Some NormalZone
 
--- a valid row: going exactly with a claim of wish Off; any other claim only on an offline row; a
--- zone unless offline or absent
+-- a valid row: it has a zone unless it is offline or absent. It is going if and only if it has a
+-- claim of wish Off; only an offline row has any other claim
 abbrev pub wishes_off : Option Claim → Bool
 wishes_off claim = option_map_or (λ c. is_off c.wish) claim false
 
@@ -116,7 +116,7 @@ IsRowOf AbsentState zone claim = (zone ≡ None) × (claim ≡ None)
 abbrev pub IsRow : Row → Type 0
 IsRow row = IsRowOf row.state row.zone row.claim
 
--- a page has words exactly if it has a frame, and then as many as the layout gives
+-- a page has words if and only if it has a frame, and then as many as the layout says
 abbrev pub IsPage : LayoutParts → Option Frame → Option (List ℕ) → Type 0
 IsPage l None None = Unit {0}
 IsPage l None (Some words) = ⊥
@@ -145,7 +145,8 @@ pub record IsInOrder (l : LayoutParts) (s : Memory) : Type 0 where
   pub words : (owner : Owner) (page : Page)
       → IsPage l (frame_at s.pages owner page) (words_at s.pages owner page)
 
--- a well placed state: each number is in exactly one place, those beyond the layout as if offline
+-- a well placed state: each frame is in exactly one place, and numbers beyond the layout count as
+-- offline
 pub record IsWellPlaced (l : LayoutParts) (s : Memory) : Type 0 where
   pub in_order : IsInOrder l s
   pub once : (frame : Frame) → places_of l s frame ≡ 1

@@ -20,8 +20,7 @@ pub struct Parts<'a> {
     pub blocks: u64,
     /// Processors, 1 to 64.
     pub cpus: u64,
-    /// The most frames that a refill adds to a processor's list, which is what a spill removes: 1
-    /// to `high`.
+    /// The most frames that a refill adds to a processor's list, and a spill removes: 1 to `high`.
     pub batch: u64,
     /// Frames that a processor's list can hold before it spills, at most 1024.
     pub high: u64,

@@ -50,6 +50,8 @@ impl JudgeOptions {
           allowed = allowed;
           most = most;
         }) }
+        ensures sized { IfSome result
+            (λ options. (frames : ℕ) → block_frames ≡ Some frames → HasNoSize frames range → ⊥) }
         ensures none { IfNone result ((frames : ℕ) × (block_frames ≡ Some frames) × HasNoSize frames range) }
     {
         if let Some(frames) = block_frames {

@@ -1,4 +1,4 @@
--- How many volumes lines can hand out, and the order of all.
+-- How many volumes the lines of a run can hand out, and the order of volumes.
 use Rattle.std.specs.Prelude.{ℕ, ◌+◌, ◌*◌, Bool, true, false, List, [], ◌∷◌, ◌++◌, length, sum_by}
 use Rattle.std.specs.List.{All}
 use Rattle.std.specs.List.Sorted.{IsNonDecreasingBy}
@@ -13,7 +13,7 @@ abbrev pub one_if : Bool → ℕ
 one_if true = 1
 one_if false = 0
 
--- how many lines seal, of a script and of all scripts
+-- how many lines of a script are seals; the same for all scripts
 abbrev pub seals_in : List Line → ℕ
 seals_in lines = sum_by (λ line. one_if (is_seal line.work)) lines
 
@@ -29,7 +29,7 @@ abbrev pub joined : List (List Volume) → List Volume
 joined [] = []
 joined (volumes ∷ lists) = volumes ++ joined lists
 
--- by the number of earlier records, then by the number of their own, which is below 2^64
+-- orders volumes by the number of earlier records, then by the number of their own, below 2^64
 abbrev pub rank : Volume → ℕ
 rank v = v.before * 18446744073709551616 + length v.records
 

@@ -1,4 +1,4 @@
--- What workers make of their seats.
+-- What workers do with their seats.
 use Rattle.std.specs.Prelude.{◌≡◌, ◌⊎◌, ℕ, ◌≤◌, List, [], Option, Some, None, length, slice_get, ⊤}
 use Rattle.std.specs.List.Sorted.{IsPermutation}
 use Rattle.hp_units.specs.Choices.{first_some}
@@ -25,13 +25,14 @@ IsStarted None = ⊤
 IsStarted (Some (NotStarted named)) = ⊥
 IsStarted (Some OutOfMemory) = ⊤
 
--- a worker ran all its lines by a seat, which handed out these volumes; or none, with a fault
+-- a worker ran all its lines with this seat, whose seals handed out these volumes; or it has a
+-- fault and ran none
 pub record IsWorker (l : LayoutParts) (old : SeatValue) (lines : List Line) (new : SeatValue)
     (handed : List Volume) (ends : List LineEnd) (fault : Option RunFault) : Type 0 where
   pub worked : IsWorked l old lines new handed ends
   pub ended : HasEnded old.cpu lines ends fault
 
--- no worker is back yet
+-- no worker has returned yet
 abbrev pub IsBare : List SeatValue → List Volume → List (List LineEnd) → Option RunFault → Type 0
 IsBare news volumes lists fault = (news ≡ []) × (volumes ≡ []) × (lists ≡ []) × (fault ≡ None)
 
@@ -56,9 +57,8 @@ pub record HasWorker (l : LayoutParts) (old : SeatValue) (lines : List Line) (ne
   pub why : slice_get faults place ≡ Some fault
   pub worker : IsWorker l old lines new handed own fault
 
--- all seats are back after their lines, and the volumes are what these handed out, seat by seat;
--- the fault is the first worker's that has one. The first worker is always started, in the caller's
--- thread
+-- all workers have returned; the volumes are those that they handed out, seat by seat; the fault is
+-- that of the first worker that has one. The first worker is always started, in the caller's thread
 pub record AreWorkers (l : LayoutParts) (olds : List SeatValue) (scripts : List (List Line))
     (news : List SeatValue) (volumes : List Volume) (lists : List (List LineEnd))
     (fault : Option RunFault) : Type 0 where
@@ -75,7 +75,7 @@ pub record AreWorkers (l : LayoutParts) (olds : List SeatValue) (scripts : List 
   pub each : (place : ℕ) (seat : SeatValue) (lines : List Line) → slice_get olds place ≡ Some seat
       → slice_get scripts place ≡ Some lines → HasWorker l seat lines news handed lists faults place
 
--- the seats as they were: memory ran out before any thread
+-- memory ran out before any thread was started; the seats are as they were
 pub record AreUnstarted (olds news : List SeatValue) (volumes : List Volume) (lists : List (List LineEnd))
     (fault : Option RunFault) : Type 0 where
   pub seats : news ≡ olds
@@ -83,7 +83,8 @@ pub record AreUnstarted (olds news : List SeatValue) (volumes : List Volume) (li
   pub ends : lists ≡ []
   pub fault_is : fault ≡ Some OutOfMemory
 
--- all after their workers; the volumes are in order, and no more than there are lines that seal
+-- all workers have returned; the volumes are in order, and there are at most as many as lines that
+-- seal
 pub record AreGathered (l : LayoutParts) (olds : List SeatValue) (scripts : List (List Line))
     (news : List SeatValue) (volumes : List Volume) (lists : List (List LineEnd))
     (fault : Option RunFault) : Type 0 where
@@ -93,7 +94,7 @@ pub record AreGathered (l : LayoutParts) (olds : List SeatValue) (scripts : List
   pub order : AreInOrder volumes
   pub few : length volumes ≤ seals_in_all scripts
 
--- if some line ended because the history was full, all records reach the limit
+-- if some line ended because the history was full, the number of all records has reached its limit
 abbrev pub ReachWhereFull : LayoutParts → List (List LineEnd) → (all : ℕ) → Type 0
 ReachWhereFull l lists all =
     (cpu : ℕ) (own : List LineEnd) (at : ℕ) (end : LineEnd) → slice_get lists cpu ≡ Some own
