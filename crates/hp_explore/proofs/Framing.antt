@@ -5,27 +5,28 @@ use Rattle.hp_units.specs.declared.events.Event.{Event}
 use Rattle.hp_units.specs.declared.replies.Record.{Record}
 use Rattle.hp_states.specs.Rooms.{is_full_after}
 use Rattle.hp_explore.specs.Frames.{AreBelow, AreWalked}
-use Rattle.hp_states.specs.Frames.{IsFrame}
+use Rattle.hp_states.specs.Frames.{GoOn, IsFrame}
+use Rattle.hp_schedules.specs.Notes.{TallyValue}
 use Rattle.hp_schedules.specs.Parts.{IsOn, PartValue}
 use Rattle.hp_explore.specs.Paths.{IsBack, PathValue}
 use Rattle.hp_schedules.specs.Schedules.{Setting, next_call, plays, record_of_call, schedule_of}
-use Rattle.hp_states.specs.Seen.{Grow}
 use Rattle.hp_states.specs.Walks.{IsOverBelow, IsPartWalkedBefore, IsPartWalkedThrough}
 use Rattle.hp_states.specs.declared.frames.Level.{Level}
 use Rattle.hp_schedules.specs.declared.tally.Ending.{Ending}
 use Rattle.hp_states.proofs.OfPart.{comes_on}
-use Rattle.hp_states.proofs.Entered.{frame_grows}
+use Rattle.hp_states.proofs.Entered.{frame_goes_on}
 use Rattle.hp_states.proofs.Rooms.{done_begins, done_down, done_over, done_past}
 use Rattle.hp_states.proofs.Noting.{over_next}
 use Rattle.hp_explore.proofs.Paths.{path_of}
 
--- ---- as the ends grow
+-- ---- as the walk goes on
 
-pub below_grows : (g : Setting) (part : PartValue) (old new : List Ending) (news : List Record)
-    (frames : List Level)
-    → Grow old new → AreBelow g part old news frames → AreBelow g part new news frames
-below_grows g part old new news [] grow b = b
-below_grows g part old new news (frame ∷ frames) grow b = (
+pub below_goes_on : (g : Setting) (part : PartValue) (most start : ℕ) (old new : TallyValue)
+    (news : List Record) (frames : List Level)
+    → most ≤ start → GoOn start old new → AreBelow g part old most news frames
+    → AreBelow g part new most news frames
+below_goes_on g part most start old new news [] le on b = b
+below_goes_on g part most start old new news (frame ∷ frames) le on b = (
   b.0,
   b.1,
   b.2,
@@ -36,8 +37,9 @@ below_grows g part old new news (frame ∷ frames) grow b = (
   b.7,
   b.8,
   b.9,
-  frame_grows g part old new b.0 frame grow b.10,
-  below_grows g part old new b.0 frames grow b.11,
+  frame_goes_on g part start old new b.0 frame (omega (arith, b.12, le)) on b.10,
+  below_goes_on g part frame.start start old new b.0 frames (omega (arith, b.12, le)) on b.11,
+  b.12,
 )
 
 -- ---- a turn
@@ -48,33 +50,35 @@ pub longer_schedule : (news : List Record) (r : Record)
 longer_schedule news r = map-append (λ (q : Record). q.cpu) news (r ∷ [])
 
 -- a processor asks for nothing
-pub walk_passes : (g : Setting) (part : PartValue) (ends : List Ending) (news : List Record) (frame : Level)
+pub walk_passes : (g : Setting) (part : PartValue) (tally : TallyValue) (news : List Record) (frame : Level)
     (frames : List Level)
     → plays g (schedule_of news) ≡ Some news → next_call g frame.next news ≡ None
-    → frame.next < length g.scripts → AreWalked g part ends news (frame ∷ frames)
-    → AreWalked g part ends news (record frame { next = frame.next + 1 } ∷ frames)
-walk_passes g part ends news frame frames played none less w = (
+    → frame.next < length g.scripts → AreWalked g part tally news (frame ∷ frames)
+    → AreWalked g part tally news (record frame { next = frame.next + 1 } ∷ frames)
+walk_passes g part tally news frame frames played none less w = (
   record {
-    walked = done_over g part (schedule_of news) news frame.next ends played none w.0.walked;
+    walked = done_over g part (schedule_of news) news frame.next tally.ends played none w.0.walked;
     over = over_next g news frame.next frame.is_over none w.0.over;
     within = omega arith;
   },
-  record { comes = w.1.comes; kept = w.1.kept },
+  record { comes = w.1.comes; within = w.1.within; reached = w.1.reached },
   w.2,
 )
 
 -- a processor makes its call, and leads on to a place
-pub walk_leads : (g : Setting) (part : PartValue) (ends : List Ending) (news later : List Record)
+pub walk_leads : (g : Setting) (part : PartValue) (tally : TallyValue) (news later : List Record)
     (frame : Level) (frames : List Level) (event : Event)
     → plays g (schedule_of news) ≡ Some news → next_call g frame.next news ≡ Some event
     → is_full_after g news ≡ false → frame.next < length g.scripts
     → later ≡ news ++ record_of_call g news frame.next event ∷ []
-    → AreWalked g part ends news (frame ∷ frames)
-    → IsPartWalkedBefore g part (schedule_of later) ends × IsOn (length g.scripts) part (schedule_of later)
-    × AreBelow g part ends later (record frame { next = frame.next + 1; is_over = false } ∷ frames)
+    → AreWalked g part tally news (frame ∷ frames)
+    → IsPartWalkedBefore g part (schedule_of later) tally.ends
+    × IsOn (length g.scripts) part (schedule_of later)
+    × AreBelow g part tally (length tally.trail) later
+    (record frame { next = frame.next + 1; is_over = false } ∷ frames)
 unfolding record_of_call
-walk_leads g part ends news later frame frames event played asked room less is w = (
-  subst (λ (p : List ℕ). IsPartWalkedBefore g part p ends) (sym there) w.0.walked,
+walk_leads g part tally news later frame frames event played asked room less is w = (
+  subst (λ (p : List ℕ). IsPartWalkedBefore g part p tally.ends) (sym there) w.0.walked,
   subst (IsOn (length g.scripts) part) (sym there)
       (comes_on (length g.scripts) part (schedule_of news) frame.next w.1.comes),
   (
@@ -88,8 +92,9 @@ walk_leads g part ends news later frame frames event played asked room less is w
     less,
     played,
     room,
-    record { comes = w.1.comes; kept = w.1.kept },
+    record { comes = w.1.comes; within = w.1.within; reached = w.1.reached },
     w.2,
+    w.1.within,
   ),
 )
   where
@@ -97,24 +102,29 @@ walk_leads g part ends news later frame frames event played asked room less is w
     there = ap schedule_of is ∙ longer_schedule news (record_of_call g news frame.next event)
 
 -- a place gets its frame
-pub walk_opens : (g : Setting) (part : PartValue) (ends : List Ending) (news : List Record) (frame : Level)
+pub walk_opens : (g : Setting) (part : PartValue) (tally : TallyValue) (news : List Record) (frame : Level)
     (frames : List Level)
-    → frame.next ≡ 0 → frame.is_over ≡ true → IsFrame g part news ends frame
-    → IsPartWalkedBefore g part (schedule_of news) ends → AreBelow g part ends news frames
-    → AreWalked g part ends news (frame ∷ frames)
-walk_opens g part ends news frame frames zero over is walked below = (
+    → frame ≡ record { next = 0; is_over = true; start = length tally.trail }
+    → IsFrame g part news tally frame
+    → IsPartWalkedBefore g part (schedule_of news) tally.ends
+    → AreBelow g part tally (length tally.trail) news frames
+    → AreWalked g part tally news (frame ∷ frames)
+walk_opens g part tally news frame frames fresh is walked below = (
   record {
     walked =
-        subst (λ (n : ℕ). IsPartWalkedBefore g part (schedule_of news ++ n ∷ []) ends) (sym zero)
-        (done_down g part (schedule_of news) ends walked);
+        subst (λ (n : ℕ). IsPartWalkedBefore g part (schedule_of news ++ n ∷ []) tally.ends) (sym zero)
+        (done_down g part (schedule_of news) tally.ends walked);
     over =
-        subst (λ (b : Bool). IsOverBelow g news frame.next b) (sym over)
+        subst (λ (b : Bool). IsOverBelow g news frame.next b) (sym (ap (λ (f : Level). f.is_over) fresh))
         (λ cpu less. absurd (omega (arith, less, zero)));
     within = omega (arith, zero);
   },
   is,
-  below,
+  subst (λ (n : ℕ). AreBelow g part tally n news frames) (sym (ap (λ (f : Level). f.start) fresh)) below,
 )
+  where
+    zero : frame.next ≡ 0
+    zero = ap (λ (f : Level). f.next) fresh
 
 -- ---- the stack
 
@@ -190,33 +200,34 @@ back_shorter g news (Some cpu) p q is back =
       length_push q.news back.0,
     )
 
-pub walk_back : (g : Setting) (part : PartValue) (old ends : List Ending) (news : List Record)
-    (frames : List Level) (cpu : Option ℕ) (p q : PathValue)
-    → Grow old ends → AreBelow g part old news frames → IsPartWalkedThrough g part (schedule_of news) ends
-    → p ≡ path_of g news → IsBack p cpu q → AreWalked g part ends q.news frames
-walk_back g part old ends news [] cpu p q grow b walked is back =
-    subst (λ (h : List Record). IsPartWalkedThrough g part (schedule_of h) ends) b walked
-walk_back g part old ends news (frame ∷ frames) cpu p q grow b walked is back =
-    subst (λ (h : List Record). AreWalked g part ends h (frame ∷ frames))
+pub walk_back : (g : Setting) (part : PartValue) (most start : ℕ) (old new : TallyValue)
+    (news : List Record) (frames : List Level) (cpu : Option ℕ) (p q : PathValue)
+    → most ≤ start → GoOn start old new → AreBelow g part old most news frames
+    → IsPartWalkedThrough g part (schedule_of news) new.ends
+    → p ≡ path_of g news → IsBack p cpu q → AreWalked g part new q.news frames
+walk_back g part most start old new news [] cpu p q le on b walked is back =
+    subst (λ (h : List Record). IsPartWalkedThrough g part (schedule_of h) new.ends) b walked
+walk_back g part most start old new news (frame ∷ frames) cpu p q le on b walked is back =
+    subst (λ (h : List Record). AreWalked g part new h (frame ∷ frames))
     (sym (came_from g news b.0 b.1 cpu p q is b.3 back)) (
       record {
         walked =
-            subst (λ (n : ℕ). IsPartWalkedBefore g part (schedule_of b.0 ++ n ∷ []) ends) (sym b.4)
-            (done_past g part (schedule_of b.0) b.0 b.1.cpu ends b.8 b.9
-            (subst (λ (s : List ℕ). IsPartWalkedThrough g part s ends)
+            subst (λ (n : ℕ). IsPartWalkedBefore g part (schedule_of b.0 ++ n ∷ []) new.ends) (sym b.4)
+            (done_past g part (schedule_of b.0) b.0 b.1.cpu new.ends b.8 b.9
+            (subst (λ (s : List ℕ). IsPartWalkedThrough g part s new.ends)
             (ap schedule_of b.3 ∙ longer_schedule b.0 b.1) walked));
         over =
             subst (λ (over : Bool). IsOverBelow g b.0 frame.next over) (sym b.5) (b.1.cpu, b.2, b.6);
         within = omega (arith, b.4, b.7);
       },
-      frame_grows g part old ends b.0 frame grow b.10,
-      below_grows g part old ends b.0 frames grow b.11,
+      frame_goes_on g part start old new b.0 frame (omega (arith, b.12, le)) on b.10,
+      below_goes_on g part frame.start start old new b.0 frames (omega (arith, b.12, le)) on b.11,
     )
 
 -- as many places as records
-pub below_many : (g : Setting) (part : PartValue) (ends : List Ending) (news : List Record)
+pub below_many : (g : Setting) (part : PartValue) (tally : TallyValue) (most : ℕ) (news : List Record)
     (frames : List Level)
-    → AreBelow g part ends news frames → length frames ≡ length news
-below_many g part ends news [] b = sym (ap length b)
-below_many g part ends news (frame ∷ frames) b =
-    omega (arith, below_many g part ends b.0 frames b.11, ap length b.3, length_push b.0 b.1)
+    → AreBelow g part tally most news frames → length frames ≡ length news
+below_many g part tally most news [] b = sym (ap length b)
+below_many g part tally most news (frame ∷ frames) b =
+    omega (arith, below_many g part tally frame.start b.0 frames b.11, ap length b.3, length_push b.0 b.1)

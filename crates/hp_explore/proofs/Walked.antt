@@ -9,14 +9,15 @@ use Rattle.hp_schedules.specs.Alike.{leaves_steps}
 use Rattle.hp_states.specs.Rooms.{is_full_after}
 use Rattle.hp_explore.specs.Frames.{AreBelow, AreWalked}
 use Rattle.hp_memory.specs.Memory.{MemoryValue}
-use Rattle.hp_states.specs.Frames.{IsArrival, IsFrame, IsLeaving}
+use Rattle.hp_states.specs.Frames.{GoOn, IsArrival, IsFrame, IsLeaving}
 use Rattle.hp_states.specs.Places.{memory_at}
 use Rattle.hp_schedules.specs.Cursors.{AreCursors}
 use Rattle.hp_schedules.specs.declared.cursors.Cursor.{Cursor}
+use Rattle.hp_schedules.specs.Notes.{TallyValue}
 use Rattle.hp_schedules.specs.Parts.{IsOn, PartValue}
 use Rattle.hp_explore.specs.Paths.{IsBack, IsForth, PathValue}
 use Rattle.hp_schedules.specs.Schedules.{Setting, plays, record_of_call, schedule_of}
-use Rattle.hp_states.specs.Seen.{Grow, IsMemo, IsOnWay, MemoValue}
+use Rattle.hp_states.specs.Seen.{IsMemo, IsOnWay, MemoValue}
 use Rattle.hp_states.specs.Walks.{IsPartWalkedBefore, IsPartWalkedThrough}
 use Rattle.hp_states.specs.declared.frames.Level.{Level}
 use Rattle.hp_schedules.proofs.Alike.{call_leaves, event_kept}
@@ -25,34 +26,37 @@ use Rattle.hp_explore.proofs.Framing.{back_setting, back_shorter, walk_back, wal
 use Rattle.hp_explore.proofs.Paths.{path_of}
 
 -- a processor asked for nothing
-pub passed_on : (p q : PathValue) (part : PartValue) (ends : List Ending) (frame later : Level)
+pub passed_on : (p q : PathValue) (part : PartValue) (tally : TallyValue) (frame later : Level)
     (frames all : List Level)
     → plays p.setting (schedule_of p.news) ≡ Some p.news → IsForth p frame.next false q
     → frame.next < length p.setting.scripts → later ≡ record frame { next = frame.next + 1 }
-    → all ≡ later ∷ frames → AreWalked p.setting part ends p.news (frame ∷ frames)
-    → AreWalked q.setting part ends q.news all
-passed_on p q part ends frame later frames all played forth less is all_is w =
-    subst (λ (x : PathValue). AreWalked x.setting part ends x.news all) (sym forth.1)
-    (subst (AreWalked p.setting part ends p.news) (sym (all_is ∙ ap (λ (f : Level). f ∷ frames) is))
-    (walk_passes p.setting part ends p.news frame frames played forth.0 less w))
+    → all ≡ later ∷ frames → AreWalked p.setting part tally p.news (frame ∷ frames)
+    → AreWalked q.setting part tally q.news all
+passed_on p q part tally frame later frames all played forth less is all_is w =
+    subst (λ (x : PathValue). AreWalked x.setting part tally x.news all) (sym forth.1)
+    (subst (AreWalked p.setting part tally p.news) (sym (all_is ∙ ap (λ (f : Level). f ∷ frames) is))
+    (walk_passes p.setting part tally p.news frame frames played forth.0 less w))
 
 -- a processor made its call
-pub led_on : (p q : PathValue) (part : PartValue) (ends : List Ending) (frame later : Level)
+pub led_on : (p q : PathValue) (part : PartValue) (tally : TallyValue) (frame later : Level)
     (frames all : List Level)
     → plays p.setting (schedule_of p.news) ≡ Some p.news → IsForth p frame.next true q
     → frame.next < length p.setting.scripts
     → later ≡ record frame { next = frame.next + 1; is_over = false }
-    → all ≡ later ∷ frames → AreWalked p.setting part ends p.news (frame ∷ frames)
-    → IsPartWalkedBefore q.setting part (schedule_of q.news) ends
-    × IsOn (length q.setting.scripts) part (schedule_of q.news) × AreBelow q.setting part ends q.news all
-led_on p q part ends frame later frames all played forth less is all_is w =
-    subst (λ (x : PathValue). IsPartWalkedBefore x.setting part (schedule_of x.news) ends
-    × IsOn (length x.setting.scripts) part (schedule_of x.news) × AreBelow x.setting part ends x.news all)
+    → all ≡ later ∷ frames → AreWalked p.setting part tally p.news (frame ∷ frames)
+    → IsPartWalkedBefore q.setting part (schedule_of q.news) tally.ends
+    × IsOn (length q.setting.scripts) part (schedule_of q.news)
+    × AreBelow q.setting part tally (length tally.trail) q.news all
+led_on p q part tally frame later frames all played forth less is all_is w =
+    subst (λ (x : PathValue). IsPartWalkedBefore x.setting part (schedule_of x.news) tally.ends
+    × IsOn (length x.setting.scripts) part (schedule_of x.news)
+    × AreBelow x.setting part tally (length tally.trail) x.news all)
     (sym forth.3)
-    (subst (λ (fs : List Level). IsPartWalkedBefore p.setting part (schedule_of longer) ends
-    × IsOn (length p.setting.scripts) part (schedule_of longer) × AreBelow p.setting part ends longer fs)
+    (subst (λ (fs : List Level). IsPartWalkedBefore p.setting part (schedule_of longer) tally.ends
+    × IsOn (length p.setting.scripts) part (schedule_of longer)
+    × AreBelow p.setting part tally (length tally.trail) longer fs)
     (sym (all_is ∙ ap (λ (f : Level). f ∷ frames) is))
-    (walk_leads p.setting part ends p.news longer frame frames forth.0 played forth.1 forth.2 less refl w))
+    (walk_leads p.setting part tally p.news longer frame frames forth.0 played forth.1 forth.2 less refl w))
   where
     longer : List Record
     longer = p.news ++ record_of_call p.setting p.news frame.next forth.0 ∷ []
@@ -125,19 +129,20 @@ forth_setting p q cpu true forth = ap (λ (x : PathValue). x.setting) forth.3
 forth_setting p q cpu false forth = ap (λ (x : PathValue). x.setting) forth.1
 
 -- a place is left
-pub gone_back : (g : Setting) (part : PartValue) (old ends : List Ending) (news : List Record)
+pub gone_back : (g : Setting) (part : PartValue) (start : ℕ) (old new : TallyValue) (news : List Record)
     (frames all : List Level) (cpu : Option ℕ) (q : PathValue) (memo : MemoValue) (n : ℕ)
-    → all ≡ frames → Grow old ends → AreBelow g part old news frames
-    → IsPartWalkedThrough g part (schedule_of news) ends
-    → IsBack (path_of g news) cpu q → IsMemo g ends memo → n ≡ length g.scripts
+    → all ≡ frames → GoOn start old new → AreBelow g part old start news frames
+    → IsPartWalkedThrough g part (schedule_of news) new.ends
+    → IsBack (path_of g news) cpu q → IsMemo g new.ends memo → n ≡ length g.scripts
     → length news ≤ g.layout.history
-    → AreWalked q.setting part ends q.news all × IsMemo q.setting ends memo × (n ≡ length q.setting.scripts)
-    × (length q.news ≤ q.setting.layout.history)
-gone_back g part old ends news frames all cpu q memo n all_is grow below walked back kept many short = (
-  subst (λ (h : Setting). AreWalked h part ends q.news all) (sym same)
-      (subst (AreWalked g part ends q.news) (sym all_is)
-      (walk_back g part old ends news frames cpu (path_of g news) q grow below walked refl back)),
-  subst (λ (h : Setting). IsMemo h ends memo) (sym same) kept,
+    → AreWalked q.setting part new q.news all × IsMemo q.setting new.ends memo
+    × (n ≡ length q.setting.scripts) × (length q.news ≤ q.setting.layout.history)
+gone_back g part start old new news frames all cpu q memo n all_is on below walked back kept many short = (
+  subst (λ (h : Setting). AreWalked h part new q.news all) (sym same)
+      (subst (AreWalked g part new q.news) (sym all_is)
+      (walk_back g part start start old new news frames cpu (path_of g news) q (omega arith) on below
+      walked refl back)),
+  subst (λ (h : Setting). IsMemo h new.ends memo) (sym same) kept,
   many ∙ ap (λ (h : Setting). length h.scripts) (sym same),
   subst (λ (h : Setting). length q.news ≤ h.layout.history) (sym same)
       (omega (arith, back_shorter g news cpu (path_of g news) q refl back, short)),
@@ -168,13 +173,13 @@ arrival p part records memory cursors ends memo is memory_is at played walked on
     })
 
 pub leaving : (p : PathValue) (part : PartValue) (records : List Record) (cursors : List Cursor)
-    (ends : List Ending) (memo : MemoValue) (frame : Level)
+    (tally : TallyValue) (memo : MemoValue) (frame : Level)
     → records ≡ p.news → AreCursors p.setting p.news cursors
-    → plays p.setting (schedule_of p.news) ≡ Some p.news → IsFrame p.setting part p.news ends frame
-    → IsPartWalkedThrough p.setting part (schedule_of p.news) ends → IsMemo p.setting ends memo
-    → IsOnWay p.setting p.news memo → IsLeaving p.setting part records cursors ends memo frame
-leaving p part records cursors ends memo frame is at played frame_is through kept way =
-    subst (λ (h : List Record). IsLeaving p.setting part h cursors ends memo frame) (sym is) (record {
+    → plays p.setting (schedule_of p.news) ≡ Some p.news → IsFrame p.setting part p.news tally frame
+    → IsPartWalkedThrough p.setting part (schedule_of p.news) tally.ends → IsMemo p.setting tally.ends memo
+    → IsOnWay p.setting p.news memo → IsLeaving p.setting part records cursors tally memo frame
+leaving p part records cursors tally memo frame is at played frame_is through kept way =
+    subst (λ (h : List Record). IsLeaving p.setting part h cursors tally memo frame) (sym is) (record {
       played = played;
       cursors_are = at;
       frame_is = frame_is;

@@ -5,6 +5,7 @@ use Rattle.hp_units.specs.declared.events.Event.{Event}
 use Rattle.hp_units.specs.declared.replies.Record.{Record}
 use Rattle.hp_states.specs.Rooms.{is_full_after}
 use Rattle.hp_states.specs.Frames.{IsFrame}
+use Rattle.hp_schedules.specs.Notes.{TallyValue}
 use Rattle.hp_schedules.specs.Parts.{IsOn, PartValue}
 use Rattle.hp_schedules.specs.Schedules.{Setting, next_call, plays, schedule_of}
 use Rattle.hp_explore.specs.Fronts.{AreFirstInPart}
@@ -24,28 +25,30 @@ pub record AreTurns (g : Setting) (part : PartValue) (news : List Record) (ends 
   pub over : IsOverBelow g news frame.next frame.is_over
   pub within : frame.next ≤ length g.scripts
 
--- the places below one, latest first: each led on by a call of the processor before its next, and
--- the history had room for that call
-abbrev pub AreBelow : Setting → PartValue → List Ending → List Record → List Level → Type 0
-AreBelow g part ends news [] = news ≡ []
-AreBelow g part ends news (frame ∷ frames) =
+-- the places below one, latest first: each led on by a call of the processor before its next, the
+-- history had room for that call, and the trail was not longer there than at the place above,
+-- where it was `most` long
+abbrev pub AreBelow : Setting → PartValue → TallyValue → (most : ℕ) → List Record → List Level → Type 0
+AreBelow g part tally most news [] = news ≡ []
+AreBelow g part tally most news (frame ∷ frames) =
     (before : List Record) × (r : Record) × (event : Event) × (news ≡ before ++ r ∷ [])
     × (frame.next ≡ r.cpu + 1) × (frame.is_over ≡ false) × (next_call g r.cpu before ≡ Some event)
     × (r.cpu < length g.scripts) × (plays g (schedule_of before) ≡ Some before)
-    × (is_full_after g before ≡ false) × IsFrame g part before ends frame
-    × AreBelow g part ends before frames
+    × (is_full_after g before ≡ false) × IsFrame g part before tally frame
+    × AreBelow g part tally frame.start before frames × (frame.start ≤ most)
 
 -- the places of a walk, latest first; with none left, everything is walked
-abbrev pub AreWalked : Setting → PartValue → List Ending → List Record → List Level → Type 0
-AreWalked g part ends news [] = IsPartWalkedThrough g part [] ends
-AreWalked g part ends news (frame ∷ frames) =
-    AreTurns g part news ends frame × IsFrame g part news ends frame × AreBelow g part ends news frames
+abbrev pub AreWalked : Setting → PartValue → TallyValue → List Record → List Level → Type 0
+AreWalked g part tally news [] = IsPartWalkedThrough g part [] tally.ends
+AreWalked g part tally news (frame ∷ frames) =
+    AreTurns g part news tally.ends frame × IsFrame g part news tally frame
+    × AreBelow g part tally frame.start news frames
 
 -- ---- the walk
 
 -- what holds of a walk whose frames, latest first, are these
 pub record IsWalking (w : Walk) (frames : List Level) : Type 0 where
-  pub walked : AreWalked w.path.setting w.part w.tally.ends w.path.news frames
+  pub walked : AreWalked w.path.setting w.part w.tally w.path.news frames
   pub memo : IsMemo w.path.setting w.tally.ends w.memo
   pub way : IsOnWay w.path.setting w.path.news w.memo
   pub processors : w.processors ≡ length w.path.setting.scripts
@@ -82,7 +85,7 @@ IsSameWalk old new =
 pub record IsComing (w : Walk) (frames : List Level) : Type 0 where
   pub walked : IsPartWalkedBefore w.path.setting w.part (schedule_of w.path.news) w.tally.ends
   pub on : IsOn (length w.path.setting.scripts) w.part (schedule_of w.path.news)
-  pub below : AreBelow w.path.setting w.part w.tally.ends w.path.news frames
+  pub below : AreBelow w.path.setting w.part w.tally (length w.tally.trail) w.path.news frames
   pub memo : IsMemo w.path.setting w.tally.ends w.memo
   pub way : IsOnWay w.path.setting w.path.news w.memo
   pub processors : w.processors ≡ length w.path.setting.scripts

@@ -254,7 +254,7 @@ impl<'a> Walk<'a> {
             self.part,
             self.processors,
             frame,
-            &self.tally,
+            &mut self.tally,
             &mut self.memo,
         )?;
         take_back(&mut self.path, &mut self.memo);

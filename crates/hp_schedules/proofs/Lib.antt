@@ -23,5 +23,6 @@ pub mod Plays
 pub mod Regions
 pub mod Shares
 pub mod Steps
+pub mod Trails
 pub mod Uniqueness
 pub mod Unnumbered

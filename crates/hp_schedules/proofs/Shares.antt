@@ -7,7 +7,7 @@ use Rattle.std.proofs.lemmas.List.Sums.{sum_by-cons, sum_by_more, sum_by_more_le
 use Rattle.std.proofs.lemmas.Option.{get_or_from_slice_get, same_Some, slice_get_read, slice_get_within}
 use Rattle.hp_laws.proofs.Lists.{get_push_cases}
 use Rattle.hp_schedules.specs.Notes.{TallyValue}
-use Rattle.hp_schedules.specs.Shares.{AddsAt, AddsCounts, AddsShares, AreAtEnds, AreNoMore, AreSince, HasRoomFor, HasRoomForShares, amount_of, count_for}
+use Rattle.hp_schedules.specs.Shares.{AddsAt, AddsCounts, AddsShares, AreAtEnds, HasRoomFor, HasRoomForShares, amount_of, count_for}
 use Rattle.hp_schedules.specs.declared.rows.Share.{Share}
 use Rattle.hp_schedules.specs.declared.tally.Ending.{Ending}
 use Rattle.hp_schedules.proofs.Counts.{get_set_cases}
@@ -24,10 +24,10 @@ shared shares = sum_by (λ (s : Share). s.count) shares
 abbrev pub nothing : Share
 nothing = record { end = 0; count = 0 }
 
-other_share : (s : Share) (k : ℕ) → (s.end ≡ k → ⊥) → count_for k s ≡ 0
+pub other_share : (s : Share) (k : ℕ) → (s.end ≡ k → ⊥) → count_for k s ≡ 0
 other_share s k other = ap (λ (b : Bool). cond b s.count 0) (ne_eqb s.end k other)
 
-own_share : (s : Share) (k : ℕ) → s.end ≡ k → count_for k s ≡ s.count
+pub own_share : (s : Share) (k : ℕ) → s.end ≡ k → count_for k s ≡ s.count
 own_share s k same = ap (λ (b : Bool). cond b s.count 0) (eq-eqb s.end k same)
 
 -- ---- what they add up to
@@ -98,92 +98,6 @@ counts_tell shares many at k =
           amount_past shares many k at past
           ∙ sym (get_or_past (counts_in shares many) k 0 (omega (arith, past, counts_long shares many)))
     ]
-
--- ---- what each end counts more than it did
-
--- as far as a place
-pub record AreSinceBelow (earlier : List ℕ) (ends : List Ending) (below : ℕ)
-    (shares : List Share) : Type 0 where
-  pub at_ends : AreAtEnds below shares
-  pub each : (k : ℕ) (e : Ending) → k < below → slice_get ends k ≡ Some e
-      → get_or earlier k 0 + amount_of shares k ≡ e.count
-
--- the next end counts no more
-pub since_same : (earlier : List ℕ) (ends : List Ending) (at was : ℕ) (e : Ending) (shares : List Share)
-    → slice_get ends at ≡ Some e → AreNoMore earlier ends → was ≡ get_or earlier at 0 → e.count ≤ was
-    → AreSinceBelow earlier ends at shares → AreSinceBelow earlier ends (at + 1) shares
-since_same earlier ends at was e shares here no_more was_is same so_far = record {
-  at_ends = at_ends_more shares at (at + 1) (omega arith) so_far.at_ends;
-  each = each;
-}
-  where
-    each : (k : ℕ) (f : Ending) → k < at + 1 → slice_get ends k ≡ Some f
-        → get_or earlier k 0 + amount_of shares k ≡ f.count
-    each k f less h =
-        elim (cases_lt k at) [
-          | inl below ↦ so_far.each k f below h
-          | inr past ↦ (let is : k ≡ at = omega (arith, less, past) in
-              let end : e ≡ f = same_Some e f (sym here ∙ (ap (slice_get ends) (sym is) ∙ h)) in
-              omega (
-                arith,
-                same,
-                was_is,
-                no_more at e here,
-                amount_past shares at k so_far.at_ends past,
-                ap (λ (y : Ending). y.count) end,
-                ap (λ (n : ℕ). get_or earlier n 0) is,
-              ))
-        ]
-
--- or it counts more, and has a share
-pub since_more : (earlier : List ℕ) (ends : List Ending) (at was : ℕ) (e : Ending)
-    (shares later : List Share)
-    → slice_get ends at ≡ Some e → was ≡ get_or earlier at 0 → was < e.count
-    → later ≡ shares ++ record { end = at; count = e.count - was } ∷ []
-    → AreSinceBelow earlier ends at shares → AreSinceBelow earlier ends (at + 1) later
-since_more earlier ends at was e shares later here was_is more later_is so_far =
-    subst (AreSinceBelow earlier ends (at + 1)) (sym later_is) (record {
-      at_ends =
-          at_ends_push shares one (at + 1) (omega arith)
-          (at_ends_more shares at (at + 1) (omega arith) so_far.at_ends);
-      each = each;
-    })
-  where
-    one : Share
-    one = record { end = at; count = e.count - was }
-
-    each : (k : ℕ) (f : Ending) → k < at + 1 → slice_get ends k ≡ Some f
-        → get_or earlier k 0 + amount_of (shares ++ one ∷ []) k ≡ f.count
-    each k f less h =
-        elim (cases_lt k at) [
-          | inl below ↦
-              omega (
-                arith,
-                so_far.each k f below h,
-                amount_push shares one k,
-                other_share one k (λ same. omega (arith, same, below)),
-              )
-          | inr past ↦ (let is : k ≡ at = omega (arith, less, past) in
-              let end : e ≡ f = same_Some e f (sym here ∙ (ap (slice_get ends) (sym is) ∙ h)) in
-              omega (
-                arith,
-                more,
-                was_is,
-                amount_push shares one k,
-                own_share one k (sym is),
-                amount_past shares at k so_far.at_ends past,
-                ap (λ (y : Ending). y.count) end,
-                ap (λ (n : ℕ). get_or earlier n 0) is,
-              ))
-        ]
-
-pub since_all : (earlier : List ℕ) (ends : List Ending) (at : ℕ) (shares : List Share) → at ≡ length ends
-    → AreSinceBelow earlier ends at shares → AreSince earlier ends shares
-since_all earlier ends at shares all so_far = record {
-  at_ends = at_ends_more shares at (length ends) (omega (arith, all)) so_far.at_ends;
-  each =
-      λ k e h. so_far.each k e (let less = slice_get_within ends k e h in omega (arith, less, all)) h;
-}
 
 -- ---- what is added to an end
 

@@ -16,3 +16,4 @@ pub mod Rows
 pub mod Schedules
 pub mod Scripts
 pub mod Shares
+pub mod Trails

@@ -3,12 +3,14 @@ use Rattle.std.specs.Prelude.{◌≡◌, ℕ, ◌+◌, ◌<◌, ◌⊎◌, List,
 use Rattle.indexmap.specs.IndexMap.{ContainsKey, IndexMap}
 use Rattle.hp_schedules.specs.Digests.{digest_of}
 use Rattle.hp_schedules.specs.Outcomes.{OutcomeValue}
+use Rattle.hp_schedules.specs.declared.rows.Share.{Share}
 use Rattle.hp_schedules.specs.declared.tally.Ending.{Ending}
 
--- the limit on the schedules counted, and the ends so far
+-- the limit on the schedules counted, the ends so far, and the shares that were added to them
 pub record TallyValue : Type 0 where
   pub limit : ℕ
   pub ends : List Ending
+  pub trail : List Share
 
 -- one more schedule may be counted
 abbrev pub HasRoom : TallyValue → Type 0

@@ -30,11 +30,7 @@ pub record AddsCounts (old : List Ending) (counts : List ℕ) (new : List Ending
       → (f.outcome ≡ e.outcome) × (f.first.items ≡ e.first.items)
       × (f.count ≡ e.count + slice_index_or counts k 0)
 
--- no end counts less than before; and the shares are what each counts more
-abbrev pub AreNoMore : List ℕ → List Ending → Type 0
-AreNoMore earlier ends =
-    (k : ℕ) (e : Ending) → slice_get ends k ≡ Some e → slice_index_or earlier k 0 ≤ e.count
-
+-- the shares are what each end counts more than before
 pub record AreSince (earlier : List ℕ) (ends : List Ending) (shares : List Share) : Type 0 where
   pub at_ends : AreAtEnds (length ends) shares
   pub each : (k : ℕ) (e : Ending) → slice_get ends k ≡ Some e

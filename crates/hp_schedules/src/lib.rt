@@ -24,6 +24,7 @@ mod positions;
 mod rows;
 mod scripts;
 mod tally;
+mod trail;
 
 pub use changes::{Change, change_of};
 pub use closed::is_closed;

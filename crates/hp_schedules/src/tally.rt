@@ -1,14 +1,16 @@
 //! The ends found so far, with their counts.
-ghost use Rattle.std.specs.Prelude.{◌≡◌, ◌↔◌, ◌<◌, ◌≤◌, ◌+◌, [], ◌∷◌, IfOk, IfSome, IfNone, IsTrue, OnErr, OnOk, length, map, slice_index_or, sum_by};
+ghost use Rattle.std.specs.Prelude.{◌≡◌, ◌↔◌, ◌<◌, ◌≤◌, ◌+◌, [], ◌∷◌, IfOk, IfSome, IfNone, IsTrue, OnErr, OnOk, drop, length, sum_by};
 ghost use Rattle.hp_schedules.specs.Digests.{digest_of};
 ghost use Rattle.hp_schedules.specs.Notes.{AddsEnd, HasEndAt, HasNoEnd, HasRoom, IsNoted};
 ghost use Rattle.hp_schedules.specs.Outcomes.{outcome_with};
 ghost use Rattle.hp_schedules.specs.Schedules.{schedule_of};
-ghost use Rattle.hp_schedules.specs.Shares.{AddsAt, AddsShares, AreAtEnds, AreNoMore, AreSince, HasRoomFor, HasRoomForShares};
+ghost use Rattle.hp_schedules.specs.Shares.{AddsAt, AddsShares, AreAtEnds, HasRoomFor, HasRoomForShares};
+ghost use Rattle.hp_schedules.specs.Trails.{KeepsBefore};
 
 use crate::digests::{digest_of, learn};
 use crate::outcomes::{Outcome, all_answers};
 use crate::rows::Share;
+use crate::trail::Trail;
 use hp_units::{Cpu, Record, Row};
 use indexmap::IndexMap;
 use std::alloc::{AllocError, Global};
@@ -47,43 +49,50 @@ pub fn schedule_of(alloc: Global, records: &[Record]) -> Result<Vec<Cpu>, AllocE
     Ok(schedule)
 }
 
-/// Above this many ends, the counts of a place are no longer kept.
-const FEW: usize = 1024;
-
-/// The ends so far, and the limit on the schedules counted.
+/// The ends so far, the limit on the schedules counted, and the trail of what was counted.
 ///
-/// `latest` maps a hash to the index of the newest end that has it.
+/// `latest` maps a hash to the index of the newest end that has it. The trail shows how much each
+/// count has grown since the trail was shorter.
 #[derive(Drop)]
 pub struct Tally {
     limit: u64,
     total: u64,
     ends: Vec<Ending>,
     latest: IndexMap<u64, usize>,
+    trail: Trail,
 }
 
 impl Model for Tally {
-    ghost use Rattle.std.specs.Prelude.{◌≡◌, ◌≤◌, sum_by};
+    ghost use Rattle.std.specs.Prelude.{◌≡◌, ◌≤◌, length, sum_by};
     ghost use Rattle.hp_schedules.specs.Notes.{AreKnown, TallyValue};
+    ghost use Rattle.hp_schedules.specs.Shares.{AreAtEnds};
 
     ghost Value = { TallyValue };
 
-    ghost view = { λ t. record { limit = t.limit; ends = t.ends.items } };
+    ghost view = { λ t. record {
+      limit = t.limit;
+      ends = t.ends.items;
+      trail = t.trail.shares.items;
+    } };
 
     ghost invariant = { λ t.
         (t.total ≡ sum_by (λ e. e.count) t.ends.items) × (t.total ≤ t.limit)
-        × AreKnown t.ends.items t.latest };
+        × AreKnown t.ends.items t.latest
+        × AreAtEnds (length t.ends.items) t.trail.shares.items
+        × (sum_by (λ s. s.count) t.trail.shares.items ≤ t.total) };
 }
 
 impl Tally {
     /// Creates a tally with no schedule counted.
     pub fn new(alloc: Global, limit: u64) -> Tally
-        ensures { result ≡ record { limit = limit; ends = [] } }
+        ensures { result ≡ record { limit = limit; ends = []; trail = [] } }
     {
         Tally {
             limit,
             total: 0,
             ends: Vec::new(alloc),
             latest: IndexMap::new(alloc),
+            trail: Trail::new(alloc),
         }
     }
 
@@ -101,15 +110,13 @@ impl Tally {
         requires { HasRoom self.old }
         ensures ok { OnOk result (IsNoted self.old.ends (outcome_with processors records.now blocks.items)
             (schedule_of records.now) self.new.ends) }
+        ensures trail { OnOk result (KeepsBefore (length self.old.trail) self.old self.new) }
         ensures limit { self.new.limit ≡ self.old.limit }
         ensures err { OnErr result (self.new ≡ self.old) }
     {
         let digest = digest_of(processors, records, blocks.as_slice());
         match self.place_of(digest, processors, records, blocks.as_slice()) {
-            Some(place) => {
-                self.add_at(place, 1);
-                Ok(())
-            }
+            Some(place) => self.add_at(place, 1),
             None => self.add_end(alloc, digest, processors, records, blocks),
         }
     }
@@ -156,12 +163,16 @@ impl Tally {
         requires digest { digest ≡ digest_of (outcome_with processors records.now blocks.items) }
         ensures ok { OnOk result (AddsEnd self.old.ends (outcome_with processors records.now blocks.items)
             (schedule_of records.now) self.new.ends) }
+        ensures trail { OnOk result (KeepsBefore (length self.old.trail) self.old self.new) }
         ensures limit { self.new.limit ≡ self.old.limit }
         ensures err { OnErr result (self.new ≡ self.old) }
     {
+        let end = self.ends.len();
         self.ends.reserve(1)?;
-        learn(&mut self.latest, digest, self.ends.len())?;
+        learn(&mut self.latest, digest, end)?;
         let entry = new_end(alloc, processors, records, blocks)?;
+        self.trail.add_end()?;
+        self.trail.push(Share { end, count: 1 })?;
         self.ends.push_reserved(entry);
         self.total += 1;
         Ok(())
@@ -181,65 +192,62 @@ impl Tally {
         self.limit - self.total
     }
 
-    /// Returns whether there are too many ends to keep a place's counts.
-    pub fn has_many_ends(&self) -> bool
-        ensures { IsTrue result ↔ FEW < length self.now.ends }
+    /// Returns the length of the trail.
+    pub fn trail_len(&self) -> usize
+        ensures { result ≡ length self.now.trail }
     {
-        self.ends.len() > FEW
+        self.trail.len()
     }
 
-    /// Returns the count of each end.
-    pub fn counts(&self, alloc: Global) -> Result<Vec<u64>, AllocError>
-        ensures { IfOk result (λ counts. counts.items ≡ map (λ e. e.count) self.now.ends) }
+    /// Returns the shares that were counted since the trail was `start` long.
+    pub fn since(&self, start: usize) -> &[Share]
+        requires { start ≤ length self.now.trail }
+        ensures shares { result.now ≡ drop start self.now.trail }
+        ensures at_ends { AreAtEnds (length self.now.ends) result.now }
     {
-        let ends = self.ends.as_slice();
-        let mut counts = Vec::with_capacity(alloc, ends.len())?;
-        for end in ends {
-            counts.push_reserved(end.count);
-        }
-        Ok(counts)
+        self.trail.since(start)
     }
 
-    /// Replaces `shares` by how much each end's count has grown since `earlier`. An end that is new
-    /// since then had a count of 0.
-    pub fn since(&self, earlier: &[u64], shares: &mut Vec<Share>) -> Result<(), AllocError>
-        requires { AreNoMore earlier.now self.now.ends }
-        ensures { OnOk result (AreSince earlier.now self.now.ends shares.new.items) }
+    /// Adds up, end by end, the shares that were counted since the trail was `start` long.
+    pub fn gather(&mut self, start: usize)
+        requires { start ≤ length self.old.trail }
+        ensures trail { KeepsBefore start self.old self.new }
+        ensures ends { self.new.ends ≡ self.old.ends }
+        ensures limit { self.new.limit ≡ self.old.limit }
     {
-        shares.clear();
-        for (place, end) in self.ends.iter().enumerate() {
-            let was = count_at(earlier, place);
-            if end.count <= was {
-                continue;
-            }
-            let count = end.count - was;
-            shares.push(Share { end: place, count })?;
+        self.trail.gather(start);
+    }
+
+    /// Counts each share under its end. If memory runs out, only the first ones are counted.
+    pub fn add(&mut self, shares: &[Share]) -> Result<(), AllocError>
+        requires ends { AreAtEnds (length self.old.ends) shares.now }
+        requires room { HasRoomForShares self.old shares.now }
+        ensures added { OnOk result (AddsShares self.old.ends shares.now self.new.ends) }
+        ensures trail { OnOk result (KeepsBefore (length self.old.trail) self.old self.new) }
+        ensures limit { self.new.limit ≡ self.old.limit }
+    {
+        for share in shares {
+            self.add_at(share.end, share.count)?;
         }
         Ok(())
     }
 
-    /// Counts each share under its end.
-    pub fn add(&mut self, shares: &[Share])
-        requires ends { AreAtEnds (length self.old.ends) shares.now }
-        requires room { HasRoomForShares self.old shares.now }
-        ensures added { AddsShares self.old.ends shares.now self.new.ends }
-        ensures limit { self.new.limit ≡ self.old.limit }
-    {
-        for share in shares {
-            self.add_at(share.end, share.count);
-        }
-    }
-
     /// Counts `count` more schedules under the end at index `place`.
-    fn add_at(&mut self, place: usize, count: u64)
+    ///
+    /// If memory runs out, nothing is counted.
+    fn add_at(&mut self, place: usize, count: u64) -> Result<(), AllocError>
         requires place { place < length self.old.ends }
         requires room { HasRoomFor self.old (count ∷ []) }
-        ensures added { AddsAt self.old.ends place count self.new.ends }
+        ensures added { OnOk result (AddsAt self.old.ends place count self.new.ends) }
+        ensures trail { OnOk result (KeepsBefore (length self.old.trail) self.old self.new) }
         ensures limit { self.new.limit ≡ self.old.limit }
+        ensures err { OnErr result (self.new ≡ self.old) }
     {
+        self.trail.push(Share { end: place, count })?;
         let end = &mut self.ends[place];
         end.count += count;
         self.total += count;
+        Ok(())
     }
 
     /// Returns the ends with their counts.
@@ -285,13 +293,6 @@ pub fn fit_in(shares: &[Share], room: u64) -> bool
         }
     }
     true
-}
-
-/// Returns the count at index `place`, or 0 if there is none.
-fn count_at(counts: &[u64], place: usize) -> u64
-    ensures { result ≡ slice_index_or counts.now place 0 }
-{
-    counts.get(place).copied().unwrap_or(0)
 }
 
 /// Returns whether the end at index `place` has this outcome.

@@ -2,22 +2,23 @@
 use Rattle.std.proofs.Common.{◌≡◌, ℕ, zero, suc, ◌+◌, ◌*◌, ◌<◌, ◌≤◌, true, List, [], ◌∷◌, ◌++◌, length, map, get_or, IfSome, Option, None, Some, slice_get, refl, ap, sym, subst, ◌∙◌, add-one, arith, length-append, inl, inr}
 use Rattle.std.specs.Prelude.{slice_range}
 use Rattle.std.proofs.Math.Nat.{mul-le-mul_right, suc-mul, zero-mul}
-use Rattle.std.proofs.lemmas.Bool.{cases_lt}
-use Rattle.std.proofs.lemmas.List.{get_or_past, length-map, length_push}
-use Rattle.std.proofs.lemmas.Option.{none-some, same_Some, slice_get_within}
-use Rattle.hp_laws.proofs.Lists.{get_push_cases, get_some}
+use Rattle.std.proofs.lemmas.List.{length_push}
+use Rattle.std.proofs.lemmas.Option.{none-some, slice_get_within}
+use Rattle.hp_laws.proofs.Lists.{get_push_cases}
 use Rattle.hp_units.specs.declared.replies.Record.{Record}
 use Rattle.hp_steps.specs.Steps.{StepsValue}
 use Rattle.hp_schedules.specs.Alike.{AreAlike, UndoNothing}
 use Rattle.hp_schedules.specs.Ends.{AreCounted}
 use Rattle.hp_schedules.specs.Parts.{AllOfPart, PartValue}
 use Rattle.hp_schedules.specs.Schedules.{Setting, plays, schedule_of}
+use Rattle.hp_states.specs.Frames.{counts_of}
 use Rattle.hp_states.specs.Seen.{AreSamePlaces, Grow, IsMemo, IsOnWay, IsRow, IsRowAmong, IsSeen, MemoValue, SeenValue, key_in, width_of}
-use Rattle.hp_schedules.specs.Shares.{AddsCounts, AddsShares, AreAtEnds, AreNoMore, AreSince, amount_of}
+use Rattle.hp_schedules.specs.Shares.{AddsCounts, AddsShares, AreAtEnds, AreSince, amount_of}
 use Rattle.hp_states.specs.Standing.{AreSameNumbers, IsKey, IsStanding, KeepMeanings, StandingValue}
 use Rattle.hp_states.specs.Walks.{BeforeInPart, HasRoomFrom, IsAt, IsPartWalkedBefore, IsPartWalkedThrough, ThroughInPart}
 use Rattle.hp_schedules.specs.declared.rows.Share.{Share}
 use Rattle.hp_schedules.specs.declared.tally.Ending.{Ending}
+use Rattle.hp_states.proofs.Counts.{count_past, count_read}
 use Rattle.hp_states.proofs.Grown.{grow_added, seen_grows}
 use Rattle.hp_schedules.proofs.InRows.{last_range, range_same}
 use Rattle.hp_states.proofs.Keys.{key_kept, keys_alike}
@@ -25,35 +26,6 @@ use Rattle.hp_states.proofs.Merges.{merged, walked_seen}
 use Rattle.hp_states.proofs.Rooms.{ordered_added, room_alike}
 use Rattle.hp_schedules.proofs.Shares.{adds_told, at_ends_more, counts_in, counts_long, counts_tell}
 use Rattle.hp_states.proofs.Stood.{keep_none, keep_same_numbers}
-
--- ---- counts that were read
-
-abbrev counts_of : List Ending → List ℕ
-counts_of ends = map (λ (e : Ending). e.count) ends
-
-count_read : (ends : List Ending) (k : ℕ) (e : Ending) → slice_get ends k ≡ Some e
-    → get_or (counts_of ends) k 0 ≡ e.count
-count_read [] k e h = absurd cc
-count_read (f ∷ ends) zero e h = ap (λ (g : Ending). g.count) (same_Some f e h)
-count_read (f ∷ ends) (suc k) e h = count_read ends k e h
-
-count_past : (ends : List Ending) (k : ℕ) → length ends ≤ k → get_or (counts_of ends) k 0 ≡ 0
-count_past ends k past =
-    get_or_past (counts_of ends) k 0 (omega (arith, past, length-map ends (λ (e : Ending). e.count)))
-
--- ends that grew count no less
-pub grown_no_more : (old new : List Ending) (earlier : List ℕ) → earlier ≡ counts_of old → Grow old new
-    → AreNoMore earlier new
-grown_no_more old new earlier is grow = subst (λ (ks : List ℕ). AreNoMore ks new) (sym is) no_more
-  where
-    no_more : (k : ℕ) (f : Ending) → slice_get new k ≡ Some f → get_or (counts_of old) k 0 ≤ f.count
-    no_more k f h =
-        elim (cases_lt k (length old)) [
-          | inl less ↦
-              (let e = get_some old k less in
-              omega (arith, count_read old k e.0 e.1, (grow.kept k e.0 f e.1 h).1))
-          | inr past ↦ omega (arith, count_past old k past)
-        ]
 
 -- ---- a place that was walked
 

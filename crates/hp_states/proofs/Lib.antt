@@ -1,5 +1,6 @@
 pub mod Apart
 pub mod Coded
+pub mod Counts
 pub mod Ended
 pub mod Entered
 pub mod FreeLists
@@ -7,6 +8,7 @@ pub mod Grown
 pub mod Joined
 pub mod Keeping
 pub mod Keys
+pub mod Leaving
 pub mod Loops
 pub mod Merges
 pub mod Noting

@@ -10,7 +10,7 @@ use Rattle.hp_states.specs.Standing.{IsKey, IsStanding, StandingValue}
 use Rattle.hp_states.specs.Walks.{HasRoomFrom}
 use Rattle.hp_schedules.specs.declared.rows.Share.{Share}
 use Rattle.hp_schedules.specs.declared.tally.Ending.{Ending}
-use Rattle.hp_schedules.specs.Shares.{AreAtEnds, AreSince, amount_of}
+use Rattle.hp_schedules.specs.Shares.{AreAtEnds, amount_of}
 
 -- a place: the new records that lead there, and how many complete schedules continue from it to
 -- each end, by the end's index; an index past the list means 0
@@ -86,11 +86,10 @@ pub record IsMemo (g : Setting) (ends : List Ending) (memo : MemoValue) : Type 0
 abbrev pub AreSamePlaces : MemoValue → MemoValue → Type 0
 AreSamePlaces old new = (new.is_on ≡ old.is_on) × (new.keys ≡ old.keys) × (new.rows ≡ old.rows)
 
--- one more place is kept, under the key written last, with what each end counts more than before
-abbrev pub IsKeptMore : (earlier : List ℕ) → List Ending → (old new : MemoValue) → Type 0
-IsKeptMore earlier ends old new =
-    (shares : List Share) × AreSince earlier ends shares
-    × (new ≡ record old { keys = old.keys ++ old.key; rows = old.rows ++ shares ∷ [] })
+-- one more place is kept, under the key written last, with these shares
+abbrev pub IsKeptMore : List Share → (old new : MemoValue) → Type 0
+IsKeptMore shares old new =
+    new ≡ record old { keys = old.keys ++ old.key; rows = old.rows ++ shares ∷ [] }
 
 -- if places are kept, the numbers are those of the place after the new records
 abbrev pub IsOnWay : Setting → List Record → MemoValue → Type 0

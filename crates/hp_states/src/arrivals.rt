@@ -1,17 +1,18 @@
 //! What a walk does when it reaches a place and when it leaves it.
 ghost use Rattle.std.specs.Prelude.{◌≡◌, ◌<◌, IfOk, List, OnOk, length, true};
 ghost use Rattle.hp_units.specs.declared.replies.Record.{Record as NewRecord};
-ghost use Rattle.hp_states.specs.Frames.{IsAdded, IsArrival, IsEntered, IsEnteredWithin, IsKeeping, IsLeaving, IsStood};
+ghost use Rattle.hp_states.specs.Frames.{GoOn, IsAdded, IsArrival, IsEntered, IsEnteredWithin, IsKeeping, IsLeaving, IsStood};
 ghost use Rattle.hp_states.specs.Places.{memory_at, standing};
 ghost use Rattle.hp_states.specs.Seen.{IsMemo, IsOnWay};
 ghost use Rattle.hp_states.specs.Walks.{IsNotedAtEnd};
 ghost use Rattle.hp_schedules.specs.Notes.{HasRoom};
 ghost use Rattle.hp_schedules.specs.Schedules.{Setting};
 ghost use Rattle.hp_schedules.specs.Shares.{AreAtEnds};
+ghost use Rattle.hp_schedules.specs.Trails.{KeepsBefore};
 ghost use Rattle.hp_schedules.specs.declared.tally.Ending.{Ending};
 
 use crate::ends::ended_rows;
-use crate::frames::{Entry, Kept, Level};
+use crate::frames::{Entry, Level};
 use crate::memo::Memo;
 use crate::watch::Watch;
 use hp_memory::Memory;
@@ -41,7 +42,7 @@ pub fn arrive<W: Watch>(
         positions.now.cursors.items tally.old.ends memo.old }
     ensures ok { IfOk result (λ entry. (g : Setting) → IsArrival g part records.now memory.now
         positions.now.cursors.items tally.old.ends memo.old
-        → IsEntered g records.now part tally.old.ends tally.new.ends entry) }
+        → IsEntered g records.now part tally.old tally.new entry) }
     ensures memo { (g : Setting) (ends : List Ending) → IsMemo g ends memo.old → IsMemo g ends memo.new }
     ensures way { (g : Setting) → memory.now ≡ memory_at g records.now → IsOnWay g records.now memo.old
         → IsOnWay g records.now memo.new }
@@ -49,7 +50,7 @@ pub fn arrive<W: Watch>(
 {
     if records.len() < part.calls() as usize {
         let _has_key = memo.come_to(alloc, memory, positions, processors)?;
-        return Ok(Entry::Open(Level::new(None)));
+        return Ok(Entry::Open(Level::new(tally)));
     }
     if part.leaves_out(processors, records) {
         return Ok(Entry::Counted);
@@ -73,7 +74,7 @@ fn enter<W: Watch>(
         positions.now.cursors.items tally.old.ends memo.old }
     ensures ok { IfOk result (λ entry. (g : Setting) (news : List NewRecord)
         → IsStood g news memory.now positions.now.cursors.items tally.old.ends memo.old
-        → IsEnteredWithin g news tally.old.ends tally.new.ends entry) }
+        → IsEnteredWithin g news tally.old tally.new entry) }
     ensures memo { (g : Setting) (ends : List Ending) → IsMemo g ends memo.old → IsMemo g ends memo.new }
     ensures way { (g : Setting) (news : List NewRecord) → memory.now ≡ memory_at g news
         → IsOnWay g news memo.old → IsOnWay g news memo.new }
@@ -81,28 +82,31 @@ fn enter<W: Watch>(
 {
     let has_key = memo.come_to(alloc, memory, positions, processors)?;
     if !has_key {
-        return Ok(Entry::Open(Level::new(None)));
+        return Ok(Entry::Open(Level::new(tally)));
     }
     if let Some(shares) = memo.shares() {
-        return Ok(add_shares(tally, shares, watch));
+        return add_shares(tally, shares, watch);
     }
-    let frame = Level::keeping(alloc, tally)?;
-    Ok(Entry::Open(frame))
+    Ok(Entry::Open(Level::new(tally)))
 }
 
 /// Adds the shares to the tally. If the tally has no room for all of them, the
 /// place is to be walked.
-fn add_shares<W: Watch>(tally: &mut Tally, shares: &[Share], watch: &mut W) -> Entry
+fn add_shares<W: Watch>(
+    tally: &mut Tally,
+    shares: &[Share],
+    watch: &mut W,
+) -> Result<Entry, AllocError>
     requires { AreAtEnds (length tally.old.ends) shares.now }
-    ensures ok { IsAdded tally.old.ends shares.now tally.new.ends result }
+    ensures ok { IfOk result (IsAdded tally.old shares.now tally.new) }
     ensures limit { tally.new.limit ≡ tally.old.limit }
 {
     if !fit_in(shares, tally.room()) {
-        return Entry::Open(Level::new(None));
+        return Ok(Entry::Open(Level::new(tally)));
     }
-    tally.add(shares);
+    tally.add(shares)?;
     watch.counted(tally.total());
-    Entry::Counted
+    Ok(Entry::Counted)
 }
 
 /// Counts the schedule that led to this place if `is_end` is true: then it ends here and
@@ -119,6 +123,7 @@ pub fn note<W: Watch>(
     requires { is_end ≡ true → HasRoom tally.old }
     ensures ok { OnOk result ((g : Setting) → memory.now ≡ memory_at g records.now
         → IsNotedAtEnd is_end processors (standing g records.now) tally.old.ends tally.new.ends) }
+    ensures trail { OnOk result (KeepsBefore (length tally.old.trail) tally.old tally.new) }
     ensures limit { tally.new.limit ≡ tally.old.limit }
 {
     if !is_end {
@@ -130,53 +135,52 @@ pub fn note<W: Watch>(
     noted
 }
 
-/// Keeps the counts of a place that has been walked, if its frame asks for that and only schedules
-/// of the part continue from it.
+/// Adds up what was counted since the walk reached a place that has been walked, and keeps it if
+/// only schedules of the part continue from there.
 pub fn leave(
     records: &[Record],
     positions: &Positions,
     part: Shard,
     processors: u32,
     frame: Level,
-    tally: &Tally,
+    tally: &mut Tally,
     memo: &mut Memo,
 ) -> Result<(), AllocError>
     requires processors { processors ≡ length positions.now.cursors.items }
     requires leaving { (g : Setting) × IsLeaving g part records.now positions.now.cursors.items
-        tally.now.ends memo.old frame }
+        tally.old memo.old frame }
     ensures memo { OnOk result ((g : Setting) → IsLeaving g part records.now positions.now.cursors.items
-        tally.now.ends memo.old frame → IsMemo g tally.now.ends memo.new) }
+        tally.old memo.old frame → IsMemo g tally.new.ends memo.new) }
+    ensures tally { GoOn frame.start tally.old tally.new }
+    ensures ends { tally.new.ends ≡ tally.old.ends }
+    ensures limit { tally.new.limit ≡ tally.old.limit }
     ensures same { (memo.new.is_on ≡ memo.old.is_on) × (memo.new.standing ≡ memo.old.standing) }
 {
+    tally.gather(frame.start);
     if records.len() < part.calls() as usize {
         return Ok(());
     }
-    match frame.into_kept() {
-        Some(kept) => keep(positions, processors, Box::into_inner(kept), tally, memo),
-        None => Ok(()),
-    }
+    keep(positions, processors, tally.since(frame.start), memo)
 }
 
-/// Stores the place's key, with what each end counts more since the walk reached it.
+/// Stores the place's key, with these shares of what was counted since the walk reached it.
 fn keep(
     positions: &Positions,
     processors: u32,
-    kept: Kept,
-    tally: &Tally,
+    shares: &[Share],
     memo: &mut Memo,
 ) -> Result<(), AllocError>
     requires processors { processors ≡ length positions.now.cursors.items }
-    requires keeping { (g : Setting) × (news : List NewRecord) × IsKeeping g news
-        positions.now.cursors.items tally.now.ends memo.old kept }
-    ensures memo { OnOk result ((g : Setting) (news : List NewRecord)
-        → IsKeeping g news positions.now.cursors.items tally.now.ends memo.old kept
-        → IsMemo g tally.now.ends memo.new) }
+    requires keeping { (g : Setting) × (news : List NewRecord) × (ends : List Ending) × IsKeeping g news
+        positions.now.cursors.items ends shares.now memo.old }
+    ensures memo { OnOk result ((g : Setting) (news : List NewRecord) (ends : List Ending)
+        → IsKeeping g news positions.now.cursors.items ends shares.now memo.old
+        → IsMemo g ends memo.new) }
     ensures same { (memo.new.is_on ≡ memo.old.is_on) × (memo.new.standing ≡ memo.old.standing) }
 {
     let has_key = memo.write_key(positions, processors)?;
     if !has_key {
         return Ok(());
     }
-    let Kept { earlier } = kept;
-    memo.keep(earlier.as_slice(), tally)
+    memo.keep(shares)
 }

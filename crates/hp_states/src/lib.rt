@@ -28,7 +28,7 @@ mod watch;
 pub use arrivals::{arrive, leave, note};
 pub use codes::Codes;
 pub use ends::outcome_at;
-pub use frames::{Entry, Kept, Level};
+pub use frames::{Entry, Level};
 pub use kept_counts::kept_counts_are_added;
 pub use laws::codes_tell_states_apart;
 pub use memo::Memo;

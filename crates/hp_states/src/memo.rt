@@ -6,14 +6,13 @@ ghost use Rattle.hp_schedules.specs.Alike.{leaves_steps};
 ghost use Rattle.hp_schedules.specs.Cursors.{AreCursors};
 ghost use Rattle.hp_schedules.specs.Schedules.{Setting};
 ghost use Rattle.hp_states.specs.Seen.{AreSamePlaces, IsKeptMore, IsMemo, IsOnWay, IsRowAmong, key_in};
-ghost use Rattle.hp_schedules.specs.Shares.{AreNoMore};
 ghost use Rattle.hp_states.specs.Standing.{AreSameNumbers, IsKey, KeepMeanings};
 ghost use Rattle.hp_states.specs.Places.{IsPlace, memory_at};
 ghost use Rattle.hp_schedules.specs.declared.tally.Ending.{Ending};
 
 use crate::standing::Standing;
 use hp_memory::Memory;
-use hp_schedules::{Positions, Rows, Share, Tally, key_digest, learn};
+use hp_schedules::{Positions, Rows, Share, key_digest, learn};
 use hp_units::{Cpu, Record};
 use indexmap::IndexMap;
 use std::alloc::{AllocError, Global};
@@ -22,14 +21,13 @@ use std::marker::Model;
 /// The places walked so far: the key of each, and how many schedules continue from it to each end.
 ///
 /// All keys have the same width and are stored one after another. `latest` maps a hash to the
-/// newest place that has it. `key` is the key written last, and `shares` a buffer that is reused.
+/// newest place that has it. `key` is the key written last.
 pub struct Memo {
     is_on: bool,
     keys: Vec<u32>,
     rows: Rows,
     latest: IndexMap<u64, usize>,
     key: Vec<u32>,
-    shares: Vec<Share>,
     standing: Standing,
 }
 
@@ -56,7 +54,6 @@ impl Drop for Memo {
             rows: _rows,
             latest: _,
             key: _,
-            shares: _,
             standing: _standing,
         } = self;
     }
@@ -90,7 +87,6 @@ impl Memo {
             rows: Rows::new(alloc),
             latest: IndexMap::new(alloc),
             key: Vec::new(alloc),
-            shares: Vec::new(alloc),
             standing,
         })
     }
@@ -190,18 +186,15 @@ impl Memo {
         self.rows.row(*place)
     }
 
-    /// Stores a place under the key written last, with how much each end's count has grown since
-    /// `earlier`.
-    pub(crate) fn keep(&mut self, earlier: &[u64], tally: &Tally) -> Result<(), AllocError>
-        requires { AreNoMore earlier.now tally.now.ends }
+    /// Stores a place under the key written last, with these shares.
+    pub(crate) fn keep(&mut self, shares: &[Share]) -> Result<(), AllocError>
         ensures same { (self.new.is_on ≡ self.old.is_on) × (self.new.standing ≡ self.old.standing) }
-        ensures ok { OnOk result (IsKeptMore earlier.now tally.now.ends self.old self.new) }
+        ensures ok { OnOk result (IsKeptMore shares.now self.old self.new) }
     {
-        tally.since(earlier, &mut self.shares)?;
         let digest = key_digest(self.key.as_slice());
         let place = self.rows.len();
         self.keys.extend_from_slice(self.key.as_slice())?;
-        self.rows.push(self.shares.as_slice())?;
+        self.rows.push(shares)?;
         learn(&mut self.latest, digest, place)
     }
 }

@@ -64,25 +64,26 @@ fn a_position_goes_on_and_back(rt: HostRuntime) -> Result<(), Fail> {
     Ok(())
 }
 
-/// Whether a tally counts all that it has once more.
+/// Whether a tally counts all that it has once more, and adds up both.
 fn counts_again(alloc: Global, tally: &mut Tally) -> Result<bool, AllocError> {
-    let mut shares = Vec::new(alloc);
-    tally.since(&[], &mut shares)?;
+    let shares: Vec<Share> = tally.since(0).iter().copied().collect(alloc)?;
     if !fit_in(shares.as_slice(), tally.room()) {
         return Ok(false);
     }
-    tally.add(shares.as_slice());
-    Ok(tally.total() == 2 && tally.room() == 3 && !tally.has_many_ends())
+    tally.add(shares.as_slice())?;
+    let is_longer = tally.trail_len() == 2;
+    tally.gather(0);
+    Ok(is_longer && tally.trail_len() == 1 && tally.total() == 2 && tally.room() == 3)
 }
 
 /// Whether a tally of at most five schedules counts one, and once more.
 fn is_counted(alloc: Global) -> Result<bool, AllocError> {
     let mut tally = Tally::new(alloc, 5);
     tally.note(alloc, 1, &[taken()], Vec::new(alloc))?;
-    let counts = tally.counts(alloc)?;
+    let is_one = tally.total() == 1;
     let is_again = counts_again(alloc, &mut tally)?;
     let ends = tally.into_ends();
-    Ok(matches!(counts.as_slice(), [1]) && is_again && ends.len() == 1)
+    Ok(is_one && is_again && ends.len() == 1)
 }
 
 #[test]

@@ -10,4 +10,4 @@ pub add-requires-clause-ends : goal.add-requires-clause-ends
 add-requires-clause-ends o c = c.requires
 
 pub returns-clause-ok : goal.returns-clause-ok
-returns-clause-ok o c = c.add.ensures.added
+returns-clause-ok o c = (c.in_ok-add.ensures.added, c.in_ok-add.ensures.trail)

@@ -5,7 +5,7 @@ use Rattle.std.proofs.lemmas.Result.{IfOk-weaker}
 use Rattle.hp_units.specs.declared.replies.Record.{Record}
 use Rattle.hp_schedules.specs.Parts.{IsOn}
 use Rattle.hp_schedules.specs.Schedules.{schedule_of}
-use Rattle.hp_states.proofs.Entered.{bare_fresh, entered_fresh, left_out, let_in}
+use Rattle.hp_states.proofs.Entered.{entered_fresh, left_out, let_in}
 use Rattle.hp_states.proofs.arrivals.arrive.Goals as goal
 
 pub come_to-requires-clause-way : goal.come_to-requires-clause-way
@@ -21,7 +21,7 @@ enter-requires-clause-stood o c =
 pub returns-then-leaves_out-clause-ok : goal.returns-then-leaves_out-clause-ok
 returns-then-leaves_out-clause-ok o c =
     λ g at.
-    left_out g c.args.part c.args.records.now c.args.records.now c.args.processors c.args.tally.now.ends
+    left_out g c.args.part c.args.records.now c.args.records.now c.args.processors c.args.tally.now
     refl (c.requires.processors ∙ at.stood.place.cursors_are.many)
     (omega (arith, c.if-records-calls.false, c.calls.ensures))
     (c.leaves_out.ensures.out c.if-leaves_out.true) at.walked
@@ -29,13 +29,13 @@ returns-then-leaves_out-clause-ok o c =
 pub returns-then-records-calls-clause-ok : goal.returns-then-records-calls-clause-ok
 returns-then-records-calls-clause-ok o c =
     λ g at.
-    entered_fresh g c.args.records.now c.args.part c.args.tally.now.ends c.new.result
+    entered_fresh g c.args.records.now c.args.part c.args.tally.now c.new.result
     (inl (omega (
       arith,
       c.if-records-calls.true,
       c.calls.ensures,
       length-map c.args.records.now (λ (r : Record). r.cpu),
-    ))) at.walked (bare_fresh c.args.tally.now.ends c.new.result c.new.ensures)
+    ))) at.walked c.new.ensures
 
 pub leaves_out-requires-clause-long : goal.leaves_out-requires-clause-long
 leaves_out-requires-clause-long o c = omega (arith, c.if-records-calls.false, c.calls.ensures)
@@ -50,7 +50,7 @@ pub returns-clause-ok : goal.returns-clause-ok
 returns-clause-ok o c =
     IfOk-weaker c.enter.result _ _
     (λ entry entered g at. let_in g c.args.records.now c.args.part c.args.records.now c.args.processors
-    c.args.tally.now.ends c.enter.new.tally.ends entry
+    c.args.tally.now c.enter.new.tally entry
     refl (c.requires.processors ∙ at.stood.place.cursors_are.many)
     (omega (arith, c.if-records-calls.false, c.calls.ensures))
     (c.leaves_out.ensures.within c.if-leaves_out.false) at.walked

@@ -1,11 +1,12 @@
 -- What is found is like the place, so that its shares are those of what goes on from here; else the
 -- place gets a frame, with what is kept of it.
 use Rattle.std.proofs.Common.{List, refl, ◌∙◌}
+use Rattle.std.proofs.lemmas.Result.{IfOk-weaker}
 use Rattle.hp_units.specs.declared.replies.Record.{Record}
 use Rattle.hp_states.specs.Frames.{IsStood}
 use Rattle.hp_states.specs.Places.{standing}
 use Rattle.hp_schedules.specs.Schedules.{Setting}
-use Rattle.hp_states.proofs.Entered.{bare_fresh, entered_added, entered_within}
+use Rattle.hp_states.proofs.Entered.{entered_added, entered_within}
 use Rattle.hp_states.proofs.Keeping.{IsFound, found_at_ends, found_walked}
 use Rattle.hp_states.proofs.arrivals.enter.Given.{Over}
 use Rattle.hp_states.proofs.arrivals.enter.Goals as goal
@@ -37,19 +38,20 @@ add_shares-requires o c =
 
 pub returns-then-not-has_key-clause-ok : goal.returns-then-not-has_key-clause-ok
 returns-then-not-has_key-clause-ok o c =
-    λ g news stood. entered_within g news c.args.tally.now.ends c.new.result
-    (bare_fresh c.args.tally.now.ends c.new.result c.new.ensures)
+    λ g news stood. entered_within g news c.args.tally.now c.new.result c.new.ensures
 
 pub returns-in-Some-clause-ok : goal.returns-in-Some-clause-ok
 returns-in-Some-clause-ok o c =
-    λ g news stood. entered_added g news c.args.tally.now.ends c.add_shares.new.tally.ends
-    c.in-Some.shares.now c.add_shares.result
+    IfOk-weaker c.add_shares.result _ _
+    (λ entry added g news stood. entered_added g news c.args.tally.now c.add_shares.new.tally
+    c.in-Some.shares.now entry
     (λ adds part within walked.
     found_walked g part (standing g news) c.come_to.new.self c.args.tally.now.ends
     c.add_shares.new.tally.ends c.in-Some.shares.now within
     (found o (goal.at.returns-in-Some-clause-ok o c).In-Some g news stood) walked adds)
+    added)
     c.add_shares.ensures.ok
 
 pub returns-clause-ok : goal.returns-clause-ok
 returns-clause-ok o c =
-    λ g news stood. entered_within g news c.args.tally.now.ends c.in_ok-frame.frame c.in_ok-frame.ensures
+    λ g news stood. entered_within g news c.args.tally.now c.new-2.result c.new-2.ensures

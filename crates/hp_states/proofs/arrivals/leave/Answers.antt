@@ -1,58 +1,48 @@
--- All that go on from there belong to the part.
-use Rattle.std.proofs.Common.{◌≡◌, ◌∙◌, Box, ap, arith, length, sym, subst}
-use Rattle.std.proofs.lemmas.List.{length-map}
+-- What was counted since the walk reached the place is what goes on from there.
+use Rattle.std.proofs.Common.{List, arith, subst, sym}
 use Rattle.std.proofs.lemmas.Result.{on_ok_weaker}
-use Rattle.std.specs.Prelude.{option_map}
-use Rattle.std.specs.declared.alloc.Global.{Global}
-use Rattle.hp_units.specs.declared.replies.Record.{Record}
-use Rattle.hp_states.specs.Frames.{IsKeeping, IsLeaving, IsPlaceKept}
-use Rattle.hp_states.specs.declared.frames.Kept.{Kept}
-use Rattle.hp_schedules.specs.Schedules.{Setting, schedule_of}
-use Rattle.hp_states.proofs.OfPart.{comes_all}
+use Rattle.hp_schedules.specs.declared.tally.Ending.{Ending}
+use Rattle.hp_states.specs.Seen.{IsMemo}
+use Rattle.hp_states.proofs.Entered.{go_on_gathered}
+use Rattle.hp_states.proofs.Leaving.{left_kept}
 use Rattle.hp_states.proofs.arrivals.leave.Goals as goal
-use Rattle.hp_states.proofs.arrivals.leave.Goals.{In-Some}
 
-keeping : (c : In-Some) (kept : Kept) → kept ≡ c.in-Some.kept.value → (g : Setting)
-    → IsLeaving g c.args.part c.args.records.now c.args.positions.now.cursors.items c.args.tally.now.ends
-    c.args.memo.now c.args.frame
-    → IsKeeping g c.args.records.now c.args.positions.now.cursors.items c.args.tally.now.ends
-    c.args.memo.now kept
-keeping c kept is g leaving = record {
-  played = leaving.played;
-  cursors_are = leaving.cursors_are;
-  walked = record {
-    part = c.args.part;
-    all =
-        comes_all (length g.scripts) c.args.part (schedule_of c.args.records.now) leaving.frame_is.comes
-        (omega (
-          arith,
-          c.if-records-calls.false,
-          c.calls.ensures,
-          length-map c.args.records.now (λ (r : Record). r.cpu),
-        ));
-    place =
-        subst (IsPlaceKept g c.args.part c.args.records.now c.args.tally.now.ends) (sym is)
-        (leaving.frame_is.kept c.in-Some.kept.value
-        (ap (option_map (λ (boxed : Box Kept Global). boxed.value))
-        (sym c.into_kept.ensures ∙ c.in-Some.is)));
-    through = leaving.through;
-  };
-  memo_is = leaving.memo_is;
-  way = leaving.way;
-}
+pub gather-requires : goal.gather-requires
+gather-requires c = c.requires.leaving.1.frame_is.within
 
 pub keep-requires-clause-keeping : goal.keep-requires-clause-keeping
 keep-requires-clause-keeping c =
     let leaving = c.requires.leaving in (
       leaving.0,
       c.args.records.now,
-      keeping (goal.at.keep-requires-clause-keeping c).In-Some c.into_inner.result c.into_inner.ensures
-          leaving.0 leaving.1,
+      c.gather.new.self.ends,
+      left_kept leaving.0 c.args.part c.args.records.now c.args.positions.now.cursors.items c.args.tally.now
+          c.gather.new.self c.args.memo.now c.args.frame c.since.result.now
+          (omega (arith, c.if-records-calls.false, c.calls.ensures)) c.gather.ensures.trail
+          c.gather.ensures.ends c.since.ensures.shares leaving.1,
     )
 
-pub returns-in-Some-clause-memo : goal.returns-in-Some-clause-memo
-returns-in-Some-clause-memo c =
+pub returns-then-records-calls-clause-memo : goal.returns-then-records-calls-clause-memo
+returns-then-records-calls-clause-memo c =
+    λ g leaving. subst (λ (ends : List Ending). IsMemo g ends c.args.memo.now) (sym c.gather.ensures.ends)
+    leaving.memo_is
+
+pub returns-then-records-calls-clause-tally : goal.returns-then-records-calls-clause-tally
+returns-then-records-calls-clause-tally c =
+    go_on_gathered c.args.frame.start c.args.tally.now c.gather.new.self c.gather.ensures.ends
+    c.gather.ensures.trail
+
+pub returns-clause-memo : goal.returns-clause-memo
+returns-clause-memo c =
     on_ok_weaker c.keep.result
-    (λ more g at. more g c.args.records.now
-    (keeping (goal.at.returns-in-Some-clause-memo c).In-Some c.into_inner.result c.into_inner.ensures g at))
+    (λ more g leaving. more g c.args.records.now c.gather.new.self.ends
+    (left_kept g c.args.part c.args.records.now c.args.positions.now.cursors.items c.args.tally.now
+    c.gather.new.self c.args.memo.now c.args.frame c.since.result.now
+    (omega (arith, c.if-records-calls.false, c.calls.ensures)) c.gather.ensures.trail
+    c.gather.ensures.ends c.since.ensures.shares leaving))
     c.keep.ensures.memo
+
+pub returns-clause-tally : goal.returns-clause-tally
+returns-clause-tally c =
+    go_on_gathered c.args.frame.start c.args.tally.now c.gather.new.self c.gather.ensures.ends
+    c.gather.ensures.trail

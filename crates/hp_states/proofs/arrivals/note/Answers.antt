@@ -6,6 +6,7 @@ use Rattle.hp_memory.specs.Memory.{MemoryValue}
 use Rattle.hp_schedules.specs.Notes.{IsNoted}
 use Rattle.hp_schedules.specs.Outcomes.{ended_rows_below, outcome_with}
 use Rattle.hp_schedules.specs.Schedules.{schedule_of}
+use Rattle.hp_schedules.proofs.Trails.{keeps_none}
 use Rattle.hp_states.specs.Places.{standing}
 use Rattle.hp_states.specs.Walks.{IsNotedAtEnd}
 use Rattle.hp_states.proofs.arrivals.note.Goals as goal
@@ -21,3 +22,9 @@ returns-clause-ok o c =
     (subst (λ (rows : List Row). IsNoted was (outcome_with c.args.processors news rows) (schedule_of news) now)
     (c.in_ok-blocks.ensures ∙ ap (λ (m : MemoryValue). ended_rows_below m.layout.blocks m.state) is) noted))
     c.note-noted.ensures.ok
+
+pub returns-then-not-is_end-clause-trail : goal.returns-then-not-is_end-clause-trail
+returns-then-not-is_end-clause-trail o c = keeps_none c.args.tally.now
+
+pub returns-clause-trail : goal.returns-clause-trail
+returns-clause-trail o c = c.note-noted.ensures.trail

@@ -8,7 +8,7 @@ use Rattle.hp_states.specs.Seen.{IsMemo, IsOnWay}
 use Rattle.hp_units.specs.declared.replies.Record.{Record}
 use Rattle.hp_states.specs.Walks.{IsPartWalkedBefore}
 use Rattle.hp_states.specs.declared.frames.Level.{Level}
-use Rattle.hp_schedules.specs.declared.tally.Ending.{Ending}
+use Rattle.hp_schedules.specs.Notes.{TallyValue}
 use Rattle.hp_explore.proofs.Framing.{back_setting, below_many, frames_pushed, walk_opens}
 use Rattle.hp_states.proofs.Keeping.{memo_added, memo_same}
 use Rattle.hp_explore.proofs.Walked.{arrival, gone_back}
@@ -17,13 +17,17 @@ use Rattle.hp_explore.proofs.walk.Walk.come_to.Given.{Over}
 use Rattle.hp_explore.proofs.walk.Walk.come_to.Goals as goal
 use Rattle.hp_explore.proofs.walk.Walk.come_to.Goals.{In_ok-entry}
 
+-- the frame of a place just reached
+abbrev level_at : TallyValue → Level
+level_at t = record { next = 0; is_over = true; start = length t.trail }
+
 -- what the place is, by the path's records
 entered_here : (o : Over) (c : In_ok-entry o)
     → IsEntered c.args.self.now.path.setting c.args.self.now.path.news c.args.self.now.part
-    c.args.self.now.tally.ends c.arrive.new.tally.ends c.in_ok-entry.entry
+    c.args.self.now.tally c.arrive.new.tally c.in_ok-entry.entry
 entered_here o c =
     let w = c.args.self.now in
-    subst (λ (h : List Record). IsEntered w.path.setting h w.part w.tally.ends c.arrive.new.tally.ends
+    subst (λ (h : List Record). IsEntered w.path.setting h w.part w.tally c.arrive.new.tally
     c.in_ok-entry.entry) c.records.ensures
     (c.in_ok-entry.ensures.ok w.path.setting
     (arrival w.path w.part c.records.result.now c.memory.result.now c.positions.result.now.cursors.items
@@ -56,16 +60,16 @@ pub returns-in-Counted-clause-kept : goal.returns-in-Counted-clause-kept
 returns-in-Counted-clause-kept o c =
     let w = c.args.self.now in
     let entered =
-    subst (IsEntered w.path.setting w.path.news w.part w.tally.ends c.arrive.new.tally.ends) c.in-Counted.is
+    subst (IsEntered w.path.setting w.path.news w.part w.tally c.arrive.new.tally) c.in-Counted.is
     (entered_here o (goal.at.returns-in-Counted-clause-kept o c).In_ok-entry) in
     let all =
-    gone_back w.path.setting w.part w.tally.ends c.arrive.new.tally.ends w.path.news (frames_of w)
-    (reverse c.reserve.new.self.items) c.take_back.ensures.back.0 c.take_back.new.path c.take_back.new.memo
-    w.processors (ap reverse c.in_ok-reserve.ensures.items) entered.1 c.requires.below entered.0
+    gone_back w.path.setting w.part (length w.tally.trail) w.tally c.arrive.new.tally w.path.news
+    (frames_of w) (reverse c.reserve.new.self.items) c.take_back.ensures.back.0 c.take_back.new.path
+    c.take_back.new.memo w.processors (ap reverse c.in_ok-reserve.ensures.items) entered.1 c.requires.below entered.0
     c.take_back.ensures.back.1
     (memo_same w.path.setting c.arrive.new.tally.ends c.arrive.new.memo c.take_back.new.memo
     c.take_back.ensures.same
-    (memo_added w.path.setting w.tally.ends c.arrive.new.tally.ends c.arrive.new.memo entered.1
+    (memo_added w.path.setting w.tally.ends c.arrive.new.tally.ends c.arrive.new.memo entered.1.grown
     (c.arrive.ensures.memo w.path.setting w.tally.ends c.requires.memo)))
     c.requires.processors c.requires.short in
     record {
@@ -104,21 +108,23 @@ pub returns-in-Open-clause-kept : goal.returns-in-Open-clause-kept
 returns-in-Open-clause-kept o c =
     let w = c.args.self.now in
     let g = w.path.setting in
-    let ends = c.arrive.new.tally.ends in
+    let tally = c.arrive.new.tally in
     let entered =
-    subst (IsEntered g w.path.news w.part w.tally.ends ends) c.in-Open.is
+    subst (IsEntered g w.path.news w.part w.tally tally) c.in-Open.is
     (entered_here o (goal.at.returns-in-Open-clause-kept o c).In_ok-entry) in
     let pushed =
     frames_pushed w.frames.items c.reserve.new.self.items c.push_reserved.new.self.items c.in-Open.frame
     c.in_ok-reserve.ensures.items c.push_reserved.ensures.items in
     record {
       walked =
-          subst (AreWalked g w.part ends w.path.news) (sym pushed)
-          (walk_opens g w.part ends w.path.news c.in-Open.frame (frames_of w) entered.1 entered.2 entered.3
-          (subst (IsPartWalkedBefore g w.part (schedule_of w.path.news)) (sym entered.0) c.requires.walked)
-          (subst (λ (es : List Ending). AreBelow g w.part es w.path.news (frames_of w)) (sym entered.0)
-          c.requires.below));
-      memo = subst (λ (es : List Ending). IsMemo g es c.arrive.new.memo)
+          subst (AreWalked g w.part tally w.path.news) (sym pushed)
+          (walk_opens g w.part tally w.path.news c.in-Open.frame (frames_of w)
+          (entered.1 ∙ ap (λ (t : TallyValue). level_at t) (sym entered.0)) entered.2
+          (subst (λ (t : TallyValue). IsPartWalkedBefore g w.part (schedule_of w.path.news) t.ends)
+          (sym entered.0) c.requires.walked)
+          (subst (λ (t : TallyValue). AreBelow g w.part t (length t.trail) w.path.news (frames_of w))
+          (sym entered.0) c.requires.below));
+      memo = subst (λ (t : TallyValue). IsMemo g t.ends c.arrive.new.memo)
           (sym entered.0) (c.arrive.ensures.memo w.path.setting w.tally.ends c.requires.memo);
       way = (way_here o (goal.at.returns-in-Open-clause-kept o c).In_ok-entry);
       processors = c.requires.processors;
@@ -130,7 +136,7 @@ pub returns-in-Open-clause-less : goal.returns-in-Open-clause-less
 returns-in-Open-clause-less o c =
     let w = c.args.self.now in
     let entered =
-    subst (IsEntered w.path.setting w.path.news w.part w.tally.ends c.arrive.new.tally.ends) c.in-Open.is
+    subst (IsEntered w.path.setting w.path.news w.part w.tally c.arrive.new.tally) c.in-Open.is
     (entered_here o (goal.at.returns-in-Open-clause-less o c).In_ok-entry) in
     let pushed =
     frames_pushed w.frames.items c.reserve.new.self.items c.push_reserved.new.self.items c.in-Open.frame
@@ -139,9 +145,11 @@ returns-in-Open-clause-less o c =
     < (digits w.processors (frames_of w) + 1)
     * (w.processors + 2) ^ (w.path.setting.layout.history + 1 - length (frames_of w)))
     (sym pushed)
-    (left_opened w.processors w.path.setting.layout.history (frames_of w) c.in-Open.frame entered.1
+    (left_opened w.processors w.path.setting.layout.history (frames_of w) c.in-Open.frame
+    (ap (λ (f : Level). f.next) entered.1)
     (omega (
       arith,
-      below_many w.path.setting w.part w.tally.ends w.path.news (frames_of w) c.requires.below,
+      below_many w.path.setting w.part w.tally (length w.tally.trail) w.path.news (frames_of w)
+          c.requires.below,
       c.requires.short,
     )))

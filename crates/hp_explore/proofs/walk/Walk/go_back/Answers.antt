@@ -1,16 +1,16 @@
 -- The place is counted, and the walk stands at the one before it.
-use Rattle.std.proofs.Common.{◌≡◌, ◌<◌, ◌∷◌, ◌++◌, [], List, ℕ, ap, refl, sym, subst, ◌∙◌, arith}
+use Rattle.std.proofs.Common.{◌≡◌, ◌<◌, ◌∷◌, ◌++◌, [], List, length, ℕ, ap, refl, sym, subst, ◌∙◌, arith}
 use Rattle.hp_explore.specs.Frames.{frames_of, left_of}
 use Rattle.hp_schedules.specs.Schedules.{Setting, schedule_of}
 use Rattle.hp_units.specs.declared.replies.Record.{Record}
 use Rattle.hp_schedules.specs.Cursors.{AreCursors}
 use Rattle.hp_schedules.specs.declared.cursors.Cursor.{Cursor}
-use Rattle.hp_states.specs.Frames.{IsLeaving}
+use Rattle.hp_states.specs.Frames.{GoOn, IsLeaving}
 use Rattle.hp_states.specs.Places.{memory_at, standing}
 use Rattle.hp_states.specs.Seen.{Grow}
 use Rattle.hp_states.specs.Walks.{IsNotedAtEnd, IsPartWalkedBefore, IsPartWalkedThrough}
 use Rattle.hp_explore.proofs.Framing.{back_setting, below_many}
-use Rattle.hp_states.proofs.Entered.{frame_grows}
+use Rattle.hp_states.proofs.Entered.{frame_goes_on, go_on_twice}
 use Rattle.hp_states.proofs.Keeping.{memo_added, memo_same, way_same}
 use Rattle.hp_explore.proofs.Walked.{gone_back, leaving}
 use Rattle.hp_states.proofs.Noting.{noted_grows, walked_on}
@@ -52,17 +52,21 @@ grown o c =
     noted_grows w.processors w.path.news w.path.setting c.args.is_end w.tally.ends c.note.new.tally.ends
     (noted_here o c)
 
+noted_on : (o : Over) (c : In_ok-note o)
+    → GoOn (length c.args.self.now.tally.trail) c.args.self.now.tally c.note.new.tally
+noted_on o c = record { grown = grown o c; told = c.in_ok-note.ensures.trail }
+
 leaves : (o : Over) (c : In_ok-note o) (records : List Record) (cursors : List Cursor)
     → records ≡ c.args.self.now.path.news
     → AreCursors c.args.self.now.path.setting c.args.self.now.path.news cursors
-    → IsLeaving c.args.self.now.path.setting c.args.self.now.part records cursors c.note.new.tally.ends
+    → IsLeaving c.args.self.now.path.setting c.args.self.now.part records cursors c.note.new.tally
     c.args.self.now.memo c.args.frame
 leaves o c records cursors is at =
     let w = c.args.self.now in
-    leaving w.path w.part records cursors c.note.new.tally.ends w.memo c.args.frame is at
+    leaving w.path w.part records cursors c.note.new.tally w.memo c.args.frame is at
     c.is_played.ensures
-    (frame_grows w.path.setting w.part w.tally.ends c.note.new.tally.ends w.path.news c.args.frame
-    (grown o c) c.requires.kept.walked.1)
+    (frame_goes_on w.path.setting w.part (length w.tally.trail) w.tally c.note.new.tally w.path.news
+    c.args.frame c.requires.kept.walked.1.within (noted_on o c) c.requires.kept.walked.1)
     (through o c)
     (memo_added w.path.setting w.tally.ends c.note.new.tally.ends w.memo (grown o c) c.requires.kept.memo)
     c.requires.kept.way
@@ -82,10 +86,15 @@ returns-clause-kept o c =
     let w = c.args.self.now in
     let here = (goal.at.returns-clause-kept o c).In_ok-note in
     let all =
-    gone_back w.path.setting w.part w.tally.ends c.note.new.tally.ends w.path.news (frames_of w) (frames_of w)
-    c.take_back.ensures.back.0 c.take_back.new.path c.take_back.new.memo w.processors refl
-    (grown o here) c.requires.kept.walked.2 (through o here) c.take_back.ensures.back.1
-    (memo_same w.path.setting c.note.new.tally.ends c.leave.new.memo c.take_back.new.memo
+    gone_back w.path.setting w.part c.args.frame.start w.tally c.leave.new.tally w.path.news (frames_of w)
+    (frames_of w) c.take_back.ensures.back.0 c.take_back.new.path c.take_back.new.memo w.processors refl
+    (go_on_twice c.args.frame.start (length w.tally.trail) w.tally c.note.new.tally c.leave.new.tally
+    c.requires.kept.walked.1.within (noted_on o here) c.leave.ensures.tally)
+    c.requires.kept.walked.2
+    (subst (IsPartWalkedThrough w.path.setting w.part (schedule_of w.path.news)) (sym c.leave.ensures.ends)
+    (through o here))
+    c.take_back.ensures.back.1
+    (memo_same w.path.setting c.leave.new.tally.ends c.leave.new.memo c.take_back.new.memo
     c.take_back.ensures.same
     (c.in_ok-leave.ensures.memo w.path.setting
     (leaves o here c.records-2.result.now c.positions.result.now.cursors.items c.records-2.ensures
@@ -113,7 +122,8 @@ returns-clause-less o c =
     (omega (arith, c.requires.kept.walked.0.within, c.requires.kept.processors))
     (omega (
       arith,
-      below_many w.path.setting w.part w.tally.ends w.path.news (frames_of w) c.requires.kept.walked.2,
+      below_many w.path.setting w.part w.tally c.args.frame.start w.path.news (frames_of w)
+          c.requires.kept.walked.2,
       c.requires.kept.short,
     )))
 
@@ -122,6 +132,6 @@ returns-clause-same o c =
     let w = c.args.self.now in (
       back_setting w.path.setting w.path.news c.take_back.ensures.back.0 w.path c.take_back.new.path refl
           c.take_back.ensures.back.1,
-      c.note.ensures.limit,
+      c.leave.ensures.limit ∙ c.note.ensures.limit,
       refl,
     )

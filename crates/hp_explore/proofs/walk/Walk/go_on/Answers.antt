@@ -31,7 +31,7 @@ returns-then-not-branch-clause-kept o c =
     c.in_ok-reserve.ensures.items c.push_reserved.ensures.items in
     record {
       walked =
-          passed_on w.path c.forward.new.self w.part w.tally.ends c.args.frame c.passed.result (frames_of w)
+          passed_on w.path c.forward.new.self w.part w.tally c.args.frame c.passed.result (frames_of w)
           (reverse c.push_reserved.new.self.items) c.is_played.ensures forth
           (omega (arith, c.requires.some, c.requires.kept.processors)) c.passed.ensures pushed
           c.requires.kept.walked;
@@ -82,7 +82,7 @@ come_to-requires o c =
     frames_pushed w.frames.items c.reserve.new.self.items c.push_reserved-2.new.self.items c.led_on.result
     c.in_ok-reserve.ensures.items c.push_reserved-2.ensures.items in
     let led =
-    led_on w.path c.forward.new.self w.part w.tally.ends c.args.frame c.led_on.result (frames_of w)
+    led_on w.path c.forward.new.self w.part w.tally c.args.frame c.led_on.result (frames_of w)
     (reverse c.push_reserved-2.new.self.items) c.is_played.ensures forth
     (omega (arith, c.requires.some, c.requires.kept.processors)) c.led_on.ensures pushed
     c.requires.kept.walked in

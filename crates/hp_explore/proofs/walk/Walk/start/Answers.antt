@@ -11,14 +11,15 @@ use Rattle.hp_explore.proofs.walk.Walk.start.Goals as goal
 pub returns-clause-coming : goal.returns-clause-coming
 returns-clause-coming c =
     let p = c.in_ok-path.path in
-    let ends = c.new-tally.result.ends in
+    let tally = c.new-tally.result in
+    let ends = tally.ends in
     let none = ap (λ (t : TallyValue). t.ends) c.new-tally.ensures in
     let begun = ap (λ (q : PathValue). q.news) c.in_ok-path.ensures in
     record {
       walked = walk_begun p c.args.part ends begun none;
       on = on_begun p c.args.part begun;
       below =
-          subst (AreBelow p.setting c.args.part ends p.news)
+          subst (AreBelow p.setting c.args.part tally (length tally.trail) p.news)
           (sym (ap (λ (fs : List Level). reverse fs) c.new.ensures.items)) begun;
       memo =
           subst (λ (q : PathValue). IsMemo q.setting ends c.in_ok-memo.memo) (sym c.in_ok-path.ensures)

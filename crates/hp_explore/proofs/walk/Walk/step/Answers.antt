@@ -14,7 +14,7 @@ off_stack : (w : Walk) (rest : Vec Level Global) (popped : Option Level) (frame 
     → IsWalking (record w { frames = rest }) (frame ∷ reverse rest.items)
 off_stack w rest popped frame is some walking = record {
   walked =
-      subst (AreWalked w.path.setting w.part w.tally.ends w.path.news)
+      subst (AreWalked w.path.setting w.part w.tally w.path.news)
       (frames_popped w.frames.items rest.items popped frame is some) walking.walked;
   memo = walking.memo;
   way = walking.way;
@@ -42,7 +42,7 @@ pub is_full-requires-clause-walked : goal.is_full-requires-clause-walked
 is_full-requires-clause-walked o c =
     let w = c.args.self.now in
     let all =
-    subst (AreWalked w.path.setting w.part w.tally.ends w.path.news)
+    subst (AreWalked w.path.setting w.part w.tally w.path.news)
     (frames_popped w.frames.items c.pop.new.self.items c.pop.result c.in-Some.frame c.pop.ensures.items
     c.in-Some.is) c.requires.walked in
     let same : c.in-Some.frame.next ≡ w.processors =
@@ -56,7 +56,7 @@ returns-in_default-clause-ok o c =
     let none =
     subst (λ (p : Option Level). MatchOption p ((vec_len w.frames ≡ 0) × (vec_len c.pop.new.self ≡ 0))
     (λ _. vec_len c.pop.new.self + 1 ≡ vec_len w.frames)) c.in_default.is c.pop.ensures.cases in
-    subst (AreWalked w.path.setting w.part w.tally.ends w.path.news)
+    subst (AreWalked w.path.setting w.part w.tally w.path.news)
     (no_frames w.frames.items c.pop.new.self.items c.pop.result c.pop.ensures.items c.in_default.is
     ∙ none_left c.pop.new.self.items (sym c.pop.new.self.ok.0 ∙ none.1)) c.requires.walked
 

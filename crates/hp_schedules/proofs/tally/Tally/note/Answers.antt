@@ -26,10 +26,12 @@ add_at-requires-clause-room c = omega (arith, c.requires)
 pub returns-in-Some-clause-ok : goal.returns-in-Some-clause-ok
 returns-in-Some-clause-ok c =
     let told = outcome_with c.args.processors c.args.records.now in
-    inl (adds_one c.args.self.now.ends c.add_at.new.self.ends (told c.args.blocks.items) c.in-Some.place
+    on_ok_weaker c.add_at.result
+    (λ added. inl (adds_one c.args.self.now.ends c.add_at.new.self.ends (told c.args.blocks.items)
+    c.in-Some.place
     (subst (λ (rows : List Row). HasEndAt c.args.self.now.ends (told rows) c.in-Some.place)
-    c.as_slice-2.ensures.value c.in-Some.ensures.some)
-    c.add_at.ensures.added)
+    c.as_slice-2.ensures.value c.in-Some.ensures.some) added))
+    c.add_at.ensures.added
 
 pub add_end-requires-clause-room : goal.add_end-requires-clause-room
 add_end-requires-clause-room c = c.requires

@@ -1,0 +1,376 @@
+-- The trail: sums in place of shares, and the counts that it tells.
+use Rattle.std.proofs.Common.{◌≡◌, ℕ, ◌+◌, ◌<◌, ◌≤◌, Bool, true, false, List, [], ◌∷◌, ◌++◌, length, take, drop, get_or, set, cond, Some, nat_eq, slice_get, refl, ap, sym, subst, ◌∙◌, arith, inl, inr, length-append, length-drop}
+use Rattle.std.specs.Prelude.{sum_by}
+use Rattle.std.proofs.lemmas.List.{drop-append-le, drop-set-lt, get_or-drop, get_or-take, get_or_past, length_push, length-set, length-take-le, take_all, take-take, take_more_set, take-set-le}
+use Rattle.std.proofs.lemmas.List.Sums.{get_or-le-sum_by, sum_by-drop_more, sum_by_push, sum_by-set, sum_by-take-drop}
+use Rattle.std.proofs.lemmas.Option.{get_or_from_slice_get, slice_get_read, slice_get_within}
+use Rattle.hp_laws.proofs.Lists.{get_push_cases}
+use Rattle.hp_schedules.specs.Notes.{AddsEnd, TallyValue}
+use Rattle.hp_schedules.specs.Outcomes.{OutcomeValue}
+use Rattle.hp_schedules.specs.Shares.{AddsAt, AreAtEnds, AreSince, amount_of, count_for}
+use Rattle.hp_schedules.specs.Trails.{AddsUp, IsGathered, IsSummedUp, KeepsBefore, left_over}
+use Rattle.hp_schedules.specs.declared.rows.Share.{Share}
+use Rattle.hp_schedules.specs.declared.tally.Ending.{Ending}
+use Rattle.hp_schedules.proofs.Counts.{get_set_cases}
+use Rattle.hp_schedules.proofs.Shares.{amount_past, amount_push, at_ends_more, at_ends_push, other_share, own_share, shared}
+
+-- ---- what adds up
+
+abbrev count_of : Share → ℕ
+count_of s = s.count
+
+pub counts_add_up : AddsUp (λ s. s.count)
+counts_add_up end a b = refl
+
+cond_adds : (c : Bool) (a b : ℕ) → cond c (a + b) 0 ≡ cond c a 0 + cond c b 0
+cond_adds true a b = refl
+cond_adds false a b = refl
+
+amounts_add_up : (k : ℕ) → AddsUp (count_for k)
+amounts_add_up k end a b = cond_adds (nat_eq end k) a b
+
+-- ---- one share is added to the sums
+
+-- its end has a sum
+pub summed_with : (old new : List Share) (start end at place : ℕ) (s t : Share)
+    → slice_get old at ≡ Some s → slice_get old place ≡ Some t → t.end ≡ s.end
+    → start ≤ place → place < end → end ≤ at
+    → new ≡ set old place (record { end = t.end; count = t.count + s.count })
+    → IsSummedUp start end at old end new
+summed_with old new start end at place s t here there own from below to is =
+    subst (IsSummedUp start end at old end) (sym is) (record {
+      long = length-set old place more;
+      before = take-set-le start old place more from;
+      not_less = omega arith;
+      within = omega arith;
+      same = same;
+      at_ends = at_ends;
+    })
+  where
+    more : Share
+    more = record { end = t.end; count = t.count + s.count }
+
+    gives : (f : Share → ℕ) → AddsUp f → f more ≡ f t + f s
+    gives f adds =
+        adds t.end t.count s.count
+        ∙ ap (λ (e : ℕ). f t + f (record { end = e; count = s.count })) own
+
+    same : (f : Share → ℕ) → AddsUp f
+        → left_over f end (at + 1) (set old place more) ≡ left_over f end at old
+    same f adds =
+        omega (
+          arith,
+          sum_by-take-drop f (set old place more) end,
+          ap (sum_by f) (drop-set-lt end old place more below),
+          sum_by-set f old place more t (slice_get_within old place t there),
+          ap f (get_or_from_slice_get old place t t there),
+          sum_by-take-drop f old end,
+          sum_by-drop_more f old at s (slice_get_within old at s here),
+          ap f (get_or_from_slice_get old at s s here),
+          ap (sum_by f) (drop-set-lt (at + 1) old place more (omega arith)),
+          gives f adds,
+        )
+
+    at_ends : (many : ℕ) → AreAtEnds many old → AreAtEnds many (set old place more)
+    at_ends many at i u h =
+        elim (get_set_cases old place more i u h) [
+          | inl x ↦ subst (λ (v : Share). v.end < many) x.1 (at place t there)
+          | inr x ↦ at i u x.1
+        ]
+
+-- or it has none
+pub summed_first : (old new : List Share) (start end at : ℕ) (s : Share)
+    → slice_get old at ≡ Some s → start ≤ end → end ≤ at → new ≡ set old end s
+    → IsSummedUp start end at old (end + 1) new
+summed_first old new start end at s here from to is =
+    subst (IsSummedUp start end at old (end + 1)) (sym is) (record {
+      long = length-set old end s;
+      before = take-set-le start old end s from;
+      not_less = omega arith;
+      within = omega arith;
+      same = same;
+      at_ends = at_ends;
+    })
+  where
+    within : at < length old
+    within = slice_get_within old at s here
+
+    same : (f : Share → ℕ) → AddsUp f
+        → left_over f (end + 1) (at + 1) (set old end s) ≡ left_over f end at old
+    same f adds =
+        omega (
+          arith,
+          ap (sum_by f) (take_more_set old end s (omega (arith, within, to))),
+          sum_by_push f (take end old) s,
+          sum_by-drop_more f old at s within,
+          ap f (get_or_from_slice_get old at s s here),
+          ap (sum_by f) (drop-set-lt (at + 1) old end s (omega arith)),
+        )
+
+    at_ends : (many : ℕ) → AreAtEnds many old → AreAtEnds many (set old end s)
+    at_ends many ends i u h =
+        elim (get_set_cases old end s i u h) [
+          | inl x ↦ subst (λ (v : Share). v.end < many) x.1 (ends at s here)
+          | inr x ↦ ends i u x.1
+        ]
+
+-- the sum fits
+pub sum_fits : (old : List Share) (end at place most : ℕ) (s t : Share)
+    → slice_get old at ≡ Some s → slice_get old place ≡ Some t → place < end → end ≤ at
+    → left_over (λ u. u.count) end at old < most → t.count + s.count < most
+sum_fits old end at place most s t here there below to fits =
+    omega (
+      arith,
+      fits,
+      get_or-le-sum_by count_of (take end old) place t
+          (omega (arith, length-take-le end old (omega (arith, within, to)))),
+      ap count_of (get_or-take end old place t below),
+      ap count_of (get_or_from_slice_get old place t t there),
+      sum_by-drop_more count_of old at s within,
+      ap count_of (get_or_from_slice_get old at s s here),
+    )
+  where
+    within : at < length old
+    within = slice_get_within old at s here
+
+-- ---- all of them are
+
+-- up to an index
+pub record IsGatheredTo (start at end : ℕ) (old now : List Share) : Type 0 where
+  pub long : length now ≡ length old
+  pub before : take start now ≡ take start old
+  pub from : start ≤ end
+  pub to : end ≤ at
+  pub same : (f : Share → ℕ) → AddsUp f → left_over f end at now ≡ sum_by f old
+  pub at_ends : (many : ℕ) → AreAtEnds many old → AreAtEnds many now
+
+pub gathered_none : (start : ℕ) (shares : List Share) → IsGatheredTo start start start shares shares
+gathered_none start shares = record {
+  long = refl;
+  before = refl;
+  from = omega arith;
+  to = omega arith;
+  same = λ f adds. sum_by-take-drop f shares start;
+  at_ends = λ many at. at;
+}
+
+pub gathered_more : (start at end later : ℕ) (old now new : List Share)
+    → IsGatheredTo start at end old now → IsSummedUp start end at now later new
+    → IsGatheredTo start (at + 1) later old new
+gathered_more start at end later old now new so_far more = record {
+  long = more.long ∙ so_far.long;
+  before = more.before ∙ so_far.before;
+  from = omega (arith, so_far.from, more.not_less);
+  to = more.within;
+  same = λ f adds. more.same f adds ∙ so_far.same f adds;
+  at_ends = λ many ends. more.at_ends many (so_far.at_ends many ends);
+}
+
+pub gathered_all : (start at end : ℕ) (old now new : List Share) → length old ≤ at → end ≤ length old
+    → new ≡ take end now
+    → IsGatheredTo start at end old now → IsGathered start old new
+gathered_all start at end old now new past short is all = subst (IsGathered start old) (sym is) (record {
+  before = before;
+  longer = omega (arith, all.from, long);
+  same =
+      λ f adds. omega (
+        arith,
+        sum_by-take-drop f (take end now) start,
+        ap (sum_by f) before,
+        sum_by-take-drop f old start,
+        sum_by-take-drop f now at,
+        ap (sum_by f) (take_all at now (omega (arith, past, all.long))),
+        all.same f adds,
+      );
+  at_ends = λ many ends i s h. all.at_ends many ends i s (taken i s h);
+})
+  where
+    before : take start (take end now) ≡ take start old
+    before = take-take start end now all.from ∙ all.before
+
+    long : length (take end now) ≡ end
+    long = length-take-le end now (omega (arith, short, all.long))
+
+    taken : (i : ℕ) (s : Share) → slice_get (take end now) i ≡ Some s → slice_get now i ≡ Some s
+    taken i s h =
+        let less = slice_get_within (take end now) i s h in
+        slice_get_read now (length now) i s refl (omega (arith, less, long, short, all.long))
+        (sym (sym (get_or-take end now i s (omega (arith, less, long)))
+        ∙ get_or_from_slice_get (take end now) i s s h))
+
+-- they give as much as before, with those that stay
+pub gathered_gives : (start : ℕ) (old new : List Share) (f : Share → ℕ) → AddsUp f
+    → IsGathered start old new → sum_by f new ≡ sum_by f old
+gathered_gives start old new f adds all =
+    omega (
+      arith,
+      sum_by-take-drop f new start,
+      ap (sum_by f) all.before,
+      sum_by-take-drop f old start,
+      all.same f adds,
+    )
+
+-- the later ones are of the same ends
+pub at_ends_drop : (many start : ℕ) (shares : List Share) → AreAtEnds many shares
+    → AreAtEnds many (drop start shares)
+at_ends_drop many start shares at_ends i u h =
+    let less = slice_get_within (drop start shares) i u h in
+    at_ends (start + i) u
+    (slice_get_read shares (length shares) (start + i) u refl
+    (omega (arith, less, length-drop start shares))
+    (sym (sym (get_or-drop start shares i u) ∙ get_or_from_slice_get (drop start shares) i u u h)))
+
+-- one share more is of an end that there is, and what they give is counted
+pub trail_pushed : (trail new : List Share) (one : Share) (many more total later : ℕ)
+    → new ≡ trail ++ one ∷ [] → AreAtEnds many trail → one.end < more → many ≤ more
+    → shared trail ≤ total → later ≡ total + one.count
+    → AreAtEnds more new × (shared new ≤ later)
+trail_pushed trail new one many more total later is at_ends own le counted later_is = (
+  subst (AreAtEnds more) (sym is) (at_ends_push trail one more own (at_ends_more trail many more le at_ends)),
+  omega (arith, ap shared is, sum_by_push count_of trail one, counted, later_is),
+)
+
+-- ---- the counts that the trail tells
+
+pub keeps_none : (t : TallyValue) → KeepsBefore (length t.trail) t t
+keeps_none t = record { longer = omega arith; told = λ s earlier le short was. was }
+
+pub keeps_twice : (old mid new : TallyValue) (start later : ℕ) → length old.ends ≤ length mid.ends
+    → start ≤ later → KeepsBefore start old mid → KeepsBefore later mid new → KeepsBefore start old new
+keeps_twice old mid new start later longer le a b = record {
+  longer = omega (arith, le, b.longer);
+  told =
+      λ s earlier within short was.
+      b.told s earlier (omega (arith, within, le)) (omega (arith, short, longer))
+      (a.told s earlier within short was);
+}
+
+-- an end that counts more
+pub keeps_at : (old new : TallyValue) (at count : ℕ) → AddsAt old.ends at count new.ends
+    → new.trail ≡ old.trail ++ record { end = at; count = count } ∷ []
+    → KeepsBefore (length old.trail) old new
+keeps_at old new at count adds is = record {
+  longer = omega (arith, ap (λ (xs : List Share). length xs) is, length_push old.trail one);
+  told = told;
+}
+  where
+    one : Share
+    one = record { end = at; count = count }
+
+    within : at < length old.ends
+    within = slice_get_within old.ends at adds.entry adds.here
+
+    told : (s : ℕ) (earlier : List ℕ) → s ≤ length old.trail → length earlier ≤ length old.ends
+        → AreSince earlier old.ends (drop s old.trail) → AreSince earlier new.ends (drop s new.trail)
+    told s earlier le short was =
+        subst (λ (ends : List Ending). AreSince earlier ends (drop s new.trail)) (sym adds.new_is)
+        (subst (AreSince earlier (set old.ends at adds.more))
+        (sym (ap (drop s) is ∙ drop-append-le s old.trail (one ∷ []) le)) (record {
+          at_ends =
+              subst (λ (n : ℕ). AreAtEnds n (drop s old.trail ++ one ∷ []))
+              (sym (length-set old.ends at adds.more))
+              (at_ends_push (drop s old.trail) one (length old.ends) within was.at_ends);
+          each = each;
+        }))
+      where
+        each : (k : ℕ) (f : Ending) → slice_get (set old.ends at adds.more) k ≡ Some f
+            → get_or earlier k 0 + amount_of (drop s old.trail ++ one ∷ []) k ≡ f.count
+        each k f h =
+            elim (get_set_cases old.ends at adds.more k f h) [
+              | inl x ↦
+                  omega (
+                    arith,
+                    was.each k adds.entry (ap (slice_get old.ends) x.0 ∙ adds.here),
+                    amount_push (drop s old.trail) one k,
+                    own_share one k (sym x.0),
+                    adds.count_is,
+                    ap (λ (y : Ending). y.count) x.1,
+                  )
+              | inr x ↦
+                  omega (
+                    arith,
+                    was.each k f x.1,
+                    amount_push (drop s old.trail) one k,
+                    other_share one k (λ same. x.0 (sym same)),
+                  )
+            ]
+
+-- an end that is new
+pub keeps_end : (old new : TallyValue) (x : OutcomeValue) (schedule : List ℕ)
+    → AddsEnd old.ends x schedule new.ends
+    → new.trail ≡ old.trail ++ record { end = length old.ends; count = 1 } ∷ []
+    → KeepsBefore (length old.trail) old new
+keeps_end old new x schedule adds is = record {
+  longer = omega (arith, ap (λ (xs : List Share). length xs) is, length_push old.trail one);
+  told = told;
+}
+  where
+    one : Share
+    one = record { end = length old.ends; count = 1 }
+
+    told : (s : ℕ) (earlier : List ℕ) → s ≤ length old.trail → length earlier ≤ length old.ends
+        → AreSince earlier old.ends (drop s old.trail) → AreSince earlier new.ends (drop s new.trail)
+    told s earlier le short was =
+        subst (λ (ends : List Ending). AreSince earlier ends (drop s new.trail)) (sym adds.new_is)
+        (subst (AreSince earlier (old.ends ++ adds.entry ∷ []))
+        (sym (ap (drop s) is ∙ drop-append-le s old.trail (one ∷ []) le)) (record {
+          at_ends =
+              subst (λ (n : ℕ). AreAtEnds n (drop s old.trail ++ one ∷ []))
+              (sym (length_push old.ends adds.entry))
+              (at_ends_push (drop s old.trail) one (length old.ends + 1) (omega arith)
+              (at_ends_more (drop s old.trail) (length old.ends) (length old.ends + 1) (omega arith)
+              was.at_ends));
+          each = each;
+        }))
+      where
+        each : (k : ℕ) (f : Ending) → slice_get (old.ends ++ adds.entry ∷ []) k ≡ Some f
+            → get_or earlier k 0 + amount_of (drop s old.trail ++ one ∷ []) k ≡ f.count
+        each k f h =
+            elim (get_push_cases old.ends adds.entry f k h) [
+              | inl there ↦ (let less = slice_get_within old.ends k f there in
+                  omega (
+                    arith,
+                    was.each k f there,
+                    amount_push (drop s old.trail) one k,
+                    other_share one k (λ same. omega (arith, same, less)),
+                  ))
+              | inr here ↦
+                  omega (
+                    arith,
+                    get_or_past earlier k 0 (omega (arith, short, here.0)),
+                    amount_past (drop s old.trail) (length old.ends) k was.at_ends (omega (arith, here.0)),
+                    amount_push (drop s old.trail) one k,
+                    own_share one k (sym here.0),
+                    adds.count,
+                    ap (λ (y : Ending). y.count) here.1,
+                  )
+            ]
+
+-- sums in place of shares
+pub keeps_gathered : (old new : TallyValue) (start : ℕ) → new.ends ≡ old.ends
+    → IsGathered start old.trail new.trail → AreAtEnds (length old.ends) old.trail
+    → KeepsBefore start old new
+keeps_gathered old new start same all at_ends = record { longer = all.longer; told = told }
+  where
+    shorter : (s : ℕ) → s ≤ start → take s new.trail ≡ take s old.trail
+    shorter s le =
+        sym (take-take s start new.trail le) ∙ (ap (take s) all.before ∙ take-take s start old.trail le)
+
+    amounts : (s k : ℕ) → s ≤ start → amount_of (drop s new.trail) k ≡ amount_of (drop s old.trail) k
+    amounts s k le =
+        omega (
+          arith,
+          sum_by-take-drop (count_for k) new.trail s,
+          sum_by-take-drop (count_for k) old.trail s,
+          ap (sum_by (count_for k)) (shorter s le),
+          gathered_gives start old.trail new.trail (count_for k) (amounts_add_up k) all,
+        )
+
+    told : (s : ℕ) (earlier : List ℕ) → s ≤ start → length earlier ≤ length old.ends
+        → AreSince earlier old.ends (drop s old.trail) → AreSince earlier new.ends (drop s new.trail)
+    told s earlier le short was =
+        subst (λ (ends : List Ending). AreSince earlier ends (drop s new.trail)) (sym same) (record {
+          at_ends = at_ends_drop (length old.ends) s new.trail (all.at_ends (length old.ends) at_ends);
+          each =
+              λ k e h. omega (arith, was.each k e h, amounts s k le);
+        })

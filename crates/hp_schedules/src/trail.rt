@@ -1,0 +1,120 @@
+//! The trail of what was added to the ends.
+ghost use Rattle.std.specs.Prelude.{◌≡◌, ◌+◌, ◌++◌, ◌∷◌, [], ◌<◌, ◌≤◌, ◌^◌, IfSome, OnErr, OnOk, drop, length, sum_by};
+ghost use Rattle.hp_schedules.specs.Trails.{IsGathered, IsShareOf, IsSummedUp, left_over};
+
+use crate::rows::Share;
+use std::alloc::{AllocError, Global};
+
+/// The shares that were added to the ends, oldest first.
+///
+/// `places` has for each end the index of its latest sum. It is only a hint: an index may be out of
+/// date, so the share there is looked at before it is used.
+#[derive(Drop)]
+pub(crate) struct Trail {
+    shares: Vec<Share>,
+    places: Vec<usize>,
+}
+
+impl Trail {
+    /// Creates an empty trail. Allocates nothing.
+    pub(crate) fn new(alloc: Global) -> Trail
+        ensures { result.shares.items ≡ [] }
+    {
+        Trail {
+            shares: Vec::new(alloc),
+            places: Vec::new(alloc),
+        }
+    }
+
+    /// Returns the number of shares.
+    pub(crate) fn len(&self) -> usize
+        ensures { result ≡ length self.now.shares.items }
+    {
+        self.shares.len()
+    }
+
+    /// Returns the shares from index `start` on.
+    pub(crate) fn since(&self, start: usize) -> &[Share]
+        requires { start ≤ length self.now.shares.items }
+        ensures { result.now ≡ drop start self.now.shares.items }
+    {
+        &self.shares[start..]
+    }
+
+    /// Makes room for the hint of one more end.
+    pub(crate) fn add_end(&mut self) -> Result<(), AllocError>
+        ensures { self.new.shares.items ≡ self.old.shares.items }
+    {
+        self.places.push(0)?;
+        Ok(())
+    }
+
+    /// Appends a share.
+    pub(crate) fn push(&mut self, share: Share) -> Result<(), AllocError>
+        ensures ok { OnOk result (self.new.shares.items ≡ self.old.shares.items ++ share ∷ []) }
+        ensures err { OnErr result (self.new.shares.items ≡ self.old.shares.items) }
+    {
+        self.shares.push(share)?;
+        Ok(())
+    }
+
+    /// Replaces the shares from index `start` on by their sums, one for each end.
+    pub(crate) fn gather(&mut self, start: usize)
+        requires within { start ≤ length self.old.shares.items }
+        requires fits { sum_by (λ s. s.count) self.old.shares.items < 2 ^ 64 }
+        ensures { IsGathered start self.old.shares.items self.new.shares.items }
+    {
+        let mut end = start;
+        for at in start..self.shares.len() {
+            end = self.sum_up(start, end, at);
+        }
+        self.shares.truncate(end);
+    }
+
+    /// Adds the share at index `at` to the sums, which are at the indexes from `start` to before
+    /// `end`, and returns the new `end`.
+    fn sum_up(&mut self, start: usize, end: usize, at: usize) -> usize
+        requires start { start ≤ end }
+        requires end { end ≤ at }
+        requires at { at < length self.old.shares.items }
+        requires fits { left_over (λ s. s.count) end at self.old.shares.items < 2 ^ 64 }
+        ensures { IsSummedUp start end at self.old.shares.items result self.new.shares.items }
+    {
+        let share = self.shares[at];
+        if let Some(place) = self.place_of(share.end, start, end) {
+            self.shares[place].count += share.count;
+            return end;
+        }
+        self.shares[end] = share;
+        self.learn(share.end, end);
+        end + 1
+    }
+
+    /// Returns the index of the sum of the end at index `end`, if the hint is one of the sums.
+    fn place_of(&self, end: usize, start: usize, many: usize) -> Option<usize>
+        requires { many ≤ length self.now.shares.items }
+        ensures from { IfSome result (λ place. start ≤ place) }
+        ensures below { IfSome result (λ place. place < many) }
+        ensures of { IfSome result (IsShareOf self.now.shares.items end) }
+    {
+        let Some(place) = self.places.get(end).copied() else {
+            return None;
+        };
+        if place < start || place >= many {
+            return None;
+        }
+        if self.shares[place].end != end {
+            return None;
+        }
+        Some(place)
+    }
+
+    /// Sets the hint for the end at index `end`.
+    fn learn(&mut self, end: usize, place: usize)
+        ensures { self.new.shares.items ≡ self.old.shares.items }
+    {
+        if let Some(hint) = self.places.get_mut(end) {
+            *hint = place;
+        }
+    }
+}
