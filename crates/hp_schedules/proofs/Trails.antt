@@ -1,5 +1,5 @@
 -- The trail: sums in place of shares, and the counts that it tells.
-use Rattle.std.proofs.Common.{◌≡◌, ℕ, ◌+◌, ◌<◌, ◌≤◌, Bool, true, false, List, [], ◌∷◌, ◌++◌, length, take, drop, get_or, set, cond, Some, nat_eq, slice_get, refl, ap, sym, subst, ◌∙◌, arith, inl, inr, length-append, length-drop}
+use Rattle.std.proofs.Common.{◌≡◌, ℕ, ◌+◌, ◌<◌, ◌≤◌, Bool, true, false, List, [], ◌∷◌, ◌++◌, length, take, drop, get_or, set, cond, Some, nat_eq, slice_get, refl, ap, sym, subst, ◌∙◌, arith, inl, inr, length-drop}
 use Rattle.std.specs.Prelude.{sum_by}
 use Rattle.std.proofs.lemmas.List.{drop-append-le, drop-set-lt, get_or-drop, get_or-take, get_or_past, length_push, length-set, length-take-le, take_all, take-take, take_more_set, take-set-le}
 use Rattle.std.proofs.lemmas.List.Sums.{get_or-le-sum_by, sum_by-drop_more, sum_by_push, sum_by-set, sum_by-take-drop}

@@ -1,8 +1,7 @@
 -- The later shares are of ends that there are.
-use Rattle.std.proofs.Common.{List, ap, length, subst, sym, ◌∙◌}
+use Rattle.std.proofs.Common.{List, ap, length, subst, sym}
 use Rattle.hp_schedules.specs.Notes.{TallyValue}
 use Rattle.hp_schedules.specs.Shares.{AreAtEnds}
-use Rattle.hp_schedules.specs.declared.rows.Share.{Share}
 use Rattle.hp_schedules.specs.declared.tally.Ending.{Ending}
 use Rattle.hp_schedules.proofs.Trails.{at_ends_drop}
 use Rattle.hp_schedules.proofs.tally.Tally.since.Goals as goal
