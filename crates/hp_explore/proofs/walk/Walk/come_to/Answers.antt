@@ -1,5 +1,5 @@
 -- The place is left at once, or gets its frame.
-use Rattle.std.proofs.Common.{◌+◌, ◌*◌, ◌-◌, ◌^◌, ◌<◌, List, length, reverse, ap, refl, sym, subst, ◌∙◌, arith}
+use Rattle.std.proofs.Common.{◌+◌, ◌*◌, ◌-◌, ◌^◌, ◌<◌, List, length, reverse, ap, refl, sym, subst, true, ◌∙◌, arith}
 use Rattle.hp_explore.specs.Frames.{AreBelow, AreWalked, digits, frames_of, left_of}
 use Rattle.hp_states.specs.Frames.{IsEntered}
 use Rattle.hp_schedules.specs.Schedules.{Setting, schedule_of}
