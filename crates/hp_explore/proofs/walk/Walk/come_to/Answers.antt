@@ -65,8 +65,8 @@ returns-in-Counted-clause-kept o c =
     let all =
     gone_back w.path.setting w.part (length w.tally.trail) w.tally c.arrive.new.tally w.path.news
     (frames_of w) (reverse c.reserve.new.self.items) c.take_back.ensures.back.0 c.take_back.new.path
-    c.take_back.new.memo w.processors (ap reverse c.in_ok-reserve.ensures.items) entered.1 c.requires.below entered.0
-    c.take_back.ensures.back.1
+    c.take_back.new.memo w.processors (ap reverse c.in_ok-reserve.ensures.items) entered.1 c.requires.below
+    entered.0 c.take_back.ensures.back.1
     (memo_same w.path.setting c.arrive.new.tally.ends c.arrive.new.memo c.take_back.new.memo
     c.take_back.ensures.same
     (memo_added w.path.setting w.tally.ends c.arrive.new.tally.ends c.arrive.new.memo entered.1.grown
@@ -124,9 +124,10 @@ returns-in-Open-clause-kept o c =
           (sym entered.0) c.requires.walked)
           (subst (λ (t : TallyValue). AreBelow g w.part t (length t.trail) w.path.news (frames_of w))
           (sym entered.0) c.requires.below));
-      memo = subst (λ (t : TallyValue). IsMemo g t.ends c.arrive.new.memo)
-          (sym entered.0) (c.arrive.ensures.memo w.path.setting w.tally.ends c.requires.memo);
-      way = (way_here o (goal.at.returns-in-Open-clause-kept o c).In_ok-entry);
+      memo =
+          subst (λ (t : TallyValue). IsMemo g t.ends c.arrive.new.memo) (sym entered.0)
+          (c.arrive.ensures.memo g w.tally.ends c.requires.memo);
+      way = way_here o (goal.at.returns-in-Open-clause-kept o c).In_ok-entry;
       processors = c.requires.processors;
       few = c.requires.few;
       short = c.requires.short;
