@@ -39,6 +39,8 @@ MOST_ORDERS = 120
 NO_LINES = ("", "refused", "refused Nonsense", "refused NotFree x", "refused NotFree 01", "word",
             "opened 3", "block x", "block 1", "block 1 online", "block 1 offline normal", "cpu 0",
             "0:done", "x: done", "0: 1: done", "done ", "moved 1", "interleavings: 1")
+LINE_FORMS = ("hotplug_lab: a line is an answer, as `refused NotFree`, one of a processor, as `0: done`, "
+              "or a memory block, as `block 1 offline`")
 PAST = ("{cpus}: done", "{cpus}: refused NotFree", "block {blocks} offline", "refused Twice {blocks}",
         "refused Busy {blocks}", "refused NotOnline {blocks}", "refused NotOffline {blocks}",
         "refused NotAbsent {blocks}", "frame {frames}", "0: frame {frames}", "moved {frames} 0",
@@ -257,6 +259,8 @@ def check_search(checks, programs, scenario, setup, orders, texts):
     if not found:
         absent = (3, f"interleavings: {len(orders)}\nends so: 0\n")
         checks.holds(where, (status, text) == absent, f"says {status}, {text!r}")
+        replay = programs.find(scenario, setup, "--find", texts, "--scenario", "1")
+        checks.holds(where, replay == (3, ""), f"--scenario 1 says {replay}")
         check_object(checks, programs, scenario, setup, texts,
                      (3, {"found": False, "interleavings": len(orders)}))
         return
@@ -349,7 +353,9 @@ def refused(text, scenario, setup):
     moved = json.dumps({**head, "scenario": json.dumps(other)}) + "\n"
     by = json.dumps({**head, "calls": head["calls"] + 1}) + "\n"
     past = json.dumps({**head, "part": 4}) + "\n"
+    lost = json.dumps({**head, "scenario": "{}"}) + "\n"
     yield "", "line 1 is none of a part"
+    yield lost + text, "part 2: its scenario: wrong shape"
     for number, part in ((2, second), (3, third)):
         if part.count("\n") > 1:
             cut = part[:part.rstrip("\n").rindex("\n") + 1]
@@ -475,7 +481,7 @@ def check_no_lines(checks, programs):
     for text in NO_LINES:
         for option in ("--find", "--never"):
             status, said = programs.find(scenario, 0, option, ["done", text])
-            expected = (2, f"hotplug_lab: no end has the line `{text}`\n")
+            expected = (2, f"hotplug_lab: no end has the line `{text}`\n{LINE_FORMS}\n")
             is_so = (status, said) == expected
             checks.holds(f"{option} {text!r}", is_so, f"says {status}, {said!r}")
 

@@ -35,4 +35,17 @@ pub trait Laboratory {
         requires threads { IsSync T.row }
         requires reader { R.failures reader.old < 2 ^ 64 - 1 }
         requires writer { W.failures writer.old < 2 ^ 64 - 1 };
+
+    /// Does a word on a text, in the same way.
+    fn serve_text<T: Threads + Sync, W: Sink, P: Watch + Drop>(
+        &self,
+        threads: &T,
+        alloc: Global,
+        word: Word<'_>,
+        input: &[u8],
+        writer: &mut W,
+        watch: P,
+    ) -> Result<Served, LabProgramFault>
+        requires threads { IsSync T.row }
+        requires writer { W.failures writer.old < 2 ^ 64 - 1 };
 }

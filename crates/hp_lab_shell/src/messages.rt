@@ -15,6 +15,18 @@ pub(crate) fn say_unbegun(rt: &HostRuntime, unbegun: &[Unbegun]) {
     }
 }
 
+/// What is said of the forms that a line of an end has.
+const LINE_FORMS: &str = "hotplug_lab: a line is an answer, as `refused NotFree`, one of a processor, as \
+     `0: done`, or a memory block, as `block 1 offline`";
+
+/// Says on standard error that a text is no line of any end, and which lines ends have.
+pub(crate) fn say_no_line(rt: &HostRuntime, text: &str) -> Result<(), AllocError> {
+    let mut shown = String::new(rt.alloc());
+    write_escaped(&mut shown, text, Brackets::Kept)?;
+    let _ = eprintln!(rt; "hotplug_lab: no end has the line `{shown}`\n{LINE_FORMS}");
+    Ok(())
+}
+
 /// The name of a file; none of standard input, which `-` names.
 pub(crate) fn file_name(name: &str) -> Option<&str> {
     if name == "-" { None } else { Some(name) }

@@ -3,10 +3,13 @@
 use crate::command::lab_command;
 use crate::files::bytes_of;
 use crate::judging::serve_judge;
-use crate::laboratory::Laboratory;
-use crate::messages::{file_name, say_fault, say_unbegun, say_words};
+use crate::laboratory::{Laboratory, Served};
+use crate::messages::{file_name, say_fault, say_no_line, say_unbegun, say_words};
+use crate::output::Output;
 use crate::progress::{Progress, Shown, shown_on};
-use crate::words::{Request, Word, is_past_the_found, part_from, request_from, texts_from};
+use crate::words::{
+    Request, Word, is_past_the_found, lacks_scenario, part_from, request_from, texts_from,
+};
 use clap::ArgMatches;
 use clap::error::ErrorKind;
 use hp_questions::{Wanted, wanted_line};
@@ -38,7 +41,7 @@ fn serve_request<L: Laboratory, T: Threads + Sync>(
         }
         names => match bytes_of(rt, names) {
             Ok(bytes) => {
-                let served = serve_input(rt, lab, threads, request.word, bytes.as_slice(), shown);
+                let served = serve_bytes(rt, lab, threads, request.word, &bytes, shown);
                 status_of(rt, None, served)
             }
             Err(unread) => status_of(rt, unread.name, Err(unread.fault)),
@@ -86,7 +89,7 @@ fn serve_input<L: Laboratory, T: Threads + Sync, R: Read + Drop>(
     shown: Shown,
 ) -> Result<u8, LabProgramFault> {
     let mut reader = Counted::new(input);
-    let mut writer = Counted::new(rt.stdout());
+    let mut writer = Output::new(rt.stdout());
     let progress = Progress::new(rt.stderr(), shown);
     let served = lab.serve(
         threads,
@@ -95,9 +98,44 @@ fn serve_input<L: Laboratory, T: Threads + Sync, R: Read + Drop>(
         &mut reader,
         &mut writer,
         progress,
-    )?;
-    say_unbegun(rt, &served.unbegun);
-    Ok(served.status)
+    );
+    told_status(rt, word, served, writer.is_left())
+}
+
+/// Does a word on the bytes of several files, and writes to standard output.
+fn serve_bytes<L: Laboratory, T: Threads + Sync>(
+    rt: &HostRuntime,
+    lab: &L,
+    threads: &T,
+    word: Word<'_>,
+    bytes: &[u8],
+    shown: Shown,
+) -> Result<u8, LabProgramFault> {
+    let mut writer = Output::new(rt.stdout());
+    let progress = Progress::new(rt.stderr(), shown);
+    let served = lab.serve_text(threads, rt.alloc(), word, bytes, &mut writer, progress);
+    told_status(rt, word, served, writer.is_left())
+}
+
+/// Says on standard error what is worth a warning, and returns the exit status: 1, and nothing is
+/// said, if nobody reads what is written.
+fn told_status(
+    rt: &HostRuntime,
+    word: Word<'_>,
+    served: Result<Served, LabProgramFault>,
+    is_left: bool,
+) -> Result<u8, LabProgramFault> {
+    match served {
+        Ok(served) => {
+            say_unbegun(rt, &served.unbegun);
+            if lacks_scenario(word, served.status) {
+                let _ = eprintln!(rt; "hotplug_lab: there is no such interleaving, so no scenario of one");
+            }
+            Ok(served.status)
+        }
+        Err(LabProgramFault::WriteFailed) if is_left => Ok(1),
+        Err(fault) => Err(fault),
+    }
 }
 
 /// The lines that parsed words want of an end; none where a text is no line of any end, which
@@ -112,7 +150,7 @@ fn wanted_from(
     };
     for text in texts {
         if !push_line(rt.alloc(), &mut wanted, text)? {
-            let _ = eprintln!(rt; "hotplug_lab: no end has the line `{text}`");
+            say_no_line(rt, text)?;
             return Ok(None);
         }
     }

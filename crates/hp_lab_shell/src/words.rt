@@ -134,6 +134,19 @@ fn part_named(text: &str) -> Option<ShardId> {
     ShardId::new(number64(number)?, number64(of)?)
 }
 
+/// Returns whether a word asked for a scenario, and by the exit status that it came to there is no
+/// interleaving to make it of.
+pub(crate) fn lacks_scenario(word: Word<'_>, status: u8) -> bool {
+    match word {
+        Word::Explore { form, .. } | Word::Sum(form) => {
+            matches!(form, EndsForm::Scenario(_)) && status != 0
+        }
+        Word::Find { form, .. } => matches!(form, ScheduleForm::Scenario) && status != 0,
+        Word::Never { form, .. } => matches!(form, ScheduleForm::Scenario) && status == 0,
+        _ => false,
+    }
+}
+
 /// The part that parsed words ask for; none where they name none, or one that there is not.
 pub(crate) fn part_from(matches: &ArgMatches<'_>) -> Option<ShardId> {
     let (_name, words) = matches.subcommand()?;

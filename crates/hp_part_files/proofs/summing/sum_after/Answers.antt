@@ -61,4 +61,4 @@ returns-clause-err c =
     (c.as_bytes.ensures.value ∙ ap (λ (v : SearchValue). v.scenario) same)
     c.in_ok-prepared.ensures.ok) in
     IfErr-weaker c.sum_on.result _ _
-    (λ fault h. unsummed_in c.args.input.now s p fault ready h) c.sum_on.ensures.err
+    (λ fault h. unsummed_in c.args.input.now c.args.head.now p fault ready h) c.sum_on.ensures.err
