@@ -7,6 +7,10 @@ use std::io::Write;
 /// in place so many are not, and after one in a line of its own 64 times as many (own rule).
 const SILENT: u32 = 1024;
 
+/// What is said of a search that kept all that it may.
+const FILLED: &str = "hotplug_lab: the memory for states was used up: those that came later were walked each \
+     time (--memory)";
+
 /// Where it is shown how far a search has come.
 #[derive(Clone, Copy, Drop)]
 pub(crate) enum Shown {
@@ -29,9 +33,19 @@ pub(crate) fn shown_on(is_terminal: bool, is_wanted: bool) -> Shown {
     }
 }
 
+/// How a search is watched.
+#[derive(Clone, Copy, Drop)]
+pub(crate) struct Watching {
+    /// Where it is shown how far it has come.
+    pub shown: Shown,
+    /// How many bytes of states it may keep.
+    pub memory: u64,
+}
+
 /// Shows how far a search has come.
 pub(crate) struct Progress<W: Write + Drop> {
     out: W,
+    memory: u64,
     shown: Shown,
     is_open: bool,
     silent: u32,
@@ -39,10 +53,11 @@ pub(crate) struct Progress<W: Write + Drop> {
 
 impl<W: Write + Drop> Progress<W> {
     /// Nothing is shown yet.
-    pub(crate) fn new(out: W, shown: Shown) -> Progress<W> {
+    pub(crate) fn new(out: W, watching: Watching) -> Progress<W> {
         Progress {
             out,
-            shown,
+            memory: watching.memory,
+            shown: watching.shown,
             is_open: false,
             silent: SILENT,
         }
@@ -54,6 +69,7 @@ impl<W: Write + Drop> Drop for Progress<W> {
     fn drop(self) {
         let Self {
             mut out,
+            memory: _,
             shown: _,
             is_open,
             silent: _,
@@ -82,5 +98,17 @@ impl<W: Write + Drop> Watch for Progress<W> {
                 let _ = writeln!(self.out, "{schedules} interleavings so far");
             }
         }
+    }
+
+    fn memory(&self) -> u64 {
+        self.memory
+    }
+
+    fn filled(&mut self) {
+        if self.is_open {
+            self.is_open = false;
+            let _ = writeln!(self.out);
+        }
+        let _ = writeln!(self.out, "{FILLED}");
     }
 }

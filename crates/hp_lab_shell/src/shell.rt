@@ -6,7 +6,7 @@ use crate::judging::serve_judge;
 use crate::laboratory::{Laboratory, Served};
 use crate::messages::{file_name, say_fault, say_no_line, say_unbegun, say_words};
 use crate::output::Output;
-use crate::progress::{Progress, Shown, shown_on};
+use crate::progress::{Progress, Watching, shown_on};
 use crate::words::{
     Request, Word, is_past_the_found, lacks_scenario, part_from, request_from, texts_from,
 };
@@ -29,19 +29,22 @@ fn serve_request<L: Laboratory, T: Threads + Sync>(
     threads: &T,
     request: Request<'_, '_, '_>,
 ) -> u8 {
-    let shown = shown_on(rt.stderr().is_terminal(), request.progress);
+    let watching = Watching {
+        shown: shown_on(rt.stderr().is_terminal(), request.progress),
+        memory: request.memory,
+    };
     match request.files {
         [] => {
-            let served = serve_input(rt, lab, threads, request.word, rt.stdin(), shown);
+            let served = serve_input(rt, lab, threads, request.word, rt.stdin(), watching);
             status_of(rt, None, served)
         }
         [name] => {
-            let served = serve_file(rt, lab, threads, request.word, name, shown);
+            let served = serve_file(rt, lab, threads, request.word, name, watching);
             status_of(rt, file_name(name), served)
         }
         names => match bytes_of(rt, names) {
             Ok(bytes) => {
-                let served = serve_bytes(rt, lab, threads, request.word, &bytes, shown);
+                let served = serve_bytes(rt, lab, threads, request.word, &bytes, watching);
                 status_of(rt, None, served)
             }
             Err(unread) => status_of(rt, unread.name, Err(unread.fault)),
@@ -68,13 +71,13 @@ fn serve_file<L: Laboratory, T: Threads + Sync>(
     threads: &T,
     word: Word<'_>,
     name: &str,
-    shown: Shown,
+    watching: Watching,
 ) -> Result<u8, LabProgramFault> {
     if name == "-" {
-        return serve_input(rt, lab, threads, word, rt.stdin(), shown);
+        return serve_input(rt, lab, threads, word, rt.stdin(), watching);
     }
     match fs::open(rt, name) {
-        Ok(input) => serve_input(rt, lab, threads, word, input, shown),
+        Ok(input) => serve_input(rt, lab, threads, word, input, watching),
         Err(_) => Err(LabProgramFault::NotOpened),
     }
 }
@@ -86,11 +89,11 @@ fn serve_input<L: Laboratory, T: Threads + Sync, R: Read + Drop>(
     threads: &T,
     word: Word<'_>,
     input: R,
-    shown: Shown,
+    watching: Watching,
 ) -> Result<u8, LabProgramFault> {
     let mut reader = Counted::new(input);
     let mut writer = Output::new(rt.stdout());
-    let progress = Progress::new(rt.stderr(), shown);
+    let progress = Progress::new(rt.stderr(), watching);
     let served = lab.serve(
         threads,
         rt.alloc(),
@@ -109,10 +112,10 @@ fn serve_bytes<L: Laboratory, T: Threads + Sync>(
     threads: &T,
     word: Word<'_>,
     bytes: &[u8],
-    shown: Shown,
+    watching: Watching,
 ) -> Result<u8, LabProgramFault> {
     let mut writer = Output::new(rt.stdout());
-    let progress = Progress::new(rt.stderr(), shown);
+    let progress = Progress::new(rt.stderr(), watching);
     let served = lab.serve_text(threads, rt.alloc(), word, bytes, &mut writer, progress);
     told_status(rt, word, served, writer.is_left())
 }

@@ -1,6 +1,6 @@
 //! The words that the program is called with.
 
-use crate::arguments::{FILE, FIND, HTML, JOBS, JSON, LOG, NEVER, PART, PROGRESS, SCENARIO};
+use crate::arguments::{FILE, FIND, HTML, JOBS, JSON, LOG, MEMORY, NEVER, PART, PROGRESS, SCENARIO};
 use crate::checks::{ALL, LIMIT};
 use clap::ArgMatches;
 use hp_numbers::number64;
@@ -20,6 +20,9 @@ const SCALE: u64 = 100;
 const LEAST_SCALE: u64 = 25;
 
 const MOST_SCALE: u64 = 400;
+
+/// The MiB of states that a search may keep where no number is given.
+const MEMORY_MIB: u64 = 2048;
 
 /// The columns of a trace's row where no width is given.
 const WIDTH: u64 = 200;
@@ -109,6 +112,8 @@ pub(crate) struct Request<'m, 'a, 'w> {
     pub files: &'m [&'a str],
     /// Whether it is to be told how far a search has come, whatever standard error is.
     pub progress: bool,
+    /// How many bytes of states a search may keep.
+    pub memory: u64,
 }
 
 /// The lines that parsed words want of an end, as texts; none where they want none.
@@ -173,9 +178,20 @@ pub(crate) fn request_from<'m, 'a, 'w>(
             word: word_from(name, words, wanted, part)?,
             files: files_of(words.get_strs(FILE)),
             progress: name == "explore" && words.get_flag(PROGRESS),
+            memory: memory_from(name, words),
         }),
         None => Err(NO_WORD),
     }
+}
+
+/// Returns how many bytes of states a search may keep.
+fn memory_from(name: &str, words: &ArgMatches<'_>) -> u64 {
+    let asked = if name == "explore" {
+        words.get_one::<u64>(MEMORY)
+    } else {
+        None
+    };
+    asked.unwrap_or(MEMORY_MIB).saturating_mul(1 << 20)
 }
 
 /// What a word asks for with the words after it, or why it asks for nothing.
