@@ -27,7 +27,7 @@ CALLS = ["0 map db 0", "0 write db 0 0 7", "1 map db 1", "0 kalloc 0", "1 unmap 
 READS = 13
 READ_ORDERS = 10400600
 NO_COMMAND = "hotplug: serial, run or audit\n"
-NO_SCENARIO = "hotplug_lab: there is no such interleaving, so no scenario of one\n"
+NO_SCENARIO = "hotplug_lab: no such interleaving, so no scenario is written\n"
 
 
 class Checks:

@@ -21,8 +21,8 @@ use std::process::ExitCode;
 use std::thread::Threads;
 use std::{env, fs, io};
 
-/// Does a word on the files that are named, or else on standard input, or says what failed, and answers
-/// the exit status.
+/// Serves a request on the named files, or on standard input if no file is named, and returns the
+/// exit status. Standard error names a fault.
 fn serve_request<L: Laboratory, T: Threads + Sync>(
     rt: &HostRuntime,
     lab: &L,
@@ -52,8 +52,8 @@ fn serve_request<L: Laboratory, T: Threads + Sync>(
     }
 }
 
-/// The exit status that a word came to; or 1 after a fault, which standard error has, with the name of
-/// the file where that was not read.
+/// Returns the exit status, which is 1 after a fault. Standard error names the fault, and the file
+/// if it could not be read.
 fn status_of(rt: &HostRuntime, file: Option<&str>, served: Result<u8, LabProgramFault>) -> u8 {
     match served {
         Ok(status) => status,
@@ -64,7 +64,7 @@ fn status_of(rt: &HostRuntime, file: Option<&str>, served: Result<u8, LabProgram
     }
 }
 
-/// Does a word on the file with a name; `-` names standard input.
+/// Serves a word on the file with this name; `-` names standard input.
 fn serve_file<L: Laboratory, T: Threads + Sync>(
     rt: &HostRuntime,
     lab: &L,
@@ -82,7 +82,7 @@ fn serve_file<L: Laboratory, T: Threads + Sync>(
     }
 }
 
-/// Does a word on what the input has, and writes to standard output.
+/// Serves a word on an input, and writes to standard output.
 fn serve_input<L: Laboratory, T: Threads + Sync, R: Read + Drop>(
     rt: &HostRuntime,
     lab: &L,
@@ -105,7 +105,7 @@ fn serve_input<L: Laboratory, T: Threads + Sync, R: Read + Drop>(
     told_status(rt, word, served, writer.is_left())
 }
 
-/// Does a word on the bytes of several files, and writes to standard output.
+/// Serves a word on the bytes of several files, and writes to standard output.
 fn serve_bytes<L: Laboratory, T: Threads + Sync>(
     rt: &HostRuntime,
     lab: &L,
@@ -120,8 +120,8 @@ fn serve_bytes<L: Laboratory, T: Threads + Sync>(
     told_status(rt, word, served, writer.is_left())
 }
 
-/// Says on standard error what is worth a warning, and returns the exit status: 1, and nothing is
-/// said, if nobody reads what is written.
+/// Prints warnings on standard error, and returns the exit status. If nobody reads what is written,
+/// that is 1, and nothing is printed.
 fn told_status(
     rt: &HostRuntime,
     word: Word<'_>,
@@ -132,7 +132,9 @@ fn told_status(
         Ok(served) => {
             say_unbegun(rt, &served.unbegun);
             if lacks_scenario(word, served.status) {
-                let _ = eprintln!(rt; "hotplug_lab: there is no such interleaving, so no scenario of one");
+                let _ = eprintln!(rt;
+                    "hotplug_lab: no such interleaving, so no scenario is written"
+                );
             }
             Ok(served.status)
         }
@@ -141,8 +143,8 @@ fn told_status(
     }
 }
 
-/// The lines that parsed words want of an end; none where a text is no line of any end, which
-/// standard error says.
+/// Returns the lines that the parsed words want of an end. Returns `None` if no end can have one of
+/// the texts as a line, and standard error says so.
 fn wanted_from(
     rt: &HostRuntime,
     matches: &ArgMatches<'_>,
@@ -160,7 +162,7 @@ fn wanted_from(
     Ok(Some(wanted))
 }
 
-/// Adds the line of an end that a text is, and says whether it is one. An error is out of memory.
+/// Parses a text as the line of an end and adds it. Returns whether it is one.
 fn push_line(alloc: Global, wanted: &mut Vec<Wanted>, text: &str) -> Result<bool, AllocError> {
     match wanted_line(alloc, text) {
         Ok(Some(line)) => {
@@ -172,7 +174,7 @@ fn push_line(alloc: Global, wanted: &mut Vec<Wanted>, text: &str) -> Result<bool
     }
 }
 
-/// Does what parsed words ask for, and answers the exit status.
+/// Serves the parsed words, and returns the exit status.
 fn serve_matches<L: Laboratory, T: Threads + Sync>(
     rt: &HostRuntime,
     lab: &L,
@@ -185,7 +187,7 @@ fn serve_matches<L: Laboratory, T: Threads + Sync>(
     }
 }
 
-/// Does what parsed words ask of a scenario, and answers the exit status.
+/// Serves the parsed words on a scenario, and returns the exit status.
 fn serve_scenario<L: Laboratory, T: Threads + Sync>(
     rt: &HostRuntime,
     lab: &L,
@@ -209,7 +211,7 @@ fn serve_scenario<L: Laboratory, T: Threads + Sync>(
     }
 }
 
-/// Does what the words ask for, or says what they may be, and answers the exit status.
+/// Parses and serves the words, or prints what they may be, and returns the exit status.
 fn run<L: Laboratory, T: Threads + Sync>(
     rt: &HostRuntime,
     lab: &L,
@@ -226,7 +228,7 @@ fn run<L: Laboratory, T: Threads + Sync>(
     }
 }
 
-/// Reads the words that the program was called with, and does what they ask for.
+/// Reads the words that the program was called with, and serves them.
 fn run_words<L: Laboratory, T: Threads + Sync>(
     rt: &HostRuntime,
     lab: &L,
@@ -247,9 +249,9 @@ fn run_words<L: Laboratory, T: Threads + Sync>(
     }
 }
 
-/// Does what the program was called for, and answers the exit status: 0; or 1 after a fault, which
-/// standard error names, and where a check finds one; or 2 where the words are wrong; or 3 where a
-/// search does not find what was asked for, and where a log is unlawful.
+/// Runs the program and returns its exit status: 0; 1 after a fault, which standard error names, and
+/// if a check finds one; 2 if the words are wrong; 3 if a search does not find what was asked for,
+/// and if a log is unlawful.
 pub fn run_program<L: Laboratory, T: Threads + Sync>(
     rt: &HostRuntime,
     lab: &L,
