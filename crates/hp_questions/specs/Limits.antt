@@ -35,11 +35,15 @@ abbrev pub IsPatternPast : LayoutParts → Pattern → Type 0
 IsPatternPast l (Exactly reply) = IsReplyPast l reply
 IsPatternPast l (AnyOf refusal) = ⊥
 
--- the line does, or names a processor or a memory block outside the layout
+-- a reply to this processor does, or the layout has no such processor
+abbrev pub IsAnswerPast : LayoutParts → (cpu : ℕ) → Pattern → Type 0
+IsAnswerPast l cpu reply = (l.cpus ≤ cpu) ⊎ IsPatternPast l reply
+
+-- the line does, or names a memory block outside the layout
 abbrev pub IsLinePast : LayoutParts → EndLine → Type 0
 IsLinePast l (Answer None reply) = IsPatternPast l reply
-IsLinePast l (Answer (Some cpu) reply) = (l.cpus ≤ cpu) ⊎ IsPatternPast l reply
-IsLinePast l (AnswerAt cpu earlier reply) = (l.cpus ≤ cpu) ⊎ IsPatternPast l reply
+IsLinePast l (Answer (Some cpu) reply) = IsAnswerPast l cpu reply
+IsLinePast l (AnswerAt cpu earlier reply) = IsAnswerPast l cpu reply
 IsLinePast l (Block block row) = l.blocks ≤ block
 
 -- a line that an end is to have or to lack does

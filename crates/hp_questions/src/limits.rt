@@ -1,9 +1,9 @@
 //! Wanted lines that name something outside the layout.
 ghost use Rattle.std.specs.Prelude.{◌↔◌, IfNone, IfSome, IsTrue};
-ghost use Rattle.hp_questions.specs.Limits.{AreWithin, IsFirstPast, IsLinePast, IsPast, IsPatternPast, IsRefusalPast, IsReplyPast};
+ghost use Rattle.hp_questions.specs.Limits.{AreWithin, IsAnswerPast, IsFirstPast, IsLinePast, IsPast, IsPatternPast, IsRefusalPast, IsReplyPast};
 
 use crate::wanted::{EndLine, Pattern, Wanted};
-use hp_units::{Layout, Refusal, Reply};
+use hp_units::{Cpu, Layout, Refusal, Reply};
 
 /// Returns the number, from 1, of the first line that names a processor, a memory block or a frame
 /// outside the layout. No end can have such a line, so that it is no use to ask for one.
@@ -41,15 +41,22 @@ impl EndLine {
             EndLine::Answer {
                 cpu: Some(cpu),
                 reply,
-            } => cpu.0 >= layout.cpus() || reply.is_past(layout),
+            } => is_answer_past(*cpu, reply, layout),
             EndLine::AnswerAt {
                 cpu,
                 earlier: _,
                 reply,
-            } => cpu.0 >= layout.cpus() || reply.is_past(layout),
+            } => is_answer_past(*cpu, reply, layout),
             EndLine::Block { block, row: _ } => block.0 >= layout.blocks(),
         }
     }
+}
+
+/// Returns whether a reply to this processor names something outside the layout.
+fn is_answer_past(cpu: Cpu, reply: &Pattern, layout: &Layout) -> bool
+    ensures { IsTrue result ↔ IsAnswerPast layout.now cpu reply.now }
+{
+    cpu.0 >= layout.cpus() || reply.is_past(layout)
 }
 
 impl Pattern {
