@@ -38,11 +38,17 @@ SPOILED = 4
 MOST_ORDERS = 120
 NO_LINES = ("", "refused", "refused Nonsense", "refused NotFree x", "refused NotFree 01", "word",
             "opened 3", "block x", "block 1", "block 1 online", "block 1 offline normal", "cpu 0",
-            "0:done", "x: done", "0: 1: done", "done ", "moved 1", "interleavings: 1")
+            "0:done", "x: done", "0: 1: done", "done ", "moved 1", "interleavings: 1", "not", "not ",
+            "not not done", "cpu 0: done", "cpu 0 answer 0: done", "cpu 0 answer x: done",
+            "cpu 0 reply 1: done", "cpu 0 answer 1:done")
+LINE_FORMS = ("hotplug_lab: a line is an answer, as `refused NotFree`, one of a processor, as `0: done` or "
+              "`cpu 0 answer 2: done`, or a memory block, as `block 1 offline`; `not ` before it wants an "
+              "end without it")
 PAST = ("{cpus}: done", "{cpus}: refused NotFree", "block {blocks} offline", "refused Twice {blocks}",
         "refused Busy {blocks}", "refused NotOnline {blocks}", "refused NotOffline {blocks}",
         "refused NotAbsent {blocks}", "frame {frames}", "0: frame {frames}", "moved {frames} 0",
-        "moved 0 {frames}", "refused Unmovable {frames}", "refused NotFree {frames}")
+        "moved 0 {frames}", "refused Unmovable {frames}", "refused NotFree {frames}",
+        "cpu {cpus} answer 1: done", "cpu 0 answer 9: frame {frames}", "not block {blocks} offline")
 
 
 class Searches(Programs):
@@ -195,14 +201,25 @@ def changes_of(calls):
 
 
 def has_line(end, text):
-    """Whether an end has a line."""
+    """Whether an end has a line, or lacks it where `not` comes before."""
+    if text.startswith("not "):
+        return not has_line(end, text.removeprefix("not "))
     answers, blocks = end
-    cpu, colon, reply = text.partition(": ")
+    who, colon, reply = text.partition(": ")
     wanted = reply if colon else text
-    told_to = [answers[int(cpu)]] if colon and int(cpu) < len(answers) else [] if colon else answers
     return text in blocks or any(answer == wanted or answer.rpartition(" ")[0] == wanted
                                  and answer.startswith("refused ")
-                                 for replies in told_to for answer in replies)
+                                 for answer in meant(answers, who if colon else ""))
+
+
+def meant(answers, who):
+    """The answers that a line speaks of: all, those of processor C, or of these the K-th (`cpu C
+    answer K`)."""
+    if not who:
+        return [answer for replies in answers for answer in replies]
+    cpu, *number = (int(word) for word in re.findall("[0-9]+", who))
+    replies = answers[cpu] if cpu < len(answers) else []
+    return replies[number[0] - 1:number[0]] if number else replies
 
 
 def drawn_call(draw, cpu, cpus):
@@ -225,7 +242,10 @@ def drawn_texts(draw, ends):
     lines += [f"{cpu}: {reply}" for cpu, replies in enumerate(answers) for reply in replies]
     lines += [line.rpartition(" ")[0] for line in lines
               if re.fullmatch("(. )?refused [A-Za-z]+ [0-9]+", line)]
-    some = [[draw.choice(lines)], draw.sample(lines, min(3, len(lines)))]
+    lines += [f"cpu {cpu} answer {at}: {reply}" for cpu, replies in enumerate(answers)
+              for at, reply in enumerate(replies, draw.choice((1, 1, 2)))]
+    some = [[draw.choice(lines)], draw.sample(lines, min(3, len(lines))), [f"not {draw.choice(lines)}"],
+            [draw.choice(lines), f"not {draw.choice(lines)}"]]
     return some + [[text] for text in ("refused NotFree", "0: restored", "block 1 going movable",
                                        f"{len(answers) - 1}: refused NoFrame", "block 2 absent",
                                        "refused Twice 1")]
@@ -257,6 +277,8 @@ def check_search(checks, programs, scenario, setup, orders, texts):
     if not found:
         absent = (3, f"interleavings: {len(orders)}\nends so: 0\n")
         checks.holds(where, (status, text) == absent, f"says {status}, {text!r}")
+        replay = programs.find(scenario, setup, "--find", texts, "--scenario", "1")
+        checks.holds(where, replay == (3, ""), f"--scenario 1 says {replay}")
         check_object(checks, programs, scenario, setup, texts,
                      (3, {"found": False, "interleavings": len(orders)}))
         return
@@ -349,7 +371,9 @@ def refused(text, scenario, setup):
     moved = json.dumps({**head, "scenario": json.dumps(other)}) + "\n"
     by = json.dumps({**head, "calls": head["calls"] + 1}) + "\n"
     past = json.dumps({**head, "part": 4}) + "\n"
+    lost = json.dumps({**head, "scenario": "{}"}) + "\n"
     yield "", "line 1 is none of a part"
+    yield lost + text, "part 2: its scenario: wrong shape"
     for number, part in ((2, second), (3, third)):
         if part.count("\n") > 1:
             cut = part[:part.rstrip("\n").rindex("\n") + 1]
@@ -475,7 +499,7 @@ def check_no_lines(checks, programs):
     for text in NO_LINES:
         for option in ("--find", "--never"):
             status, said = programs.find(scenario, 0, option, ["done", text])
-            expected = (2, f"hotplug_lab: no end has the line `{text}`\n")
+            expected = (2, f"hotplug_lab: no end has the line `{text}`\n{LINE_FORMS}\n")
             is_so = (status, said) == expected
             checks.holds(f"{option} {text!r}", is_so, f"says {status}, {said!r}")
 

@@ -11,6 +11,7 @@ that of the help, and other words, or words that contradict one another, end wit
 The last line is 'words: N passed, M failed'; the exit status is 0 where nothing failed, else 1.
 """
 import json
+import os
 import re
 import subprocess
 import sys
@@ -26,6 +27,7 @@ CALLS = ["0 map db 0", "0 write db 0 0 7", "1 map db 1", "0 kalloc 0", "1 unmap 
 READS = 13
 READ_ORDERS = 10400600
 NO_COMMAND = "hotplug: serial, run or audit\n"
+NO_SCENARIO = "hotplug_lab: no such interleaving, so no scenario is written\n"
 
 
 class Checks:
@@ -196,9 +198,12 @@ def check_replays(checks, lab, scripts):
         checks.same(f"explore {options}", LAYOUT, json.loads(out)["layout"])
     for number in ("0", "99"):
         options = ("--scenario", number)
-        status, out, error = lab.call("explore", *options, scenario=scripts)
-        head = lab.call("explore", scenario=scripts)[1].partition("\n\n")[0] + "\n"
-        checks.same(f"explore {options}", (3, head, ""), (status, out, error))
+        checks.same(f"explore {options}", (3, "", NO_SCENARIO),
+                    lab.call("explore", *options, scenario=scripts))
+    for option, status in (("--find", 3), ("--never", 0)):
+        options = (option, "refused Busy", "--scenario", "1")
+        checks.same(f"explore {options}", (status, "", NO_SCENARIO),
+                    lab.call("explore", *options, scenario=scripts))
     twice = (2, "", "hotplug_lab: a search tells one interleaving: --scenario 1\n")
     for option in ("--find", "--never"):
         options = (option, "done", "--scenario", "2")
@@ -333,6 +338,8 @@ def check_lab(checks, lab):
         checks.same(f"hotplug_lab {words}", (2, ""), (status, out))
         checks.holds(f"hotplug_lab {words}", error, "says nothing")
     check_full(checks, lab)
+    check_gone(checks, lab)
+    check_long_parts(checks, lab)
     for words in (("--help",), ("explore", "--help"), ("judge", "--help"), ("--version",)):
         status, out, error = lab.call(*words)
         checks.same(f"hotplug_lab {words}", (0, ""), (status, error))
@@ -356,6 +363,29 @@ def check_counts(checks, lab):
         out = lab.call("check", "--setup", str(setup), scenario=scenario_of(calls))[1]
         checks.holds(f"check --setup {setup} of {calls}", "interleavings" not in out,
                      f"says {out!r}")
+
+
+def check_gone(checks, lab):
+    """Where nobody reads what is written the status is 1, and nothing is said."""
+    text = json.dumps(scenario_of(CALLS)).encode()
+    for words in (("explore",), ("check",), ("trace",)):
+        reader, writer = os.pipe()
+        os.close(reader)
+        ran = subprocess.run([lab.path, *words], input=text, stdout=writer, stderr=subprocess.PIPE,
+                             timeout=SECONDS)
+        os.close(writer)
+        checks.same(f"hotplug_lab {words} without a reader", (1, b""), (ran.returncode, ran.stderr))
+
+
+def check_long_parts(checks, lab):
+    """Each part may have 16 MiB, and all together more."""
+    with tempfile.TemporaryDirectory() as folder:
+        scenario, files = Path(folder) / "scenario.json", []
+        scenario.write_text(json.dumps(scenario_of(CALLS)) + " " * 9_000_000)
+        for number in (1, 2):
+            files.append(Path(folder) / f"part{number}.json")
+            files[-1].write_text(lab.call("explore", "--part", f"{number}/2", scenario)[1])
+        checks.same("sum of long parts", lab.call("explore", scenario), lab.call("sum", *files))
 
 
 def check_full(checks, lab):

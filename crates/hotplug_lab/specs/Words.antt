@@ -112,10 +112,20 @@ IsUnanswered word input WriteFailed = ⊥
 
 -- ---- from a reader to a writer
 
--- the word's text for the bytes that were read was written, and nothing else, with this status
+-- the word's text for these bytes was written, and nothing else, with this status
+abbrev pub ServesText : Word → (input : List ℕ) → (old new : Option (List ℕ)) → (status : ℕ) → Type 0
+ServesText word input old new status =
+    (text : List ℕ) × Appends old new text × Answers word input text status
+
+-- the same of the bytes that were read
 abbrev pub Serves : Word → (known old new : Option (List ℕ)) → (status : ℕ) → Type 0
-Serves word known old new status =
-    IfSome known (λ input. (text : List ℕ) × Appends old new text × Answers word input text status)
+Serves word known old new status = IfSome known (λ input. ServesText word input old new status)
+
+-- when each fault comes where nothing is read; `written` is that a call of the writer failed
+abbrev pub IsTextFault : Word → (input : List ℕ) → (written : Type 0) → LabProgramFault → Type 0
+IsTextFault word input written (Lab fault) = (fault ≡ OutOfMemory) ⊎ IsLabCause word input fault
+IsTextFault word input written WriteFailed = written
+IsTextFault word input written fault = IsUnanswered word input fault
 
 -- when each fault comes; `read` and `written` are that a call of the reader or the writer failed,
 -- and no file is opened here

@@ -20,7 +20,7 @@ use hp_lab_shell::{Laboratory, Served, Word, run_program};
 use hp_search::LabProgramFault;
 use hp_states::Watch;
 use hp_streams::{Sink, Source};
-use serving::serve_word;
+use serving::{serve_text, serve_word};
 use std::alloc::Global;
 use std::process::ExitCode;
 use std::thread::{self, Threads};
@@ -40,6 +40,18 @@ impl Laboratory for Searches {
         watch: P,
     ) -> Result<Served, LabProgramFault> {
         serve_word(threads, alloc, word, reader, writer, watch)
+    }
+
+    fn serve_text<T: Threads + Sync, W: Sink, P: Watch + Drop>(
+        &self,
+        threads: &T,
+        alloc: Global,
+        word: Word<'_>,
+        input: &[u8],
+        writer: &mut W,
+        watch: P,
+    ) -> Result<Served, LabProgramFault> {
+        serve_text(threads, alloc, word, input, writer, watch)
     }
 }
 

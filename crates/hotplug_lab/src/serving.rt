@@ -4,7 +4,7 @@ ghost use Rattle.std.specs.Prelude.{◌≡◌, ◌≢◌, ◌<◌, ◌-◌, ◌^
 ghost use Rattle.std.specs.Io.KnownBytes.{Appends, Keeps};
 ghost use Rattle.hp_streams.specs.Reading.{ReadsAll};
 ghost use Rattle.hp_lab_shell.specs.Needs.{unbegun_of};
-ghost use Rattle.hotplug_lab.specs.Words.{Answers, IsServeFault, IsUnanswered, Serves};
+ghost use Rattle.hotplug_lab.specs.Words.{Answers, IsServeFault, IsTextFault, IsUnanswered, Serves, ServesText};
 ghost use Rattle.hp_scenario.specs.Scenario.{scenario_in};
 
 use crate::answering::answer_to;
@@ -46,8 +46,31 @@ pub fn serve_word<R: Source, W: Sink, P: Watch + Drop>(
         (R.failures reader.old < R.failures reader.new) (W.failures writer.old < W.failures writer.new)) }
 {
     let input = read_all(alloc, reader)?;
-    let answer = watched_answer(rt, alloc, &input, word, watch)?;
-    let unbegun = unbegun_of(alloc, &input, word)?;
+    serve_text(rt, alloc, word, &input, writer, watch)
+}
+
+/// Does a word on a text that has been read, and writes what it comes to, as `serve_word` does.
+pub fn serve_text<W: Sink, P: Watch + Drop>(
+    rt: &(impl Threads + Sync),
+    alloc: Global,
+    word: Word<'_>,
+    input: &[u8],
+    writer: &mut W,
+    watch: P,
+) -> Result<Served, LabProgramFault>
+    requires { W.failures writer.old < 2 ^ 64 - 1 }
+    ensures ok { IfOk result (λ served. ServesText word.entry input.now (W.contents writer.old)
+        (W.contents writer.new) served.status) }
+    ensures told { IfOk result
+        (λ served. served.unbegun.items ≡ unbegun_of word.entry (scenario_in input.now)) }
+    ensures silent { IfErr result
+        (λ fault. fault ≢ LabProgramFault.WriteFailed
+        → Keeps (W.contents writer.old) (W.contents writer.new)) }
+    ensures err { IfErr result
+        (IsTextFault word.entry input.now (W.failures writer.old < W.failures writer.new)) }
+{
+    let answer = watched_answer(rt, alloc, input, word, watch)?;
+    let unbegun = unbegun_of(alloc, input, word)?;
     let status = write_answer(writer, &answer)?;
     Ok(Served { status, unbegun })
 }

@@ -27,6 +27,9 @@ pub(crate) const PART: &str = "part";
 /// The option that searches in threads.
 pub(crate) const JOBS: &str = "jobs";
 
+/// The option that bounds the memory of a search.
+pub(crate) const MEMORY: &str = "memory";
+
 /// The option that writes the log of a scenario.
 pub(crate) const LOG: &str = "log";
 

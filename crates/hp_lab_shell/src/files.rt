@@ -7,16 +7,16 @@ use std::alloc::Global;
 use std::fs;
 use std::io::Read;
 
-/// Why files were not read, and which of them it was.
+/// Why files were not read, and which one failed.
 #[derive(Clone, Copy)]
 pub(crate) struct Unread<'a> {
-    /// The name of the file; none of standard input.
+    /// The name of the file; `None` for standard input.
     pub name: Option<&'a str>,
     /// What failed.
     pub fault: LabProgramFault,
 }
 
-/// The bytes of files, one after another; `-` names standard input.
+/// Returns the bytes of the files, one after another; `-` names standard input.
 pub(crate) fn bytes_of<'a>(rt: &HostRuntime, names: &[&'a str]) -> Result<Vec<u8>, Unread<'a>> {
     let mut bytes = Vec::new(rt.alloc());
     for name in names {

@@ -22,6 +22,7 @@ mod laboratory;
 mod logs;
 mod messages;
 mod needs;
+mod output;
 mod pictures;
 mod progress;
 mod scripts;

@@ -5,7 +5,7 @@ use hp_search::LabProgramFault;
 use hp_text::{Brackets, write_escaped};
 use std::alloc::{AllocError, Global};
 
-/// Says on standard error which lines of scripts work on no operation.
+/// Prints on standard error which lines of scripts work on no operation.
 pub(crate) fn say_unbegun(rt: &HostRuntime, unbegun: &[Unbegun]) {
     for lost in unbegun {
         let (cpu, line) = (lost.cpu, lost.line);
@@ -15,13 +15,26 @@ pub(crate) fn say_unbegun(rt: &HostRuntime, unbegun: &[Unbegun]) {
     }
 }
 
-/// The name of a file; none of standard input, which `-` names.
+/// The forms of the lines that ends have.
+const LINE_FORMS: &str = "hotplug_lab: a line is an answer, as `refused NotFree`, one of a processor, \
+     as `0: done` or `cpu 0 answer 2: done`, or a memory block, as `block 1 offline`; `not ` \
+     before it wants an end without it";
+
+/// Prints on standard error that no end can have this text as a line, and which forms lines have.
+pub(crate) fn say_no_line(rt: &HostRuntime, text: &str) -> Result<(), AllocError> {
+    let mut shown = String::new(rt.alloc());
+    write_escaped(&mut shown, text, Brackets::Kept)?;
+    let _ = eprintln!(rt; "hotplug_lab: no end has the line `{shown}`\n{LINE_FORMS}");
+    Ok(())
+}
+
+/// Returns the name of a file, or `None` for standard input, which `-` names.
 pub(crate) fn file_name(name: &str) -> Option<&str> {
     if name == "-" { None } else { Some(name) }
 }
 
-/// Says on standard error what failed, by the name of the file where that was not read, and what says
-/// more where the input is no scenario.
+/// Prints a fault on standard error, with the name of the file if it could not be read. If the input
+/// is no scenario, also prints which command says more.
 pub(crate) fn say_fault(rt: &HostRuntime, file: Option<&str>, fault: LabProgramFault) {
     let _ = match unread_name(rt.alloc(), file, fault) {
         Some(name) => eprintln!(rt; "hotplug_lab: {name}: {fault}"),
@@ -32,7 +45,8 @@ pub(crate) fn say_fault(rt: &HostRuntime, file: Option<&str>, fault: LabProgramF
     }
 }
 
-/// The name of the file that was not read, as JSON has it; none where there is no memory for it.
+/// Returns the name of the file that could not be read, escaped as in JSON, or `None` if memory runs
+/// out.
 fn unread_name(alloc: Global, file: Option<&str>, fault: LabProgramFault) -> Option<String> {
     if !fault.is_of_input() {
         return None;
@@ -44,7 +58,7 @@ fn unread_name(alloc: Global, file: Option<&str>, fault: LabProgramFault) -> Opt
     }
 }
 
-/// Says what the words may be, or what the program is, and answers the exit status.
+/// Prints what clap found wrong with the words, or the help, and returns the exit status.
 pub(crate) fn say_words(rt: &HostRuntime, error: &clap::Error) -> Result<u8, LabProgramFault> {
     let status = error.exit_code() as u8;
     match error.print(rt) {

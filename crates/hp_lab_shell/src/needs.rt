@@ -11,8 +11,8 @@ use hp_search::LabProgramFault;
 use hp_trace::View;
 use std::alloc::{AllocError, Global};
 
-/// The lines of a word's scripts that work on operation 0 where their processor has begun none. An
-/// error is out of memory.
+/// Returns the lines of a word's scripts that work on operation 0 although their processor has begun
+/// none.
 pub fn unbegun_of(alloc: Global, input: &[u8], word: Word<'_>) -> Result<Vec<Unbegun>, AllocError>
     ensures { IfOk result (λ found. found.items ≡ unbegun_of word.entry (scenario_in input.now)) }
 {
@@ -30,7 +30,7 @@ pub fn unbegun_of(alloc: Global, input: &[u8], word: Word<'_>) -> Result<Vec<Unb
     }
 }
 
-/// Looks whether the scenario, where the bytes are one, has the line that a word names.
+/// Checks that the scenario has the line that a word names. Bytes that are no scenario pass.
 #[tactic(auto, using(crate::proofs::Named::none_needed))]
 pub fn look_for_line(alloc: Global, input: &[u8], word: Word<'_>) -> Result<(), LabProgramFault>
     ensures ok { OnOk result (HasLines word.entry input.now) }
@@ -44,7 +44,7 @@ pub fn look_for_line(alloc: Global, input: &[u8], word: Word<'_>) -> Result<(), 
     look_among(asked, count)
 }
 
-/// Looks whether there is a line of this number among so many, where it is known how many there are.
+/// Checks that line `asked` is one of `count`, if it is known how many there are.
 fn look_among(asked: u64, count: Option<u64>) -> Result<(), LabProgramFault>
     ensures ok { OnOk result (has_line asked count ≡ true) }
     ensures err { IfErr result (IsPast asked count) }
@@ -61,7 +61,7 @@ fn look_among(asked: u64, count: Option<u64>) -> Result<(), LabProgramFault>
     }
 }
 
-/// The last line, counted from 1, that a scenario needs for a word; 0 where it needs none.
+/// Returns the last line that a word needs, counted from 1; 0 if it needs none.
 fn last_named(word: Word<'_>) -> u64
     ensures { result ≡ last_named word.entry }
 {
@@ -79,14 +79,14 @@ fn last_named(word: Word<'_>) -> u64
     }
 }
 
-/// The last line of the setup of a check, unless it is all of the scenario.
+/// Returns the last line of the setup of a check; 0 if that is the whole scenario.
 fn setup_named(setup: u64) -> u64
     ensures { result ≡ setup_named setup }
 {
     if setup == ALL { 0 } else { setup }
 }
 
-/// The first line that is shown, where one is asked for by its number.
+/// Returns the first line to show; 0 if none was asked for.
 fn first_shown(view: View) -> u64
     ensures { result ≡ first_shown view }
 {

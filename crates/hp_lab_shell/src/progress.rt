@@ -3,22 +3,27 @@
 use hp_states::Watch;
 use std::io::Write;
 
-/// A search tells some hundred thousand times a second how far it has come. After one that is shown
-/// in place so many are not, and after one in a line of its own 64 times as many (own rule).
+/// How many reports of progress are skipped after one that is shown in place, and 64 times as many
+/// after one on a line of its own. A search makes some hundred thousand reports per second.
 const SILENT: u32 = 1024;
 
-/// Where it is shown how far a search has come.
+/// Printed after a search that kept all that it may.
+const FILLED: &str =
+    "hotplug_lab: the memory for states was used up: those that came later were walked each \
+     time (--memory)";
+
+/// Where progress is shown.
 #[derive(Clone, Copy, Drop)]
 pub(crate) enum Shown {
     /// Nowhere.
     Nowhere,
-    /// In one line of a terminal, which is written over and over.
+    /// On one line of a terminal, overwritten each time.
     InPlace,
-    /// Each time in a line of its own, as in a file.
+    /// Each time on a line of its own.
     InLines,
 }
 
-/// Where it is shown how far a search has come, on a terminal or on what is none.
+/// Returns where progress is shown, if `is_wanted` even where there is no terminal.
 pub(crate) fn shown_on(is_terminal: bool, is_wanted: bool) -> Shown {
     if is_terminal {
         Shown::InPlace
@@ -29,31 +34,43 @@ pub(crate) fn shown_on(is_terminal: bool, is_wanted: bool) -> Shown {
     }
 }
 
-/// Shows how far a search has come.
+/// How a search is watched.
+#[derive(Clone, Copy, Drop)]
+pub(crate) struct Watching {
+    /// Where progress is shown.
+    pub shown: Shown,
+    /// The number of bytes of states that it may keep.
+    pub memory: u64,
+}
+
+/// Shows the progress of a search.
 pub(crate) struct Progress<W: Write + Drop> {
     out: W,
+    memory: u64,
     shown: Shown,
     is_open: bool,
     silent: u32,
 }
 
 impl<W: Write + Drop> Progress<W> {
-    /// Nothing is shown yet.
-    pub(crate) fn new(out: W, shown: Shown) -> Progress<W> {
+    /// Creates a progress that has shown nothing yet.
+    pub(crate) fn new(out: W, watching: Watching) -> Progress<W> {
         Progress {
             out,
-            shown,
+            memory: watching.memory,
+            shown: watching.shown,
             is_open: false,
             silent: SILENT,
         }
     }
 }
 
-/// Ends the line that is written over and over, where there is one.
+/// Ends the line that is overwritten, if there is one.
 impl<W: Write + Drop> Drop for Progress<W> {
     fn drop(self) {
         let Self {
             mut out,
+            memory: _,
             shown: _,
             is_open,
             silent: _,
@@ -82,5 +99,17 @@ impl<W: Write + Drop> Watch for Progress<W> {
                 let _ = writeln!(self.out, "{schedules} interleavings so far");
             }
         }
+    }
+
+    fn memory(&self) -> u64 {
+        self.memory
+    }
+
+    fn filled(&mut self) {
+        if self.is_open {
+            self.is_open = false;
+            let _ = writeln!(self.out);
+        }
+        let _ = writeln!(self.out, "{FILLED}");
     }
 }

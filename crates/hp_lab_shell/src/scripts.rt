@@ -7,7 +7,7 @@ use hp_questions::{Unbegun, unbegun_lines};
 use hp_scenario::{Scenario, ScenarioFault};
 use std::alloc::{AllocError, Global};
 
-/// How many lines the scenario has; none where the bytes are no scenario. An error is out of memory.
+/// Returns the number of lines of the scenario, or `None` if the bytes are no scenario.
 pub(crate) fn line_count(alloc: Global, input: &[u8]) -> Result<Option<u64>, AllocError>
     ensures { IfOk result (λ count. count ≡ count_of (scenario_in input.now)) }
 {
@@ -18,8 +18,8 @@ pub(crate) fn line_count(alloc: Global, input: &[u8]) -> Result<Option<u64>, All
     }
 }
 
-/// The lines after so many lines of setup that work on operation 0 where their processor has begun none;
-/// none where the bytes are no scenario. An error is out of memory.
+/// Returns the lines after the setup that work on operation 0 although their processor has begun
+/// none; empty if the bytes are no scenario.
 pub(crate) fn unbegun_in(
     alloc: Global,
     input: &[u8],

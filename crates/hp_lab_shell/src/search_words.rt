@@ -1,7 +1,7 @@
 //! The arguments of the words that search: `explore`, and `sum` of its parts.
 
 use crate::arguments::{
-    Argument, FILE, FIND, JOBS, JSON, NEVER, PART, PROGRESS, SCENARIO, SCENARIO_FILE, Takes,
+    Argument, FILE, FIND, JOBS, JSON, MEMORY, NEVER, PART, PROGRESS, SCENARIO, SCENARIO_FILE, Takes,
 };
 
 /// The option that writes an interleaving as a scenario.
@@ -21,7 +21,7 @@ const AS_JSON: Argument = Argument {
 };
 
 /// The arguments of `explore`.
-pub(crate) const EXPLORE: [Argument; 10] = [
+pub(crate) const EXPLORE: [Argument; 11] = [
     Argument {
         name: "setup",
         takes: Takes::Number,
@@ -32,6 +32,12 @@ pub(crate) const EXPLORE: [Argument; 10] = [
         name: "limit",
         takes: Takes::Number,
         help: "Counts at most so many interleavings, the first ones (10000000)",
+        against: &[],
+    },
+    Argument {
+        name: MEMORY,
+        takes: Takes::Number,
+        help: "Keeps at most so many MiB of states (2048)",
         against: &[],
     },
     Argument {

@@ -3,10 +3,13 @@
 use crate::command::lab_command;
 use crate::files::bytes_of;
 use crate::judging::serve_judge;
-use crate::laboratory::Laboratory;
-use crate::messages::{file_name, say_fault, say_unbegun, say_words};
-use crate::progress::{Progress, Shown, shown_on};
-use crate::words::{Request, Word, is_past_the_found, part_from, request_from, texts_from};
+use crate::laboratory::{Laboratory, Served};
+use crate::messages::{file_name, say_fault, say_no_line, say_unbegun, say_words};
+use crate::output::Output;
+use crate::progress::{Progress, Watching, shown_on};
+use crate::words::{
+    Request, Word, is_past_the_found, lacks_scenario, part_from, request_from, texts_from,
+};
 use clap::ArgMatches;
 use clap::error::ErrorKind;
 use hp_questions::{Wanted, wanted_line};
@@ -18,27 +21,30 @@ use std::process::ExitCode;
 use std::thread::Threads;
 use std::{env, fs, io};
 
-/// Does a word on the files that are named, or else on standard input, or says what failed, and answers
-/// the exit status.
+/// Serves a request on the named files, or on standard input if no file is named, and returns the
+/// exit status. Standard error names a fault.
 fn serve_request<L: Laboratory, T: Threads + Sync>(
     rt: &HostRuntime,
     lab: &L,
     threads: &T,
     request: Request<'_, '_, '_>,
 ) -> u8 {
-    let shown = shown_on(rt.stderr().is_terminal(), request.progress);
+    let watching = Watching {
+        shown: shown_on(rt.stderr().is_terminal(), request.progress),
+        memory: request.memory,
+    };
     match request.files {
         [] => {
-            let served = serve_input(rt, lab, threads, request.word, rt.stdin(), shown);
+            let served = serve_input(rt, lab, threads, request.word, rt.stdin(), watching);
             status_of(rt, None, served)
         }
         [name] => {
-            let served = serve_file(rt, lab, threads, request.word, name, shown);
+            let served = serve_file(rt, lab, threads, request.word, name, watching);
             status_of(rt, file_name(name), served)
         }
         names => match bytes_of(rt, names) {
             Ok(bytes) => {
-                let served = serve_input(rt, lab, threads, request.word, bytes.as_slice(), shown);
+                let served = serve_bytes(rt, lab, threads, request.word, &bytes, watching);
                 status_of(rt, None, served)
             }
             Err(unread) => status_of(rt, unread.name, Err(unread.fault)),
@@ -46,8 +52,8 @@ fn serve_request<L: Laboratory, T: Threads + Sync>(
     }
 }
 
-/// The exit status that a word came to; or 1 after a fault, which standard error has, with the name of
-/// the file where that was not read.
+/// Returns the exit status, which is 1 after a fault. Standard error names the fault, and the file
+/// if it could not be read.
 fn status_of(rt: &HostRuntime, file: Option<&str>, served: Result<u8, LabProgramFault>) -> u8 {
     match served {
         Ok(status) => status,
@@ -58,36 +64,36 @@ fn status_of(rt: &HostRuntime, file: Option<&str>, served: Result<u8, LabProgram
     }
 }
 
-/// Does a word on the file with a name; `-` names standard input.
+/// Serves a word on the file with this name; `-` names standard input.
 fn serve_file<L: Laboratory, T: Threads + Sync>(
     rt: &HostRuntime,
     lab: &L,
     threads: &T,
     word: Word<'_>,
     name: &str,
-    shown: Shown,
+    watching: Watching,
 ) -> Result<u8, LabProgramFault> {
     if name == "-" {
-        return serve_input(rt, lab, threads, word, rt.stdin(), shown);
+        return serve_input(rt, lab, threads, word, rt.stdin(), watching);
     }
     match fs::open(rt, name) {
-        Ok(input) => serve_input(rt, lab, threads, word, input, shown),
+        Ok(input) => serve_input(rt, lab, threads, word, input, watching),
         Err(_) => Err(LabProgramFault::NotOpened),
     }
 }
 
-/// Does a word on what the input has, and writes to standard output.
+/// Serves a word on an input, and writes to standard output.
 fn serve_input<L: Laboratory, T: Threads + Sync, R: Read + Drop>(
     rt: &HostRuntime,
     lab: &L,
     threads: &T,
     word: Word<'_>,
     input: R,
-    shown: Shown,
+    watching: Watching,
 ) -> Result<u8, LabProgramFault> {
     let mut reader = Counted::new(input);
-    let mut writer = Counted::new(rt.stdout());
-    let progress = Progress::new(rt.stderr(), shown);
+    let mut writer = Output::new(rt.stdout());
+    let progress = Progress::new(rt.stderr(), watching);
     let served = lab.serve(
         threads,
         rt.alloc(),
@@ -95,13 +101,50 @@ fn serve_input<L: Laboratory, T: Threads + Sync, R: Read + Drop>(
         &mut reader,
         &mut writer,
         progress,
-    )?;
-    say_unbegun(rt, &served.unbegun);
-    Ok(served.status)
+    );
+    told_status(rt, word, served, writer.is_left())
 }
 
-/// The lines that parsed words want of an end; none where a text is no line of any end, which
-/// standard error says.
+/// Serves a word on the bytes of several files, and writes to standard output.
+fn serve_bytes<L: Laboratory, T: Threads + Sync>(
+    rt: &HostRuntime,
+    lab: &L,
+    threads: &T,
+    word: Word<'_>,
+    bytes: &[u8],
+    watching: Watching,
+) -> Result<u8, LabProgramFault> {
+    let mut writer = Output::new(rt.stdout());
+    let progress = Progress::new(rt.stderr(), watching);
+    let served = lab.serve_text(threads, rt.alloc(), word, bytes, &mut writer, progress);
+    told_status(rt, word, served, writer.is_left())
+}
+
+/// Prints warnings on standard error, and returns the exit status. If nobody reads what is written,
+/// that is 1, and nothing is printed.
+fn told_status(
+    rt: &HostRuntime,
+    word: Word<'_>,
+    served: Result<Served, LabProgramFault>,
+    is_left: bool,
+) -> Result<u8, LabProgramFault> {
+    match served {
+        Ok(served) => {
+            say_unbegun(rt, &served.unbegun);
+            if lacks_scenario(word, served.status) {
+                let _ = eprintln!(rt;
+                    "hotplug_lab: no such interleaving, so no scenario is written"
+                );
+            }
+            Ok(served.status)
+        }
+        Err(LabProgramFault::WriteFailed) if is_left => Ok(1),
+        Err(fault) => Err(fault),
+    }
+}
+
+/// Returns the lines that the parsed words want of an end. Returns `None` if no end can have one of
+/// the texts as a line, and standard error says so.
 fn wanted_from(
     rt: &HostRuntime,
     matches: &ArgMatches<'_>,
@@ -112,14 +155,14 @@ fn wanted_from(
     };
     for text in texts {
         if !push_line(rt.alloc(), &mut wanted, text)? {
-            let _ = eprintln!(rt; "hotplug_lab: no end has the line `{text}`");
+            say_no_line(rt, text)?;
             return Ok(None);
         }
     }
     Ok(Some(wanted))
 }
 
-/// Adds the line of an end that a text is, and says whether it is one. An error is out of memory.
+/// Parses a text as the line of an end and adds it. Returns whether it is one.
 fn push_line(alloc: Global, wanted: &mut Vec<Wanted>, text: &str) -> Result<bool, AllocError> {
     match wanted_line(alloc, text) {
         Ok(Some(line)) => {
@@ -131,7 +174,7 @@ fn push_line(alloc: Global, wanted: &mut Vec<Wanted>, text: &str) -> Result<bool
     }
 }
 
-/// Does what parsed words ask for, and answers the exit status.
+/// Serves the parsed words, and returns the exit status.
 fn serve_matches<L: Laboratory, T: Threads + Sync>(
     rt: &HostRuntime,
     lab: &L,
@@ -144,7 +187,7 @@ fn serve_matches<L: Laboratory, T: Threads + Sync>(
     }
 }
 
-/// Does what parsed words ask of a scenario, and answers the exit status.
+/// Serves the parsed words on a scenario, and returns the exit status.
 fn serve_scenario<L: Laboratory, T: Threads + Sync>(
     rt: &HostRuntime,
     lab: &L,
@@ -168,7 +211,7 @@ fn serve_scenario<L: Laboratory, T: Threads + Sync>(
     }
 }
 
-/// Does what the words ask for, or says what they may be, and answers the exit status.
+/// Parses and serves the words, or prints what they may be, and returns the exit status.
 fn run<L: Laboratory, T: Threads + Sync>(
     rt: &HostRuntime,
     lab: &L,
@@ -185,7 +228,7 @@ fn run<L: Laboratory, T: Threads + Sync>(
     }
 }
 
-/// Reads the words that the program was called with, and does what they ask for.
+/// Reads the words that the program was called with, and serves them.
 fn run_words<L: Laboratory, T: Threads + Sync>(
     rt: &HostRuntime,
     lab: &L,
@@ -206,9 +249,9 @@ fn run_words<L: Laboratory, T: Threads + Sync>(
     }
 }
 
-/// Does what the program was called for, and answers the exit status: 0; or 1 after a fault, which
-/// standard error names, and where a check finds one; or 2 where the words are wrong; or 3 where a
-/// search does not find what was asked for, and where a log is unlawful.
+/// Runs the program and returns its exit status: 0; 1 after a fault, which standard error names, and
+/// if a check finds one; 2 if the words are wrong; 3 if a search does not find what was asked for,
+/// and if a log is unlawful.
 pub fn run_program<L: Laboratory, T: Threads + Sync>(
     rt: &HostRuntime,
     lab: &L,

@@ -1,6 +1,8 @@
 //! The words that the program is called with.
 
-use crate::arguments::{FILE, FIND, HTML, JOBS, JSON, LOG, NEVER, PART, PROGRESS, SCENARIO};
+use crate::arguments::{
+    FILE, FIND, HTML, JOBS, JSON, LOG, MEMORY, NEVER, PART, PROGRESS, SCENARIO,
+};
 use crate::checks::{ALL, LIMIT};
 use clap::ArgMatches;
 use hp_numbers::number64;
@@ -9,37 +11,40 @@ use hp_schedules::ShardId;
 use hp_search::{EndsForm, ScheduleForm};
 use hp_trace::View;
 
-/// The pixels of a cell where no number is given, and the most there may be.
+/// The default width of a cell in pixels, and the greatest.
 const CELL: u64 = 8;
 
 const WIDEST_CELL: u64 = 32;
 
-/// The scale of a picture in per cent if no number is given, and the least and the most it may be.
+/// The default scale of a picture in per cent, the least and the greatest.
 const SCALE: u64 = 100;
 
 const LEAST_SCALE: u64 = 25;
 
 const MOST_SCALE: u64 = 400;
 
-/// The columns of a trace's row where no width is given.
+/// The default number of MiB of states that a search may keep.
+const MEMORY_MIB: u64 = 2048;
+
+/// The default width of a trace's rows in columns.
 const WIDTH: u64 = 200;
 
-/// What is said where no word, or another word, is named; clap asks for one of them.
+/// Printed if there is no such subcommand; clap asks for one before.
 const NO_WORD: &str = "there is no such word";
 
 /// The most threads.
 const MOST_JOBS: u64 = 256;
 
-/// What is asked of an exploration.
+/// The options of an exploration.
 #[derive(Clone, Copy)]
 pub struct ExploreOptions {
-    /// How many lines of the scenario are run in order first.
+    /// How many lines of the scenario run in order first.
     pub setup: u64,
-    /// The most interleavings that are counted.
+    /// The greatest number of interleavings to count.
     pub limit: u64,
 }
 
-/// What is asked of a picture.
+/// The options of a picture.
 #[derive(Clone, Copy)]
 pub struct Drawing {
     /// What it shows.
@@ -59,65 +64,68 @@ pub enum JsonForm {
     Page,
 }
 
-/// What is to be made of a scenario.
+/// What to do with a scenario.
 #[derive(Clone, Copy)]
 pub enum Word<'a> {
-    /// What is wrong with it and where, where so many lines are the setup, and the later ones stand in
+    /// Report what is wrong with it and where. This many lines are the setup; later ones are in
     /// scripts.
     Check(u64),
-    /// Every interleaving of its scripts, by so many threads.
+    /// Explore every interleaving of its scripts, in `jobs` threads.
     Explore {
         asked: ExploreOptions,
         form: EndsForm,
         jobs: u32,
     },
-    /// One part of these.
+    /// Search one part of these.
     Part {
         asked: ExploreOptions,
         part: &'a ShardId,
     },
-    /// All of these, in a form, where the text is no scenario, but those of all parts.
+    /// Add up all parts, whose texts come in place of a scenario.
     Sum(EndsForm),
-    /// An interleaving whose end has each of these lines.
+    /// Find an interleaving whose end has each of these lines.
     Find {
         asked: ExploreOptions,
         wanted: &'a [Wanted],
         form: ScheduleForm,
     },
-    /// That no interleaving has such an end.
+    /// Expect that no interleaving has such an end.
     Never {
         asked: ExploreOptions,
         wanted: &'a [Wanted],
         form: ScheduleForm,
     },
-    /// What each of its lines answers, with the memory after each call.
+    /// Trace what each line replies, with the memory after each call.
     Trace(View),
-    /// The same as one picture, with all memory blocks in each row.
+    /// Draw the trace as one picture, with all memory blocks in each row.
     Picture(Drawing),
-    /// What happens to frames and memory blocks, as a log that `judge` reads.
+    /// Log what happens to frames and memory blocks, in the form that `judge` reads.
     Log,
-    /// The trace as JSON.
+    /// Trace it as JSON.
     Told(JsonForm),
 }
 
-/// What the program is asked for, and the files that are named.
+/// What the program was asked to do, and on which files.
 #[derive(Clone, Copy)]
 pub(crate) struct Request<'m, 'a, 'w> {
-    /// What is to be made of the scenario.
+    /// What to do with the scenario.
     pub word: Word<'w>,
-    /// The names of the files, one after another; none for standard input.
+    /// The names of the files, in order; empty for standard input.
     pub files: &'m [&'a str],
-    /// Whether it is to be told how far a search has come, whatever standard error is.
+    /// Whether progress is printed even if standard error is no terminal.
     pub progress: bool,
+    /// The number of bytes of states that a search may keep.
+    pub memory: u64,
 }
 
-/// The lines that parsed words want of an end, as texts; none where they want none.
+/// Returns the texts of the lines that the parsed words want of an end, if they want any.
 pub(crate) fn texts_from<'m, 'a>(matches: &'m ArgMatches<'a>) -> Option<&'m [&'a str]> {
     let (_name, words) = matches.subcommand()?;
     words.get_strs(FIND).or(words.get_strs(NEVER))
 }
 
-/// Whether parsed words ask a search, which tells one interleaving, for the scenario of another.
+/// Returns whether the parsed words ask a search, which finds one interleaving, for the scenario of
+/// another.
 pub(crate) fn is_past_the_found(matches: &ArgMatches<'_>) -> bool {
     let Some((_name, words)) = matches.subcommand() else {
         return false;
@@ -125,22 +133,35 @@ pub(crate) fn is_past_the_found(matches: &ArgMatches<'_>) -> bool {
     texts_from(matches).is_some() && words.get_one::<u64>(SCENARIO).unwrap_or(1) != 1
 }
 
-/// What is said of a part that there is not.
+/// Printed if there is no such part.
 const NO_PART: &str = "--part may be I/N, with I from 1 to N, and N at most 1000000";
 
-/// The part that a text asks for as `I/N`.
+/// Parses a part as `I/N`.
 fn part_named(text: &str) -> Option<ShardId> {
     let (number, of) = text.split_once('/')?;
     ShardId::new(number64(number)?, number64(of)?)
 }
 
-/// The part that parsed words ask for; none where they name none, or one that there is not.
+/// Returns whether a word asked for a scenario, and the exit status says that there is no
+/// interleaving to make it of.
+pub(crate) fn lacks_scenario(word: Word<'_>, status: u8) -> bool {
+    match word {
+        Word::Explore { form, .. } | Word::Sum(form) => {
+            matches!(form, EndsForm::Scenario(_)) && status != 0
+        }
+        Word::Find { form, .. } => matches!(form, ScheduleForm::Scenario) && status != 0,
+        Word::Never { form, .. } => matches!(form, ScheduleForm::Scenario) && status == 0,
+        _ => false,
+    }
+}
+
+/// Returns the part that the parsed words ask for, if they name one that exists.
 pub(crate) fn part_from(matches: &ArgMatches<'_>) -> Option<ShardId> {
     let (_name, words) = matches.subcommand()?;
     part_named(words.get_str(PART)?)
 }
 
-/// The names of files; none where no file is named.
+/// Returns the names of files; empty if no file is named.
 fn files_of<'m, 'a>(names: Option<&'m [&'a str]>) -> &'m [&'a str] {
     match names {
         Some(names) => names,
@@ -148,8 +169,8 @@ fn files_of<'m, 'a>(names: Option<&'m [&'a str]>) -> &'m [&'a str] {
     }
 }
 
-/// What parsed words ask for, with the lines that they want of an end and the part that they name; or
-/// why they ask for nothing, whatever the scenario.
+/// Returns the request that the parsed words make, given the lines that they want of an end and the
+/// part that they name; or why no scenario can serve it.
 pub(crate) fn request_from<'m, 'a, 'w>(
     matches: &'m ArgMatches<'a>,
     wanted: &'w [Wanted],
@@ -160,12 +181,23 @@ pub(crate) fn request_from<'m, 'a, 'w>(
             word: word_from(name, words, wanted, part)?,
             files: files_of(words.get_strs(FILE)),
             progress: name == "explore" && words.get_flag(PROGRESS),
+            memory: memory_from(name, words),
         }),
         None => Err(NO_WORD),
     }
 }
 
-/// What a word asks for with the words after it, or why it asks for nothing.
+/// Returns the number of bytes of states that a search may keep.
+fn memory_from(name: &str, words: &ArgMatches<'_>) -> u64 {
+    let asked = if name == "explore" {
+        words.get_one::<u64>(MEMORY)
+    } else {
+        None
+    };
+    asked.unwrap_or(MEMORY_MIB).saturating_mul(1 << 20)
+}
+
+/// Returns what a subcommand asks for with its options, or why it cannot be served.
 fn word_from<'a>(
     name: &str,
     words: &ArgMatches<'_>,
@@ -181,7 +213,7 @@ fn word_from<'a>(
     }
 }
 
-/// What the words of `explore` ask for: a search, a part, or all.
+/// Returns what `explore` asks for: a search, a part, or all.
 fn exploring_word<'a>(
     words: &ArgMatches<'_>,
     wanted: &'a [Wanted],
@@ -212,7 +244,7 @@ fn exploring_word<'a>(
     }
 }
 
-/// The word that asks for every interleaving.
+/// Returns the word that explores every interleaving.
 fn whole_word<'a>(asked: ExploreOptions, words: &ArgMatches<'_>) -> Result<Word<'a>, &'static str> {
     let jobs = words.get_one::<u64>(JOBS).unwrap_or(1);
     if jobs == 0 || jobs > MOST_JOBS {
@@ -225,7 +257,7 @@ fn whole_word<'a>(asked: ExploreOptions, words: &ArgMatches<'_>) -> Result<Word<
     })
 }
 
-/// What the words of `trace` ask for.
+/// Returns what `trace` asks for.
 fn tracing_word<'a>(words: &ArgMatches<'_>) -> Result<Word<'a>, &'static str> {
     if words.get_flag(LOG) {
         return Ok(Word::Log);
@@ -252,7 +284,7 @@ fn tracing_word<'a>(words: &ArgMatches<'_>) -> Result<Word<'a>, &'static str> {
     Ok(Word::Trace(view))
 }
 
-/// Returns how the words of `trace` ask for a picture, or why they may not.
+/// Returns the options of a picture, or what is wrong with them.
 fn drawing_from(words: &ArgMatches<'_>, view: View) -> Result<Drawing, &'static str> {
     let cell = words.get_one::<u64>("cell").unwrap_or(CELL);
     if cell == 0 || cell > WIDEST_CELL {
@@ -269,7 +301,7 @@ fn drawing_from(words: &ArgMatches<'_>, view: View) -> Result<Drawing, &'static 
     })
 }
 
-/// What is asked of an exploration.
+/// Returns the options of an exploration.
 fn exploration_from(words: &ArgMatches<'_>) -> ExploreOptions {
     ExploreOptions {
         setup: words.get_one::<u64>("setup").unwrap_or(0),
@@ -277,7 +309,7 @@ fn exploration_from(words: &ArgMatches<'_>) -> ExploreOptions {
     }
 }
 
-/// How the ends are to be written.
+/// Returns the form of the ends.
 fn ends_form_from(words: &ArgMatches<'_>) -> EndsForm {
     match words.get_one::<u64>(SCENARIO) {
         Some(number) => EndsForm::Scenario(number),
@@ -286,7 +318,7 @@ fn ends_form_from(words: &ArgMatches<'_>) -> EndsForm {
     }
 }
 
-/// How the interleaving that is found is to be written.
+/// Returns the form of the interleaving that a search finds.
 fn schedule_form_from(words: &ArgMatches<'_>) -> ScheduleForm {
     match words.get_one::<u64>(SCENARIO) {
         Some(_) => ScheduleForm::Scenario,
@@ -295,7 +327,7 @@ fn schedule_form_from(words: &ArgMatches<'_>) -> ScheduleForm {
     }
 }
 
-/// What a trace shows.
+/// Returns what a trace shows.
 fn view_from(words: &ArgMatches<'_>) -> View {
     View {
         from: words.get_one::<u64>("from").unwrap_or(1),

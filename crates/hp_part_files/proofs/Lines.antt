@@ -1,5 +1,5 @@
 -- The line at a place.
-use Rattle.std.proofs.Common.{◌≡◌, ℕ, ◌-◌, ◌≤◌, List, Some, length, take, drop, arith}
+use Rattle.std.proofs.Common.{ℕ, ◌-◌, ◌≤◌, List, Some, length, take, drop, arith}
 use Rattle.std.proofs.lemmas.Grind.{common_steps}
 use Rattle.memchr.specs.Find.{IsFirstByte, is_byte}
 use Rattle.hp_part_files.specs.Cuts.{IsLineAt}

@@ -278,8 +278,9 @@ too_many input names g s parts lists fault read all h =
     inr (inr (inr (inr (record { parts = parts; read = read; cause = inr (lists, all, h) }))))
 
 -- the sum has no answer after a scenario was made ready
-pub unsummed_in : (input : List ℕ) (s : SearchValue) (p : Prepared) (fault : PartFault)
-    → IsPrepared s.scenario s.setup p → IsUntoldSum input (names_of p) (setting_of p) s fault
-    → IsUnsummedIn input s fault
-unsummed_in input s p fault ready h =
-    inr (held_in (λ names before g. IsUntoldSum input names g s fault) s.scenario s.setup p ready h)
+pub unsummed_in : (input : List ℕ) (h : HeadValue) (p : Prepared) (fault : PartFault)
+    → IsPrepared h.search.scenario h.search.setup p
+    → IsUntoldSum input (names_of p) (setting_of p) h.search fault → IsUnsummedIn input h fault
+unsummed_in input h p fault ready untold =
+    inr (held_in (λ names before g. IsUntoldSum input names g h.search fault) h.search.scenario h.search.setup p
+    ready untold)

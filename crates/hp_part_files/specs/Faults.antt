@@ -161,11 +161,17 @@ IsUntoldSum input names g s fault =
     ⊎ (IsUnended input names g s fault
     ⊎ (IsLastCut input names g s fault ⊎ IsUnsummed input names g s fault)))
 
--- the scenario cannot be prepared, or its parts cannot be added up
-abbrev pub IsUnsummedIn : (input : List ℕ) → SearchValue → PartFault → Type 0
-IsUnsummedIn input s fault =
-    ((why : LabFault) × (fault ≡ part.Lab why) × IsUnprepared s.scenario s.setup why)
-    ⊎ HoldsIn (λ names before g. IsUntoldSum input names g s fault) s.scenario s.setup
+-- the scenario that the head of part `number` names cannot be explored
+abbrev pub fault_of_head : (number : ℕ) → LabFault → PartFault
+fault_of_head number OutOfMemory = part.Lab OutOfMemory
+fault_of_head number why = part.Head number why
+
+-- that scenario cannot be prepared, or its parts cannot be added up
+abbrev pub IsUnsummedIn : (input : List ℕ) → HeadValue → PartFault → Type 0
+IsUnsummedIn input h fault =
+    ((why : LabFault) × (fault ≡ fault_of_head h.number why)
+    × IsUnprepared h.search.scenario h.search.setup why)
+    ⊎ HoldsIn (λ names before g. IsUntoldSum input names g h.search fault) h.search.scenario h.search.setup
 
 -- the text begins with a head
 abbrev pub BeginsWith : (input : List ℕ) → HeadValue → Type 0
@@ -181,4 +187,4 @@ BeginsWithNone input =
 abbrev pub IsSumFault : (input : List ℕ) → PartFault → Type 0
 IsSumFault input fault =
     (((fault ≡ part.NotPart 1) × BeginsWithNone input) ⊎ (fault ≡ part.Lab OutOfMemory))
-    ⊎ ((h : HeadValue) × BeginsWith input h × IsUnsummedIn input h.search fault)
+    ⊎ ((h : HeadValue) × BeginsWith input h × IsUnsummedIn input h fault)

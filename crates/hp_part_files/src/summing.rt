@@ -10,7 +10,7 @@ ghost use Rattle.hp_part_files.specs.Heads.{IsNumber, head_line};
 ghost use Rattle.hp_part_files.specs.Ordering.{AreAll, AreWithin, lists_of};
 ghost use Rattle.hp_search.specs.declared.lab_fault.LabFault.TheVariants.{OutOfMemory};
 ghost use Rattle.hp_search.specs.declared.part_fault.PartFault.TheVariants as part;
-ghost use Rattle.hp_part_files.specs.Faults.{IsMisplaced, IsSumFault, IsTooMany, IsUnsummedIn, IsUntoldSum, fault_of_order};
+ghost use Rattle.hp_part_files.specs.Faults.{IsMisplaced, IsSumFault, IsTooMany, IsUnsummedIn, IsUntoldSum, fault_of_head, fault_of_order};
 ghost use Rattle.hp_part_files.specs.Sums.{IsSum, IsSumOf, IsSumOn};
 ghost use Rattle.hp_part_files.specs.Taking.{HasRead};
 
@@ -35,9 +35,10 @@ use std::alloc::Global;
 /// search, or reports that a part stopped at its limit; `OtherCount` with the number, from 1, of a
 /// part that has fewer or more ends than its head names; `Twice` or `Missing` with the first number
 /// that comes twice or is missing; `TooMany` if there are 2^64 interleavings or more; `HistoryFull`
-/// if the history has no room for a call of the schedule in the first line at fault; those of
-/// reading the scenario, and `NotForScript`, as for `explore_text`; `OutOfMemory`, which may come
-/// in place of any other result.
+/// if the history has no room for a call of the schedule in the first line at fault; `Head` with
+/// the number of the first part, if reading the scenario that its head names fails, or a line of it
+/// may not be in a script, as for `explore_text`; `OutOfMemory`, which may come in place of any
+/// other result.
 pub fn sum_text(alloc: Global, input: &[u8], form: EndsForm) -> Result<SearchText, PartFault>
     ensures ok { IfOk result (λ f. IsSumOf form input.now (string_bytes f.text) f.is_found) }
     ensures err { IfErr result (IsSumFault input.now) }
@@ -86,10 +87,13 @@ fn sum_after(
     requires number { IsNumber head.now.search head.now.number }
     ensures ok { IfOk result (λ f. HoldsIn (IsSumOn form input.now head.now.search (string_bytes f.text)
         f.is_found) head.now.search.scenario head.now.search.setup) }
-    ensures err { IfErr result (IsUnsummedIn input.now head.now.search) }
+    ensures err { IfErr result (IsUnsummedIn input.now head.now) }
 {
     let search = &head.search;
-    let prepared = prepare(alloc, search.scenario.as_bytes(), search.setup)?;
+    let prepared = match prepare(alloc, search.scenario.as_bytes(), search.setup) {
+        Ok(prepared) => prepared,
+        Err(fault) => return Err(fault_of_head(head.number, fault)),
+    };
     sum_on(alloc, input, &prepared, head, start, form)
 }
 
@@ -126,6 +130,17 @@ fn lists_of(alloc: Global, parts: Vec<PartEnds>, of: u32) -> Result<Vec<Vec<Endi
     match ends_by_number(alloc, parts, of) {
         Ok(lists) => Ok(lists),
         Err(fault) => Err(fault_of_order(fault)),
+    }
+}
+
+/// Returns the fault of the sum if the scenario that the head of part `part` names cannot be
+/// explored.
+fn fault_of_head(part: u32, fault: LabFault) -> PartFault
+    ensures { result ≡ fault_of_head part fault }
+{
+    match fault {
+        LabFault::OutOfMemory => PartFault::Lab(LabFault::OutOfMemory),
+        _ => PartFault::Head { part, fault },
     }
 }
 

@@ -6,10 +6,12 @@ use Rattle.hp_units.specs.declared.replies.Refusal.{Refusal}
 use Rattle.hp_units.specs.declared.replies.Refusal.TheVariants.{Twice, Busy, NotOnline, NotOffline, Unmovable, NotFree, NotAbsent}
 use Rattle.hp_units.specs.declared.replies.Reply.{Reply}
 use Rattle.hp_units.specs.declared.replies.Reply.TheVariants.{Frame, Moved, Refused}
+use Rattle.hp_questions.specs.declared.wanted.EndLine.{EndLine}
+use Rattle.hp_questions.specs.declared.wanted.EndLine.TheVariants.{Answer, AnswerAt, Block}
 use Rattle.hp_questions.specs.declared.wanted.Pattern.{Pattern}
 use Rattle.hp_questions.specs.declared.wanted.Pattern.TheVariants.{Exactly, AnyOf}
 use Rattle.hp_questions.specs.declared.wanted.Wanted.{Wanted}
-use Rattle.hp_questions.specs.declared.wanted.Wanted.TheVariants.{Answer, Block}
+use Rattle.hp_questions.specs.declared.wanted.Wanted.TheVariants.{Has, Lacks}
 
 -- the refusal, or the reply, names a frame or a memory block outside the layout
 abbrev pub IsRefusalPast : LayoutParts → Refusal → Type 0
@@ -33,11 +35,21 @@ abbrev pub IsPatternPast : LayoutParts → Pattern → Type 0
 IsPatternPast l (Exactly reply) = IsReplyPast l reply
 IsPatternPast l (AnyOf refusal) = ⊥
 
--- the line does, or names a processor or a memory block outside the layout
+-- a reply to this processor does, or the layout has no such processor
+abbrev pub IsAnswerPast : LayoutParts → (cpu : ℕ) → Pattern → Type 0
+IsAnswerPast l cpu reply = (l.cpus ≤ cpu) ⊎ IsPatternPast l reply
+
+-- the line does, or names a memory block outside the layout
+abbrev pub IsLinePast : LayoutParts → EndLine → Type 0
+IsLinePast l (Answer None reply) = IsPatternPast l reply
+IsLinePast l (Answer (Some cpu) reply) = IsAnswerPast l cpu reply
+IsLinePast l (AnswerAt cpu earlier reply) = IsAnswerPast l cpu reply
+IsLinePast l (Block block row) = l.blocks ≤ block
+
+-- a line that an end is to have or to lack does
 abbrev pub IsPast : LayoutParts → Wanted → Type 0
-IsPast l (Answer None reply) = IsPatternPast l reply
-IsPast l (Answer (Some cpu) reply) = (l.cpus ≤ cpu) ⊎ IsPatternPast l reply
-IsPast l (Block block row) = l.blocks ≤ block
+IsPast l (Has line) = IsLinePast l line
+IsPast l (Lacks line) = IsLinePast l line
 
 -- none of the lines does
 abbrev pub AreWithin : LayoutParts → List Wanted → Type 0

@@ -1,14 +1,16 @@
--- Wanted lines, and which ends have them.
+-- What is wanted of an end, and which ends are so.
 use Rattle.std.specs.Prelude.{◌≡◌, ℕ, List, Option, Some, None, slice_get}
 use Rattle.hp_units.specs.declared.replies.Refusal.{Refusal}
 use Rattle.hp_units.specs.declared.replies.Refusal.TheVariants.{Twice, Busy, NotOnline, NotOffline, Unmovable, NotFree, NotAbsent}
 use Rattle.hp_units.specs.declared.replies.Reply.{Reply}
 use Rattle.hp_units.specs.declared.replies.Reply.TheVariants.{Refused}
 use Rattle.hp_schedules.specs.Outcomes.{OutcomeValue}
+use Rattle.hp_questions.specs.declared.wanted.EndLine.{EndLine}
+use Rattle.hp_questions.specs.declared.wanted.EndLine.TheVariants.{Answer, AnswerAt, Block}
 use Rattle.hp_questions.specs.declared.wanted.Pattern.{Pattern}
 use Rattle.hp_questions.specs.declared.wanted.Pattern.TheVariants.{Exactly, AnyOf}
 use Rattle.hp_questions.specs.declared.wanted.Wanted.{Wanted}
-use Rattle.hp_questions.specs.declared.wanted.Wanted.TheVariants.{Answer, Block}
+use Rattle.hp_questions.specs.declared.wanted.Wanted.TheVariants.{Has, Lacks}
 
 -- a refusal with 0 in place of the frame or block that it names
 abbrev pub kind_of : Refusal → Refusal
@@ -43,11 +45,26 @@ HasAnswer wanted all None =
 HasAnswer wanted all (Some cpu) =
     (replies : List Reply) × (slice_get all cpu ≡ Some replies) × HasReply wanted replies
 
+-- the reply after `earlier` others matches; a processor's reply does
+abbrev pub HasReplyAt : Pattern → List Reply → (earlier : ℕ) → Type 0
+HasReplyAt wanted replies earlier =
+    (reply : Reply) × (slice_get replies earlier ≡ Some reply) × IsAsWanted wanted reply
+
+abbrev pub HasAnswerAt : Pattern → List (List Reply) → (cpu earlier : ℕ) → Type 0
+HasAnswerAt wanted all cpu earlier =
+    (replies : List Reply) × (slice_get all cpu ≡ Some replies) × HasReplyAt wanted replies earlier
+
 -- the outcome has the line
-abbrev pub HasLine : OutcomeValue → Wanted → Type 0
+abbrev pub HasLine : OutcomeValue → EndLine → Type 0
 HasLine x (Answer cpu reply) = HasAnswer reply x.replies cpu
+HasLine x (AnswerAt cpu earlier reply) = HasAnswerAt reply x.replies cpu earlier
 HasLine x (Block block row) = slice_get x.blocks block ≡ Some row
 
--- the outcome has all wanted lines
+-- the outcome has the line, or lacks it, as wanted
+abbrev pub IsMetBy : OutcomeValue → Wanted → Type 0
+IsMetBy x (Has line) = HasLine x line
+IsMetBy x (Lacks line) = HasLine x line → ⊥
+
+-- the outcome is as all of this wants
 abbrev pub Meets : List Wanted → OutcomeValue → Type 0
-Meets wanted x = (k : ℕ) (line : Wanted) → slice_get wanted k ≡ Some line → HasLine x line
+Meets wanted x = (k : ℕ) (one : Wanted) → slice_get wanted k ≡ Some one → IsMetBy x one

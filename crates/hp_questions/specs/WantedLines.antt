@@ -1,6 +1,6 @@
 -- The text of a wanted line.
-use Rattle.std.specs.Prelude.{ℕ, ◌==◌, List, [], ◌∷◌, codes, Option, Some, None, if◌then◌else◌, option_map}
-use Rattle.std.specs.List.{slice_split}
+use Rattle.std.specs.Prelude.{ℕ, ◌-◌, ◌==◌, List, [], ◌∷◌, codes, drop, nat_eq, Option, Some, None, if◌then◌else◌, option_map}
+use Rattle.std.specs.List.{slice_split, starts_with}
 use Rattle.std.specs.Str.{bytes_eq}
 use Rattle.hp_numbers.specs.NumberWords.{number_of}
 use Rattle.hp_units.specs.declared.replies.Refusal.{Refusal}
@@ -13,10 +13,12 @@ use Rattle.hp_units.specs.declared.rows.State.TheVariants.{Offline, Online, Goin
 use Rattle.hp_units.specs.declared.rows.Zone.{Zone}
 use Rattle.hp_scenario.specs.Lines.{◌>>=◌, only_number, zone_of}
 use Rattle.hp_scenario.specs.Words.{words_of}
+use Rattle.hp_questions.specs.declared.wanted.EndLine.{EndLine}
+use Rattle.hp_questions.specs.declared.wanted.EndLine.TheVariants.{Answer, AnswerAt, Block}
 use Rattle.hp_questions.specs.declared.wanted.Pattern.{Pattern}
 use Rattle.hp_questions.specs.declared.wanted.Pattern.TheVariants.{Exactly, AnyOf}
 use Rattle.hp_questions.specs.declared.wanted.Wanted.{Wanted}
-use Rattle.hp_questions.specs.declared.wanted.Wanted.TheVariants.{Answer, Block}
+use Rattle.hp_questions.specs.declared.wanted.Wanted.TheVariants.{Has, Lacks}
 
 -- the parts between colons
 abbrev pub parts_of : List ℕ → List (List ℕ)
@@ -124,7 +126,7 @@ row_of word args =
     else (if bytes_eq word (codes "going") then zone_row Going args
     else None)))
 
-unfoldable pub block_of : List (List ℕ) → Option Wanted
+unfoldable pub block_of : List (List ℕ) → Option EndLine
 block_of (number ∷ word ∷ args) = do
   b ← number_of 32 number
   row ← row_of word args
@@ -134,29 +136,58 @@ block_of _ = None
 -- ---- lines
 
 -- a reply to any processor
-unfoldable pub any_of : List ℕ → List (List ℕ) → Option Wanted
+unfoldable pub any_of : List ℕ → List (List ℕ) → Option EndLine
 any_of word args = option_map (λ reply. Answer None reply) (reply_of word args)
 
 -- a reply to any processor, or a memory block
-unfoldable pub line_by : List ℕ → List (List ℕ) → Option Wanted
+unfoldable pub line_by : List ℕ → List (List ℕ) → Option EndLine
 line_by word args = if bytes_eq word (codes "block") then block_of args else any_of word args
 
-unfoldable pub line_of : List (List ℕ) → Option Wanted
+unfoldable pub line_of : List (List ℕ) → Option EndLine
 line_of [] = None
 line_of (word ∷ args) = line_by word args
 
--- a reply to one processor, after the space that follows the colon
-unfoldable pub answer_of : (cpu : ℕ) → List (List ℕ) → Option Wanted
-answer_of cpu ([] ∷ word ∷ args) = option_map (λ reply. Answer (Some cpu) reply) (reply_of word args)
-answer_of cpu _ = None
+-- the reply after the space that follows a colon
+unfoldable pub said_reply : List (List ℕ) → Option Pattern
+said_reply ([] ∷ word ∷ args) = reply_of word args
+said_reply _ = None
+
+-- the reply with this number, counted from 1
+unfoldable pub numbered_answer : (cpu number : List ℕ) → Pattern → Option EndLine
+numbered_answer cpu number reply = do
+  c ← number_of 32 cpu
+  n ← number_of 64 number
+  if n == 0 then None else Some (AnswerAt c (n - 1) reply)
+
+-- the words `cpu CPU answer NUMBER`
+unfoldable pub named_answer : (first cpu second number : List ℕ) → Pattern → Option EndLine
+named_answer first cpu second number reply =
+    if bytes_eq first (codes "cpu")
+    then (if bytes_eq second (codes "answer") then numbered_answer cpu number reply else None)
+    else None
+
+-- the words before a colon: a processor, or one of its answers
+unfoldable pub answer_by : List (List ℕ) → Pattern → Option EndLine
+answer_by (cpu ∷ []) reply = option_map (λ c. Answer (Some c) reply) (number_of 32 cpu)
+answer_by (first ∷ cpu ∷ second ∷ number ∷ []) reply = named_answer first cpu second number reply
+answer_by _ reply = None
+
+unfoldable pub answer_of : (who said : List (List ℕ)) → Option EndLine
+answer_of who said = do
+  reply ← said_reply said
+  answer_by who reply
 
 -- a line from the parts between its colons
-unfoldable pub line_in : List (List ℕ) → Option Wanted
+unfoldable pub line_in : List (List ℕ) → Option EndLine
 line_in (line ∷ []) = line_of (words_of line)
-line_in (cpu ∷ line ∷ []) = do
-  c ← number_of 32 cpu
-  answer_of c (words_of line)
+line_in (who ∷ said ∷ []) = answer_of (words_of who) (words_of said)
 line_in _ = None
 
+unfoldable pub end_line : List ℕ → Option EndLine
+end_line text = line_in (parts_of text)
+
+-- a line that an end is to have, or after `not ` to lack
 unfoldable pub wanted_line : List ℕ → Option Wanted
-wanted_line text = line_in (parts_of text)
+wanted_line text =
+    if starts_with nat_eq text (codes "not ") then option_map (λ l. Lacks l) (end_line (drop 4 text))
+    else option_map (λ l. Has l) (end_line text)

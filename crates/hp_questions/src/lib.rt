@@ -3,9 +3,9 @@
 //!
 //! The first lines of a scenario are its setup, run in order on one machine as `hotplug serial`
 //! does; each later line goes to the script of its processor. The crate owns which lines may be in
-//! a script, what step each becomes, and which operation the number 0 names. It parses wanted lines
-//! (a reply to a processor, or what became of a memory block, as an end is printed), matches them,
-//! and checks them against a layout. It searches nothing: hp_explore does, and hp_search writes
+//! a script, what step each becomes, and which operation the number 0 names. It parses the lines that
+//! an end is to have or to lack (a reply to a processor, or what became of a memory block, as an end
+//! is printed), matches them, and checks them against a layout. It searches nothing: hp_explore does, and hp_search writes
 //! what it finds.
 //!
 //! Read specs/Scripts first, then specs/Setup, specs/Begins and specs/Starts; of wanted lines
@@ -31,5 +31,5 @@ pub use limits::first_past;
 pub use start_fault::StartFault;
 pub use starts::{Start, front_of, start_of};
 pub use unbegun::{Unbegun, unbegun_lines};
-pub use wanted::{Pattern, Wanted, are_met};
+pub use wanted::{EndLine, Pattern, Wanted, are_met};
 pub use wanted_lines::wanted_line;

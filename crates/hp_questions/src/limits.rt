@@ -1,12 +1,12 @@
 //! Wanted lines that name something outside the layout.
 ghost use Rattle.std.specs.Prelude.{◌↔◌, IfNone, IfSome, IsTrue};
-ghost use Rattle.hp_questions.specs.Limits.{AreWithin, IsFirstPast, IsPast, IsPatternPast, IsRefusalPast, IsReplyPast};
+ghost use Rattle.hp_questions.specs.Limits.{AreWithin, IsAnswerPast, IsFirstPast, IsLinePast, IsPast, IsPatternPast, IsRefusalPast, IsReplyPast};
 
-use crate::wanted::{Pattern, Wanted};
-use hp_units::{Layout, Refusal, Reply};
+use crate::wanted::{EndLine, Pattern, Wanted};
+use hp_units::{Cpu, Layout, Refusal, Reply};
 
 /// Returns the number, from 1, of the first line that names a processor, a memory block or a frame
-/// outside the layout. No end can have such a line.
+/// outside the layout. No end can have such a line, so that it is no use to ask for one.
 pub fn first_past(wanted: &[Wanted], layout: &Layout) -> Option<u64>
     ensures some { IfSome result (IsFirstPast layout.now wanted.now) }
     ensures none { IfNone result (AreWithin layout.now wanted.now) }
@@ -20,19 +20,43 @@ pub fn first_past(wanted: &[Wanted], layout: &Layout) -> Option<u64>
 }
 
 impl Wanted {
-    /// Returns whether it names something outside the layout.
+    /// Returns whether its line names something outside the layout.
     fn is_past(&self, layout: &Layout) -> bool
         ensures { IsTrue result ↔ IsPast layout.now self.now }
     {
         match self {
-            Wanted::Answer { cpu: None, reply } => reply.is_past(layout),
-            Wanted::Answer {
-                cpu: Some(cpu),
-                reply,
-            } => cpu.0 >= layout.cpus() || reply.is_past(layout),
-            Wanted::Block { block, row: _ } => block.0 >= layout.blocks(),
+            Wanted::Has(line) => line.is_past(layout),
+            Wanted::Lacks(line) => line.is_past(layout),
         }
     }
+}
+
+impl EndLine {
+    /// Returns whether it names something outside the layout.
+    fn is_past(&self, layout: &Layout) -> bool
+        ensures { IsTrue result ↔ IsLinePast layout.now self.now }
+    {
+        match self {
+            EndLine::Answer { cpu: None, reply } => reply.is_past(layout),
+            EndLine::Answer {
+                cpu: Some(cpu),
+                reply,
+            } => is_answer_past(*cpu, reply, layout),
+            EndLine::AnswerAt {
+                cpu,
+                earlier: _,
+                reply,
+            } => is_answer_past(*cpu, reply, layout),
+            EndLine::Block { block, row: _ } => block.0 >= layout.blocks(),
+        }
+    }
+}
+
+/// Returns whether a reply to this processor names something outside the layout.
+fn is_answer_past(cpu: Cpu, reply: &Pattern, layout: &Layout) -> bool
+    ensures { IsTrue result ↔ IsAnswerPast layout.now cpu reply.now }
+{
+    cpu.0 >= layout.cpus() || reply.is_past(layout)
 }
 
 impl Pattern {

@@ -1,6 +1,6 @@
-//! Wanted lines, and which ends have them.
+//! What is wanted of an end, and which ends are so.
 ghost use Rattle.std.specs.Prelude.{◌≡◌, ◌↔◌, IsTrue, None, Some, slice_get};
-ghost use Rattle.hp_questions.specs.Wanted.{HasAnswer, HasLine, HasReply, IsAsWanted, IsKindOf, Meets, kind_of};
+ghost use Rattle.hp_questions.specs.Wanted.{HasAnswer, HasAnswerAt, HasLine, HasReply, HasReplyAt, IsAsWanted, IsKindOf, IsMetBy, Meets, kind_of};
 
 use hp_schedules::{Outcome, Replies};
 use hp_units::{Block, Cpu, Frame, Refusal, Reply, Row};
@@ -14,13 +14,34 @@ pub enum Pattern {
     AnyOf(Refusal),
 }
 
-/// A line that an end must have.
+/// A line of an end.
+#[derive(Clone, Copy, PartialEq, Eq, Drop)]
+pub enum EndLine {
+    /// This processor got such a reply at some time; any processor did, if `cpu` is `None`.
+    Answer {
+        cpu: Option<Cpu>,
+        reply: Pattern,
+    },
+    /// This processor got such a reply after `earlier` others.
+    AnswerAt {
+        cpu: Cpu,
+        earlier: u64,
+        reply: Pattern,
+    },
+    /// The memory block has this row at the end. Rows never name an operation here.
+    Block {
+        block: Block,
+        row: Row,
+    },
+}
+
+/// What is wanted of an end.
 #[derive(Clone, Copy, PartialEq, Eq, Drop)]
 pub enum Wanted {
-    /// This processor got such a reply at some time; any processor did, if `cpu` is `None`.
-    Answer { cpu: Option<Cpu>, reply: Pattern },
-    /// The memory block has this row at the end. Rows never name an operation here.
-    Block { block: Block, row: Row },
+    /// That it has the line.
+    Has(EndLine),
+    /// That it lacks the line.
+    Lacks(EndLine),
 }
 
 impl Pattern {
@@ -71,26 +92,63 @@ impl Pattern {
             None => self.is_among_all(all),
         }
     }
+
+    /// Returns whether this processor's reply after `earlier` others matches.
+    fn is_answered_at(&self, all: &[Replies], cpu: Cpu, earlier: u64) -> bool
+        ensures { IsTrue result ↔ HasAnswerAt self.now all.now cpu earlier }
+    {
+        match all.get(cpu.0 as usize) {
+            Some(answers) => self.is_at(answers.as_slice(), earlier),
+            None => false,
+        }
+    }
+
+    /// Returns whether the reply after `earlier` others matches.
+    fn is_at(&self, replies: &[Reply], earlier: u64) -> bool
+        ensures { IsTrue result ↔ HasReplyAt self.now replies.now earlier }
+    {
+        match replies.get(earlier as usize) {
+            Some(reply) => self.is_met_by(reply),
+            None => false,
+        }
+    }
 }
 
-impl Wanted {
+impl EndLine {
     /// Returns whether the end has the line.
     fn is_in(&self, outcome: &Outcome) -> bool
         ensures { IsTrue result ↔ HasLine outcome.now self.now }
     {
         match self {
-            Wanted::Answer { cpu, reply } => reply.is_answered(outcome.replies(), *cpu),
-            Wanted::Block { block, row } => has_row(outcome.blocks(), *block, row),
+            EndLine::Answer { cpu, reply } => reply.is_answered(outcome.replies(), *cpu),
+            EndLine::AnswerAt {
+                cpu,
+                earlier,
+                reply,
+            } => reply.is_answered_at(outcome.replies(), *cpu, *earlier),
+            EndLine::Block { block, row } => has_row(outcome.blocks(), *block, row),
         }
     }
 }
 
-/// Returns whether the end has all wanted lines.
+impl Wanted {
+    /// Returns whether the end is as wanted.
+    fn is_met_by(&self, outcome: &Outcome) -> bool
+        ensures { IsTrue result ↔ IsMetBy outcome.now self.now }
+    {
+        match self {
+            Wanted::Has(line) => line.is_in(outcome),
+            Wanted::Lacks(line) => !line.is_in(outcome),
+        }
+    }
+}
+
+/// Returns whether the end has all wanted lines, and none that it should lack.
 pub fn are_met(wanted: &[Wanted], outcome: &Outcome) -> bool
     ensures { IsTrue result ↔ Meets wanted.now outcome.now }
 {
     for index in 0..wanted.len() {
-        if !wanted[index].is_in(outcome) {
+        if !wanted[index].is_met_by(outcome) {
             return false;
         }
     }

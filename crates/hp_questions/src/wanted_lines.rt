@@ -1,22 +1,57 @@
 //! Parses a wanted line.
 ghost use Rattle.std.specs.Prelude.{◌≡◌, IfOk, OnOk, Some, map, option_map};
-ghost use Rattle.hp_questions.specs.declared.wanted.Wanted.TheVariants.{Answer};
+ghost use Rattle.hp_numbers.specs.NumberWords.{number_of};
+ghost use Rattle.hp_questions.specs.declared.wanted.EndLine.TheVariants.{Answer};
+ghost use Rattle.hp_questions.specs.declared.wanted.Wanted.TheVariants.{Has, Lacks};
 ghost use Rattle.hp_scenario.specs.Words.{words_of};
 ghost use Rattle.hp_questions.specs.WantedLines as says;
 
-use crate::wanted::{Pattern, Wanted};
+use crate::wanted::{EndLine, Pattern, Wanted};
 use hp_scenario::{only32, only64, zone_from};
-use hp_units::{Block, Claim, Cpu, Frame, Refusal, Reply, Row, Serial, State, Zone, number32};
+use hp_units::{
+    Block, Claim, Cpu, Frame, Refusal, Reply, Row, Serial, State, Zone, number32, number64,
+};
 use std::alloc::{AllocError, Global};
 
 /// Parses a line as `explore` prints it, or returns `None` if no end can have the text as a line.
 ///
 /// A line is a reply to any processor, such as `refused NotFree 3`; a reply to one processor, such
-/// as `0: done`; or a memory block, such as `block 1 offline`. A refusal without its frame or
-/// block, such as `refused NotFree`, matches every refusal of its kind.
-#[tactic(auto, unfolding(crate::specs::WantedLines::wanted_line))]
+/// as `0: done`; the n-th reply to one processor, such as `cpu 0 answer 2: done`; or a memory
+/// block, such as `block 1 offline`. A refusal without its frame or block, such as `refused
+/// NotFree`, matches every refusal of its kind. After `not `, an end without the line is wanted.
 pub fn wanted_line(alloc: Global, text: &str) -> Result<Option<Wanted>, AllocError>
     ensures { IfOk result (λ line. line ≡ says.wanted_line text.now) }
+{
+    match text.strip_prefix("not ") {
+        Some(rest) => lacking_line(alloc, rest),
+        None => having_line(alloc, text),
+    }
+}
+
+/// Parses a line that an end is to lack.
+fn lacking_line(alloc: Global, text: &str) -> Result<Option<Wanted>, AllocError>
+    ensures { IfOk result (λ line. line ≡ option_map (λ l. Lacks l) (says.end_line text.now)) }
+{
+    match end_line(alloc, text)? {
+        Some(line) => Ok(Some(Wanted::Lacks(line))),
+        None => Ok(None),
+    }
+}
+
+/// Parses a line that an end is to have.
+fn having_line(alloc: Global, text: &str) -> Result<Option<Wanted>, AllocError>
+    ensures { IfOk result (λ line. line ≡ option_map (λ l. Has l) (says.end_line text.now)) }
+{
+    match end_line(alloc, text)? {
+        Some(line) => Ok(Some(Wanted::Has(line))),
+        None => Ok(None),
+    }
+}
+
+/// Parses a line of an end.
+#[tactic(auto, unfolding(crate::specs::WantedLines::end_line))]
+fn end_line(alloc: Global, text: &str) -> Result<Option<EndLine>, AllocError>
+    ensures { IfOk result (λ line. line ≡ says.end_line text.now) }
 {
     let mut parts = Vec::new(alloc);
     split_parts(&mut parts, text)?;
@@ -41,21 +76,18 @@ fn split_words<'a>(words: &mut Vec<&'a str>, text: &'a str) -> Result<(), AllocE
 
 /// Parses a line that is split at its colons.
 #[tactic(auto, unfolding(crate::specs::WantedLines::line_in))]
-fn line_in(alloc: Global, parts: &[&str]) -> Result<Option<Wanted>, AllocError>
+fn line_in(alloc: Global, parts: &[&str]) -> Result<Option<EndLine>, AllocError>
     ensures { IfOk result (λ line. line ≡ says.line_in (map (λ w. w.now) parts.now)) }
 {
     match parts {
         [line] => lone_line(alloc, line),
-        [cpu, line] => match number32(cpu) {
-            Some(cpu) => line_of_cpu(alloc, Cpu(cpu), line),
-            None => Ok(None),
-        },
+        [who, said] => answer_line(alloc, who, said),
         _ => Ok(None),
     }
 }
 
 /// Parses a line without a colon.
-fn lone_line(alloc: Global, text: &str) -> Result<Option<Wanted>, AllocError>
+fn lone_line(alloc: Global, text: &str) -> Result<Option<EndLine>, AllocError>
     ensures { IfOk result (λ line. line ≡ says.line_of (words_of text.now)) }
 {
     let mut words = Vec::new(alloc);
@@ -63,18 +95,20 @@ fn lone_line(alloc: Global, text: &str) -> Result<Option<Wanted>, AllocError>
     Ok(line_from(words.as_slice()))
 }
 
-/// Parses what follows `CPU:`.
-fn line_of_cpu(alloc: Global, cpu: Cpu, text: &str) -> Result<Option<Wanted>, AllocError>
-    ensures { IfOk result (λ line. line ≡ says.answer_of cpu (words_of text.now)) }
+/// Parses what is before a colon, which names a processor, and the reply after it.
+fn answer_line(alloc: Global, who: &str, said: &str) -> Result<Option<EndLine>, AllocError>
+    ensures { IfOk result (λ line. line ≡ says.answer_of (words_of who.now) (words_of said.now)) }
 {
     let mut words = Vec::new(alloc);
-    split_words(&mut words, text)?;
-    Ok(answer_from(cpu, words.as_slice()))
+    split_words(&mut words, who)?;
+    let mut reply = Vec::new(alloc);
+    split_words(&mut reply, said)?;
+    Ok(answer_from(words.as_slice(), reply.as_slice()))
 }
 
 /// Parses a reply to any processor, or a memory block.
 #[tactic(auto, unfolding(crate::specs::WantedLines::line_of))]
-fn line_from(words: &[&str]) -> Option<Wanted>
+fn line_from(words: &[&str]) -> Option<EndLine>
     ensures { result ≡ says.line_of (map (λ w. w.now) words.now) }
 {
     let [word, args @ ..] = words else {
@@ -85,7 +119,7 @@ fn line_from(words: &[&str]) -> Option<Wanted>
 
 /// Parses a reply to any processor, or a memory block, from its first word and the other words.
 #[tactic(auto, unfolding(crate::specs::WantedLines::line_by))]
-fn line_by(word: &str, args: &[&str]) -> Option<Wanted>
+fn line_by(word: &str, args: &[&str]) -> Option<EndLine>
     ensures { result ≡ says.line_by word.now (map (λ w. w.now) args.now) }
 {
     match word {
@@ -96,22 +130,33 @@ fn line_by(word: &str, args: &[&str]) -> Option<Wanted>
 
 /// Parses a reply to any processor.
 #[tactic(auto, unfolding(crate::specs::WantedLines::any_of))]
-fn any_answer(word: &str, args: &[&str]) -> Option<Wanted>
+fn any_answer(word: &str, args: &[&str]) -> Option<EndLine>
     ensures { result ≡ says.any_of word.now (map (λ w. w.now) args.now) }
 {
     let reply = reply_from(word, args)?;
-    Some(Wanted::Answer { cpu: None, reply })
+    Some(EndLine::Answer { cpu: None, reply })
 }
 
-/// Parses a reply to this processor. The first word is empty, since a space follows the colon.
+/// Parses a reply to the processor that the words `who` name.
 #[tactic(auto, unfolding(crate::specs::WantedLines::answer_of))]
-fn answer_from(cpu: Cpu, words: &[&str]) -> Option<Wanted>
-    ensures { result ≡ says.answer_of cpu (map (λ w. w.now) words.now) }
+fn answer_from(who: &[&str], said: &[&str]) -> Option<EndLine>
+    ensures { result ≡ says.answer_of (map (λ w. w.now) who.now) (map (λ w. w.now) said.now) }
+{
+    match said_reply(said) {
+        Some(reply) => line_by_words(who, reply),
+        None => None,
+    }
+}
+
+/// Parses the reply after a colon. The first word is empty, since a space follows the colon.
+#[tactic(auto, unfolding(crate::specs::WantedLines::said_reply))]
+fn said_reply(words: &[&str]) -> Option<Pattern>
+    ensures { result ≡ says.said_reply (map (λ w. w.now) words.now) }
 {
     match words {
         [space, word, args @ ..] => {
             if space.is_empty() {
-                cpu_answer(cpu, word, args)
+                reply_from(word, args)
             } else {
                 None
             }
@@ -120,14 +165,59 @@ fn answer_from(cpu: Cpu, words: &[&str]) -> Option<Wanted>
     }
 }
 
-/// Parses a reply to this processor from its first word and the other words.
-fn cpu_answer(cpu: Cpu, word: &str, args: &[&str]) -> Option<Wanted>
-    ensures { result ≡ option_map (λ reply. Answer (Some cpu) reply)
-        (says.reply_of word.now (map (λ w. w.now) args.now)) }
+/// Parses which of a processor's replies is meant: `CPU` or `cpu CPU answer NUMBER`.
+#[tactic(auto, unfolding(crate::specs::WantedLines::answer_by))]
+fn line_by_words(who: &[&str], reply: Pattern) -> Option<EndLine>
+    ensures { result ≡ says.answer_by (map (λ w. w.now) who.now) reply }
 {
-    let reply = reply_from(word, args)?;
-    Some(Wanted::Answer {
-        cpu: Some(cpu),
+    match who {
+        [cpu] => some_answer(cpu, reply),
+        [first, cpu, second, number] => named_answer(first, cpu, second, number, reply),
+        _ => None,
+    }
+}
+
+/// Parses the words `cpu CPU answer NUMBER`.
+#[tactic(auto, unfolding(crate::specs::WantedLines::named_answer))]
+fn named_answer(
+    first: &str,
+    cpu: &str,
+    second: &str,
+    number: &str,
+    reply: Pattern,
+) -> Option<EndLine>
+    ensures { result ≡ says.named_answer first.now cpu.now second.now number.now reply }
+{
+    match first {
+        "cpu" => match second {
+            "answer" => numbered_answer(cpu, number, reply),
+            _ => None,
+        },
+        _ => None,
+    }
+}
+
+/// Parses the processor that got the reply at some time.
+fn some_answer(cpu: &str, reply: Pattern) -> Option<EndLine>
+    ensures { result ≡ option_map (λ c. Answer (Some c) reply) (number_of 32 cpu.now) }
+{
+    let cpu = Some(Cpu(number32(cpu)?));
+    Some(EndLine::Answer { cpu, reply })
+}
+
+/// Parses the processor that got the reply, and the number of that reply, counted from 1.
+#[tactic(auto, unfolding(crate::specs::WantedLines::numbered_answer))]
+fn numbered_answer(cpu: &str, number: &str, reply: Pattern) -> Option<EndLine>
+    ensures { result ≡ says.numbered_answer cpu.now number.now reply }
+{
+    let cpu = Cpu(number32(cpu)?);
+    let number = number64(number)?;
+    if number == 0 {
+        return None;
+    }
+    Some(EndLine::AnswerAt {
+        cpu,
+        earlier: number - 1,
         reply,
     })
 }
@@ -250,7 +340,7 @@ fn numbered_refusal(name: &str, number: u32) -> Option<Refusal>
 
 /// Parses a wanted memory block: its number and its final row.
 #[tactic(auto, unfolding(crate::specs::WantedLines::block_of))]
-fn block_from(args: &[&str]) -> Option<Wanted>
+fn block_from(args: &[&str]) -> Option<EndLine>
     ensures { result ≡ says.block_of (map (λ w. w.now) args.now) }
 {
     let [number, word, args @ ..] = args else {
@@ -258,7 +348,7 @@ fn block_from(args: &[&str]) -> Option<Wanted>
     };
     let block = Block(number32(number)?);
     let row = row_from(word, args)?;
-    Some(Wanted::Block { block, row })
+    Some(EndLine::Block { block, row })
 }
 
 /// Parses a memory block's row from its state and the other words.

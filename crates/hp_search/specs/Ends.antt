@@ -1,5 +1,5 @@
 -- The text of ends, in each form.
-use Rattle.std.specs.Prelude.{◌≡◌, ◌⊎◌, ℕ, ◌+◌, ◌-◌, ◌^◌, ◌<◌, Bool, true, false, List, length, Option, Some, None, slice_get}
+use Rattle.std.specs.Prelude.{◌≡◌, ◌⊎◌, ℕ, ◌+◌, ◌-◌, ◌^◌, ◌<◌, Bool, true, false, List, [], length, Option, Some, None, slice_get}
 use Rattle.std.specs.Option.{is_none}
 use Rattle.hp_explore.specs.declared.exploring.Exploration.{Exploration}
 use Rattle.hp_schedules.specs.declared.multinomials.HowMany.{HowMany}
@@ -8,7 +8,6 @@ use Rattle.hp_schedules.specs.declared.tally.Ending.{Ending}
 use Rattle.hp_schedules.specs.Interleavings.{IsKnown}
 use Rattle.hp_schedules.specs.Schedules.{Setting}
 use Rattle.hp_scenario.specs.declared.lines.Line.{Line}
-use Rattle.hp_search.specs.Words.{counts_text}
 use Rattle.hp_search.specs.declared.forms.EndsForm.{EndsForm}
 use Rattle.hp_search.specs.declared.forms.EndsForm.TheVariants.{Words, Objects, Scenario}
 use Rattle.hp_search.specs.Texts.{all_objects_text, exploration_text, replay_text}
@@ -28,13 +27,12 @@ IsMore scripts is_whole None = is_whole ≡ true
 IsMore scripts is_whole (Some known) = (is_whole ≡ false) × IsKnown scripts (2 ^ 64 - 1) known
 
 -- the text is the scenario of end `number`, after the lines of the setup; or there is no such end,
--- and the text reports how many there are
+-- and no text
 abbrev pub IsEndTold : (names : List (List ℕ)) → (before : List Line) → Setting → List Ending
-    → Option HowMany → (number : ℕ) → (text : List ℕ) → (found : Bool) → Type 0
-IsEndTold names before g ends more number text true =
+    → (number : ℕ) → (text : List ℕ) → (found : Bool) → Type 0
+IsEndTold names before g ends number text true =
     (e : Ending) × IsNumbered ends number e × (text ≡ replay_text names before g e.first.items)
-IsEndTold names before g ends more number text false =
-    HasNoEnd ends number × (text ≡ counts_text ends more)
+IsEndTold names before g ends number text false = HasNoEnd ends number × (text ≡ [])
 
 -- the text of ends in a form; found if all interleavings were counted, or if there is the end whose
 -- number was asked for
@@ -45,7 +43,7 @@ AreEndsTold Words names before g ends more text found =
 AreEndsTold Objects names before g ends more text found =
     (text ≡ all_objects_text names g ends more) × (found ≡ is_none more)
 AreEndsTold (Scenario number) names before g ends more text found =
-    IsEndTold names before g ends more number text found
+    IsEndTold names before g ends number text found
 
 -- the text of an exploration in a form
 abbrev pub IsTold : EndsForm → (names : List (List ℕ)) → (before : List Line) → Setting → Exploration

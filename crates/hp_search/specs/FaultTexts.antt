@@ -12,7 +12,7 @@ use Rattle.hp_search.specs.declared.part_fault.PartFault.TheVariants as parts
 use Rattle.hp_search.specs.declared.program_fault.LabProgramFault.{LabProgramFault}
 use Rattle.hp_search.specs.declared.program_fault.LabProgramFault.TheVariants as program
 use Rattle.hp_search.specs.declared.said.Said.{Said}
-use Rattle.hp_search.specs.declared.said.Said.TheVariants.{Nothing, Number, Past, Lab, Layout as OfLayout}
+use Rattle.hp_search.specs.declared.said.Said.TheVariants.{Nothing, Number, Part, Past, Lab, Layout as OfLayout}
 
 -- why an exploration or a search failed
 abbrev pub fault_text : LabFault → List ℕ
@@ -39,6 +39,7 @@ said_text (Number number) = decimal number
 said_text (OfLayout fault) = layout_fault_text fault
 said_text (Past asked lines) = decimal asked ++ codes " is past the last line, " ++ decimal lines
 said_text (Lab fault) = fault_text fault
+said_text (Part part fault) = codes "part " ++ decimal part ++ codes ": its scenario: " ++ fault_text fault
 
 -- why parts cannot be added up
 abbrev pub part_fault_text : PartFault → List ℕ
@@ -56,6 +57,8 @@ part_fault_text (parts.OtherCount part) =
 part_fault_text (parts.Missing part) = codes "part " ++ decimal part ++ codes " is missing"
 part_fault_text (parts.Twice part) = codes "part " ++ decimal part ++ codes " comes twice"
 part_fault_text parts.TooMany = codes "more than 2^64-1 interleavings"
+part_fault_text (parts.Head part fault) =
+    codes "part " ++ decimal part ++ codes ": its scenario: " ++ fault_text fault
 part_fault_text (parts.Lab fault) = fault_text fault
 
 -- why a text is not a scenario

@@ -1,5 +1,5 @@
 -- The text of a schedule that was found, or that there is none.
-use Rattle.std.specs.Prelude.{ℕ, List, Option}
+use Rattle.std.specs.Prelude.{ℕ, List, [], Option}
 use Rattle.hp_units.specs.LayoutParts.{LayoutParts}
 use Rattle.hp_units.specs.declared.replies.Record.{Record}
 use Rattle.hp_schedules.specs.Schedules.{Setting, plays}
@@ -23,9 +23,8 @@ abbrev pub found_text : ScheduleForm → (names : List (List ℕ)) → (before :
 found_text form names before g schedule =
     schedule_text form names before g.layout schedule (plays g schedule)
 
--- none of `schedules` interleavings ends as wanted; the form of a scenario, too, reports this in
--- words
+-- none of `schedules` interleavings ends as wanted; there is no scenario then
 abbrev pub absent_told : ScheduleForm → (schedules : ℕ) → List ℕ
 absent_told Words schedules = absent_text schedules
 absent_told Object schedules = absent_object schedules
-absent_told Scenario schedules = absent_text schedules
+absent_told Scenario schedules = []

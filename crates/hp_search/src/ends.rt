@@ -71,7 +71,7 @@ impl Prepared {
                     is_found: more.is_none(),
                 })
             }
-            EndsForm::Scenario(number) => self.end_told(alloc, ends, more, number),
+            EndsForm::Scenario(number) => self.end_told(alloc, ends, number),
         }
     }
 
@@ -173,17 +173,16 @@ impl Prepared {
         Ok(text)
     }
 
-    /// Returns the scenario of end `number`, or how many ends there are if there is no such end.
+    /// Returns the scenario of end `number`, or no text if there is no such end.
     fn end_told(
         &self,
         alloc: Global,
         ends: &[Ending],
-        more: Option<HowMany>,
         number: u64,
     ) -> Result<SearchText, ExploreFault>
         ensures ok { IfOk result
-            (λ f. IsEndTold (names_of self.now) (before_of self.now) (setting_of self.now) ends.now more
-            number (string_bytes f.text) f.is_found) }
+            (λ f. IsEndTold (names_of self.now) (before_of self.now) (setting_of self.now) ends.now number
+            (string_bytes f.text) f.is_found) }
         ensures err { IfErr result (IsCause (setting_of self.now)) }
         ensures along { IfErr result (λ fault. fault ≡ HistoryFull
             → FillsAlongSome (setting_of self.now) ends.now) }
@@ -197,14 +196,10 @@ impl Prepared {
                     is_found: true,
                 })
             }
-            None => {
-                let mut text = String::new(alloc);
-                write_counts(&mut text, ends, more)?;
-                Ok(SearchText {
-                    text,
-                    is_found: false,
-                })
-            }
+            None => Ok(SearchText {
+                text: String::new(alloc),
+                is_found: false,
+            }),
         }
     }
 }

@@ -22,7 +22,7 @@ use std::alloc::{AllocError, Global};
 ///
 /// If there is such an interleaving, the text has one: as words or as an object with its number of
 /// changes and its calls, or as a scenario. If there is none, the text has the number of
-/// interleavings, which is at most `limit`.
+/// interleavings, which is at most `limit`; as a scenario it is empty.
 ///
 /// The search tries schedules with few changes first; after these, `watch` gets the number of
 /// interleavings counted so far.
@@ -155,13 +155,14 @@ fn text_of(
     }
 }
 
-/// Returns, as text in `form`, that none of the `schedules` interleavings ends as wanted.
+/// Returns, as text in `form`, that none of the `schedules` interleavings ends as wanted. As a
+/// scenario there is no text.
 fn absent_told(alloc: Global, schedules: u128, form: ScheduleForm) -> Result<String, AllocError>
     ensures { IfOk result (λ text. string_bytes text ≡ absent_told form schedules) }
 {
     match form {
         ScheduleForm::Words => absent_text(alloc, schedules),
         ScheduleForm::Object => absent_object(alloc, schedules),
-        ScheduleForm::Scenario => absent_text(alloc, schedules),
+        ScheduleForm::Scenario => Ok(String::new(alloc)),
     }
 }

@@ -35,7 +35,9 @@ pub enum PartFault {
     Twice { part: u64 },
     /// There are 2^64 interleavings or more.
     TooMany,
-    /// The scenario that the heads name cannot be explored; or memory ran out, also while reading.
+    /// The scenario that the head of this part names cannot be explored.
+    Head { part: u32, fault: LabFault },
+    /// The interleaving of a line cannot be played; or memory ran out, also while reading.
     Lab(LabFault),
 }
 
@@ -84,6 +86,7 @@ pub(crate) fn said_of_parts(fault: PartFault) -> (&'static str, Said, &'static s
         PartFault::Missing { part } => ("part ", Said::Number(part), " is missing"),
         PartFault::Twice { part } => ("part ", Said::Number(part), " comes twice"),
         PartFault::TooMany => ("more than 2^64-1 interleavings", Said::Nothing, ""),
+        PartFault::Head { part, fault } => ("", Said::Part { part, fault }, ""),
         PartFault::Lab(fault) => ("", Said::Lab(fault), ""),
     }
 }

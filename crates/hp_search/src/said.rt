@@ -18,6 +18,8 @@ pub(crate) enum Said {
     Past { asked: u64, lines: u64 },
     /// Why an exploration or a search failed.
     Lab(LabFault),
+    /// A part, and why the scenario that it names cannot be explored.
+    Part { part: u32, fault: LabFault },
 }
 
 impl fmt::Display for Said {
@@ -32,6 +34,7 @@ impl fmt::Display for Said {
             Said::Layout(fault) => write!(f, "{fault}"),
             Said::Past { asked, lines } => write!(f, "{asked} is past the last line, {lines}"),
             Said::Lab(fault) => write!(f, "{fault}"),
+            Said::Part { part, fault } => write!(f, "part {part}: its scenario: {fault}"),
         }
     }
 }

@@ -1,0 +1,54 @@
+//! Standard output, whose reader may go away.
+
+use hp_streams::{Failed, Sink};
+use std::io::{ErrorKind, Result as IoResult, Write};
+
+/// A writer that counts its failed calls, and knows whether the last one failed because nobody
+/// reads what is written: `head` has seen enough.
+#[derive(Drop)]
+pub(crate) struct Output<W> {
+    inner: W,
+    failures: u64,
+    is_left: bool,
+}
+
+impl<W> Output<W> {
+    /// Wraps a writer; no call has failed yet.
+    pub(crate) fn new(inner: W) -> Output<W> {
+        Output {
+            inner,
+            failures: 0,
+            is_left: false,
+        }
+    }
+
+    /// Returns whether the last call that failed did so because nobody reads what is written.
+    pub(crate) fn is_left(&self) -> bool {
+        self.is_left
+    }
+}
+
+impl<W: Write> Sink for Output<W> {
+    ghost contents = { λ o. W.contents o.inner };
+
+    ghost failures = { λ o. o.failures };
+
+    fn write(&mut self, bytes: &[u8]) -> Result<usize, Failed> {
+        match self.inner.write(bytes) {
+            Ok(count) if count > 0 || bytes.is_empty() => Ok(count),
+            failed => {
+                self.failures += 1;
+                self.is_left = is_broken(&failed);
+                Err(Failed)
+            }
+        }
+    }
+}
+
+/// Returns whether a call failed because the other end of a pipe is closed.
+fn is_broken(written: &IoResult<usize>) -> bool {
+    match written {
+        Ok(_) => false,
+        Err(error) => error.kind() == ErrorKind::BrokenPipe,
+    }
+}
