@@ -41,8 +41,8 @@ impl Watch for PartWatch {
 /// Explores all schedules like `explore`, in `jobs` threads, at most 256.
 ///
 /// Each thread searches a part with its share of the memory, and the ends of all parts are merged.
-/// `watch` is then called once, with the total. If a part fails or stops at the limit, or the merged ends exceed the limit, one
-/// thread searches all schedules anew.
+/// `watch` is then called once, with the total. If a part fails or stops at the limit, or the
+/// merged ends exceed the limit, one thread searches all schedules anew.
 ///
 /// A part may take nearly as long as the whole search if many schedules of different parts continue
 /// alike, because each part explores them for itself.
