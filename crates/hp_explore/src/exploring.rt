@@ -70,7 +70,8 @@ impl From<CallFault> for ExploreFault {
 /// An end holds the replies to each processor, the number of schedules that end so, and the first
 /// of them in the order of the walk, which tries processor 0 first. If there are more schedules
 /// than `limit`, exactly the first `limit` schedules in that order are counted. The machine is not
-/// changed. `watch` is called with the progress.
+/// changed. `watch` is called with the progress, and bounds the memory for states that were walked;
+/// a state that is not kept is walked each time that it is reached.
 ///
 /// # Errors
 ///
@@ -143,8 +144,11 @@ pub fn explore_part<W: Watch>(
     ensures err { IfErr result (IsCausePart (setting machine.now scripts.now) part) }
     ensures full { IfErr result (IsCausePartWithin (setting machine.now scripts.now) part limit) }
 {
-    let mut walk = Walk::start(alloc, machine, scripts, part, limit)?;
+    let mut walk = Walk::start(alloc, machine, scripts, part, limit, watch.memory())?;
     let is_whole = walk.run(alloc, watch)?;
+    if walk.is_filled() {
+        watch.filled();
+    }
     Ok(Exploration {
         ends: walk.into_ends(),
         is_whole,

@@ -12,7 +12,7 @@ ghost use Rattle.hp_explore.specs.Sums.{AreParts, HaveRoom, part};
 use crate::calls::calls_for;
 use crate::rooms::left_after;
 use crate::summing::sum;
-use crate::{Exploration, ExploreFault, Silent, Watch, explore, explore_part};
+use crate::{Exploration, ExploreFault, Watch, explore, explore_part};
 use hp_machine::Machine;
 use hp_schedules::{CallScript, Ending, Shard};
 use std::alloc::Global;
@@ -22,11 +22,27 @@ use std::thread::Threads;
 /// The largest number of threads.
 const MOST_JOBS: u32 = 256;
 
+/// Watches the search of one part, which has a share of the memory.
+#[derive(Drop)]
+struct PartWatch {
+    memory: u64,
+}
+
+impl Watch for PartWatch {
+    fn counted(&mut self, _schedules: u64) {}
+
+    fn memory(&self) -> u64 {
+        self.memory
+    }
+
+    fn filled(&mut self) {}
+}
+
 /// Explores all schedules like `explore`, in `jobs` threads, at most 256.
 ///
-/// Each thread searches a part, and the ends of all parts are merged. `watch` is then called once,
-/// with the total. If a part fails or stops at the limit, or the merged ends exceed the limit, one
-/// thread searches all schedules anew.
+/// Each thread searches a part with its share of the memory, and the ends of all parts are merged.
+/// `watch` is then called once, with the total. If a part fails or stops at the limit, or the
+/// merged ends exceed the limit, one thread searches all schedules anew.
 ///
 /// A part may take nearly as long as the whole search if many schedules of different parts continue
 /// alike, because each part explores them for itself.
@@ -93,7 +109,8 @@ fn search_parts<R: Threads + Sync, W: Watch>(
     ensures room { IfSome result (λ _. FillsHistory (setting machine.now scripts.now) → ⊥) }
 {
     let calls = calls_for(scripts.len() as u32, parts);
-    let lists = ends_of_parts(rt, alloc, machine, scripts, parts, calls, limit)?;
+    let memory = watch.memory() / u64::from(parts);
+    let lists = ends_of_parts(rt, alloc, machine, scripts, parts, calls, limit, memory)?;
     match sum(alloc, lists.as_slice()) {
         Ok(ends) => {
             let left = left_after(ends.as_slice(), limit)?;
@@ -113,6 +130,7 @@ fn ends_of_parts<R: Threads + Sync>(
     parts: u32,
     calls: u32,
     limit: u64,
+    memory: u64,
 ) -> Option<Vec<Vec<Ending>>>
     requires { length scripts.now < 2 ^ 32 }
     ensures ends { IfSome result (λ lists.
@@ -126,7 +144,7 @@ fn ends_of_parts<R: Threads + Sync>(
             (EndsInPart (setting machine.entry.now scripts.entry.now) (part parts calls index)) ends.items) }
         ensures room { IfSome result
             (λ _. FillsPart (setting machine.entry.now scripts.entry.now) (part parts calls index) → ⊥) }
-    { ends_of_part(alloc, machine, scripts, parts, calls, index, limit) };
+    { ends_of_part(alloc, machine, scripts, parts, calls, index, limit, memory) };
     match thread::map_indices(rt, alloc, parts as usize, &search) {
         Ok(found) => all_of(alloc, found),
         Err(_refused) => None,
@@ -142,6 +160,7 @@ fn ends_of_part(
     calls: u32,
     index: usize,
     limit: u64,
+    memory: u64,
 ) -> Option<Vec<Ending>>
     requires { length scripts.now < 2 ^ 32 }
     ensures ends { IfSome result (λ ends. AreCounted
@@ -151,7 +170,7 @@ fn ends_of_part(
 {
     let index = u32::try_from(index).ok()?;
     let part = Shard::new(index, parts, calls)?;
-    match explore_part(alloc, machine, scripts, part, limit, &mut Silent) {
+    match explore_part(alloc, machine, scripts, part, limit, &mut PartWatch { memory }) {
         Ok(explored) => {
             if explored.is_whole {
                 Some(explored.ends)

@@ -33,7 +33,7 @@ pub use changes::changes_of;
 pub use exploring::{Exploration, ExploreFault, explore, explore_part, room_needed};
 pub use fault::FindFault;
 pub use finding::{Found, find};
-pub use hp_states::{Silent, Watch, kept_counts_are_added};
+pub use hp_states::{KEPT_BYTES, Silent, Watch, kept_counts_are_added};
 pub use jobs::explore_with_jobs;
 pub use over::is_over;
 pub use path::Path;

@@ -57,13 +57,14 @@ impl<'a> Drop for Walk<'a> {
 }
 
 impl<'a> Walk<'a> {
-    /// Creates a walk before any call.
+    /// Creates a walk before any call, which keeps at most `memory` bytes of states.
     pub(crate) fn start(
         alloc: Global,
         machine: &'a Machine,
         scripts: &'a [CallScript],
         part: Shard,
         limit: u64,
+        memory: u64,
     ) -> Result<Walk<'a>, AllocError>
         requires { length scripts.now < 2 ^ 32 }
         ensures coming { IfOk result (λ walk. IsComing walk (frames_of walk)) }
@@ -71,7 +72,7 @@ impl<'a> Walk<'a> {
         ensures part { IfOk result (λ walk. walk.part ≡ part) }
         ensures limit { IfOk result (λ walk. walk.tally.limit ≡ limit) }
     {
-        let memo = memo_at(alloc, machine, scripts)?;
+        let memo = memo_at(alloc, machine, scripts, memory)?;
         let path = Path::start(alloc, machine, scripts)?;
         let tally = Tally::new(alloc, limit);
         Ok(Walk {
@@ -261,6 +262,11 @@ impl<'a> Walk<'a> {
         Ok(())
     }
 
+    /// Returns whether the states that were kept take all the memory that they may.
+    pub(crate) fn is_filled(&self) -> bool {
+        self.memo.is_full()
+    }
+
     /// Returns the ends with their counts.
     pub(crate) fn into_ends(self) -> Vec<Ending>
         ensures is { result.items ≡ self.entry.tally.ends }
@@ -279,13 +285,19 @@ impl<'a> Walk<'a> {
 }
 
 /// Returns an empty memo for the beginning of the scripts.
-fn memo_at(alloc: Global, machine: &Machine, scripts: &[CallScript]) -> Result<Memo, AllocError>
+fn memo_at(
+    alloc: Global,
+    machine: &Machine,
+    scripts: &[CallScript],
+    memory: u64,
+) -> Result<Memo, AllocError>
     ensures memo { IfOk result
         (λ memo. (ends : List Ending) → IsMemo (setting machine.now scripts.now) ends memo) }
     ensures way { IfOk result (IsOnWay (setting machine.now scripts.now) []) }
 {
     let is_on = keeps_places(scripts);
-    let memo = Memo::start(alloc, is_on, scripts.len(), is_closed(machine.history()))?;
+    let is_closed = is_closed(machine.history());
+    let memo = Memo::start(alloc, is_on, scripts.len(), is_closed, memory)?;
     Ok(memo)
 }
 

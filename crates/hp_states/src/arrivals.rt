@@ -163,7 +163,8 @@ pub fn leave(
     keep(positions, processors, tally.since(frame.start), memo)
 }
 
-/// Stores the place's key, with these shares of what was counted since the walk reached it.
+/// Stores the place's key, with these shares of what was counted since the walk reached it, unless
+/// no memory is left for more.
 fn keep(
     positions: &Positions,
     processors: u32,
@@ -178,6 +179,9 @@ fn keep(
         → IsMemo g ends memo.new) }
     ensures same { (memo.new.is_on ≡ memo.old.is_on) × (memo.new.standing ≡ memo.old.standing) }
 {
+    if memo.is_full() {
+        return Ok(());
+    }
     let has_key = memo.write_key(positions, processors)?;
     if !has_key {
         return Ok(());

@@ -32,4 +32,4 @@ pub use frames::{Entry, Level};
 pub use kept_counts::kept_counts_are_added;
 pub use laws::codes_tell_states_apart;
 pub use memo::Memo;
-pub use watch::{Silent, Watch};
+pub use watch::{KEPT_BYTES, Silent, Watch};

@@ -11,6 +11,7 @@ ghost use Rattle.hp_states.specs.Places.{IsPlace, memory_at};
 ghost use Rattle.hp_schedules.specs.declared.tally.Ending.{Ending};
 
 use crate::standing::Standing;
+use crate::texts::TABLE_BYTES;
 use hp_memory::Memory;
 use hp_schedules::{Positions, Rows, Share, key_digest, learn};
 use hp_units::{Cpu, Record};
@@ -29,6 +30,9 @@ pub struct Memo {
     latest: IndexMap<u64, usize>,
     key: Vec<u32>,
     standing: Standing,
+    /// How many bytes may be kept, and how many the places take.
+    limit: u64,
+    size: u64,
 }
 
 impl Model for Memo {
@@ -55,6 +59,8 @@ impl Drop for Memo {
             latest: _,
             key: _,
             standing: _standing,
+            limit: _,
+            size: _,
         } = self;
     }
 }
@@ -63,12 +69,14 @@ impl Memo {
     /// Creates an empty memo for a walk at the beginning of the scripts. With `is_on` false, no
     /// place is ever stored.
     ///
-    /// `is_closed` states that no Cancel can drop a step that led there.
+    /// `is_closed` states that no Cancel can drop a step that led there. Once states and places take
+    /// `memory` bytes, no more are stored, and those that are stored stay in use.
     pub fn start(
         alloc: Global,
         is_on: bool,
         processors: usize,
         is_closed: bool,
+        memory: u64,
     ) -> Result<Memo, AllocError>
         ensures on { IfOk result (λ memo. memo.is_on ≡ is_on) }
         ensures rows { IfOk result (λ memo. (memo.keys ≡ []) × (memo.rows ≡ [])) }
@@ -88,6 +96,8 @@ impl Memo {
             latest: IndexMap::new(alloc),
             key: Vec::new(alloc),
             standing,
+            limit: memory,
+            size: 0,
         })
     }
 
@@ -146,8 +156,17 @@ impl Memo {
         if !self.is_on {
             return Ok(false);
         }
-        self.standing.number_state(alloc, memory)?;
+        if self.is_full() {
+            self.standing.find_state(memory)?;
+        } else {
+            self.standing.number_state(alloc, memory)?;
+        }
         self.standing.key(positions, processors, &mut self.key)
+    }
+
+    /// Returns whether the states and places take all the memory that they may.
+    pub fn is_full(&self) -> bool {
+        self.standing.size().saturating_add(self.size) >= self.limit
     }
 
     /// Writes the key of the place where the walk is, after `come_to`, and returns whether it has
@@ -193,10 +212,18 @@ impl Memo {
     {
         let digest = key_digest(self.key.as_slice());
         let place = self.rows.len();
+        self.size = self.size.saturating_add(size_of_place(self.key.len(), shares.len()));
         self.keys.extend_from_slice(self.key.as_slice())?;
         self.rows.push(shares)?;
         learn(&mut self.latest, digest, place)
     }
+}
+
+/// Returns about how many bytes a place takes whose key has this many numbers, with its shares.
+fn size_of_place(numbers: usize, shares: usize) -> u64 {
+    let key = (numbers as u64).saturating_mul(4);
+    let row = (shares as u64).saturating_mul(16);
+    TABLE_BYTES.saturating_add(key).saturating_add(row)
 }
 
 /// Returns whether the key at index `place` is this one. All keys are equally long.

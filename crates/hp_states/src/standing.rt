@@ -135,6 +135,26 @@ impl Standing {
         Ok(())
     }
 
+    /// Gives the current state the number that it has, if any, and adds none.
+    pub(crate) fn find_state(&mut self, memory: &Memory) -> Result<(), AllocError>
+        ensures kept { KeepMeanings self.old self.new }
+        ensures here { (g : Setting) (news : List NewRecord) → memory.now ≡ memory_at g news
+            → IsStanding g news self.old → IsStanding g news self.new }
+    {
+        if self.here.openings.is_none() {
+            return Ok(());
+        }
+        if let Some(state) = self.codes.find(memory)? {
+            self.here.state = Some(state);
+        }
+        Ok(())
+    }
+
+    /// Returns about how many bytes the states take.
+    pub(crate) fn size(&self) -> u64 {
+        self.codes.size()
+    }
+
     /// Writes the key of the current place into `key` and returns whether there is one.
     ///
     /// There is none if the cancellable operations are unknown, the state has no number, or a

@@ -8,6 +8,10 @@ use indexmap::IndexMap;
 use std::alloc::{AllocError, Global};
 use std::marker::Model;
 
+/// The bytes that a table takes for one entry besides the entry itself: its hash, its number, their
+/// place in the table, and spare room.
+pub(crate) const TABLE_BYTES: u64 = 64;
+
 /// Byte strings in one buffer, with the end of each.
 ///
 /// `latest` maps a hash to the newest string that has it.
@@ -63,6 +67,18 @@ impl Texts {
             Some(number) => Ok(number),
             None => self.add(digest, text),
         }
+    }
+
+    /// Returns the number of `text` if it is found.
+    pub(crate) fn find(&self, text: &[u8]) -> Option<usize>
+        ensures { IfSome result (λ n. slice_get self.now n ≡ Some text.now) }
+    {
+        self.found(digest_of(text), text)
+    }
+
+    /// Returns about how many bytes the strings take.
+    pub(crate) fn size(&self) -> u64 {
+        (self.bytes.len() as u64).saturating_add((self.ends.len() as u64).saturating_mul(TABLE_BYTES))
     }
 
     /// Returns the number of `text` if it is the newest string with its hash.
