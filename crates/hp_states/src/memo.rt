@@ -156,11 +156,8 @@ impl Memo {
         if !self.is_on {
             return Ok(false);
         }
-        if self.is_full() {
-            self.standing.find_state(memory)?;
-        } else {
-            self.standing.number_state(alloc, memory)?;
-        }
+        let adds = !self.is_full();
+        self.standing.number_state(alloc, memory, adds)?;
         self.standing.key(positions, processors, &mut self.key)
     }
 
@@ -212,7 +209,9 @@ impl Memo {
     {
         let digest = key_digest(self.key.as_slice());
         let place = self.rows.len();
-        self.size = self.size.saturating_add(size_of_place(self.key.len(), shares.len()));
+        self.size = self
+            .size
+            .saturating_add(size_of_place(self.key.len(), shares.len()));
         self.keys.extend_from_slice(self.key.as_slice())?;
         self.rows.push(shares)?;
         learn(&mut self.latest, digest, place)

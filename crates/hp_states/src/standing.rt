@@ -120,9 +120,27 @@ impl Standing {
         self.exchanges.go_back(cpu);
     }
 
-    /// Gives the current state a number, unless it is unknown which operations a
-    /// Cancel can take back.
-    pub(crate) fn number_state(&mut self, alloc: Global, memory: &Memory) -> Result<(), AllocError>
+    /// Gives the current state the number that it has, and with `adds` a new one if it has none;
+    /// unless it is unknown which operations a Cancel can take back.
+    pub(crate) fn number_state(
+        &mut self,
+        alloc: Global,
+        memory: &Memory,
+        adds: bool,
+    ) -> Result<(), AllocError>
+        ensures kept { KeepMeanings self.old self.new }
+        ensures here { (g : Setting) (news : List NewRecord) → memory.now ≡ memory_at g news
+            → IsStanding g news self.old → IsStanding g news self.new }
+    {
+        if adds {
+            self.add_state(alloc, memory)
+        } else {
+            self.find_state(memory)
+        }
+    }
+
+    /// Gives the current state the number that it has, or a new one.
+    fn add_state(&mut self, alloc: Global, memory: &Memory) -> Result<(), AllocError>
         ensures kept { KeepMeanings self.old self.new }
         ensures here { (g : Setting) (news : List NewRecord) → memory.now ≡ memory_at g news
             → IsStanding g news self.old → IsStanding g news self.new }
@@ -135,8 +153,8 @@ impl Standing {
         Ok(())
     }
 
-    /// Gives the current state the number that it has, if any, and adds none.
-    pub(crate) fn find_state(&mut self, memory: &Memory) -> Result<(), AllocError>
+    /// Gives the current state the number that it has, if any.
+    fn find_state(&mut self, memory: &Memory) -> Result<(), AllocError>
         ensures kept { KeepMeanings self.old self.new }
         ensures here { (g : Setting) (news : List NewRecord) → memory.now ≡ memory_at g news
             → IsStanding g news self.old → IsStanding g news self.new }

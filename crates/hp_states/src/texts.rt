@@ -78,7 +78,9 @@ impl Texts {
 
     /// Returns about how many bytes the strings take.
     pub(crate) fn size(&self) -> u64 {
-        (self.bytes.len() as u64).saturating_add((self.ends.len() as u64).saturating_mul(TABLE_BYTES))
+        (self.bytes.len() as u64).saturating_add(
+            (self.ends.len() as u64).saturating_mul(TABLE_BYTES),
+        )
     }
 
     /// Returns the number of `text` if it is the newest string with its hash.

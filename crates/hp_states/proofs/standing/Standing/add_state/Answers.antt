@@ -2,7 +2,7 @@
 use Rattle.std.proofs.Common.{Some, refl, subst, sym}
 use Rattle.hp_states.specs.Standing.{IsStanding, StandingValue}
 use Rattle.hp_states.proofs.Stood.{state_known, stood_extended}
-use Rattle.hp_states.proofs.standing.Standing.number_state.Goals as goal
+use Rattle.hp_states.proofs.standing.Standing.add_state.Goals as goal
 
 pub returns-clause-here : goal.returns-clause-here
 returns-clause-here c =
