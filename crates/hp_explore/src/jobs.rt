@@ -170,7 +170,14 @@ fn ends_of_part(
 {
     let index = u32::try_from(index).ok()?;
     let part = Shard::new(index, parts, calls)?;
-    match explore_part(alloc, machine, scripts, part, limit, &mut PartWatch { memory }) {
+    match explore_part(
+        alloc,
+        machine,
+        scripts,
+        part,
+        limit,
+        &mut PartWatch { memory },
+    ) {
         Ok(explored) => {
             if explored.is_whole {
                 Some(explored.ends)

@@ -296,8 +296,13 @@ fn memo_at(
     ensures way { IfOk result (IsOnWay (setting machine.now scripts.now) []) }
 {
     let is_on = keeps_places(scripts);
-    let is_closed = is_closed(machine.history());
-    let memo = Memo::start(alloc, is_on, scripts.len(), is_closed, memory)?;
+    let memo = Memo::start(
+        alloc,
+        is_on,
+        scripts.len(),
+        is_closed(machine.history()),
+        memory,
+    )?;
     Ok(memo)
 }
 
