@@ -90,8 +90,8 @@ fn enter<W: Watch>(
     Ok(Entry::Open(Level::new(tally)))
 }
 
-/// Adds the shares to the tally. If the tally has no room for all of them, the
-/// place is to be walked.
+/// Adds the shares to the tally. If the tally has no room for all of them, the place is to be
+/// walked.
 fn add_shares<W: Watch>(
     tally: &mut Tally,
     shares: &[Share],

@@ -1,5 +1,5 @@
 -- What is found is like the place, so that its shares are those of what goes on from here; else the
--- place gets a frame, with what is kept of it.
+-- place gets a frame.
 use Rattle.std.proofs.Common.{List, refl, ◌∙◌}
 use Rattle.std.proofs.lemmas.Result.{IfOk-weaker}
 use Rattle.hp_units.specs.declared.replies.Record.{Record}
