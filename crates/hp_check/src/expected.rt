@@ -5,7 +5,7 @@ use std::alloc::AllocError;
 
 /// Writes why a text is not a line: a space at one of its ends, or the wrong word, if it can be
 /// found, and what was expected.
-pub(crate) fn write_expected(out: &mut String, text: &str) -> Result<(), AllocError> {
+pub fn write_expected(out: &mut String, text: &str) -> Result<(), AllocError> {
     if text.starts_with(' ') {
         return out.push_str("it begins with a space");
     }

@@ -4,6 +4,7 @@ use crate::command::lab_command;
 use crate::files::bytes_of;
 use crate::judging::serve_judge;
 use crate::laboratory::Laboratory;
+use crate::live::serve_live;
 use crate::messages::{file_name, say_fault, say_unbegun, say_words};
 use crate::progress::{Progress, Shown, shown_on};
 use crate::words::{Request, Word, is_past_the_found, part_from, request_from, texts_from};
@@ -140,6 +141,7 @@ fn serve_matches<L: Laboratory, T: Threads + Sync>(
 ) -> Result<u8, LabProgramFault> {
     match matches.subcommand() {
         Some(("judge", words)) => Ok(serve_judge(rt, words)),
+        Some(("live", words)) => Ok(serve_live(rt, words)),
         _ => serve_scenario(rt, lab, threads, matches),
     }
 }

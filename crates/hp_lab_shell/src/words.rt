@@ -22,7 +22,7 @@ const LEAST_SCALE: u64 = 25;
 const MOST_SCALE: u64 = 400;
 
 /// The columns of a trace's row where no width is given.
-const WIDTH: u64 = 200;
+pub(crate) const WIDTH: u64 = 200;
 
 /// What is said where no word, or another word, is named; clap asks for one of them.
 const NO_WORD: &str = "there is no such word";

@@ -2,3 +2,4 @@ pub mod Answers
 pub mod Objects
 pub mod Plans
 pub mod Sessions
+pub mod Talks

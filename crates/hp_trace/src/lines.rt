@@ -127,7 +127,7 @@ fn start_text(alloc: Global, view: View) -> Result<String, AllocError>
 }
 
 /// Does all lines, and draws the rows of those that are shown. `before` lines come before them.
-fn trace_lines(
+pub(crate) fn trace_lines(
     rows: &mut Rows,
     alloc: Global,
     machine: &mut Machine,
@@ -148,7 +148,7 @@ fn trace_lines(
 }
 
 /// Does a line, and draws its rows if it is shown.
-fn trace_line(
+pub(crate) fn trace_line(
     rows: &mut Rows,
     alloc: Global,
     machine: &mut Machine,

@@ -1,0 +1,151 @@
+//! A session that replies in objects of JSON.
+ghost use Rattle.std.specs.Prelude.{◌≡◌, ◌<◌, List, ℕ, IfOk, OnErr, OnOk, length};
+ghost use Rattle.hp_scenario.specs.Seen.{scenario_seen};
+ghost use Rattle.hp_talk.specs.Talks.{RepliesTo, line_limit};
+ghost use Rattle.hp_live.specs.Sessions.{IsResumed};
+
+use crate::answers::{Did, LineAnswer};
+use crate::live_words::{LiveWord, word_of};
+use crate::objects::write_object;
+use crate::session::{Lack, Session};
+use crate::states::ShownStates;
+use crate::word_objects::{write_fault, write_word};
+use crate::words::help;
+use hp_check::write_expected;
+use hp_scenario::Scenario;
+use hp_talk::Talk;
+use std::alloc::{AllocError, Global};
+use std::str;
+
+/// Replies to each line with one object of JSON: to a line of a scenario with its answer, to a word
+/// with a text. An empty line has no reply.
+#[derive(Drop)]
+pub struct ObjectTalk {
+    session: Session,
+    states: ShownStates,
+    answer: LineAnswer,
+    hint: String,
+}
+
+impl ObjectTalk {
+    /// Begins a session after a scenario's lines. With `is_state_shown` each answer also has how
+    /// the state differs from that of the answer before it.
+    pub fn begin(
+        alloc: Global,
+        scenario: Scenario,
+        is_state_shown: bool,
+    ) -> Result<ObjectTalk, AllocError>
+        ensures { IfOk result (λ talk. IsResumed (scenario_seen scenario) talk.session) }
+    {
+        Ok(ObjectTalk {
+            session: Session::resume(alloc, scenario)?,
+            states: ShownStates::new(is_state_shown),
+            answer: LineAnswer::new(alloc),
+            hint: String::new(alloc),
+        })
+    }
+
+    /// Replies to a text.
+    fn reply_to_text(
+        &mut self,
+        alloc: Global,
+        text: &str,
+        out: &mut Vec<u8>,
+    ) -> Result<(), AllocError> {
+        match word_of(text) {
+            LiveWord::Nothing => Ok(()),
+            LiveWord::Help => write_word(out, alloc, "help", help()),
+            LiveWord::State => self.show_state(alloc, out),
+            LiveWord::Scenario => self.show_scenario(alloc, out),
+            LiveWord::Line => self.reply_to_line(alloc, text, out),
+        }
+    }
+
+    /// Writes an object with the machine's state.
+    fn show_state(&self, alloc: Global, out: &mut Vec<u8>) -> Result<(), AllocError> {
+        let mut text = String::new(alloc);
+        self.session.write_state(&mut text, alloc)?;
+        write_word(out, alloc, "state", text.as_str())
+    }
+
+    /// Writes an object with the layout and all lines so far.
+    fn show_scenario(&self, alloc: Global, out: &mut Vec<u8>) -> Result<(), AllocError> {
+        let mut text = String::new(alloc);
+        self.session.write_scenario(&mut text)?;
+        write_word(out, alloc, "scenario", text.as_str())
+    }
+
+    /// Answers what may be a line.
+    fn reply_to_line(
+        &mut self,
+        alloc: Global,
+        text: &str,
+        out: &mut Vec<u8>,
+    ) -> Result<(), AllocError> {
+        match self.session.answer(alloc, text, &mut self.answer) {
+            Ok(()) => {
+                self.write_hint(text)?;
+                self.write_answer(alloc, out)
+            }
+            Err(Lack::Line | Lack::Answer) => Err(AllocError),
+        }
+    }
+
+    /// Writes what was expected of a text that is no line.
+    fn write_hint(&mut self, text: &str) -> Result<(), AllocError> {
+        self.hint.clear();
+        match self.answer.did() {
+            Did::NoLine => write_expected(&mut self.hint, text),
+            _ => Ok(()),
+        }
+    }
+
+    /// Writes the answer's object.
+    fn write_answer(&mut self, alloc: Global, out: &mut Vec<u8>) -> Result<(), AllocError> {
+        let number = self.number();
+        let buffer = Vec::with_capacity(alloc, 256)?;
+        let mut object = write_object(alloc, buffer, number, &self.answer, self.hint.as_str())?;
+        let session = &self.session;
+        self.states
+            .show(alloc, &mut object, &session.names, &session.machine)?;
+        out.extend_from_slice(object.as_slice())
+    }
+
+    /// Returns the number of the line that was answered; of what is no line, the number that the
+    /// next line gets.
+    fn number(&self) -> u64 {
+        let count = self.session.line_count();
+        match self.answer.did() {
+            Did::NoLine => count.saturating_add(1),
+            _ => count,
+        }
+    }
+}
+
+impl Talk for ObjectTalk {
+    ghost use Rattle.std.specs.Prelude.{codes};
+    ghost use Rattle.hp_live.specs.Talks.{RepliesObject, lost_object};
+
+    ghost replies = { λ t line reply u. RepliesObject t.session line reply u.session };
+
+    ghost lost_text = { lost_object };
+
+    fn lost(&self) -> &'static str {
+        "{\"fault\":\"OutOfMemory\",\"hint\":\"out of memory: see state\"}\n"
+    }
+
+    fn reply(&mut self, alloc: Global, line: &[u8], out: &mut Vec<u8>) -> Result<(), AllocError> {
+        match str::from_utf8(line) {
+            Ok(text) => self.reply_to_text(alloc, text, out),
+            Err(_) => {
+                let number = self.session.line_count().saturating_add(1);
+                write_fault(out, alloc, number, "it is not UTF-8")
+            }
+        }
+    }
+
+    fn reply_to_long(&mut self, alloc: Global, out: &mut Vec<u8>) -> Result<(), AllocError> {
+        let number = self.session.line_count().saturating_add(1);
+        write_fault(out, alloc, number, "it has more than 65536 bytes")
+    }
+}
