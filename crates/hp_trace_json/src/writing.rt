@@ -1,6 +1,7 @@
 //! The JSON of the head and of the rows.
 //!
-//! Nothing is promised of these texts but that writing them is safe: they are tested.
+//! A change alone is an object of JSON (specs/ChangeObjects). Of the other texts nothing is promised
+//! but that writing them is safe: they are tested.
 mod change_objects;
 mod changes;
 mod deltas;

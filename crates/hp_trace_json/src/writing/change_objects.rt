@@ -1,4 +1,7 @@
 //! A change alone, without a row.
+ghost use Rattle.std.specs.Prelude.{IfOk};
+ghost use Rattle.hp_trace_json.specs.ChangeObjects.{IsChangeObject};
+
 use crate::change::StateChange;
 use crate::writing::changes::write_change;
 use hp_units::Text;
@@ -12,7 +15,9 @@ pub fn change_object(
     alloc: Global,
     names: &IndexSet<Text>,
     change: &StateChange,
-) -> Result<Vec<u8>, AllocError> {
+) -> Result<Vec<u8>, AllocError>
+    ensures { IfOk result (λ text. IsChangeObject change.now text.items) }
+{
     let mut out = Writer::new(Vec::new(alloc));
     out.begin_object()?;
     write_change(&mut out, alloc, names, change)?;
