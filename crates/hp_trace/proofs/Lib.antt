@@ -1,5 +1,6 @@
 mod HistoryLogs
 mod LinesTraced
+mod LivesTraced
 mod PlansTraced
 mod RowTexts
 mod RunsLogged

@@ -1,7 +1,7 @@
 //! A machine that lives on after a scenario, and draws the lines that come.
-ghost use Rattle.std.specs.Prelude.{◌≡◌, IfOk, OnOk, string_bytes};
+ghost use Rattle.std.specs.Prelude.{◌≡◌, IfOk, OnOk};
 ghost use Rattle.hp_scenario.specs.Seen.{scenario_seen};
-ghost use Rattle.hp_trace.specs.Lives.{IsBegun, LivesOn, without_text};
+ghost use Rattle.hp_trace.specs.Lives.{IsBegun, LivesOn, ShowTheTrace, without_text};
 
 use crate::lines::{start, trace_line, trace_lines};
 use crate::rows::{Form, Rows};
@@ -98,3 +98,9 @@ impl LiveTrace {
         self.rows.clear_text();
     }
 }
+
+/// Called for its contract: the first row and the rows of lines that came after a scenario's are
+/// what `trace` returns for the scenario with these lines and a view from the first of them on.
+pub fn live_rows_are_the_trace()
+    ensures { ShowTheTrace }
+{}
