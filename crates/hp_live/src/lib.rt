@@ -20,7 +20,7 @@ mod word_objects;
 mod words;
 
 pub use answers::{Did, LineAnswer};
-pub use laws::answers_are_what_serial_writes;
+pub use laws::{answers_are_what_serial_writes, talks_tell_their_lines};
 pub use object_talk::ObjectTalk;
 pub use objects::write_object;
 pub use row_talk::RowTalk;

@@ -1,13 +1,18 @@
 //! A session that replies in objects of JSON.
-ghost use Rattle.std.specs.Prelude.{◌≡◌, ◌<◌, List, ℕ, IfOk, OnErr, OnOk, length};
+ghost use Rattle.std.specs.Prelude.{◌≡◌, ◌<◌, ◌+◌, ◌++◌, List, ℕ, [], IfOk, OnErr, OnOk, codes, length};
 ghost use Rattle.hp_scenario.specs.Seen.{scenario_seen};
+ghost use Rattle.hp_text.specs.Scenarios.{scenario_text};
+ghost use Rattle.hp_text.specs.State.{state_text};
 ghost use Rattle.hp_talk.specs.Talks.{RepliesTo, line_limit};
+ghost use Rattle.hp_live.specs.Objects.{WritesObject};
 ghost use Rattle.hp_live.specs.Sessions.{IsResumed};
+ghost use Rattle.hp_live.specs.Talks.{IsLostText, IsObjectOf, RepliesText, RepliesWord, fault_object, number_of, word_object};
+ghost use Rattle.hp_live.specs.declared.live_words.LiveWord.TheVariants.{Line};
 
 use crate::answers::{Did, LineAnswer};
 use crate::live_words::{LiveWord, word_of};
 use crate::objects::write_object;
-use crate::session::{Lack, Session};
+use crate::session::Session;
 use crate::states::ShownStates;
 use crate::word_objects::{write_fault, write_word};
 use crate::words::help;
@@ -51,7 +56,12 @@ impl ObjectTalk {
         alloc: Global,
         text: &str,
         out: &mut Vec<u8>,
-    ) -> Result<(), AllocError> {
+    ) -> Result<(), AllocError>
+        ensures ok { OnOk result (RepliesTo RepliesText self.old.session text.now out.old.items
+            self.new.session out.new.items) }
+        ensures err { OnErr result (IsLostText self.old.session text.now self.new.session) }
+        ensures kept { OnErr result (out.new.items ≡ out.old.items) }
+    {
         match word_of(text) {
             LiveWord::Nothing => Ok(()),
             LiveWord::Help => write_word(out, alloc, "help", help()),
@@ -62,14 +72,24 @@ impl ObjectTalk {
     }
 
     /// Writes an object with the machine's state.
-    fn show_state(&self, alloc: Global, out: &mut Vec<u8>) -> Result<(), AllocError> {
+    fn show_state(&self, alloc: Global, out: &mut Vec<u8>) -> Result<(), AllocError>
+        ensures ok { OnOk result (out.new.items ≡ out.old.items ++ word_object (codes "state")
+            (state_text self.now.session.machine.layout self.now.session.names
+            self.now.session.machine.state)) }
+        ensures kept { OnErr result (out.new.items ≡ out.old.items) }
+    {
         let mut text = String::new(alloc);
         self.session.write_state(&mut text, alloc)?;
         write_word(out, alloc, "state", text.as_str())
     }
 
     /// Writes an object with the layout and all lines so far.
-    fn show_scenario(&self, alloc: Global, out: &mut Vec<u8>) -> Result<(), AllocError> {
+    fn show_scenario(&self, alloc: Global, out: &mut Vec<u8>) -> Result<(), AllocError>
+        ensures ok { OnOk result (out.new.items ≡ out.old.items ++ word_object (codes "scenario")
+            (scenario_text self.now.session.machine.layout self.now.session.names
+            self.now.session.lines [])) }
+        ensures kept { OnErr result (out.new.items ≡ out.old.items) }
+    {
         let mut text = String::new(alloc);
         self.session.write_scenario(&mut text)?;
         write_word(out, alloc, "scenario", text.as_str())
@@ -81,18 +101,47 @@ impl ObjectTalk {
         alloc: Global,
         text: &str,
         out: &mut Vec<u8>,
-    ) -> Result<(), AllocError> {
+    ) -> Result<(), AllocError>
+        ensures ok { OnOk result (RepliesTo (RepliesWord Line) self.old.session text.now
+            out.old.items self.new.session out.new.items) }
+        ensures err { OnErr result (IsLostText self.old.session text.now self.new.session) }
+        ensures kept { OnErr result (out.new.items ≡ out.old.items) }
+    {
         match self.session.answer(alloc, text, &mut self.answer) {
-            Ok(()) => {
-                self.write_hint(text)?;
-                self.write_answer(alloc, out)
-            }
-            Err(Lack::Line | Lack::Answer) => Err(AllocError),
+            Ok(()) => self.show_answer(alloc, text, out),
+            Err(_) => Err(AllocError),
         }
     }
 
+    /// Writes the object of the answer to a text.
+    fn show_answer(
+        &mut self,
+        alloc: Global,
+        text: &str,
+        out: &mut Vec<u8>,
+    ) -> Result<(), AllocError>
+        ensures ok { OnOk result ((reply : List ℕ)
+            × IsObjectOf (number_of self.old.answer.did self.old.session.lines)
+            self.old.answer.text reply × (out.new.items ≡ out.old.items ++ reply)) }
+        ensures kept { OnErr result (out.new.items ≡ out.old.items) }
+        ensures same { self.new.session ≡ self.old.session }
+    {
+        self.write_hint(text)?;
+        let mut object = self.object(alloc)?;
+        let session = &self.session;
+        let shown = self
+            .states
+            .show(alloc, &mut object, &session.names, &session.machine)?;
+        out.extend_from_slice(object.as_slice())?;
+        self.states.keep(shown);
+        Ok(())
+    }
+
     /// Writes what was expected of a text that is no line.
-    fn write_hint(&mut self, text: &str) -> Result<(), AllocError> {
+    fn write_hint(&mut self, text: &str) -> Result<(), AllocError>
+        ensures session { self.new.session ≡ self.old.session }
+        ensures answer { self.new.answer ≡ self.old.answer }
+    {
         self.hint.clear();
         match self.answer.did() {
             Did::NoLine => write_expected(&mut self.hint, text),
@@ -100,25 +149,33 @@ impl ObjectTalk {
         }
     }
 
-    /// Writes the answer's object.
-    fn write_answer(&mut self, alloc: Global, out: &mut Vec<u8>) -> Result<(), AllocError> {
-        let number = self.number();
+    /// Returns the answer's object.
+    fn object(&self, alloc: Global) -> Result<Vec<u8>, AllocError>
+        ensures { IfOk result (λ object. WritesObject []
+            (number_of self.now.answer.did self.now.session.lines) self.now.answer.text object.items) }
+    {
         let buffer = Vec::with_capacity(alloc, 256)?;
-        let mut object = write_object(alloc, buffer, number, &self.answer, self.hint.as_str())?;
-        let session = &self.session;
-        self.states
-            .show(alloc, &mut object, &session.names, &session.machine)?;
-        out.extend_from_slice(object.as_slice())
+        write_object(alloc, buffer, self.number(), &self.answer, self.hint.as_str())
     }
 
     /// Returns the number of the line that was answered; of what is no line, the number that the
     /// next line gets.
-    fn number(&self) -> u64 {
-        let count = self.session.line_count();
+    fn number(&self) -> u64
+        ensures { result ≡ number_of self.now.answer.did self.now.session.lines }
+    {
         match self.answer.did() {
-            Did::NoLine => count.saturating_add(1),
-            _ => count,
+            Did::NoLine => self.session.next_number(),
+            _ => self.session.line_count(),
         }
+    }
+
+    /// Refuses a line that is no text, or too long.
+    fn refuse(&self, alloc: Global, hint: &str, out: &mut Vec<u8>) -> Result<(), AllocError>
+        ensures ok { OnOk result (out.new.items
+            ≡ out.old.items ++ fault_object (length self.now.session.lines + 1) hint.now) }
+        ensures kept { OnErr result (out.new.items ≡ out.old.items) }
+    {
+        write_fault(out, alloc, self.session.next_number(), hint)
     }
 }
 
@@ -137,15 +194,11 @@ impl Talk for ObjectTalk {
     fn reply(&mut self, alloc: Global, line: &[u8], out: &mut Vec<u8>) -> Result<(), AllocError> {
         match str::from_utf8(line) {
             Ok(text) => self.reply_to_text(alloc, text, out),
-            Err(_) => {
-                let number = self.session.line_count().saturating_add(1);
-                write_fault(out, alloc, number, "it is not UTF-8")
-            }
+            Err(_) => self.refuse(alloc, "it is not UTF-8", out),
         }
     }
 
     fn reply_to_long(&mut self, alloc: Global, out: &mut Vec<u8>) -> Result<(), AllocError> {
-        let number = self.session.line_count().saturating_add(1);
-        write_fault(out, alloc, number, "it has more than 65536 bytes")
+        self.refuse(alloc, "it has more than 65536 bytes", out)
     }
 }

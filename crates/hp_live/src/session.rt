@@ -1,5 +1,5 @@
 //! A session: a machine, and the lines that it has answered.
-ghost use Rattle.std.specs.Prelude.{◌≡◌, ◌<◌, List, ℕ, [], ◌∷◌, ◌++◌, length, IfErr, IfOk, IsErr, IsOk, OnErr, OnOk, vec_capacity, vec_len};
+ghost use Rattle.std.specs.Prelude.{◌≡◌, ◌<◌, ◌+◌, List, ℕ, [], ◌∷◌, ◌++◌, length, IfErr, IfOk, IsErr, IsOk, OnErr, OnOk, vec_capacity, vec_len};
 ghost use Rattle.hp_scenario.specs.Asked.{asked_by};
 ghost use Rattle.hp_live.specs.Answers.{Answers, IsDone, untold};
 ghost use Rattle.hp_scenario.specs.Seen.{scenario_seen};
@@ -76,6 +76,13 @@ impl Session {
         ensures { result ≡ length self.now.lines }
     {
         self.lines.len() as u64
+    }
+
+    /// Returns the number of the line that comes next.
+    pub fn next_number(&self) -> u64
+        ensures { result ≡ length self.now.lines + 1 }
+    {
+        self.lines.len() as u64 + 1
     }
 
     /// Reads a line, runs it, and answers it in `out` as `hotplug serial` would. The line is kept.

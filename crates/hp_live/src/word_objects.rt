@@ -1,7 +1,10 @@
 //! Objects that are no answer to a line.
-ghost use Rattle.std.specs.Prelude.{◌≡◌, ◌++◌, OnErr, OnOk};
-ghost use Rattle.hp_live.specs.Talks.{fault_object, word_object};
+ghost use Rattle.std.specs.Prelude.{◌≡◌, ◌++◌, [], ◌∷◌, OnErr, OnOk};
+ghost use Rattle.json.specs.Token.{key, string};
+ghost use Rattle.hp_live.specs.Objects.{Adds};
+ghost use Rattle.hp_live.specs.Talks.{fault_object, fault_tokens, word_object};
 
+use crate::objects::begin;
 use json::Writer;
 use std::alloc::{AllocError, Global};
 
@@ -34,17 +37,26 @@ pub(crate) fn write_fault(
     ensures err { OnErr result (out.new.items ≡ out.old.items) }
 {
     let mut writer = Writer::new(Vec::new(alloc));
-    writer.begin_object()?;
-    writer.key("line")?;
-    writer.u64(number)?;
-    writer.key("text")?;
-    writer.string("")?;
-    writer.key("fault")?;
-    writer.string("no line")?;
-    writer.key("hint")?;
-    writer.string(hint)?;
-    writer.end_object()?;
+    write_fault_tokens(&mut writer, number, hint)?;
     append_line(out, writer.into_inner())
+}
+
+/// Writes the tokens of an object that says why a line is none.
+fn write_fault_tokens(writer: &mut Writer, number: u64, hint: &str) -> Result<(), AllocError>
+    ensures { OnOk result (Adds writer.old writer.new (fault_tokens number hint.now)) }
+{
+    begin(writer, number, "")?;
+    add_pair(writer, "fault", "no line")?;
+    add_pair(writer, "hint", hint)?;
+    writer.end_object()
+}
+
+/// Writes a key and its text.
+fn add_pair(writer: &mut Writer, name: &str, text: &str) -> Result<(), AllocError>
+    ensures { OnOk result (Adds writer.old writer.new (key name.now ∷ string text.now ∷ [])) }
+{
+    writer.key(name)?;
+    writer.string(text)
 }
 
 /// Appends an object and a newline.
