@@ -3,7 +3,8 @@ use Rattle.std.proofs.Common.{◌≡◌, ℕ, List, Option, Some, None, refl, su
 use Rattle.std.specs.Prelude.{length}
 use Rattle.hp_scenario.specs.Names.{Numbered, line_in}
 use Rattle.hp_trace.specs.Lives.{LivesOn}
-use Rattle.hp_live.specs.Talks.{IsLostRow, KeepsLine, RowsRead, RowsSession, RowsText, RowsWord, word_of}
+use Rattle.hp_live.specs.RowTalks.{IsLostRow, KeepsLine, RowsRead, RowsSession, RowsText, RowsWord}
+use Rattle.hp_live.specs.Talks.{word_of}
 use Rattle.hp_live.specs.declared.live_words.LiveWord.{LiveWord}
 use Rattle.hp_live.specs.declared.live_words.LiveWord.TheVariants as word
 

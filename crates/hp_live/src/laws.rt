@@ -8,7 +8,7 @@ ghost use Rattle.hp_commands.specs.Served.{IsTextOf};
 ghost use Rattle.hp_text.specs.State.{state_text};
 ghost use Rattle.hp_talk.specs.Talks.{AreReplies};
 ghost use Rattle.hp_live.specs.Sessions.{AnswersAll, IsResumed, SessionValue, script_of, started, taken};
-ghost use Rattle.hp_live.specs.Talks.{RepliesObject, TellsLines};
+ghost use Rattle.hp_live.specs.Talks.{ObjectsValue, RepliesObject, TellsLines};
 
 /// What a session has written is what `hotplug serial` writes for its lines. These are the texts that
 /// are lines, read like a scenario's `calls`. With the state of the machine after them, what was
@@ -33,7 +33,7 @@ pub fn answers_are_what_serial_writes()
 /// texts that are no lines, have no part in it. A reply that was lost has no text; its line was run all
 /// the same if it is among the lines.
 pub fn talks_tell_their_lines()
-    ensures { (scenario : ScenarioValue) (first s : SessionValue) (lines : List (List ℕ))
-        (text : List ℕ) → (begun : IsResumed scenario first)
-        → AreReplies RepliesObject first lines text s → TellsLines scenario begun.text text s }
+    ensures { (scenario : ScenarioValue) (first s : ObjectsValue) (lines : List (List ℕ))
+        (text : List ℕ) → (begun : IsResumed scenario first.session)
+        → AreReplies RepliesObject first lines text s → TellsLines scenario begun.text text s.session }
 {}

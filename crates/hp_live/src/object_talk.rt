@@ -1,12 +1,13 @@
 //! A session that replies in objects of JSON.
-ghost use Rattle.std.specs.Prelude.{◌≡◌, ◌<◌, ◌+◌, ◌++◌, List, ℕ, [], IfOk, OnErr, OnOk, codes, length};
+ghost use Rattle.std.specs.Prelude.{◌≡◌, ◌<◌, ◌+◌, ◌++◌, List, ℕ, [], IfOk, None, OnErr, OnOk, codes, length};
 ghost use Rattle.hp_scenario.specs.Seen.{scenario_seen};
 ghost use Rattle.hp_text.specs.Scenarios.{scenario_text};
 ghost use Rattle.hp_text.specs.State.{state_text};
 ghost use Rattle.hp_talk.specs.Talks.{RepliesTo, line_limit};
 ghost use Rattle.hp_live.specs.Objects.{WritesObject};
+ghost use Rattle.hp_live.specs.ObjectTalks.{objects};
 ghost use Rattle.hp_live.specs.Sessions.{IsResumed};
-ghost use Rattle.hp_live.specs.Talks.{IsLostText, IsObjectOf, RepliesText, RepliesWord, fault_object, number_of, word_object};
+ghost use Rattle.hp_live.specs.Talks.{IsLostText, RepliesText, RepliesWord, ShowsObject, fault_object, number_of, word_object};
 ghost use Rattle.hp_live.specs.declared.live_words.LiveWord.TheVariants.{Line};
 
 use crate::answers::{Did, LineAnswer};
@@ -40,7 +41,9 @@ impl ObjectTalk {
         scenario: Scenario,
         is_state_shown: bool,
     ) -> Result<ObjectTalk, AllocError>
-        ensures { IfOk result (λ talk. IsResumed (scenario_seen scenario) talk.session) }
+        ensures session { IfOk result (λ talk. IsResumed (scenario_seen scenario) talk.session) }
+        ensures states { IfOk result
+            (λ talk. talk.states ≡ record { is_shown = is_state_shown; last = None }) }
     {
         Ok(ObjectTalk {
             session: Session::resume(alloc, scenario)?,
@@ -57,9 +60,9 @@ impl ObjectTalk {
         text: &str,
         out: &mut Vec<u8>,
     ) -> Result<(), AllocError>
-        ensures ok { OnOk result (RepliesTo RepliesText self.old.session text.now out.old.items
-            self.new.session out.new.items) }
-        ensures err { OnErr result (IsLostText self.old.session text.now self.new.session) }
+        ensures ok { OnOk result (RepliesTo RepliesText (objects self.old) text.now out.old.items
+            (objects self.new) out.new.items) }
+        ensures err { OnErr result (IsLostText (objects self.old) text.now (objects self.new)) }
         ensures kept { OnErr result (out.new.items ≡ out.old.items) }
     {
         match word_of(text) {
@@ -102,9 +105,9 @@ impl ObjectTalk {
         text: &str,
         out: &mut Vec<u8>,
     ) -> Result<(), AllocError>
-        ensures ok { OnOk result (RepliesTo (RepliesWord Line) self.old.session text.now
-            out.old.items self.new.session out.new.items) }
-        ensures err { OnErr result (IsLostText self.old.session text.now self.new.session) }
+        ensures ok { OnOk result (RepliesTo (RepliesWord Line) (objects self.old) text.now
+            out.old.items (objects self.new) out.new.items) }
+        ensures err { OnErr result (IsLostText (objects self.old) text.now (objects self.new)) }
         ensures kept { OnErr result (out.new.items ≡ out.old.items) }
     {
         match self.session.answer(alloc, text, &mut self.answer) {
@@ -121,10 +124,12 @@ impl ObjectTalk {
         out: &mut Vec<u8>,
     ) -> Result<(), AllocError>
         ensures ok { OnOk result ((reply : List ℕ)
-            × IsObjectOf (number_of self.old.answer.did self.old.session.lines)
-            self.old.answer.text reply × (out.new.items ≡ out.old.items ++ reply)) }
+            × ShowsObject (number_of self.old.answer.did self.old.session.lines)
+            self.old.answer.text self.old.states self.old.session.machine reply self.new.states
+            × (out.new.items ≡ out.old.items ++ reply)) }
         ensures kept { OnErr result (out.new.items ≡ out.old.items) }
-        ensures same { self.new.session ≡ self.old.session }
+        ensures session { self.new.session ≡ self.old.session }
+        ensures states { OnErr result (self.new.states ≡ self.old.states) }
     {
         self.write_hint(text)?;
         let mut object = self.object(alloc)?;
@@ -140,6 +145,7 @@ impl ObjectTalk {
     /// Writes what was expected of a text that is no line.
     fn write_hint(&mut self, text: &str) -> Result<(), AllocError>
         ensures session { self.new.session ≡ self.old.session }
+        ensures states { self.new.states ≡ self.old.states }
         ensures answer { self.new.answer ≡ self.old.answer }
     {
         self.hint.clear();
@@ -181,9 +187,10 @@ impl ObjectTalk {
 
 impl Talk for ObjectTalk {
     ghost use Rattle.std.specs.Prelude.{codes};
+    ghost use Rattle.hp_live.specs.ObjectTalks.{objects};
     ghost use Rattle.hp_live.specs.Talks.{RepliesObject, lost_object};
 
-    ghost replies = { λ t line reply u. RepliesObject t.session line reply u.session };
+    ghost replies = { λ t line reply u. RepliesObject (objects t) line reply (objects u) };
 
     ghost lost_text = { lost_object };
 

@@ -6,7 +6,8 @@ ghost use Rattle.hp_text.specs.Scenarios.{scenario_text};
 ghost use Rattle.hp_text.specs.State.{state_text};
 ghost use Rattle.hp_talk.specs.Talks.{RepliesTo, line_limit};
 ghost use Rattle.hp_trace.specs.Lives.{LivesOn, without_text};
-ghost use Rattle.hp_live.specs.Talks.{IsLostRow, RowsBegun, RowsText, RowsRead, RowsWord, Stays, cleared, later_view, word_of};
+ghost use Rattle.hp_live.specs.RowTalks.{IsLostRow, RowsBegun, RowsText, RowsRead, RowsWord, Stays, cleared, later_view};
+ghost use Rattle.hp_live.specs.Talks.{word_of};
 
 use crate::live_words::{LiveWord, word_of};
 use crate::words::help;
@@ -34,7 +35,7 @@ pub struct RowTalk {
 
 impl Model for RowTalk {
     ghost use Rattle.std.specs.Prelude.{string_bytes};
-    ghost use Rattle.hp_live.specs.Talks.{RowsSession};
+    ghost use Rattle.hp_live.specs.RowTalks.{RowsSession};
 
     ghost Value = { RowsSession };
 
@@ -195,7 +196,7 @@ fn view_after(scenario: &Scenario, width: u64, orders: bool) -> View
 }
 
 impl Talk for RowTalk {
-    ghost use Rattle.hp_live.specs.Talks.{RepliesRows, lost_row};
+    ghost use Rattle.hp_live.specs.RowTalks.{RepliesRows, lost_row};
 
     ghost replies = { RepliesRows };
 

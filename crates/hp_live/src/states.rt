@@ -1,6 +1,8 @@
 //! The states that objects show.
-ghost use Rattle.std.specs.Prelude.{◌≡◌, ◌++◌, List, ℕ, IfOk, IfSome, OnErr, OnOk};
-ghost use Rattle.hp_live.specs.Talks.{HasMore, object_end};
+ghost use Rattle.std.specs.Prelude.{◌≡◌, ◌++◌, List, ℕ, IfOk, None, OnOk, codes};
+ghost use Rattle.hp_trace_json.specs.ChangeObjects.{IsChangeObject};
+ghost use Rattle.hp_trace_json.specs.Changes.{ChangeValue, IsChange};
+ghost use Rattle.hp_live.specs.Talks.{ShowsIf, TellsIn, kept_states, object_end, picture};
 
 use hp_machine::UnrecordedMachine;
 use hp_plain::Image;
@@ -8,6 +10,7 @@ use hp_trace_json::{change_between, change_object};
 use hp_units::Text;
 use indexmap::IndexSet;
 use std::alloc::{AllocError, Global};
+use std::marker::Model;
 
 /// Whether objects show the state, and the one that the last of them led to.
 #[derive(Drop)]
@@ -16,9 +19,19 @@ pub(crate) struct ShownStates {
     last: Option<Image>,
 }
 
+impl Model for ShownStates {
+    ghost use Rattle.hp_live.specs.Talks.{StatesValue};
+
+    ghost Value = { StatesValue };
+
+    ghost view = { λ s. record { is_shown = s.is_shown; last = s.last } };
+}
+
 impl ShownStates {
     /// Makes the states before the first object.
-    pub(crate) fn new(is_shown: bool) -> ShownStates {
+    pub(crate) fn new(is_shown: bool) -> ShownStates
+        ensures { result ≡ record { is_shown = is_shown; last = None } }
+    {
         ShownStates {
             is_shown,
             last: None,
@@ -34,10 +47,9 @@ impl ShownStates {
         names: &IndexSet<Text>,
         machine: &UnrecordedMachine,
     ) -> Result<Option<Image>, AllocError>
-        ensures object { OnOk result ((front : List ℕ) → object.old.items ≡ front ++ object_end
-            → HasMore front object.old.items object.new.items) }
-        ensures state { IfOk result (λ shown. IfSome shown
-            (λ image. image ≡ record { layout = machine.now.layout; memory = machine.now.state })) }
+        ensures { IfOk result (λ shown. (front : List ℕ) → object.old.items ≡ front ++ object_end
+            → ShowsIf self.now.is_shown self.now.last (picture machine.now) shown front
+            object.new.items) }
     {
         if !self.is_shown {
             return Ok(None);
@@ -56,7 +68,8 @@ impl ShownStates {
         now: &Image,
     ) -> Result<(), AllocError>
         ensures { OnOk result ((front : List ℕ) → object.old.items ≡ front ++ object_end
-            → HasMore front object.old.items object.new.items) }
+            → (change : ChangeValue) × IsChange self.now.last now.now change
+            × TellsIn front change object.new.items) }
     {
         let change = change_between(alloc, &self.last, now)?;
         let shown = change_object(alloc, names, &change)?;
@@ -64,21 +77,22 @@ impl ShownStates {
     }
 
     /// Notes the state that an object led to which was written.
-    pub(crate) fn keep(&mut self, shown: Option<Image>) {
-        if shown.is_some() {
-            self.last = shown;
+    pub(crate) fn keep(&mut self, shown: Option<Image>)
+        ensures { self.new ≡ kept_states self.old shown }
+    {
+        if let Some(image) = shown {
+            self.last = Some(image);
         }
     }
 }
 
-/// Adds the keys of an object to another one, which a newline follows.
+/// Adds the keys of a change's object to another one, which a newline follows.
 fn join_objects(object: &mut Vec<u8>, more: &[u8]) -> Result<(), AllocError>
-    ensures { OnOk result ((front : List ℕ) → object.old.items ≡ front ++ object_end
-        → HasMore front object.old.items object.new.items) }
+    ensures { OnOk result ((front : List ℕ) (change : ChangeValue)
+        → object.old.items ≡ front ++ object_end → IsChangeObject change more.now
+        → TellsIn front change object.new.items) }
 {
-    let [b'{', keys @ ..] = more else {
-        return Ok(());
-    };
+    let keys = after_bracket(more);
     if keys == b"}".as_slice() {
         return Ok(());
     }
@@ -87,6 +101,17 @@ fn join_objects(object: &mut Vec<u8>, more: &[u8]) -> Result<(), AllocError>
     object.extend_from_slice(keys)?;
     object.push(b'\n')?;
     Ok(())
+}
+
+/// Returns what comes after an object's first bracket.
+fn after_bracket(object: &[u8]) -> &[u8]
+    ensures { (change : ChangeValue) → IsChangeObject change object.now
+        → object.now ≡ codes "{" ++ result.now }
+{
+    match object.split_first() {
+        Some((_, rest)) => rest,
+        None => object,
+    }
 }
 
 /// Takes away an object's last bracket and the newline.
