@@ -5,7 +5,7 @@ use Rattle.std.specs.Fmt.{format_spec, styled_decimal}
 use Rattle.std.specs.List.{AllByRecursion}
 use Rattle.std.proofs.lemmas.Bool.{ltb-false}
 use Rattle.std.proofs.lemmas.List.{drop_at, length-append, take_at}
-use Rattle.hp_machine.specs.Machine.{MachineValue, booted, sealed}
+use Rattle.hp_machine.specs.Machine.{MachineValue, booted}
 use Rattle.hp_map.specs.declared.row_picture.Move.{Move}
 use Rattle.hp_scenario.specs.Asked as asks
 use Rattle.hp_scenario.specs.Scenario.{ScenarioValue}
@@ -15,8 +15,8 @@ use Rattle.hp_text.specs.Answers.{sealed_line}
 use Rattle.hp_text.specs.Files.{write_fault_line}
 use Rattle.hp_control.specs.Reads.{file_text}
 use Rattle.hp_trace.specs.Calls.{MakesWork, answer_text, file_rows, moved_of}
-use Rattle.hp_trace.specs.Lives.{Came, IsBegun, IsWrittenAlike, LiveValue, LivesThrough, with_lines, without_text}
-use Rattle.hp_trace.specs.Rows.{AreDrawn, DrawsIf, IsRow, IsWritten, Row, RowsValue, SaysAs, drawing, noted, words}
+use Rattle.hp_trace.specs.Lives.{Came, IsBegun, IsWrittenAlike, LiveValue, LivesThrough, with_lines}
+use Rattle.hp_trace.specs.Rows.{AreDrawn, DrawsIf, IsRow, Row, RowsValue, SaysAs, drawing, noted, words}
 use Rattle.hp_trace.specs.Traces.{IsStart, IsTraceOf, MakesLines, TracesLine, TracesLines, numbered_text, rows_if, skipped}
 use Rattle.hp_trace.specs.Views.{shows}
 use Rattle.hp_trace.specs.declared.rows.Form.{Form}
