@@ -7,9 +7,9 @@ use Rattle.hp_machine.specs.Machine.{MachineValue}
 use Rattle.hp_trace_json.specs.ChangeObjects.{IsChangeObject, TellsChange, no_change}
 use Rattle.hp_trace_json.specs.Changes.{ChangeValue}
 use Rattle.hp_live.specs.Answers.{AnswerValue}
-use Rattle.hp_live.specs.Objects.{WritesObject, head_of, object_of}
+use Rattle.hp_live.specs.Objects.{WritesObject, head_of}
 use Rattle.hp_live.specs.Sessions.{SessionValue}
-use Rattle.hp_live.specs.Talks.{HasKeys, ShowsIf, ShowsObject, StatesValue, TellsIn, kept_states, number_of, object_end, picture}
+use Rattle.hp_live.specs.Talks.{ShowsIf, ShowsObject, StatesValue, TellsIn, kept_states, number_of, object_end, picture}
 
 -- ---- the end of an object
 

@@ -161,7 +161,13 @@ impl ObjectTalk {
             (number_of self.now.answer.did self.now.session.lines) self.now.answer.text object.items) }
     {
         let buffer = Vec::with_capacity(alloc, 256)?;
-        write_object(alloc, buffer, self.number(), &self.answer, self.hint.as_str())
+        write_object(
+            alloc,
+            buffer,
+            self.number(),
+            &self.answer,
+            self.hint.as_str(),
+        )
     }
 
     /// Returns the number of the line that was answered; of what is no line, the number that the
