@@ -8,6 +8,7 @@ use Rattle.std.proofs.lemmas.List.{drop_at, length-append, take_at}
 use Rattle.hp_machine.specs.Machine.{MachineValue, booted}
 use Rattle.hp_map.specs.declared.row_picture.Move.{Move}
 use Rattle.hp_scenario.specs.Asked as asks
+use Rattle.hp_scenario.specs.Names.{Numbered}
 use Rattle.hp_scenario.specs.Scenario.{ScenarioValue}
 use Rattle.hp_scenario.specs.declared.lines.Line.{Line}
 use Rattle.hp_text.specs.Plans.{plan_line}
@@ -15,7 +16,7 @@ use Rattle.hp_text.specs.Answers.{sealed_line}
 use Rattle.hp_text.specs.Files.{write_fault_line}
 use Rattle.hp_control.specs.Reads.{file_text}
 use Rattle.hp_trace.specs.Calls.{MakesWork, answer_text, file_rows, moved_of}
-use Rattle.hp_trace.specs.Lives.{Came, IsBegun, IsWrittenAlike, LiveValue, LivesThrough, with_lines}
+use Rattle.hp_trace.specs.Lives.{AreRead, IsBegun, LiveValue, LivesThrough, with_lines}
 use Rattle.hp_trace.specs.Rows.{AreDrawn, DrawsIf, IsRow, Row, RowsValue, SaysAs, drawing, noted, words}
 use Rattle.hp_trace.specs.Traces.{IsStart, IsTraceOf, MakesLines, TracesLine, TracesLines, numbered_text, rows_if, skipped}
 use Rattle.hp_trace.specs.Views.{shows}
@@ -23,6 +24,7 @@ use Rattle.hp_trace.specs.declared.rows.Form.{Form}
 use Rattle.hp_trace.specs.declared.rows.Form.TheVariants.{Written}
 use Rattle.hp_trace.specs.declared.view.View.{View}
 use Rattle.hp_trace.proofs.LinesTraced.{line_more}
+use Rattle.hp_trace.proofs.NamesKept.{IsWrittenAlike, all_written_alike}
 
 -- ---- rows below a text
 
@@ -130,8 +132,8 @@ lines_otherwise names other number m (line ∷ lines) lists after made =
 -- ---- lines that came
 
 -- a line that came, below a text
-line_below : (v : View) (names : List (List ℕ)) (c : Came) (number : ℕ) (total : List ℕ) (m next : MachineValue)
-    (old new : RowsValue)
+line_below : (v : View) (names : List (List ℕ)) (c : Numbered) (number : ℕ) (total : List ℕ)
+    (m next : MachineValue) (old new : RowsValue)
     → old.form ≡ Written → IsWrittenAlike names c
     → TracesLine v c.names number m c.line (record old { text = [] }) new next
     → TracesLine v names number m c.line (record old { text = total }) (below total new) next
@@ -147,8 +149,8 @@ line_below v names c number total m next old new is alike one = record {
       (drawn_below total (rows_if (shows v number) one.rows) (record old { text = [] }) new is one.drawn);
 }
 
-lines_below : (v : View) (names : List (List ℕ)) (before number : ℕ) (first : MachineValue) (start : RowsValue)
-    (lines : List Line) (came : List Came) (total shown : List ℕ) (old new : LiveValue)
+lines_below : (v : View) (names : List (List ℕ)) (before number : ℕ) (first : MachineValue)
+    (start : RowsValue) (lines : List Line) (came : List Numbered) (total shown : List ℕ) (old new : LiveValue)
     → number ≡ before + 1 + length lines → old.view ≡ v → old.rows.form ≡ Written
     → TracesLines v names before first lines start (record old.rows { text = total }) old.machine
     → LivesThrough number came shown old new → AllByRecursion (IsWrittenAlike names) came
@@ -211,13 +213,13 @@ skipped_are v n k from = by_test (nat_lt (v.from - 1) (n + k)) refl
     by_test true is = omega (arith, from)
     by_test false is = omega (arith, from, ltb-false (v.from - 1) (n + k) is)
 
-pub shown_is_traced : (v : View) (s : ScenarioValue) (names : List (List ℕ)) (came : List Came)
+pub shown_is_traced : (v : View) (s : ScenarioValue) (came : List Numbered) (names : List (List ℕ))
     (shown : List ℕ) (begun now : LiveValue)
-    → v.from ≡ length s.lines + 1 → IsBegun v s begun
+    → v.from ≡ length s.lines + 1 → IsBegun v s begun → AreRead s.names came names
     → LivesThrough (length s.lines + 1) came shown begun now
-    → AllByRecursion (IsWrittenAlike names) came
-    → IsTraceOf v (with_lines s names came) (begun.rows.text ++ shown)
-shown_is_traced v s names came shown begun now from b lives alike =
+    → IsTraceOf v (with_lines s came names) (begun.rows.text ++ shown)
+shown_is_traced v s came names shown begun now from b read lives =
+    let alike = all_written_alike s.names came names read in
     let more : List Line = map (λ c. c.line) came in
     let count : skipped v (length (s.lines ++ more)) ≡ length s.lines =
     ap (λ (k : ℕ). skipped v k) (length-append s.lines more)

@@ -1,11 +1,9 @@
 -- A machine that lives on after a scenario, and the rows of the lines that come.
-use Rattle.std.specs.Prelude.{ℕ, ◌≡◌, ◌+◌, List, [], ◌∷◌, ◌++◌, length, map}
-use Rattle.std.specs.List.{AllByRecursion}
+use Rattle.std.specs.Prelude.{ℕ, ◌≡◌, ◌+◌, List, [], ◌∷◌, ◌++◌, length, map, Some}
 use Rattle.hp_machine.specs.Machine.{MachineValue, booted}
+use Rattle.hp_scenario.specs.Names.{Numbered, line_in}
 use Rattle.hp_scenario.specs.Scenario.{ScenarioValue}
 use Rattle.hp_scenario.specs.declared.lines.Line.{Line}
-use Rattle.hp_text.specs.Lines.{shown_line}
-use Rattle.hp_text.specs.declared.escapes.Brackets.TheVariants.{Escaped}
 use Rattle.hp_trace.specs.Rows.{Row, RowsValue}
 use Rattle.hp_trace.specs.Traces.{IsStart, IsTraceOf, MakesLines, TracesLine}
 use Rattle.hp_trace.specs.declared.rows.Form.TheVariants.{Written}
@@ -45,35 +43,30 @@ without_text t = record {
 
 -- ---- lines that come one after another
 
--- a line, and the owners' names when it came
-pub record Came : Type 0 where
-  pub names : List (List ℕ)
-  pub line : Line
+-- the lines of texts, each read after the names of the lines before it, and the names after the last
+abbrev pub AreRead : (names : List (List ℕ)) → List Numbered → (last : List (List ℕ)) → Type 0
+AreRead names [] last = last ≡ names
+AreRead names (n ∷ read) last = (text : List ℕ) × (line_in names text ≡ Some n) × AreRead n.names read last
 
 -- lines were run one after another, of which the first has this number. The text was emptied before each,
 -- and what it was after each is shown.
-abbrev pub LivesThrough : (number : ℕ) → (came : List Came) → (shown : List ℕ) → (old new : LiveValue) → Type 0
+abbrev pub LivesThrough : (number : ℕ) → List Numbered → (shown : List ℕ) → (old new : LiveValue) → Type 0
 LivesThrough number [] shown old new = (shown ≡ []) × (new ≡ old)
-LivesThrough number (c ∷ came) shown old new =
-    (next : LiveValue) × (later : List ℕ) × LivesOn c.names number c.line (without_text old) next
-    × (shown ≡ next.rows.text ++ later) × LivesThrough (number + 1) came later next new
+LivesThrough number (n ∷ read) shown old new =
+    (next : LiveValue) × (later : List ℕ) × LivesOn n.names number n.line (without_text old) next
+    × (shown ≡ next.rows.text ++ later) × LivesThrough (number + 1) read later next new
 
--- a line is written the same by these names as by those when it came
-abbrev pub IsWrittenAlike : (names : List (List ℕ)) → Came → Type 0
-IsWrittenAlike names c = shown_line Escaped c.names c.line ≡ shown_line Escaped names c.line
+-- a scenario with more lines below its own, and the names after them
+abbrev pub with_lines : ScenarioValue → List Numbered → (last : List (List ℕ)) → ScenarioValue
+with_lines s read last =
+    record { layout = s.layout; names = last; lines = s.lines ++ map (λ n. n.line) read }
 
--- a scenario with lines that came after its own, and these names
-abbrev pub with_lines : ScenarioValue → (names : List (List ℕ)) → (came : List Came) → ScenarioValue
-with_lines s names came =
-    record { layout = s.layout; names = names; lines = s.lines ++ map (λ c. c.line) came }
-
--- the first row, and below it what was shown for lines that came after a scenario's, is the trace of the
--- scenario with these lines, from the first of them on
+-- the first row, and below it what was shown for the lines that came after a scenario's, are the trace of
+-- the scenario with these lines, from the first of them on
 abbrev pub ShowTheTrace : Type 0
 ShowTheTrace =
-    (v : View) (s : ScenarioValue) (names : List (List ℕ)) (came : List Came) (shown : List ℕ)
+    (v : View) (s : ScenarioValue) (read : List Numbered) (last : List (List ℕ)) (shown : List ℕ)
     (begun now : LiveValue)
-    → v.from ≡ length s.lines + 1 → IsBegun v s begun
-    → LivesThrough (length s.lines + 1) came shown begun now
-    → AllByRecursion (IsWrittenAlike names) came
-    → IsTraceOf v (with_lines s names came) (begun.rows.text ++ shown)
+    → v.from ≡ length s.lines + 1 → IsBegun v s begun → AreRead s.names read last
+    → LivesThrough (length s.lines + 1) read shown begun now
+    → IsTraceOf v (with_lines s read last) (begun.rows.text ++ shown)

@@ -99,8 +99,9 @@ impl LiveTrace {
     }
 }
 
-/// Called for its contract: the first row and the rows of lines that came after a scenario's are
-/// what `trace` returns for the scenario with these lines and a view from the first of them on.
+/// Called for its contract: the first row and the rows of lines that came after a scenario's, each
+/// read after the names of the lines before it, are what `trace` returns for the scenario with
+/// these lines and a view from the first of them on.
 pub fn live_rows_are_the_trace()
     ensures { ShowTheTrace }
 {}
