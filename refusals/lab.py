@@ -1,5 +1,7 @@
 """The words of hotplug_lab, with requests for memory, reads and writes refused in turn."""
+import json
 import os
+import tempfile
 
 from hostile import scenario_text
 from refusing import ROOT, run
@@ -15,6 +17,8 @@ SCENARIOS = {
     "trace --svg": ["0 map db 0", "0 plan 4 off 1"],
     "trace --html": ["0 map db 0"],
 }
+LIVE = ["0 map db 0", "nonsense", "0 plan 4 off 1", "0 cat memory1/state", "state", "0 seal", "scenario",
+        "0 drain 0"]
 FAULTS = {"memory": ["out of memory"], "io": ["reading failed", "writing failed"]}
 
 
@@ -35,6 +39,37 @@ def check_kind(checks, refuser, kind, word, text):
     return failed, unneeded
 
 
+def is_live(ran, whole):
+    """Whether a session ended as it may where it was out of memory: before it began, with nothing
+    written; or at the end of its input, with an object for each line."""
+    if ran.ends_as(1, "", "hotplug_lab: out of memory\n"):
+        return True
+    objects = [json.loads(line) for line in ran.out.splitlines()]
+    lost = sum("OutOfMemory" in json.dumps(it) for it in objects)
+    return ran.status == 0 and len(objects) == len(LIVE) and (lost == 1 or ran.out == whole.out)
+
+
+def check_live(checks, refuser):
+    """A live session: without memory a line is answered so, and after a read or a write that failed
+    a beginning of the objects was written."""
+    with tempfile.NamedTemporaryFile("wb", suffix=".json") as file:
+        file.write(scenario_text(LAYOUT, ["0 kalloc 0"]))
+        file.flush()
+        command = [LAB, "live", "--json", "--state", file.name]
+        text = "".join(f"{line}\n" for line in LIVE).encode()
+        whole = run(command, text)
+        checks.holds("live", whole.status == 0 and whole.out.count("\n") == len(LIVE), f"ends with {whole}")
+        memory, streams = 0, 0
+        for number, ran in refuser.each("memory", command, text):
+            checks.holds(f"live, memory {number}", is_live(ran, whole), f"ended with {ran}")
+            memory += 1
+        for number, ran in refuser.each("io", command, text):
+            is_right = ran.status == 1 and "failed" in ran.err and whole.out.startswith(ran.out)
+            checks.holds(f"live, io {number}", is_right, f"ended with {ran}")
+            streams += 1
+        print(f"live: {memory} requests for memory refused; {streams} reads and writes failed")
+
+
 def check_lab(checks, refuser):
     if not os.access(LAB, os.X_OK):
         checks.holds("hotplug_lab", False, f"no program at {LAB}: `rt run` in its crate builds it")
@@ -45,3 +80,4 @@ def check_lab(checks, refuser):
         streams, _ = check_kind(checks, refuser, "io", word, text)
         print(f"{word}: {faults + whole} requests for memory refused: {faults} faults, "
               f"{whole} whole; {streams} reads and writes failed")
+    check_live(checks, refuser)

@@ -2,5 +2,6 @@ pub mod Adds
 pub mod Calls
 pub mod Checking
 pub mod Findings
+pub mod Hints
 pub mod Ranges
 pub mod Shape

@@ -1,11 +1,16 @@
 //! What was expected in place of a text that is not a line.
+ghost use Rattle.std.specs.Prelude.{OnOk, string_bytes};
+ghost use Rattle.hp_check.specs.Hints.{AddsText};
+
 use crate::slips::write_slip;
 use hp_units::number32;
 use std::alloc::AllocError;
 
 /// Writes why a text is not a line: a space at one of its ends, or the wrong word, if it can be
 /// found, and what was expected.
-pub(crate) fn write_expected(out: &mut String, text: &str) -> Result<(), AllocError> {
+pub fn write_expected(out: &mut String, text: &str) -> Result<(), AllocError>
+    ensures { OnOk result (AddsText (string_bytes out.old) (string_bytes out.new)) }
+{
     if text.starts_with(' ') {
         return out.push_str("it begins with a space");
     }
@@ -32,16 +37,26 @@ fn wanted(text: &str) -> &'static str {
 
 /// Returns what was expected of a line with this verb.
 fn wanted_of(verb: &str) -> &'static str {
-    let rows = forms();
-    for row in rows {
-        if verb == row.0 {
-            return row.1;
-        }
+    match text_beside(verb, forms()) {
+        Some(form) => form,
+        None => match text_beside(verb, guesses()) {
+            Some(guess) => guess,
+            None => "its second word is no verb",
+        },
     }
-    "its second word is no verb"
 }
 
-/// Returns each verb with the form of its line, and then words that were probably meant as a verb.
+/// Returns the text beside a word in a table.
+fn text_beside(word: &str, table: &'static [(&'static str, &'static str)]) -> Option<&'static str> {
+    for row in table {
+        if word == row.0 {
+            return Some(row.1);
+        }
+    }
+    None
+}
+
+/// Returns each verb with the form of its line.
 fn forms() -> &'static [(&'static str, &'static str)] {
     &[
         ("kalloc", "wanted: C kalloc ORDER"),
@@ -73,6 +88,12 @@ fn forms() -> &'static [(&'static str, &'static str)] {
         ("echo", "wanted: C echo TEXT PATH"),
         ("cat", "wanted: C cat PATH"),
         ("seal", "wanted: C seal"),
+    ]
+}
+
+/// Returns each word that was probably meant as a verb, with a guess at the line.
+fn guesses() -> &'static [(&'static str, &'static str)] {
+    &[
         (
             "offline",
             "its second word is no verb; perhaps C plan TURNS off BLOCK, or C echo offline \

@@ -23,5 +23,6 @@ mod texts;
 mod warnings;
 
 pub use checking::{check, fault_count};
+pub use expected::write_expected;
 pub use finding::{Finding, Hint, Key, OutOfRange, ScenarioObject, Shape, Warning, What};
 pub use report::write_report;

@@ -1,4 +1,7 @@
 //! Texts of a scenario as findings quote them.
+ghost use Rattle.std.specs.Prelude.{OnOk, string_bytes};
+ghost use Rattle.hp_check.specs.Hints.{AddsText};
+
 use hp_text::{Brackets, write_start};
 use std::alloc::AllocError;
 
@@ -7,7 +10,9 @@ const MOST: usize = 60;
 
 /// Writes the start of a text between backquotes, with its control characters and those that cannot
 /// be seen as JSON has them.
-pub(crate) fn write_quoted(out: &mut String, text: &str) -> Result<(), AllocError> {
+pub(crate) fn write_quoted(out: &mut String, text: &str) -> Result<(), AllocError>
+    ensures { OnOk result (AddsText (string_bytes out.old) (string_bytes out.new)) }
+{
     out.push_str("`")?;
     write_start(out, text, Brackets::Kept, MOST)?;
     out.push_str("`")

@@ -1,4 +1,7 @@
 //! The word at which a text is no line.
+ghost use Rattle.std.specs.Prelude.{OnOk, string_bytes};
+ghost use Rattle.hp_check.specs.Hints.{AddsText};
+
 use crate::quotes::write_quoted;
 use hp_units::{number32, number64};
 use std::alloc::AllocError;
@@ -20,7 +23,9 @@ enum Kind {
 }
 
 /// Writes the word at which a text is no line, and why, if that can be told.
-pub(crate) fn write_slip(out: &mut String, text: &str) -> Result<(), AllocError> {
+pub(crate) fn write_slip(out: &mut String, text: &str) -> Result<(), AllocError>
+    ensures { OnOk result (AddsText (string_bytes out.old) (string_bytes out.new)) }
+{
     match slip_in(text) {
         Some((word, why)) => {
             write_quoted(out, word)?;

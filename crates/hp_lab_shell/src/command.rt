@@ -1,6 +1,7 @@
 //! The command line: the words of the program, each with what it does and its arguments.
 
 use crate::arguments::{Argument, arg_of};
+use crate::live_arguments::LIVE;
 use crate::search_words::{EXPLORE, SUM};
 use crate::show_words::{CHECK, JUDGE, TRACE};
 use clap::{Arg, Command};
@@ -15,7 +16,7 @@ struct CommandWord {
 }
 
 /// The subcommands of the program.
-const WORDS: [CommandWord; 5] = [
+const WORDS: [CommandWord; 6] = [
     CommandWord {
         name: "check",
         about: "Writes what is wrong with a scenario and where; the status is 0 where there are no faults",
@@ -35,6 +36,11 @@ const WORDS: [CommandWord; 5] = [
         name: "trace",
         about: "Writes what each line answers, with a picture of the memory after each call",
         arguments: &TRACE,
+    },
+    CommandWord {
+        name: "live",
+        about: "Boots a scenario's machine, and replies to each line of standard input at once",
+        arguments: &LIVE,
     },
     CommandWord {
         name: "judge",

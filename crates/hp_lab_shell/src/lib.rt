@@ -19,6 +19,8 @@ mod command;
 mod files;
 mod judging;
 mod laboratory;
+mod live;
+mod live_arguments;
 mod logs;
 mod messages;
 mod needs;

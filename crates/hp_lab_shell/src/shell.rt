@@ -4,6 +4,7 @@ use crate::command::lab_command;
 use crate::files::bytes_of;
 use crate::judging::serve_judge;
 use crate::laboratory::{Laboratory, Served};
+use crate::live::serve_live;
 use crate::messages::{file_name, say_fault, say_no_line, say_unbegun, say_words};
 use crate::output::Output;
 use crate::progress::{Progress, Watching, shown_on};
@@ -183,6 +184,7 @@ fn serve_matches<L: Laboratory, T: Threads + Sync>(
 ) -> Result<u8, LabProgramFault> {
     match matches.subcommand() {
         Some(("judge", words)) => Ok(serve_judge(rt, words)),
+        Some(("live", words)) => Ok(serve_live(rt, words)),
         _ => serve_scenario(rt, lab, threads, matches),
     }
 }

@@ -27,7 +27,7 @@ const MOST_SCALE: u64 = 400;
 const MEMORY_MIB: u64 = 2048;
 
 /// The default width of a trace's rows in columns.
-const WIDTH: u64 = 200;
+pub(crate) const WIDTH: u64 = 200;
 
 /// Printed if there is no such subcommand; clap asks for one before.
 const NO_WORD: &str = "there is no such word";

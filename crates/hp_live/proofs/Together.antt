@@ -6,19 +6,26 @@ use Rattle.hp_scenario.specs.declared.fault.ScenarioFault.TheVariants.{BadLine}
 use Rattle.hp_scenario.specs.declared.lines.Line.{Line}
 use Rattle.hp_scenario.specs.Gives.{◌>>=◌, or_fault}
 use Rattle.hp_scenario.specs.Names.{Numbered, line_in}
-use Rattle.hp_scenario.specs.Scenario.{lines_from, nothing, scenario_in, with_line as script_with}
+use Rattle.hp_scenario.specs.Scenario.{ScenarioValue, lines_from, nothing, scenario_in, with_line as script_with}
 use Rattle.hp_commands.specs.Serial.{WritesLines}
 use Rattle.hp_commands.specs.Served.{IsTextOf}
 use Rattle.hp_commands.proofs.Lines.{one_more}
 use Rattle.hp_commands.proofs.Served.{ran_text}
 use Rattle.hp_text.specs.State.{state_text}
 use Rattle.hp_live.specs.Answers.{AnswerValue}
-use Rattle.hp_live.specs.Sessions.{AnswersAll, AnswersRead, SessionValue, script_of, started, taken, took}
+use Rattle.hp_live.specs.Sessions.{AnswersAll, AnswersRead, IsResumed, SessionValue, script_of, started, taken, took}
 
 -- ---- what is written
 
+-- the lines of a scenario
+pub resumed_run : (scenario : ScenarioValue) (s : SessionValue) → (begun : IsResumed scenario s)
+    → WritesLines (booted scenario.layout) s.lines begun.text s.machine
+resumed_run scenario s begun =
+    subst (λ (l : List Line). WritesLines (booted scenario.layout) l begun.text s.machine) (sym begun.lines)
+    begun.run
+
 -- the lines so far, and one text more
-one_answer : (n : Option Numbered) (m : MachineValue) (s next : SessionValue) (a : AnswerValue)
+pub one_answer : (n : Option Numbered) (m : MachineValue) (s next : SessionValue) (a : AnswerValue)
     (before : List ℕ)
     → WritesLines m s.lines before s.machine → AnswersRead s n a next
     → WritesLines m next.lines (before ++ a.text) next.machine
@@ -51,6 +58,14 @@ pub answers_write : (l : LayoutParts) (texts : List (List ℕ)) (written : List 
 unfolding WritesLines
 answers_write l texts written s all =
     all_answers texts (booted l) (started l) s [] written (refl, refl) all
+
+-- after the lines of a scenario
+pub answers_resume : (scenario : ScenarioValue) (texts : List (List ℕ)) (written : List ℕ)
+    (first s : SessionValue)
+    → (begun : IsResumed scenario first) → AnswersAll first texts written s
+    → WritesLines (booted scenario.layout) s.lines (begun.text ++ written) s.machine
+answers_resume scenario texts written first s begun all =
+    all_answers texts (booted scenario.layout) first s begun.text written (resumed_run scenario first begun) all
 
 -- with the state after them it is a text of `hotplug serial`
 pub answers_serve : (l : LayoutParts) (texts : List (List ℕ)) (written : List ℕ) (s : SessionValue)

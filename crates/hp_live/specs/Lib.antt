@@ -1,4 +1,7 @@
 pub mod Answers
+pub mod ObjectTalks
 pub mod Objects
 pub mod Plans
+pub mod RowTalks
 pub mod Sessions
+pub mod Talks

@@ -4,9 +4,9 @@ use Rattle.hp_units.specs.LayoutParts.{LayoutParts}
 use Rattle.hp_machine.specs.Machine.{MachineValue, booted}
 use Rattle.hp_scenario.specs.Asked.{asked_by}
 use Rattle.hp_scenario.specs.Names.{Numbered, line_in}
-use Rattle.hp_scenario.specs.Scenario.{Script}
+use Rattle.hp_scenario.specs.Scenario.{ScenarioValue, Script}
 use Rattle.hp_scenario.specs.declared.lines.Line.{Line}
-use Rattle.hp_commands.specs.Serial.{WritesLine}
+use Rattle.hp_commands.specs.Serial.{WritesLine, WritesLines}
 use Rattle.hp_live.specs.Answers.{AnswerValue, Answers, untold}
 use Rattle.hp_live.specs.declared.session.Lack.{Lack}
 use Rattle.hp_live.specs.declared.session.Lack.TheVariants as lack
@@ -29,6 +29,13 @@ with_line s n machine = record { names = n.names; lines = s.lines ++ n.line ∷ 
 abbrev pub RunsLine : SessionValue → Numbered → (text : List ℕ) → (new : SessionValue) → Type 0
 RunsLine s n text new =
     WritesLine s.machine n.line text new.machine × (new ≡ with_line s n new.machine)
+
+-- a scenario's session after its lines, which were run from boot on
+pub record IsResumed (s : ScenarioValue) (new : SessionValue) : Type 0 where
+  pub text : List ℕ
+  pub run : WritesLines (booted s.layout) s.lines text new.machine
+  pub names : new.names ≡ s.names
+  pub lines : new.lines ≡ s.lines
 
 -- ---- one text
 

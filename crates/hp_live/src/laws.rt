@@ -1,12 +1,14 @@
-//! What answers in a row are together: the contract of a function that does nothing.
+//! What answers in a row are together: the contracts of functions that do nothing.
 ghost use Rattle.std.specs.Prelude.{◌≡◌, ◌++◌, [], ℕ, List, Ok};
 ghost use Rattle.hp_units.specs.LayoutParts.{LayoutParts};
 ghost use Rattle.hp_machine.specs.Machine.{booted};
-ghost use Rattle.hp_scenario.specs.Scenario.{lines_from, nothing, scenario_in};
+ghost use Rattle.hp_scenario.specs.Scenario.{ScenarioValue, lines_from, nothing, scenario_in};
 ghost use Rattle.hp_commands.specs.Serial.{WritesLines};
 ghost use Rattle.hp_commands.specs.Served.{IsTextOf};
 ghost use Rattle.hp_text.specs.State.{state_text};
-ghost use Rattle.hp_live.specs.Sessions.{AnswersAll, SessionValue, script_of, started, taken};
+ghost use Rattle.hp_talk.specs.Talks.{AreReplies};
+ghost use Rattle.hp_live.specs.Sessions.{AnswersAll, IsResumed, SessionValue, script_of, started, taken};
+ghost use Rattle.hp_live.specs.Talks.{ObjectsValue, RepliesObject, TellsLines};
 
 /// What a session has written is what `hotplug serial` writes for its lines. These are the texts that
 /// are lines, read like a scenario's `calls`. With the state of the machine after them, what was
@@ -21,4 +23,17 @@ pub fn answers_are_what_serial_writes()
         → AnswersAll (started l) texts written s → (input : List ℕ)
         → scenario_in input ≡ Ok (record { layout = l; names = s.names; lines = s.lines })
         → IsTextOf input (written ++ state_text s.machine.layout s.names s.machine.state) }
+    ensures resumed { (scenario : ScenarioValue) (texts : List (List ℕ)) (written : List ℕ)
+        (first s : SessionValue) → (begun : IsResumed scenario first) → AnswersAll first texts written s
+        → WritesLines (booted scenario.layout) s.lines (begun.text ++ written) s.machine }
+{}
+
+/// Whatever lines came in a talk in objects, the texts in the replies, one after another, are what
+/// `hotplug serial` writes for the lines so far: those of the scenario, and those that came. Words, and
+/// texts that are no lines, have no part in it. A reply that was lost has no text; its line was run all
+/// the same if it is among the lines.
+pub fn talks_tell_their_lines()
+    ensures { (scenario : ScenarioValue) (first s : ObjectsValue) (lines : List (List ℕ))
+        (text : List ℕ) → (begun : IsResumed scenario first.session)
+        → AreReplies RepliesObject first lines text s → TellsLines scenario begun.text text s.session }
 {}

@@ -8,14 +8,21 @@
 
 mod answers;
 mod laws;
+mod live_words;
+mod object_talk;
 mod objects;
 mod plans;
+mod row_talk;
 mod runs;
 mod session;
+mod states;
+mod word_objects;
 mod words;
 
 pub use answers::{Did, LineAnswer};
-pub use laws::answers_are_what_serial_writes;
+pub use laws::{answers_are_what_serial_writes, talks_tell_their_lines};
+pub use object_talk::ObjectTalk;
 pub use objects::write_object;
+pub use row_talk::RowTalk;
 pub use session::{Lack, Session};
 pub use words::help;

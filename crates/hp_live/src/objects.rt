@@ -46,7 +46,7 @@ fn write_tokens(
 }
 
 /// Writes the keys that each object has.
-fn begin(writer: &mut Writer, number: u64, text: &str) -> Result<(), AllocError>
+pub(crate) fn begin(writer: &mut Writer, number: u64, text: &str) -> Result<(), AllocError>
     ensures { OnOk result (Adds writer.old writer.new (head_of number text.now)) }
 {
     writer.begin_object()?;

@@ -1,13 +1,15 @@
 //! A session: a machine, and the lines that it has answered.
-ghost use Rattle.std.specs.Prelude.{◌≡◌, ◌<◌, [], ◌∷◌, ◌++◌, IfErr, IfOk, IsErr, IsOk, OnErr, OnOk, vec_capacity, vec_len};
+ghost use Rattle.std.specs.Prelude.{◌≡◌, ◌<◌, ◌+◌, List, ℕ, [], ◌∷◌, ◌++◌, length, IfErr, IfOk, IsErr, IsOk, OnErr, OnOk, vec_capacity, vec_len};
 ghost use Rattle.hp_scenario.specs.Asked.{asked_by};
 ghost use Rattle.hp_live.specs.Answers.{Answers, IsDone, untold};
-ghost use Rattle.hp_live.specs.Sessions.{AnswersText, IsLost, started};
+ghost use Rattle.hp_scenario.specs.Seen.{scenario_seen};
+ghost use Rattle.hp_commands.specs.Serial.{WritesLines};
+ghost use Rattle.hp_live.specs.Sessions.{AnswersText, IsLost, IsResumed, started};
 
 use crate::answers::LineAnswer;
 use crate::runs::answer_line;
 use hp_machine::UnrecordedMachine;
-use hp_scenario::{Line, read_line};
+use hp_scenario::{Line, Scenario, read_line};
 use hp_units::{Layout, Text};
 use indexmap::IndexSet;
 use std::alloc::{AllocError, Global};
@@ -51,6 +53,38 @@ impl Session {
         })
     }
 
+    /// Boots the machine of a scenario and runs its lines, which the session keeps.
+    pub fn resume(alloc: Global, scenario: Scenario) -> Result<Session, AllocError>
+        ensures { IfOk result (IsResumed (scenario_seen scenario)) }
+    {
+        let Scenario {
+            layout,
+            names,
+            lines,
+        } = scenario;
+        let mut machine = UnrecordedMachine::boot(alloc, &layout)?;
+        run_all(alloc, &mut machine, lines.as_slice())?;
+        Ok(Session {
+            names,
+            lines: lines.into_vec(),
+            machine,
+        })
+    }
+
+    /// Returns how many lines there are so far.
+    pub fn line_count(&self) -> u64
+        ensures { result ≡ length self.now.lines }
+    {
+        self.lines.len() as u64
+    }
+
+    /// Returns the number of the line that comes next.
+    pub fn next_number(&self) -> u64
+        ensures { result ≡ length self.now.lines + 1 }
+    {
+        self.lines.len() as u64 + 1
+    }
+
     /// Reads a line, runs it, and answers it in `out` as `hotplug serial` would. The line is kept.
     /// A text that is no line changes nothing.
     ///
@@ -73,6 +107,19 @@ impl Session {
             Err(AllocError) => Err(Lack::Line),
         }
     }
+}
+
+/// Runs lines one after another, and drops their answers.
+fn run_all(alloc: Global, machine: &mut UnrecordedMachine, lines: &[Line]) -> Result<(), AllocError>
+    ensures { OnOk result
+        ((text : List ℕ) × WritesLines machine.old lines.now text machine.new) }
+{
+    let mut answer = LineAnswer::new(alloc);
+    for line in lines {
+        answer.clear();
+        answer_line(&mut answer, alloc, machine, line)?;
+    }
+    Ok(())
 }
 
 /// Runs a line, answers it, and keeps it, for which there is room.

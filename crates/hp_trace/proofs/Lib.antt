@@ -1,5 +1,7 @@
 mod HistoryLogs
 mod LinesTraced
+mod LivesTraced
+mod NamesKept
 mod PlansTraced
 mod RowTexts
 mod RunsLogged

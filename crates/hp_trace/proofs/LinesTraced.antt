@@ -56,6 +56,28 @@ shown_more v first last (l ∷ ls) rows at =
     ∙ sym
     (append_assoc (rows_if (shows v first) l) (shown_rows v (first + 1) ls) (rows_if (shows v last) rows))
 
+-- one more line after others
+pub line_more : (v : View) (names : List (List ℕ)) (before number : ℕ) (lines : List Line) (line : Line)
+    (m mid after : MachineValue) (old between new : RowsValue)
+    → number ≡ before + 1 + length lines
+    → TracesLines v names before m lines old between mid
+    → TracesLine v names number mid line between new after
+    → TracesLines v names before m (lines ++ line ∷ []) old new after
+line_more v names before number lines line m mid after old between new at traced one =
+    let made : length traced.lists ≡ length lines =
+    made_length names (before + 1) lines m mid traced.lists traced.made in
+    record {
+      lists = traced.lists ++ one.rows ∷ [];
+      made =
+          made_more names (before + 1) number lines line m mid after traced.lists one.rows at traced.made
+          one.made;
+      drawn =
+          subst (λ (rows : List Row). AreDrawn rows old new)
+          (sym (shown_more v (before + 1) number traced.lists one.rows (omega (arith, at, made))))
+          (drawn_joined (shown_rows v (before + 1) traced.lists) (rows_if (shows v number) one.rows) old
+          between new traced.drawn one.drawn);
+    }
+
 -- one more line of a loop over lines
 pub lines_more : (v : View) (names : List (List ℕ)) (before : ℕ) (lines : List Line) (i : ℕ) (line : Line)
     (m mid after : MachineValue) (old between new : RowsValue)
@@ -65,22 +87,10 @@ pub lines_more : (v : View) (names : List (List ℕ)) (before : ℕ) (lines : Li
     → TracesLines v names before m (take (i + 1) lines) old new after
 lines_more v names before lines i line m mid after old between new within at traced one =
     let count : length (take i lines) ≡ i = length-take-le i lines (omega (arith, within)) in
-    let made : length traced.lists ≡ length (take i lines) =
-    made_length names (before + 1) (take i lines) m mid traced.lists traced.made in
     subst (λ (l : List Line). TracesLines v names before m l old new after)
     (sym (take_more lines i line within ∙ ap (λ (x : Line). take i lines ++ x ∷ []) (sym at)))
-    record {
-      lists = traced.lists ++ one.rows ∷ [];
-      made =
-          made_more names (before + 1) (before + i + 1) (take i lines) line m mid after traced.lists
-          one.rows (omega (arith, count)) traced.made one.made;
-      drawn =
-          subst (λ (rows : List Row). AreDrawn rows old new)
-          (sym (shown_more v (before + 1) (before + i + 1) traced.lists one.rows
-          (omega (arith, count, made))))
-          (drawn_joined (shown_rows v (before + 1) traced.lists) (rows_if (shows v (before + i + 1)) one.rows)
-          old between new traced.drawn one.drawn);
-    }
+    (line_more v names before (before + i + 1) (take i lines) line m mid after old between new
+    (omega (arith, count)) traced one)
 
 -- the lines before those that may be shown, and the others
 pub scenario_traced : (form : Form) (v : View) (s : ScenarioValue) (lines front back : List Line) (n : ℕ)

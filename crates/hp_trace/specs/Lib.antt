@@ -1,4 +1,5 @@
 pub mod Calls
+pub mod Lives
 pub mod Logs
 pub mod Ports
 pub mod Rows

@@ -13,6 +13,7 @@ mod columns;
 mod folds;
 mod json_rows;
 mod lines;
+mod live;
 mod logs;
 mod plans;
 mod rows;
@@ -21,5 +22,6 @@ mod state_logs;
 mod view;
 
 pub use lines::{trace, trace_json, trace_rows};
+pub use live::{LiveTrace, live_rows_are_the_trace};
 pub use logs::{ScenarioLog, trace_log};
 pub use view::View;

@@ -17,9 +17,10 @@ use indexmap::IndexSet;
 use std::alloc::{AllocError, Global};
 
 /// Returns the trace of a scenario as text: a row of the memory at boot, or before the first line
-/// that may be shown, and for each line that is shown its number, the line, what it answers, and the memory after each of its calls. A line that
-/// makes no record has a row of the memory, and below it the text that `hotplug serial` writes for it.
-/// So has a plan when it begins, and below the rows of its calls its end.
+/// that may be shown, and for each line that is shown its number, the line, what it answers, and the
+/// memory after each of its calls. A line that makes no record has a row of the memory, and below it
+/// the text that `hotplug serial` writes for it. So has a plan when it begins, and below the rows of
+/// its calls its end.
 ///
 /// The contract fixes what each row asks and answers, and in which order they come. How they are laid
 /// out is tested.
@@ -127,7 +128,7 @@ fn start_text(alloc: Global, view: View) -> Result<String, AllocError>
 }
 
 /// Does all lines, and draws the rows of those that are shown. `before` lines come before them.
-fn trace_lines(
+pub(crate) fn trace_lines(
     rows: &mut Rows,
     alloc: Global,
     machine: &mut Machine,
@@ -148,7 +149,7 @@ fn trace_lines(
 }
 
 /// Does a line, and draws its rows if it is shown.
-fn trace_line(
+pub(crate) fn trace_line(
     rows: &mut Rows,
     alloc: Global,
     machine: &mut Machine,

@@ -1,5 +1,5 @@
 //! The rows of a trace.
-ghost use Rattle.std.specs.Prelude.{◌≡◌, ◌++◌, IfOk, OnOk, string_bytes};
+ghost use Rattle.std.specs.Prelude.{◌≡◌, ◌++◌, [], IfOk, OnOk, string_bytes};
 ghost use Rattle.std.specs.Str.Lines.{lines};
 ghost use Rattle.hp_trace.specs.Rows.{AddsRow, AreDrawn, DrawsIf, IsRow, IsRowLogged, IsRowTold, IsTextTold, IsWritten, Says, line_rows, no_rows, noted};
 ghost use Rattle.hp_map.specs.Rows.{row_with};
@@ -178,7 +178,7 @@ impl Rows {
         ensures { OnOk result (IsWritten row self.old self.new) }
     {
         let memory = memory_text(alloc, self.row_layout, self.blocks_before(), row.blocks())?;
-        let is_first = self.text.is_empty();
+        let is_first = self.kept.is_empty();
         let row_layout = self.row_layout.after(alloc, is_first, row.blocks())?;
         self.row_layout = row_layout;
         write_row(&mut self.text, alloc, &row, memory.as_str())?;
@@ -227,6 +227,20 @@ impl Rows {
     {
         self.draw(alloc, machine, asked, "", None, None)?;
         self.say(alloc, text)
+    }
+
+    /// Returns the text so far.
+    pub(crate) fn text(&self) -> &str
+        ensures { result.now ≡ self.now.text }
+    {
+        self.text.as_str()
+    }
+
+    /// Empties the text. The next row is written by the last one, as before.
+    pub(crate) fn clear_text(&mut self)
+        ensures { self.new ≡ record self.old { text = [] } }
+    {
+        self.text.clear();
     }
 
     /// Returns the text of the rows.

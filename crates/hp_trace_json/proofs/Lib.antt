@@ -5,3 +5,4 @@ pub mod Parts
 pub mod PlainTexts
 pub mod Splicing
 pub mod Tellings
+pub mod TokensPut

@@ -1,4 +1,5 @@
 pub mod Ascii
+pub mod ChangeObjects
 pub mod Changes
 pub mod Parts
 pub mod Splices

@@ -28,3 +28,4 @@ pub use splices::{Splice, splice_between};
 pub use steps::NetSerials;
 pub use trace::{JsonTrace, TraceRow, head_line};
 pub use words::WordNow;
+pub use writing::change_object;

@@ -1,4 +1,7 @@
 //! How a state differs from that of the row above.
+ghost use Rattle.std.specs.Prelude.{◌≡◌, OnOk};
+ghost use Rattle.hp_trace_json.specs.ChangeObjects.{PutsChange, PutsSome, is_all_kept};
+
 use crate::blocks::{BlockNow, PageblockNow};
 use crate::change::StateChange;
 use crate::frames::{KernelNow, PageNow};
@@ -17,12 +20,27 @@ pub(super) fn write_change(
     alloc: Global,
     names: &IndexSet<Text>,
     change: &StateChange,
-) -> Result<(), AllocError> {
+) -> Result<(), AllocError>
+    ensures { OnOk result (PutsChange out.old change.now out.new) }
+{
     if is_empty(change) {
         return Ok(());
     }
     out.key("change")?;
     out.begin_object()?;
+    write_parts(out, alloc, names, change)?;
+    out.end_object()
+}
+
+/// Writes the parts that changed.
+fn write_parts(
+    out: &mut Writer,
+    alloc: Global,
+    names: &IndexSet<Text>,
+    change: &StateChange,
+) -> Result<(), AllocError>
+    ensures { OnOk result (PutsSome out.old out.new) }
+{
     write_blocks(out, alloc, change.blocks.as_slice())?;
     write_pageblocks(out, alloc, change.pageblocks.as_slice())?;
     write_lists(
@@ -34,29 +52,27 @@ pub(super) fn write_change(
     write_kernel(out, alloc, change.kernel.as_slice())?;
     write_pages(out, alloc, names, change.pages.as_slice())?;
     write_words(out, alloc, names, change.words.as_slice())?;
-    write_settings(out, change.auto)?;
-    out.end_object()
+    write_settings(out, change.auto)
 }
 
 /// Returns whether nothing changed.
-fn is_empty(change: &StateChange) -> bool {
+fn is_empty(change: &StateChange) -> bool
+    ensures { result ≡ is_all_kept change.now }
+{
     change.blocks.is_empty()
         && change.pageblocks.is_empty()
         && change.free_lists.is_empty()
         && change.cpu_lists.is_empty()
-        && are_none_in_use(change)
-}
-
-/// Returns whether nothing changed of what is in use.
-fn are_none_in_use(change: &StateChange) -> bool {
-    change.kernel.is_empty()
+        && change.kernel.is_empty()
         && change.pages.is_empty()
         && change.words.is_empty()
         && change.auto.is_none()
 }
 
 /// Writes the memory blocks that changed, if any did.
-fn write_blocks(out: &mut Writer, alloc: Global, blocks: &[BlockNow]) -> Result<(), AllocError> {
+fn write_blocks(out: &mut Writer, alloc: Global, blocks: &[BlockNow]) -> Result<(), AllocError>
+    ensures { OnOk result (PutsSome out.old out.new) }
+{
     if blocks.is_empty() {
         return Ok(());
     }
@@ -73,7 +89,9 @@ fn write_blocks(out: &mut Writer, alloc: Global, blocks: &[BlockNow]) -> Result<
 }
 
 /// Writes a number as a key.
-fn write_number_key(out: &mut Writer, alloc: Global, number: u32) -> Result<(), AllocError> {
+fn write_number_key(out: &mut Writer, alloc: Global, number: u32) -> Result<(), AllocError>
+    ensures { OnOk result (PutsSome out.old out.new) }
+{
     let key = format!(in alloc; "{number}")?;
     out.key(key.as_str())
 }
@@ -83,7 +101,9 @@ fn write_pageblocks(
     out: &mut Writer,
     alloc: Global,
     pageblocks: &[PageblockNow],
-) -> Result<(), AllocError> {
+) -> Result<(), AllocError>
+    ensures { OnOk result (PutsSome out.old out.new) }
+{
     if pageblocks.is_empty() {
         return Ok(());
     }
@@ -106,7 +126,9 @@ fn write_lists(
     alloc: Global,
     free_lists: &[FreeListNow],
     cpu_lists: &[CpuListNow],
-) -> Result<(), AllocError> {
+) -> Result<(), AllocError>
+    ensures { OnOk result (PutsSome out.old out.new) }
+{
     if free_lists.is_empty() && cpu_lists.is_empty() {
         return Ok(());
     }
@@ -128,7 +150,9 @@ fn write_lists(
 }
 
 /// Writes how a list changed; a place of 0, no entries that go, and none that come are left out.
-fn write_splice(out: &mut Writer, key: &str, splice: &Splice) -> Result<(), AllocError> {
+fn write_splice(out: &mut Writer, key: &str, splice: &Splice) -> Result<(), AllocError>
+    ensures { OnOk result (PutsSome out.old out.new) }
+{
     out.key(key)?;
     out.begin_object()?;
     write_count(out, "at", splice.at)?;
@@ -138,7 +162,9 @@ fn write_splice(out: &mut Writer, key: &str, splice: &Splice) -> Result<(), Allo
 }
 
 /// Writes a number with its key, unless it is 0.
-fn write_count(out: &mut Writer, key: &str, count: usize) -> Result<(), AllocError> {
+fn write_count(out: &mut Writer, key: &str, count: usize) -> Result<(), AllocError>
+    ensures { OnOk result (PutsSome out.old out.new) }
+{
     if count > 0 {
         out.key(key)?;
         out.u64(count as u64)?;
@@ -147,7 +173,9 @@ fn write_count(out: &mut Writer, key: &str, count: usize) -> Result<(), AllocErr
 }
 
 /// Writes the entries that come, if any do.
-fn write_put(out: &mut Writer, frames: &[Frame]) -> Result<(), AllocError> {
+fn write_put(out: &mut Writer, frames: &[Frame]) -> Result<(), AllocError>
+    ensures { OnOk result (PutsSome out.old out.new) }
+{
     if frames.is_empty() {
         return Ok(());
     }
@@ -160,7 +188,9 @@ fn write_put(out: &mut Writer, frames: &[Frame]) -> Result<(), AllocError> {
 }
 
 /// Writes where the kernel's blocks changed, if any did.
-fn write_kernel(out: &mut Writer, alloc: Global, kernel: &[KernelNow]) -> Result<(), AllocError> {
+fn write_kernel(out: &mut Writer, alloc: Global, kernel: &[KernelNow]) -> Result<(), AllocError>
+    ensures { OnOk result (PutsSome out.old out.new) }
+{
     if kernel.is_empty() {
         return Ok(());
     }
@@ -179,7 +209,9 @@ fn write_pages(
     alloc: Global,
     names: &IndexSet<Text>,
     pages: &[PageNow],
-) -> Result<(), AllocError> {
+) -> Result<(), AllocError>
+    ensures { OnOk result (PutsSome out.old out.new) }
+{
     if pages.is_empty() {
         return Ok(());
     }
@@ -201,7 +233,9 @@ fn write_words(
     alloc: Global,
     names: &IndexSet<Text>,
     words: &[WordNow],
-) -> Result<(), AllocError> {
+) -> Result<(), AllocError>
+    ensures { OnOk result (PutsSome out.old out.new) }
+{
     if words.is_empty() {
         return Ok(());
     }
@@ -219,7 +253,9 @@ fn write_word(
     alloc: Global,
     names: &IndexSet<Text>,
     told: &WordNow,
-) -> Result<(), AllocError> {
+) -> Result<(), AllocError>
+    ensures { OnOk result (PutsSome out.old out.new) }
+{
     let name = name_of(names, told.owner);
     let page = told.page;
     let index = told.index;
@@ -233,7 +269,9 @@ fn write_word(
 }
 
 /// Writes what an added memory block becomes, if that changed.
-fn write_settings(out: &mut Writer, auto: Option<Auto>) -> Result<(), AllocError> {
+fn write_settings(out: &mut Writer, auto: Option<Auto>) -> Result<(), AllocError>
+    ensures { OnOk result (PutsSome out.old out.new) }
+{
     match auto {
         Some(auto) => {
             out.key("settings")?;

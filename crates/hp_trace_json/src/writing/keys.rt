@@ -1,4 +1,7 @@
 //! Keys and values that changes and deltas have in common.
+ghost use Rattle.std.specs.Prelude.{OnOk};
+ghost use Rattle.hp_trace_json.specs.ChangeObjects.{PutsSome};
+
 use hp_tape::ListId;
 use hp_units::{Auto, Claim, Frame, Order, Owner, Row, State, Text, Wish, Zone};
 use indexmap::IndexSet;
@@ -22,7 +25,9 @@ pub(super) fn list_key(alloc: Global, list: ListId) -> Result<String, AllocError
 }
 
 /// Writes a frame, or that there is none.
-pub(super) fn write_frame(out: &mut Writer, frame: Option<Frame>) -> Result<(), AllocError> {
+pub(super) fn write_frame(out: &mut Writer, frame: Option<Frame>) -> Result<(), AllocError>
+    ensures { OnOk result (PutsSome out.old out.new) }
+{
     match frame {
         Some(frame) => out.u64(u64::from(frame.0)),
         None => out.null(),
@@ -30,7 +35,9 @@ pub(super) fn write_frame(out: &mut Writer, frame: Option<Frame>) -> Result<(), 
 }
 
 /// Writes an order, or that there is none.
-pub(super) fn write_order(out: &mut Writer, order: Option<Order>) -> Result<(), AllocError> {
+pub(super) fn write_order(out: &mut Writer, order: Option<Order>) -> Result<(), AllocError>
+    ensures { OnOk result (PutsSome out.old out.new) }
+{
     match order {
         Some(order) => out.u64(u64::from(order.0)),
         None => out.null(),
@@ -38,7 +45,9 @@ pub(super) fn write_order(out: &mut Writer, order: Option<Order>) -> Result<(), 
 }
 
 /// Writes what an added memory block becomes.
-pub(super) fn write_auto(out: &mut Writer, auto: Auto) -> Result<(), AllocError> {
+pub(super) fn write_auto(out: &mut Writer, auto: Auto) -> Result<(), AllocError>
+    ensures { OnOk result (PutsSome out.old out.new) }
+{
     out.string(match auto {
         Auto::Offline => "offline",
         Auto::Online => "online",
@@ -49,7 +58,9 @@ pub(super) fn write_auto(out: &mut Writer, auto: Auto) -> Result<(), AllocError>
 
 /// Writes the row of a memory block: its state, its zone if it has one, and the operation that holds
 /// it.
-pub(super) fn write_row(out: &mut Writer, row: &Row) -> Result<(), AllocError> {
+pub(super) fn write_row(out: &mut Writer, row: &Row) -> Result<(), AllocError>
+    ensures { OnOk result (PutsSome out.old out.new) }
+{
     out.begin_object()?;
     out.key("state")?;
     out.string(match row.state {
@@ -70,7 +81,9 @@ pub(super) fn write_row(out: &mut Writer, row: &Row) -> Result<(), AllocError> {
 }
 
 /// Writes the operation that holds a memory block, if one does.
-fn write_claim(out: &mut Writer, claim: Option<Claim>) -> Result<(), AllocError> {
+fn write_claim(out: &mut Writer, claim: Option<Claim>) -> Result<(), AllocError>
+    ensures { OnOk result (PutsSome out.old out.new) }
+{
     if let Some(claim) = claim {
         out.key("op")?;
         out.u64(claim.op.0)?;

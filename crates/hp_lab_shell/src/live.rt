@@ -1,0 +1,125 @@
+//! The word that keeps a machine alive, and replies to each line that is typed or sent.
+
+use crate::arguments::{FILE, JSON};
+use crate::messages::{file_name, say_fault};
+use crate::words::WIDTH;
+use clap::ArgMatches;
+use hp_live::{ObjectTalk, RowTalk};
+use hp_scenario::Scenario;
+use hp_search::LabProgramFault;
+use hp_streams::{Counted, Failed, Source, read_all, write_all};
+use hp_talk::{Talk, TalkEnd, run_talk};
+use std::fs;
+use std::io::{IsTerminal, Write};
+
+/// What is written where a reply is waited for.
+const PROMPT: &[u8] = b"> ";
+
+/// Serves the word, and returns the exit status: 0 at the end of the input or at `quit`, 1 after a
+/// fault, 2 for a wrong command line.
+pub(crate) fn serve_live(rt: &HostRuntime, words: &ArgMatches<'_>) -> u8 {
+    match scenario_name(words) {
+        Ok(name) => serve_named(rt, words, name),
+        Err(text) => {
+            let _ = eprintln!(rt; "hotplug_lab: {text}");
+            2
+        }
+    }
+}
+
+/// Serves the word on the scenario in a file, and returns the exit status.
+fn serve_named(rt: &HostRuntime, words: &ArgMatches<'_>, name: &str) -> u8 {
+    match scenario_in(rt, name) {
+        Ok(scenario) => status_of(rt, None, talk_after(rt, words, scenario)),
+        Err(fault) => status_of(rt, file_name(name), Err(fault)),
+    }
+}
+
+/// Returns the exit status of what ended so. Standard error names a fault, and the file that was not
+/// read.
+fn status_of(rt: &HostRuntime, file: Option<&str>, ended: Result<(), LabProgramFault>) -> u8 {
+    match ended {
+        Ok(()) => 0,
+        Err(fault) => {
+            say_fault(rt, file, fault);
+            1
+        }
+    }
+}
+
+/// Returns the name of the scenario's file, or why the words ask for nothing.
+fn scenario_name<'a>(words: &ArgMatches<'a>) -> Result<&'a str, &'static str> {
+    if words.get_flag("state") && !words.get_flag(JSON) {
+        return Err("--state is for --json alone");
+    }
+    match words.get_strs(FILE) {
+        Some([name]) if *name != "-" => Ok(*name),
+        _ => Err("live reads lines from standard input: name one file with a scenario"),
+    }
+}
+
+/// Runs a scenario's lines, and replies to those that come.
+fn talk_after(
+    rt: &HostRuntime,
+    words: &ArgMatches<'_>,
+    scenario: Scenario,
+) -> Result<(), LabProgramFault> {
+    if words.get_flag(JSON) {
+        let mut talk = ObjectTalk::begin(rt.alloc(), scenario, words.get_flag("state"))?;
+        return talk_with(rt, &mut talk);
+    }
+    let width = words.get_one::<u64>("width").unwrap_or(WIDTH);
+    let mut talk = RowTalk::begin(rt.alloc(), scenario, width, words.get_flag("orders"))?;
+    let mut writer = Counted::new(rt.stdout());
+    match write_all(&mut writer, talk.first_row().as_bytes()) {
+        Ok(()) => talk_with(rt, &mut talk),
+        Err(Failed) => Err(LabProgramFault::WriteFailed),
+    }
+}
+
+/// Reads the scenario in a file.
+fn scenario_in(rt: &HostRuntime, name: &str) -> Result<Scenario, LabProgramFault> {
+    let Ok(input) = fs::open(rt, name) else {
+        return Err(LabProgramFault::NotOpened);
+    };
+    let mut reader = Counted::new(input);
+    let bytes = read_all(rt.alloc(), &mut reader)?;
+    Ok(Scenario::read(rt.alloc(), bytes.as_slice())?)
+}
+
+/// Replies to the lines of standard input.
+fn talk_with<T: Talk>(rt: &HostRuntime, talk: &mut T) -> Result<(), LabProgramFault> {
+    let is_asked = rt.stdin().is_terminal() && rt.stdout().is_terminal();
+    let mut reader = Prompted {
+        input: Counted::new(rt.stdin()),
+        terminal: rt.stderr(),
+        is_asked,
+    };
+    let mut writer = Counted::new(rt.stdout());
+    match run_talk(talk, rt.alloc(), &mut reader, &mut writer)? {
+        TalkEnd::Input | TalkEnd::Quit => Ok(()),
+        TalkEnd::ReadFailed | TalkEnd::Worn => Err(LabProgramFault::ReadFailed),
+        TalkEnd::WriteFailed => Err(LabProgramFault::WriteFailed),
+    }
+}
+
+/// An input before which a terminal has a prompt.
+#[derive(Drop)]
+struct Prompted<R, E> {
+    input: R,
+    terminal: E,
+    is_asked: bool,
+}
+
+impl<R: Source, E: Write> Source for Prompted<R, E> {
+    ghost remaining = { λ p. R.remaining p.input };
+
+    ghost failures = { λ p. R.failures p.input };
+
+    fn read(&mut self, buffer: &mut [u8]) -> Result<usize, Failed> {
+        if self.is_asked {
+            let _ = self.terminal.write(PROMPT);
+        }
+        self.input.read(buffer)
+    }
+}

@@ -1,0 +1,14 @@
+use Rattle.std.proofs.Common.{◌∙◌, subst}
+use Rattle.hp_trace_json.specs.ChangeObjects.{IsChangeObject}
+use Rattle.hp_live.proofs.Shown.{change_begins, change_some}
+use Rattle.hp_live.proofs.states.after_bracket.Goals as goal
+
+pub returns-in-Some : goal.returns-in-Some
+returns-in-Some c change object =
+    let is = c.in-Some.ensures.cases.0 in
+    is ∙ change_begins change c.in-Some.field-0-0.now c.in-Some.rest.now
+    (subst (IsChangeObject change) is object)
+
+pub returns-in-None : goal.returns-in-None
+returns-in-None c change object =
+    absurd (change_some change c.args.object.now object c.in-None.ensures.cases)

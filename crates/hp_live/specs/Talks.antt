@@ -1,0 +1,186 @@
+-- What is replied to a line of a talk, in objects of JSON.
+use Rattle.std.specs.Prelude.{◌≡◌, ◌<◌, ◌+◌, ◌⊎◌, ℕ, Bool, true, false, List, [], ◌∷◌, ◌++◌, codes, cond, flat_map, length, Option, Some, None}
+use Rattle.std.specs.List.{AllByRecursion}
+use Rattle.std.specs.Str.{bytes_eq, IsUtf8}
+use Rattle.json.specs.Print.{print}
+use Rattle.json.specs.Token.{Token, begin_object, end_object, key, string}
+use Rattle.hp_plain.specs.Image.{Pictured}
+use Rattle.hp_machine.specs.Machine.{MachineValue, booted}
+use Rattle.hp_scenario.specs.Names.{Numbered, line_in}
+use Rattle.hp_scenario.specs.Scenario.{ScenarioValue}
+use Rattle.hp_scenario.specs.declared.lines.Line.{Line}
+use Rattle.hp_text.specs.Scenarios.{scenario_text}
+use Rattle.hp_text.specs.State.{state_text}
+use Rattle.hp_commands.specs.Serial.{WritesLines}
+use Rattle.hp_talk.specs.Talks.{line_limit}
+use Rattle.hp_trace_json.specs.ChangeObjects.{IsChangeObject, no_change}
+use Rattle.hp_trace_json.specs.Changes.{ChangeValue, IsChange}
+use Rattle.hp_live.specs.Answers.{AnswerValue}
+use Rattle.hp_live.specs.Objects.{WritesObject, head_of}
+use Rattle.hp_live.specs.Sessions.{AnswersText, RunsLine, SessionValue}
+use Rattle.hp_live.specs.declared.answers.Did.{Did}
+use Rattle.hp_live.specs.declared.answers.Did.TheVariants as did
+use Rattle.hp_live.specs.declared.live_words.LiveWord.{LiveWord}
+use Rattle.hp_live.specs.declared.live_words.LiveWord.TheVariants as word
+
+-- what a text is
+abbrev pub word_of : (text : List ℕ) → LiveWord
+word_of text =
+    cond (bytes_eq text (codes "")) word.Nothing
+    (cond (bytes_eq text (codes "help")) word.Help
+    (cond (bytes_eq text (codes "state")) word.State
+    (cond (bytes_eq text (codes "scenario")) word.Scenario word.Line)))
+
+-- a line that is no text, or too long
+abbrev pub IsUnread : (line : List ℕ) → Type 0
+IsUnread line = (line_limit < length line) ⊎ (¬ IsUtf8 line)
+
+-- ---- objects
+
+-- tokens as a line
+abbrev pub line_of : List Token → List ℕ
+line_of tokens = print tokens ++ 10 ∷ []
+
+-- an object with the text for a word
+abbrev pub word_object : (name text : List ℕ) → List ℕ
+word_object name text = line_of (begin_object ∷ key name ∷ string text ∷ end_object ∷ [])
+
+-- an object for what is no line
+abbrev pub fault_tokens : (line : ℕ) → (hint : List ℕ) → List Token
+fault_tokens line hint =
+    head_of line [] ++ (key (codes "fault") ∷ string (codes "no line") ∷ key (codes "hint")
+    ∷ string hint ∷ end_object ∷ [])
+
+abbrev pub fault_object : (line : ℕ) → (hint : List ℕ) → List ℕ
+fault_object line hint = line_of (fault_tokens line hint)
+
+abbrev pub lost_object : List ℕ
+lost_object = codes "{\"fault\":\"OutOfMemory\",\"hint\":\"out of memory: see state\"}\n"
+
+-- the number of the line that was answered; of no line, that of the next one
+abbrev pub number_of : Did → (lines : List Line) → ℕ
+number_of did.NoLine lines = length lines + 1
+number_of (did.Event serial reply) lines = length lines
+number_of (did.Unrecorded fault) lines = length lines
+number_of (did.Plan end) lines = length lines
+number_of (did.NotTaken fault) lines = length lines
+number_of did.File lines = length lines
+number_of (did.Sealed count) lines = length lines
+
+-- an object's last bracket, and a newline
+abbrev pub object_end : List ℕ
+object_end = codes "}\n"
+
+-- an object that begins so, up to its last bracket, has more keys: these
+abbrev pub HasKeys : (front keys reply : List ℕ) → Type 0
+HasKeys front keys reply = reply ≡ front ++ (codes "," ++ (keys ++ codes "\n"))
+
+-- it tells a change: it has the keys of the change's own object, or no more keys if nothing changed
+abbrev pub TellsIn : (front : List ℕ) → ChangeValue → (reply : List ℕ) → Type 0
+TellsIn front change reply =
+    ((change ≡ no_change) × (reply ≡ front ++ object_end))
+    ⊎ ((keys : List ℕ) × IsChangeObject change (codes "{" ++ keys) × HasKeys front keys reply)
+
+-- ---- the states that objects show
+
+-- whether they do, and the state that the last of them led to
+pub record StatesValue : Type 0 where
+  pub is_shown : Bool
+  pub last : Option Pictured
+
+abbrev pub picture : MachineValue → Pictured
+picture m = record { layout = m.layout; memory = m.state }
+
+-- what an object shows of the states, of which this is the last one, and this one is now
+abbrev pub ShowsIf : (is_shown : Bool) → (last : Option Pictured) → (now : Pictured)
+    → (shown : Option Pictured) → (front reply : List ℕ) → Type 0
+ShowsIf false last now shown front reply = (shown ≡ None) × (reply ≡ front ++ object_end)
+ShowsIf true last now shown front reply =
+    (shown ≡ Some now) × (change : ChangeValue) × IsChange last now change × TellsIn front change reply
+
+-- the states after an object
+abbrev pub kept_states : StatesValue → (shown : Option Pictured) → StatesValue
+kept_states states None = states
+kept_states states (Some image) = record { is_shown = states.is_shown; last = Some image }
+
+-- an answer's object: if states are shown, with how the machine's state differs from the last one
+pub record ShowsObject (number : ℕ) (text : List ℕ) (states : StatesValue) (machine : MachineValue)
+    (reply : List ℕ) (new : StatesValue) : Type 0 where
+  pub front : List ℕ
+  pub object : WritesObject [] number text (front ++ object_end)
+  pub shown : Option Pictured
+  pub shows : ShowsIf states.is_shown states.last (picture machine) shown front reply
+  pub kept : new ≡ kept_states states shown
+
+-- ---- replies in objects
+
+-- a session, and the states that its objects show
+pub record ObjectsValue : Type 0 where
+  pub session : SessionValue
+  pub states : StatesValue
+
+-- a line that is no text, or too long, changes nothing
+pub record IsRefused (s : ObjectsValue) (line reply : List ℕ) (new : ObjectsValue) : Type 0 where
+  pub cause : IsUnread line
+  pub hint : List ℕ
+  pub is : reply ≡ fault_object (length s.session.lines + 1) hint
+  pub same : new ≡ s
+
+-- a word changes nothing; what may be a line is answered
+abbrev pub RepliesWord : LiveWord → ObjectsValue → (text reply : List ℕ) → (new : ObjectsValue) → Type 0
+RepliesWord word.Nothing s text reply new = (reply ≡ []) × (new ≡ s)
+RepliesWord word.Help s text reply new =
+    (help : List ℕ) × (reply ≡ word_object (codes "help") help) × (new ≡ s)
+RepliesWord word.State s text reply new =
+    (reply ≡ word_object (codes "state") (state_text s.session.machine.layout s.session.names
+    s.session.machine.state)) × (new ≡ s)
+RepliesWord word.Scenario s text reply new =
+    (reply ≡ word_object (codes "scenario") (scenario_text s.session.machine.layout s.session.names
+    s.session.lines [])) × (new ≡ s)
+RepliesWord word.Line s text reply new =
+    (a : AnswerValue) × AnswersText s.session text a new.session
+    × ShowsObject (number_of a.did new.session.lines) a.text s.states new.session.machine reply new.states
+
+-- a text that is a word, or perhaps a line
+abbrev pub RepliesText : ObjectsValue → (text reply : List ℕ) → (new : ObjectsValue) → Type 0
+RepliesText s text reply new = RepliesWord (word_of text) s text reply new
+
+-- a line was run and is kept
+abbrev pub IsRun : SessionValue → (text : List ℕ) → (new : SessionValue) → Type 0
+IsRun s text new =
+    (n : Numbered) × (written : List ℕ) × (line_in s.names text ≡ Some n) × RunsLine s n written new
+
+-- there was no memory: nothing was run; or the line was run and is kept
+abbrev pub IsLostLine : SessionValue → (text : List ℕ) → (new : SessionValue) → Type 0
+IsLostLine s text new = (new ≡ s) ⊎ IsRun s text new
+
+-- and no state was shown
+abbrev pub IsLostText : ObjectsValue → (text : List ℕ) → (new : ObjectsValue) → Type 0
+IsLostText s text new = IsLostLine s.session text new.session × (new.states ≡ s.states)
+
+abbrev pub RepliesObject : ObjectsValue → (line reply : List ℕ) → (new : ObjectsValue) → Type 0
+RepliesObject s line reply new =
+    IsRefused s line reply new
+    ⊎ (RepliesText s line reply new ⊎ ((reply ≡ lost_object) × IsLostText s line new))
+
+-- ---- the texts in replies
+
+-- an answer's object, or the same with more keys after its own
+abbrev pub IsObjectOf : ℕ → (text reply : List ℕ) → Type 0
+IsObjectOf number text reply =
+    (front : List ℕ) × WritesObject [] number text (front ++ object_end)
+    × ((reply ≡ front ++ object_end) ⊎ ((keys : List ℕ) × HasKeys front keys reply))
+
+-- a reply, and a text in it: that of an answer; none, if no line was run; any, if the reply was lost
+abbrev pub HasText : List ℕ × List ℕ → Type 0
+HasText pair =
+    ((number : ℕ) × IsObjectOf number pair.1 pair.0) ⊎ ((pair.1 ≡ []) ⊎ (pair.0 ≡ lost_object))
+
+-- the replies to a scenario's talk, with the texts in them: joined they are what `hotplug serial` writes
+-- for the lines so far
+pub record TellsLines (s : ScenarioValue) (before text : List ℕ) (new : SessionValue) : Type 0 where
+  pub told : List (List ℕ × List ℕ)
+  pub replies : text ≡ flat_map (λ pair. pair.0) told
+  pub texts : AllByRecursion HasText told
+  pub run :
+      WritesLines (booted s.layout) new.lines (before ++ flat_map (λ pair. pair.1) told) new.machine

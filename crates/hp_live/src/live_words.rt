@@ -1,0 +1,31 @@
+//! The words of a talk that make no call.
+ghost use Rattle.std.specs.Prelude.{◌≡◌};
+ghost use Rattle.hp_live.specs.Talks.{word_of};
+
+/// What a text in a talk is.
+#[derive(Clone, Copy, Drop)]
+pub(crate) enum LiveWord {
+    /// No text at all.
+    Nothing,
+    /// The word for the verbs with their arguments.
+    Help,
+    /// The word for the machine's state.
+    State,
+    /// The word for the layout and all lines so far.
+    Scenario,
+    /// No such word: perhaps a line.
+    Line,
+}
+
+/// Returns what a text is.
+pub(crate) fn word_of(text: &str) -> LiveWord
+    ensures { result ≡ word_of text.now }
+{
+    match text {
+        "" => LiveWord::Nothing,
+        "help" => LiveWord::Help,
+        "state" => LiveWord::State,
+        "scenario" => LiveWord::Scenario,
+        _ => LiveWord::Line,
+    }
+}

@@ -1,0 +1,3 @@
+pub mod Ended
+pub mod Heard
+pub mod Joined

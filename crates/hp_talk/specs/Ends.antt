@@ -1,0 +1,90 @@
+-- How a talk ends.
+use Rattle.std.specs.Prelude.{◌≡◌, ◌<◌, ℕ, List, [], ◌∷◌, ◌++◌, Option, Some, None, ⊤}
+use Rattle.std.specs.Io.KnownBytes.{Consumes, IsAtEnd}
+use Rattle.hp_talk.specs.Talks.{Answers, Desk, Fails, Hears, HeldValue, IsWhole, desk, ended, newline, quit}
+use Rattle.hp_talk.specs.declared.hearing.Pause.TheVariants.{More}
+use Rattle.hp_talk.specs.declared.talking.TalkEnd.{TalkEnd}
+use Rattle.hp_talk.specs.declared.talking.TalkEnd.TheVariants as ends
+
+-- lines, and a last one without a newline, unless that is empty
+abbrev pub with_last : List (List ℕ) → (last : List ℕ) → List (List ℕ)
+with_last lines [] = lines
+with_last lines (b ∷ bs) = lines ++ (b ∷ bs) ∷ []
+
+-- these are the lines that were replied to before a talk ended, of the bytes that were read: all; those
+-- before a line `quit`; those before a read that failed; or, up to a write that failed, some
+abbrev pub IsEndOf : TalkEnd → (bytes : List ℕ) → (lines : List (List ℕ)) → (left : Option (List ℕ)) → Type 0
+IsEndOf ends.Input bytes lines left =
+    IsAtEnd left × (front : List (List ℕ)) × (last : List ℕ) × (bytes ≡ ended front ++ last)
+    × IsWhole last × (lines ≡ with_last front last)
+IsEndOf ends.Quit bytes lines left =
+    (beyond : List ℕ) × (bytes ++ newline ∷ [] ≡ ended lines ++ (quit ++ newline ∷ beyond))
+IsEndOf ends.ReadFailed bytes lines left = (last : List ℕ) × (bytes ≡ ended lines ++ last) × IsWhole last
+IsEndOf ends.WriteFailed bytes lines left =
+    (beyond : List ℕ) × (bytes ++ newline ∷ [] ≡ ended lines ++ beyond)
+IsEndOf ends.Worn bytes lines left = (last : List ℕ) × (bytes ≡ ended lines ++ last) × IsWhole last
+
+-- lines were replied to, and all replies sent; after a write that failed, a beginning of them
+abbrev pub IsSaid : {S : Type 0} → (replies : S → List ℕ → List ℕ → S → Type 0) → TalkEnd → (old : Desk S)
+    → (lines : List (List ℕ)) → (new : Desk S) → Type 0
+IsSaid replies ends.WriteFailed old lines new = Fails replies old lines new
+IsSaid replies ends.Input old lines new = Answers replies old lines new × (new.waiting ≡ [])
+IsSaid replies ends.Quit old lines new = Answers replies old lines new × (new.waiting ≡ [])
+IsSaid replies ends.ReadFailed old lines new = Answers replies old lines new × (new.waiting ≡ [])
+IsSaid replies ends.Worn old lines new = Answers replies old lines new × (new.waiting ≡ [])
+
+-- a talk ended, after bytes that go on with a line
+pub record Ends {S : Type 0} (replies : S → List ℕ → List ℕ → S → Type 0) (how : TalkEnd) (old : Desk S)
+    (line : List ℕ) (input left : Option (List ℕ)) (new : Desk S) : Type 0 where
+  pub bytes : List ℕ
+  pub read : Consumes input left bytes
+  pub lines : List (List ℕ)
+  pub end : IsEndOf how (line ++ bytes) lines left
+  pub said : IsSaid replies how old lines new
+
+-- a whole talk
+abbrev pub IsTalk : {S : Type 0} → (replies : S → List ℕ → List ℕ → S → Type 0) → TalkEnd → (old new : S)
+    → (input left before after : Option (List ℕ)) → Type 0
+IsTalk replies end old new input left before after =
+    Ends replies end (desk old before []) [] input left (desk new after [])
+
+-- ---- on the way
+
+-- a block was read and heard, and the replies sent; or the talk ended
+abbrev pub HearsMore : {S : Type 0} → (replies : S → List ℕ → List ℕ → S → Type 0) → Option TalkEnd
+    → (old : Desk S) → (line : List ℕ) → (input left : Option (List ℕ)) → (new : Desk S) → HeldValue → Type 0
+HearsMore replies None old line input left new held =
+    (bytes : List ℕ) × Consumes input left bytes × Hears replies More old (line ++ bytes) new held
+HearsMore replies (Some end) old line input left new held = Ends replies end old line input left new
+
+-- a block was heard, and the replies sent; or the talk ended
+abbrev pub BlockHeard : {S : Type 0} → (replies : S → List ℕ → List ℕ → S → Type 0) → Option TalkEnd
+    → (old : Desk S) → (line block : List ℕ) → (new : Desk S) → HeldValue → Type 0
+BlockHeard replies None old line block new held = Hears replies More old (line ++ block) new held
+BlockHeard replies (Some end) old line block new held =
+    (input left : Option (List ℕ)) → Consumes input left block → Ends replies end old line input left new
+
+-- the line that the input ends in was heard
+abbrev pub LastHeard : {S : Type 0} → (replies : S → List ℕ → List ℕ → S → Type 0) → TalkEnd → (old : Desk S)
+    → (line : List ℕ) → (new : Desk S) → Type 0
+LastHeard replies end old line new =
+    (input left : Option (List ℕ)) → Consumes input left [] → IsAtEnd left
+    → Ends replies end old line input left new
+
+-- which calls failed
+abbrev pub IsReadCalm : Option TalkEnd → (failures now : ℕ) → Type 0
+IsReadCalm None failures now = now ≡ failures
+IsReadCalm (Some ends.ReadFailed) failures now = failures < now
+IsReadCalm (Some end) failures now = ⊤
+
+abbrev pub IsWriteCalm : Option TalkEnd → (failures now : ℕ) → Type 0
+IsWriteCalm None failures now = now ≡ failures
+IsWriteCalm (Some ends.WriteFailed) failures now = failures < now
+IsWriteCalm (Some end) failures now = ⊤
+
+-- bytes were read and heard so far, and the replies sent
+pub record GoesOn {S : Type 0} (replies : S → List ℕ → List ℕ → S → Type 0) (old : Desk S)
+    (input left : Option (List ℕ)) (new : Desk S) (held : HeldValue) : Type 0 where
+  pub bytes : List ℕ
+  pub read : Consumes input left bytes
+  pub heard : Hears replies More old bytes new held

@@ -1,0 +1,72 @@
+-- A machine that lives on after a scenario, and the rows of the lines that come.
+use Rattle.std.specs.Prelude.{ℕ, ◌≡◌, ◌+◌, List, [], ◌∷◌, ◌++◌, length, map, Some}
+use Rattle.hp_machine.specs.Machine.{MachineValue, booted}
+use Rattle.hp_scenario.specs.Names.{Numbered, line_in}
+use Rattle.hp_scenario.specs.Scenario.{ScenarioValue}
+use Rattle.hp_scenario.specs.declared.lines.Line.{Line}
+use Rattle.hp_trace.specs.Rows.{Row, RowsValue}
+use Rattle.hp_trace.specs.Traces.{IsStart, IsTraceOf, MakesLines, TracesLine}
+use Rattle.hp_trace.specs.declared.rows.Form.TheVariants.{Written}
+use Rattle.hp_trace.specs.declared.view.View.{View}
+
+pub record LiveValue : Type 0 where
+  pub machine : MachineValue
+  pub view : View
+  pub rows : RowsValue
+
+-- the scenario's lines were run from boot on; then comes the row of the memory
+pub record IsBegun (v : View) (s : ScenarioValue) (t : LiveValue) : Type 0 where
+  pub same : t.view ≡ v
+  pub lists : List (List Row)
+  pub run : MakesLines s.names 1 (booted s.layout) s.lines lists t.machine
+  pub begun : IsStart Written v t.machine t.rows
+
+-- a line was run, and its rows were written
+pub record LivesOn (names : List (List ℕ)) (number : ℕ) (line : Line) (old new : LiveValue) : Type 0 where
+  pub same : new.view ≡ old.view
+  pub traced : TracesLine old.view names number old.machine line old.rows new.rows new.machine
+
+-- the same with no text
+abbrev pub without_text : LiveValue → LiveValue
+without_text t = record {
+  machine = t.machine;
+  view = t.view;
+  rows = record {
+    form = t.rows.form;
+    orders = t.rows.orders;
+    text = [];
+    kept = t.rows.kept;
+    log = t.rows.log;
+    json = t.rows.json;
+  };
+}
+
+-- ---- lines that come one after another
+
+-- the lines of texts, each read after the names of the lines before it, and the names after the last
+abbrev pub AreRead : (names : List (List ℕ)) → List Numbered → (last : List (List ℕ)) → Type 0
+AreRead names [] last = last ≡ names
+AreRead names (n ∷ read) last = (text : List ℕ) × (line_in names text ≡ Some n) × AreRead n.names read last
+
+-- lines were run one after another, of which the first has this number. The text was emptied before each,
+-- and what it was after each is shown.
+abbrev pub LivesThrough : (number : ℕ) → List Numbered → (shown : List ℕ) → (old new : LiveValue) → Type 0
+LivesThrough number [] shown old new = (shown ≡ []) × (new ≡ old)
+LivesThrough number (n ∷ read) shown old new =
+    (next : LiveValue) × (later : List ℕ) × LivesOn n.names number n.line (without_text old) next
+    × (shown ≡ next.rows.text ++ later) × LivesThrough (number + 1) read later next new
+
+-- a scenario with more lines below its own, and the names after them
+abbrev pub with_lines : ScenarioValue → List Numbered → (last : List (List ℕ)) → ScenarioValue
+with_lines s read last =
+    record { layout = s.layout; names = last; lines = s.lines ++ map (λ n. n.line) read }
+
+-- the first row, and below it what was shown for the lines that came after a scenario's, are the trace of
+-- the scenario with these lines, from the first of them on
+abbrev pub ShowTheTrace : Type 0
+ShowTheTrace =
+    (v : View) (s : ScenarioValue) (read : List Numbered) (last : List (List ℕ)) (shown : List ℕ)
+    (begun now : LiveValue)
+    → v.from ≡ length s.lines + 1 → IsBegun v s begun → AreRead s.names read last
+    → LivesThrough (length s.lines + 1) read shown begun now
+    → IsTraceOf v (with_lines s read last) (begun.rows.text ++ shown)
