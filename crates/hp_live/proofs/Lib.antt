@@ -1,4 +1,5 @@
 pub mod Called
+pub mod Drawn
 pub mod Kept
 pub mod Resumed
 pub mod Rowed

@@ -1,11 +1,13 @@
 -- What is replied to a line of a talk, in rows.
-use Rattle.std.specs.Prelude.{◌≡◌, ◌+◌, ◌-◌, ◌^◌, ◌⊎◌, ℕ, Bool, List, [], ◌∷◌, ◌++◌, codes, length, Option, Some, None}
+use Rattle.std.specs.Prelude.{◌≡◌, ◌+◌, ◌-◌, ◌^◌, ◌⊎◌, ℕ, Bool, List, [], ◌∷◌, ◌++◌, codes, flat_map, length, Option, Some, None}
+use Rattle.std.specs.List.{AllByRecursion}
 use Rattle.hp_scenario.specs.Names.{Numbered, line_in}
 use Rattle.hp_scenario.specs.Scenario.{ScenarioValue}
 use Rattle.hp_scenario.specs.declared.lines.Line.{Line}
 use Rattle.hp_text.specs.Scenarios.{scenario_text}
 use Rattle.hp_text.specs.State.{state_text}
 use Rattle.hp_trace.specs.Lives.{IsBegun, LiveValue, LivesOn, without_text}
+use Rattle.hp_trace.specs.Traces.{IsTraceOf}
 use Rattle.hp_trace.specs.declared.view.View.{View}
 use Rattle.hp_live.specs.Talks.{IsUnread, word_of}
 use Rattle.hp_live.specs.declared.live_words.LiveWord.{LiveWord}
@@ -73,6 +75,30 @@ abbrev pub IsLostRow : RowsSession → (line : List ℕ) → (new : RowsSession)
 IsLostRow s line new =
     Stays s new ⊎ ((n : Numbered) × (line_in s.names line ≡ Some n) × KeepsLine s n new)
 
+-- a reply for which there was memory
+abbrev pub RepliesWhole : RowsSession → (line reply : List ℕ) → (new : RowsSession) → Type 0
+RepliesWhole s line reply new = RowsText (cleared s) line reply new
+
 abbrev pub RepliesRows : RowsSession → (line reply : List ℕ) → (new : RowsSession) → Type 0
 RepliesRows s line reply new =
-    RowsText (cleared s) line reply new ⊎ ((reply ≡ lost_row) × IsLostRow (cleared s) line new)
+    RepliesWhole s line reply new ⊎ ((reply ≡ lost_row) × IsLostRow (cleared s) line new)
+
+-- ---- the rows in replies
+
+-- a reply, and the rows in it: all of it, if a line was run; or none
+abbrev pub HasRows : List ℕ × List ℕ → Type 0
+HasRows pair = (pair.1 ≡ pair.0) ⊎ (pair.1 ≡ [])
+
+-- the first row of a talk after a scenario, and below it the rows in its replies, are the trace of the
+-- scenario with the lines that came
+pub record DrawsTrace (s : ScenarioValue) (width : ℕ) (orders : Bool) (first text : List ℕ) (new : RowsSession)
+    : Type 0 where
+  pub told : List (List ℕ × List ℕ)
+  pub replies : text ≡ flat_map (λ pair. pair.0) told
+  pub rows : AllByRecursion HasRows told
+  pub trace :
+      IsTraceOf (later_view s width orders) (record {
+        layout = s.layout;
+        names = new.names;
+        lines = new.lines;
+      }) (first ++ flat_map (λ pair. pair.1) told)

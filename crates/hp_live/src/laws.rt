@@ -1,5 +1,5 @@
-//! What answers in a row are together: the contracts of functions that do nothing.
-ghost use Rattle.std.specs.Prelude.{◌≡◌, ◌++◌, [], ℕ, List, Ok};
+//! What answers in a row are together: the contracts of functions that only prove them.
+ghost use Rattle.std.specs.Prelude.{◌≡◌, ◌++◌, [], Bool, ℕ, List, Ok};
 ghost use Rattle.hp_units.specs.LayoutParts.{LayoutParts};
 ghost use Rattle.hp_machine.specs.Machine.{booted};
 ghost use Rattle.hp_scenario.specs.Scenario.{ScenarioValue, lines_from, nothing, scenario_in};
@@ -7,8 +7,11 @@ ghost use Rattle.hp_commands.specs.Serial.{WritesLines};
 ghost use Rattle.hp_commands.specs.Served.{IsTextOf};
 ghost use Rattle.hp_text.specs.State.{state_text};
 ghost use Rattle.hp_talk.specs.Talks.{AreReplies};
+ghost use Rattle.hp_live.specs.RowTalks.{DrawsTrace, RepliesWhole, RowsBegun, RowsSession};
 ghost use Rattle.hp_live.specs.Sessions.{AnswersAll, IsResumed, SessionValue, script_of, started, taken};
 ghost use Rattle.hp_live.specs.Talks.{ObjectsValue, RepliesObject, TellsLines};
+
+use hp_trace::live_rows_are_the_trace;
 
 /// What a session has written is what `hotplug serial` writes for its lines. These are the texts that
 /// are lines, read like a scenario's `calls`. With the state of the machine after them, what was
@@ -37,3 +40,15 @@ pub fn talks_tell_their_lines()
         (text : List ℕ) → (begun : IsResumed scenario first.session)
         → AreReplies RepliesObject first lines text s → TellsLines scenario begun.text text s.session }
 {}
+
+/// Whatever lines came in a talk in rows, its first row and the rows in the replies, one after another,
+/// are what `hotplug_lab trace` draws of the scenario with the lines so far, from the first that came
+/// on. This is for a talk that had memory for each reply.
+pub fn talks_draw_the_trace()
+    ensures { (scenario : ScenarioValue) (width : ℕ) (orders : Bool) (first s : RowsSession)
+        (lines : List (List ℕ)) (text : List ℕ) → RowsBegun scenario width orders first
+        → AreReplies RepliesWhole first lines text s
+        → DrawsTrace scenario width orders first.trace.rows.text text s }
+{
+    live_rows_are_the_trace();
+}

@@ -1,6 +1,6 @@
 mod HistoryLogs
 mod LinesTraced
-mod LivesTraced
+pub mod LivesTraced
 mod NamesKept
 mod PlansTraced
 mod RowTexts

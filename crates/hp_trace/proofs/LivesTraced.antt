@@ -150,7 +150,8 @@ line_below v names c number total m next old new is alike one = record {
 }
 
 lines_below : (v : View) (names : List (List ℕ)) (before number : ℕ) (first : MachineValue)
-    (start : RowsValue) (lines : List Line) (came : List Numbered) (total shown : List ℕ) (old new : LiveValue)
+    (start : RowsValue) (lines : List Line) (came : List Numbered) (total shown : List ℕ)
+    (old new : LiveValue)
     → number ≡ before + 1 + length lines → old.view ≡ v → old.rows.form ≡ Written
     → TracesLines v names before first lines start (record old.rows { text = total }) old.machine
     → LivesThrough number came shown old new → AllByRecursion (IsWrittenAlike names) came

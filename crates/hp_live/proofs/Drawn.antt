@@ -1,0 +1,151 @@
+-- Rows in the replies of a talk in rows.
+use Rattle.std.proofs.Common.{◌≡◌, ℕ, ◌+◌, Bool, List, [], ◌∷◌, ◌++◌, Option, Some, None, length, refl, sym, ap, subst, ◌∙◌, append-nil, append_assoc, inl, inr}
+use Rattle.std.proofs.lemmas.List.{length-append}
+use Rattle.std.specs.Prelude.{flat_map, map}
+use Rattle.std.specs.List.{AllByRecursion}
+use Rattle.hp_scenario.specs.Names.{Numbered, line_in}
+use Rattle.hp_scenario.specs.Scenario.{ScenarioValue}
+use Rattle.hp_scenario.specs.declared.lines.Line.{Line}
+use Rattle.hp_talk.specs.Talks.{AreReplies}
+use Rattle.hp_trace.specs.Lives.{AreRead, LiveValue, LivesOn, LivesThrough, ShowTheTrace, without_text}
+use Rattle.hp_trace.specs.Traces.{IsTraceOf}
+use Rattle.hp_live.specs.RowTalks.{DrawsTrace, HasRows, RepliesWhole, RowsBegun, RowsRead, RowsSession, RowsText, RowsWord, Stays, cleared, later_view}
+use Rattle.hp_live.specs.Talks.{word_of}
+use Rattle.hp_live.specs.declared.live_words.LiveWord.{LiveWord}
+use Rattle.hp_live.specs.declared.live_words.LiveWord.TheVariants as word
+
+-- the replies after these names and lines have the rows of the lines that came
+record Draws (names : List (List ℕ)) (lines : List Line) (trace : LiveValue) (text : List ℕ)
+    (new : RowsSession) : Type 0 where
+  told : List (List ℕ × List ℕ)
+  replies : text ≡ flat_map (λ (p : List ℕ × List ℕ). p.0) told
+  rows : AllByRecursion HasRows told
+  came : List Numbered
+  read : AreRead names came new.names
+  kept : new.lines ≡ lines ++ map (λ (n : Numbered). n.line) came
+  last : LiveValue
+  lives : LivesThrough (length lines + 1) came (flat_map (λ (p : List ℕ × List ℕ). p.1) told) trace last
+
+-- whether the text was emptied before makes no difference
+through_cleared : (number : ℕ) (came : List Numbered) (shown : List ℕ) (trace last : LiveValue)
+    → LivesThrough number came shown (without_text trace) last
+    → (end : LiveValue) × LivesThrough number came shown trace end
+through_cleared number [] shown trace last lives = (trace, (lives.0, refl))
+through_cleared number (n ∷ came) shown trace last lives = (last, lives)
+
+-- ---- a reply
+
+-- one that ran no line
+quiet : (s next new : RowsSession) (reply rest : List ℕ) → Stays (cleared s) next
+    → Draws next.names next.lines next.trace rest new → Draws s.names s.lines s.trace (reply ++ rest) new
+quiet s next new reply rest stays later =
+    let same =
+    subst (λ (t : LiveValue). Draws s.names s.lines t rest new) stays.trace
+    (subst (λ (l : List Line). Draws s.names l next.trace rest new) stays.lines
+    (subst (λ (n : List (List ℕ)). Draws n next.lines next.trace rest new) stays.names later)) in
+    let lives =
+    through_cleared (length s.lines + 1) same.came
+    (flat_map (λ (p : List ℕ × List ℕ). p.1) same.told) s.trace same.last same.lives in record {
+      told = (reply, []) ∷ same.told;
+      replies = ap (λ (l : List ℕ). reply ++ l) same.replies;
+      rows = (inr refl, same.rows);
+      came = same.came;
+      read = same.read;
+      kept = same.kept;
+      last = lives.0;
+      lives = lives.1;
+    }
+
+-- one that ran a line
+ran : (n : Numbered) (s next new : RowsSession) (line reply rest : List ℕ) → line_in s.names line ≡ Some n
+    → RowsRead (Some n) (cleared s) reply next → Draws next.names next.lines next.trace rest new
+    → Draws s.names s.lines s.trace (reply ++ rest) new
+ran n s next new line reply rest is read later =
+    let keeps = read.0 in
+    let more =
+    subst (λ (l : List Line). Draws n.names l next.trace rest new) keeps.lines
+    (subst (λ (x : List (List ℕ)). Draws x next.lines next.trace rest new) keeps.names later) in
+    let shown = flat_map (λ (p : List ℕ × List ℕ). p.1) more.told in
+    let count : length (s.lines ++ n.line ∷ []) ≡ length s.lines + 1 = length-append s.lines (n.line ∷ []) in
+    record {
+      told = (reply, reply) ∷ more.told;
+      replies = ap (λ (l : List ℕ). reply ++ l) more.replies;
+      rows = (inl refl, more.rows);
+      came = n ∷ more.came;
+      read = (line, is, more.read);
+      kept =
+          more.kept ∙ append_assoc s.lines (n.line ∷ []) (map (λ (x : Numbered). x.line) more.came);
+      last = more.last;
+      lives = (
+        next.trace,
+        shown,
+        subst (λ (k : ℕ). LivesOn n.names k n.line (without_text s.trace) next.trace)
+            (ap (λ (l : List Line). length l) keeps.lines ∙ count) read.1,
+        ap (λ (l : List ℕ). l ++ shown) read.2,
+        subst (λ (k : ℕ). LivesThrough (k + 1) more.came shown next.trace more.last) count more.lives,
+      );
+    }
+
+one_read : (n : Option Numbered) (s next new : RowsSession) (line reply rest : List ℕ)
+    → line_in s.names line ≡ n → RowsRead n (cleared s) reply next
+    → Draws next.names next.lines next.trace rest new → Draws s.names s.lines s.trace (reply ++ rest) new
+one_read None s next new line reply rest is read later = quiet s next new reply rest read later
+one_read (Some n) s next new line reply rest is read later = ran n s next new line reply rest is read later
+
+one_word : (w : LiveWord) (s next new : RowsSession) (line reply rest : List ℕ)
+    → RowsWord w (cleared s) line reply next → Draws next.names next.lines next.trace rest new
+    → Draws s.names s.lines s.trace (reply ++ rest) new
+one_word word.Nothing s next new line reply rest said later = quiet s next new reply rest said.1 later
+one_word word.Help s next new line reply rest said later = quiet s next new reply rest said later
+one_word word.State s next new line reply rest said later = quiet s next new reply rest said.1 later
+one_word word.Scenario s next new line reply rest said later = quiet s next new reply rest said.1 later
+one_word word.Line s next new line reply rest said later =
+    one_read (line_in s.names line) s next new line reply rest refl said later
+
+one_text : (s next new : RowsSession) (line reply rest : List ℕ) → RowsText (cleared s) line reply next
+    → Draws next.names next.lines next.trace rest new → Draws s.names s.lines s.trace (reply ++ rest) new
+one_text s next new line reply rest (inl unread) later = quiet s next new reply rest unread.1 later
+one_text s next new line reply rest (inr said) later =
+    one_word (word_of line) s next new line reply rest said later
+
+-- ---- all replies
+
+all_drawn : (lines : List (List ℕ)) (s new : RowsSession) (text : List ℕ)
+    → AreReplies RepliesWhole s lines text new → Draws s.names s.lines s.trace text new
+all_drawn [] s new text replied = record {
+  told = [];
+  replies = replied.0;
+  rows = tt;
+  came = [];
+  read = ap (λ (x : RowsSession). x.names) replied.1;
+  kept = ap (λ (x : RowsSession). x.lines) replied.1 ∙ sym (append-nil s.lines);
+  last = s.trace;
+  lives = (refl, refl);
+}
+all_drawn (line ∷ lines) s new text replied =
+    subst (λ (l : List ℕ). Draws s.names s.lines s.trace l new) (sym replied.4)
+    (one_text s replied.1 new line replied.0 replied.2 replied.3
+    (all_drawn lines replied.1 new replied.2 replied.5))
+
+pub talks_draw : ShowTheTrace → (scenario : ScenarioValue) (width : ℕ) (orders : Bool) (first s : RowsSession)
+    (lines : List (List ℕ)) (text : List ℕ) → RowsBegun scenario width orders first
+    → AreReplies RepliesWhole first lines text s
+    → DrawsTrace scenario width orders first.trace.rows.text text s
+talks_draw law scenario width orders first s lines text begun replied =
+    let drawn =
+    subst (λ (l : List Line). Draws scenario.names l first.trace text s) begun.lines
+    (subst (λ (n : List (List ℕ)). Draws n first.lines first.trace text s) begun.names
+    (all_drawn lines first s text replied)) in
+    let rows = flat_map (λ (p : List ℕ × List ℕ). p.1) drawn.told in record {
+      told = drawn.told;
+      replies = drawn.replies;
+      rows = drawn.rows;
+      trace =
+          subst (λ (l : List Line). IsTraceOf (later_view scenario width orders) (record {
+            layout = scenario.layout;
+            names = s.names;
+            lines = l;
+          }) (first.trace.rows.text ++ rows)) (sym drawn.kept)
+          (law (later_view scenario width orders) scenario drawn.came s.names rows first.trace drawn.last
+          refl begun.begun drawn.read drawn.lives);
+    }
