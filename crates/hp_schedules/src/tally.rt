@@ -92,7 +92,10 @@ impl Tally {
             total: 0,
             ends: Vec::new(alloc),
             latest: IndexMap::new(alloc),
-            trail: Trail::new(alloc),
+            trail: Trail {
+                shares: Vec::new(alloc),
+                places: Vec::new(alloc),
+            },
         }
     }
 
@@ -196,7 +199,7 @@ impl Tally {
     pub fn trail_len(&self) -> usize
         ensures { result ≡ length self.now.trail }
     {
-        self.trail.len()
+        self.trail.shares.len()
     }
 
     /// Returns the shares that were counted since the trail was `start` long.

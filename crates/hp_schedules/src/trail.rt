@@ -3,7 +3,7 @@ ghost use Rattle.std.specs.Prelude.{◌≡◌, ◌+◌, ◌++◌, ◌∷◌, [],
 ghost use Rattle.hp_schedules.specs.Trails.{IsGathered, IsShareOf, IsSummedUp, left_over};
 
 use crate::rows::Share;
-use std::alloc::{AllocError, Global};
+use std::alloc::AllocError;
 
 /// The shares that were added to the ends, oldest first.
 ///
@@ -11,28 +11,11 @@ use std::alloc::{AllocError, Global};
 /// date, so the share there is looked at before it is used.
 #[derive(Drop)]
 pub(crate) struct Trail {
-    shares: Vec<Share>,
-    places: Vec<usize>,
+    pub(crate) shares: Vec<Share>,
+    pub(crate) places: Vec<usize>,
 }
 
 impl Trail {
-    /// Creates an empty trail. Allocates nothing.
-    pub(crate) fn new(alloc: Global) -> Trail
-        ensures { result.shares.items ≡ [] }
-    {
-        Trail {
-            shares: Vec::new(alloc),
-            places: Vec::new(alloc),
-        }
-    }
-
-    /// Returns the number of shares.
-    pub(crate) fn len(&self) -> usize
-        ensures { result ≡ length self.now.shares.items }
-    {
-        self.shares.len()
-    }
-
     /// Returns the shares from index `start` on.
     pub(crate) fn since(&self, start: usize) -> &[Share]
         requires { start ≤ length self.now.shares.items }
