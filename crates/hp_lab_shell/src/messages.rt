@@ -16,7 +16,8 @@ pub(crate) fn say_unbegun(rt: &HostRuntime, unbegun: &[Unbegun]) {
 }
 
 /// The forms of the lines that ends have.
-const LINE_FORMS: &str = "hotplug_lab: a line is an answer, as `refused NotFree`, one of a processor, \
+const LINE_FORMS: &str =
+    "hotplug_lab: a line is an answer, as `refused NotFree`, one of a processor, \
      as `0: done` or `cpu 0 answer 2: done`, or a memory block, as `block 1 offline`; `not ` \
      before it wants an end without it";
 

@@ -1,5 +1,7 @@
 //! Standard output, whose reader may go away.
 
+ghost use Rattle.std.specs.Prelude.{◌≡◌};
+
 use hp_streams::{Failed, Sink};
 use std::io::{ErrorKind, Result as IoResult, Write};
 
@@ -14,7 +16,9 @@ pub(crate) struct Output<W> {
 
 impl<W> Output<W> {
     /// Wraps a writer; no call has failed yet.
-    pub(crate) fn new(inner: W) -> Output<W> {
+    pub(crate) fn new(inner: W) -> Output<W>
+        ensures { result.failures ≡ 0 }
+    {
         Output {
             inner,
             failures: 0,
