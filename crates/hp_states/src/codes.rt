@@ -1,6 +1,6 @@
 //! The table of encoded states.
-ghost use Rattle.std.specs.Prelude.{◌≡◌, [], IfOk, IfSome};
-ghost use Rattle.hp_states.specs.Codes.{IsCoded, KeepCodes};
+ghost use Rattle.std.specs.Prelude.{◌≡◌, [], IfOk, IfSome, OnOk};
+ghost use Rattle.hp_states.specs.Codes.{IsCoded, KeepCodes, state_code};
 
 use crate::code::Code;
 use crate::memories::put_memory;
@@ -55,8 +55,7 @@ impl Codes {
         ensures ok { IfOk result (λ n. IsCoded memory.now.layout self.new n memory.now.state) }
     {
         memory.is_placed();
-        self.written.clear();
-        put_memory(&mut self.written, memory)?;
+        encode(&mut self.written, memory)?;
         self.texts.number_of(self.written.bytes())
     }
 
@@ -67,8 +66,7 @@ impl Codes {
             IfSome found (λ n. IsCoded memory.now.layout self.new n memory.now.state)) }
     {
         memory.is_placed();
-        self.written.clear();
-        put_memory(&mut self.written, memory)?;
+        encode(&mut self.written, memory)?;
         Ok(self.texts.find(self.written.bytes()))
     }
 
@@ -76,4 +74,12 @@ impl Codes {
     pub(crate) fn size(&self) -> u64 {
         self.texts.size()
     }
+}
+
+/// Writes the code of the memory's state in place of what `code` holds.
+fn encode(code: &mut Code, memory: &Memory) -> Result<(), AllocError>
+    ensures { OnOk result (code.new ≡ state_code memory.now.layout memory.now.state) }
+{
+    code.clear();
+    put_memory(code, memory)
 }
