@@ -24,7 +24,8 @@ word_lost word.State s new line reply replied = inl replied.1
 word_lost word.Scenario s new line reply replied = inl replied.1
 word_lost word.Line s new line reply replied = rows_lost (line_in s.names line) s new line reply refl replied
 
-pub reply_lost : (s new : RowsSession) (line reply : List ℕ) → RowsText s line reply new → IsLostRow s line new
+pub reply_lost : (s new : RowsSession) (line reply : List ℕ) → RowsText s line reply new
+    → IsLostRow s line new
 reply_lost s new line reply (inl unread) = inl unread.1
 reply_lost s new line reply (inr replied) = word_lost (word_of line) s new line reply replied
 

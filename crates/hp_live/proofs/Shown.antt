@@ -24,14 +24,14 @@ print_end after (t ∷ ts) =
     (sym (append_assoc (token_text t) (print_from (ends t) ts) (125 ∷ [])))
     ∙ sym (append_assoc (separator after t) (token_text t ++ print_from (ends t) ts) (125 ∷ []))
 
-pub object_ends : (number : ℕ) (text object : List ℕ) → WritesObject [] number text object
+pub object_ends : (number : ℕ) (a : AnswerValue) (object : List ℕ) → WritesObject [] number a object
     → (front : List ℕ) × (object ≡ front ++ object_end)
-object_ends number text object writes =
-    let before : List Token = head_of number text ++ writes.0 in (
+object_ends number a object writes =
+    let before : List Token = head_of number a.text ++ writes.0 in (
       print before,
-      writes.2
+      writes.3
           ∙ ap (λ (ts : List Token). print ts ++ 10 ∷ [])
-          (sym (append_assoc (head_of number text) writes.0 (end_object ∷ [])))
+          (sym (append_assoc (head_of number a.text) writes.0 (end_object ∷ [])))
           ∙ ap (λ (l : List ℕ). l ++ 10 ∷ []) (print_end false before)
           ∙ append_assoc (print before) (125 ∷ []) (10 ∷ []),
     )
@@ -40,25 +40,25 @@ object_ends number text object writes =
 pub answer_shown : (a b : AnswerValue) (s t : SessionValue) (states u new : StatesValue)
     (m : MachineValue) (object reply : List ℕ) (shown : Option Pictured) → b ≡ a → t ≡ s → u ≡ states
     → m ≡ t.machine
-    → WritesObject [] (number_of b.did t.lines) b.text object
+    → WritesObject [] (number_of b.did t.lines) b object
     → ((front : List ℕ) → object ≡ front ++ object_end
     → ShowsIf u.is_shown u.last (picture m) shown front reply)
     → new ≡ kept_states u shown
-    → ShowsObject (number_of a.did s.lines) a.text states s.machine reply new
+    → ShowsObject (number_of a.did s.lines) a states s.machine reply new
 answer_shown a b s t states u new m object reply shown same stays still is writes shows keeps =
-    let end = object_ends (number_of b.did t.lines) b.text object writes in
-    let one : ShowsObject (number_of b.did t.lines) b.text u t.machine reply new = record {
+    let end = object_ends (number_of b.did t.lines) b object writes in
+    let one : ShowsObject (number_of b.did t.lines) b u t.machine reply new = record {
       front = end.0;
-      object = subst (λ (l : List ℕ). WritesObject [] (number_of b.did t.lines) b.text l) end.1 writes;
+      object = subst (λ (l : List ℕ). WritesObject [] (number_of b.did t.lines) b l) end.1 writes;
       shown = shown;
       shows =
           subst (λ (x : MachineValue). ShowsIf u.is_shown u.last (picture x) shown end.0 reply) is
           (shows end.0 end.1);
       kept = keeps;
     } in
-    subst (λ (x : AnswerValue). ShowsObject (number_of x.did s.lines) x.text states s.machine reply new) same
-    (subst (λ (x : SessionValue). ShowsObject (number_of b.did x.lines) b.text states x.machine reply new) stays
-    (subst (λ (x : StatesValue). ShowsObject (number_of b.did t.lines) b.text x t.machine reply new) still one))
+    subst (λ (x : AnswerValue). ShowsObject (number_of x.did s.lines) x states s.machine reply new) same
+    (subst (λ (x : SessionValue). ShowsObject (number_of b.did x.lines) b states x.machine reply new) stays
+    (subst (λ (x : StatesValue). ShowsObject (number_of b.did t.lines) b x t.machine reply new) still one))
 
 -- ---- the object of a change
 

@@ -45,9 +45,9 @@ shown_in : (is_shown : Bool) (last : Option Pictured) (now : Pictured) (shown : 
 shown_in false last now shown front reply shows = inl shows.1
 shown_in true last now shown front reply shows = told_in front shows.1 reply shows.3
 
-object_shown : (number : ℕ) (text : List ℕ) (states new : StatesValue) (machine : MachineValue)
-    (reply : List ℕ) → ShowsObject number text states machine reply new → IsObjectOf number text reply
-object_shown number text states new machine reply object = (
+object_shown : (number : ℕ) (a : AnswerValue) (states new : StatesValue) (machine : MachineValue)
+    (reply : List ℕ) → ShowsObject number a states machine reply new → IsObjectOf number a reply
+object_shown number a states new machine reply object = (
   object.front,
   object.object,
   shown_in states.is_shown states.last (picture machine) object.shown object.front reply object.shows,
@@ -86,7 +86,9 @@ one_word word.Line m s new before line reply replied ran =
       replied.0.text,
       inl (
         number,
-        object_shown number replied.0.text s.states new.states new.session.machine reply replied.2,
+        replied.0,
+        refl,
+        object_shown number replied.0 s.states new.states new.session.machine reply replied.2,
       ),
       one_answer (line_in s.session.names line) m s.session new.session replied.0 before ran replied.1,
     )

@@ -3,17 +3,65 @@ use Rattle.std.specs.Prelude.{◌≡◌, ℕ, List, [], ◌∷◌, ◌++◌, cod
 use Rattle.std.specs.Fmt.{decimal}
 use Rattle.json.specs.Lex.{tokens}
 use Rattle.json.specs.Print.{print}
-use Rattle.json.specs.Token.{Token, begin_object, end_object, key, number, string}
+use Rattle.json.specs.Token.{Token, begin_array, begin_object, end_array, end_object, key, number, string}
 use Rattle.json.specs.Written.{Written}
+use Rattle.hp_units.specs.declared.replies.Receipt.{Receipt}
+use Rattle.hp_units.specs.declared.replies.Reply.{Reply}
+use Rattle.hp_units.specs.Texts.{reply_text}
+use Rattle.hp_live.specs.Answers.{AnswerValue}
+use Rattle.hp_live.specs.declared.answers.Did.{Did}
+use Rattle.hp_live.specs.declared.answers.Did.TheVariants as did
 
 -- these tokens were appended
 pub record Adds (old new : Written) (ts : List Token) : Type 0 where
   pub before : new.before ≡ old.before
   pub tokens : new.tokens ≡ old.tokens ++ ts
 
--- some tokens were appended
-abbrev pub Appends : Written → Written → Type 0
-Appends old new = (ts : List Token) × Adds old new ts
+-- ---- what a line did
+
+-- a key and its text
+abbrev pub pair : (name text : List ℕ) → List Token
+pair name text = key name ∷ string text ∷ []
+
+-- the serial of a call, and its reply
+abbrev pub serial_keys : (serial : ℕ) → List Token
+serial_keys serial = key (codes "serial") ∷ number (decimal serial) ∷ []
+
+abbrev pub reply_keys : Reply → List Token
+reply_keys reply = pair (codes "answer") (reply_text reply)
+
+-- what is no line
+abbrev pub fault_keys : (hint : List ℕ) → List Token
+fault_keys hint = pair (codes "fault") (codes "no line") ++ pair (codes "hint") hint
+
+-- a call of a plan: its serial, the call, and the reply
+abbrev pub call_object : Receipt → (call : List ℕ) → List Token
+call_object r call =
+    begin_object ∷ (serial_keys r.serial ++ (pair (codes "call") call ++ (reply_keys r.reply
+    ++ end_object ∷ [])))
+
+-- objects for receipts, one after another
+abbrev pub TellsCalls : List Receipt → List Token → Type 0
+TellsCalls [] ts = ts ≡ []
+TellsCalls (r ∷ rs) ts =
+    (call : List ℕ) × (rest : List Token)
+    × (ts ≡ call_object r call ++ rest)
+    × TellsCalls rs rest
+
+-- the keys for what a line did: of an event its serial and its reply, of a plan its calls, of a seal the
+-- number of records, and of what is no line that it is none
+abbrev pub TellsDid : Did → List Receipt → List Token → Type 0
+TellsDid did.NoLine calls ts = (hint : List ℕ) × (ts ≡ fault_keys hint)
+TellsDid (did.Event serial reply) calls ts = ts ≡ serial_keys serial ++ reply_keys reply
+TellsDid (did.Unrecorded fault) calls ts = (words : List ℕ) × (ts ≡ pair (codes "answer") words)
+TellsDid (did.Plan end) calls ts =
+    (told : List Token) × (words : List ℕ) × TellsCalls calls told
+    × (ts ≡ key (codes "calls") ∷ begin_array ∷ (told ++ end_array ∷ pair (codes "end") words))
+TellsDid (did.NotTaken fault) calls ts = (words : List ℕ) × (ts ≡ pair (codes "answer") words)
+TellsDid did.File calls ts = ts ≡ []
+TellsDid (did.Sealed count) calls ts = ts ≡ key (codes "sealed") ∷ number (decimal count) ∷ []
+
+-- ---- an object
 
 -- the keys that each object has: the line's number, and its text
 abbrev pub head_of : ℕ → (text : List ℕ) → List Token
@@ -24,11 +72,17 @@ head_of line text =
 abbrev pub object_of : ℕ → (text : List ℕ) → List Token → List Token
 object_of line text more = head_of line text ++ (more ++ end_object ∷ [])
 
-abbrev pub AddsObject : Written → ℕ → (text : List ℕ) → Written → Type 0
-AddsObject old line text new = (more : List Token) × Adds old new (object_of line text more)
+-- the keys for what a line did were appended
+abbrev pub AddsDid : Written → AnswerValue → Written → Type 0
+AddsDid old a new = (ts : List Token) × TellsDid a.did a.calls ts × Adds old new ts
+
+abbrev pub AddsObject : Written → ℕ → AnswerValue → Written → Type 0
+AddsObject old line a new =
+    (more : List Token) × TellsDid a.did a.calls more × Adds old new (object_of line a.text more)
 
 -- an object and a newline were appended; a reader finds the object's tokens in it
-abbrev pub WritesObject : (old : List ℕ) → ℕ → (text : List ℕ) → (new : List ℕ) → Type 0
-WritesObject old line text new =
-    (more : List Token) × (tokens (print (object_of line text more)) ≡ object_of line text more)
-    × (new ≡ (old ++ print (object_of line text more)) ++ 10 ∷ [])
+abbrev pub WritesObject : (old : List ℕ) → ℕ → AnswerValue → (new : List ℕ) → Type 0
+WritesObject old line a new =
+    (more : List Token) × TellsDid a.did a.calls more
+    × (tokens (print (object_of line a.text more)) ≡ object_of line a.text more)
+    × (new ≡ (old ++ print (object_of line a.text more)) ++ 10 ∷ [])

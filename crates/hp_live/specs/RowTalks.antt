@@ -91,8 +91,8 @@ HasRows pair = (pair.1 ≡ pair.0) ⊎ (pair.1 ≡ [])
 
 -- the first row of a talk after a scenario, and below it the rows in its replies, are the trace of the
 -- scenario with the lines that came
-pub record DrawsTrace (s : ScenarioValue) (width : ℕ) (orders : Bool) (first text : List ℕ) (new : RowsSession)
-    : Type 0 where
+pub record DrawsTrace (s : ScenarioValue) (width : ℕ) (orders : Bool) (first text : List ℕ)
+    (new : RowsSession) : Type 0 where
   pub told : List (List ℕ × List ℕ)
   pub replies : text ≡ flat_map (λ pair. pair.0) told
   pub rows : AllByRecursion HasRows told

@@ -16,7 +16,7 @@ use Rattle.hp_talk.specs.Talks.{line_limit}
 use Rattle.hp_trace_json.specs.ChangeObjects.{IsChangeObject, no_change}
 use Rattle.hp_trace_json.specs.Changes.{ChangeValue, IsChange}
 use Rattle.hp_live.specs.Answers.{AnswerValue}
-use Rattle.hp_live.specs.Objects.{WritesObject, head_of}
+use Rattle.hp_live.specs.Objects.{WritesObject, fault_keys, object_of}
 use Rattle.hp_live.specs.Sessions.{AnswersText, RunsLine, SessionValue}
 use Rattle.hp_live.specs.declared.answers.Did.{Did}
 use Rattle.hp_live.specs.declared.answers.Did.TheVariants as did
@@ -47,9 +47,7 @@ word_object name text = line_of (begin_object ∷ key name ∷ string text ∷ e
 
 -- an object for what is no line
 abbrev pub fault_tokens : (line : ℕ) → (hint : List ℕ) → List Token
-fault_tokens line hint =
-    head_of line [] ++ (key (codes "fault") ∷ string (codes "no line") ∷ key (codes "hint")
-    ∷ string hint ∷ end_object ∷ [])
+fault_tokens line hint = object_of line [] (fault_keys hint)
 
 abbrev pub fault_object : (line : ℕ) → (hint : List ℕ) → List ℕ
 fault_object line hint = line_of (fault_tokens line hint)
@@ -104,10 +102,10 @@ kept_states states None = states
 kept_states states (Some image) = record { is_shown = states.is_shown; last = Some image }
 
 -- an answer's object: if states are shown, with how the machine's state differs from the last one
-pub record ShowsObject (number : ℕ) (text : List ℕ) (states : StatesValue) (machine : MachineValue)
+pub record ShowsObject (number : ℕ) (a : AnswerValue) (states : StatesValue) (machine : MachineValue)
     (reply : List ℕ) (new : StatesValue) : Type 0 where
   pub front : List ℕ
-  pub object : WritesObject [] number text (front ++ object_end)
+  pub object : WritesObject [] number a (front ++ object_end)
   pub shown : Option Pictured
   pub shows : ShowsIf states.is_shown states.last (picture machine) shown front reply
   pub kept : new ≡ kept_states states shown
@@ -139,7 +137,7 @@ RepliesWord word.Scenario s text reply new =
     s.session.lines [])) × (new ≡ s)
 RepliesWord word.Line s text reply new =
     (a : AnswerValue) × AnswersText s.session text a new.session
-    × ShowsObject (number_of a.did new.session.lines) a.text s.states new.session.machine reply new.states
+    × ShowsObject (number_of a.did new.session.lines) a s.states new.session.machine reply new.states
 
 -- a text that is a word, or perhaps a line
 abbrev pub RepliesText : ObjectsValue → (text reply : List ℕ) → (new : ObjectsValue) → Type 0
@@ -166,15 +164,16 @@ RepliesObject s line reply new =
 -- ---- the texts in replies
 
 -- an answer's object, or the same with more keys after its own
-abbrev pub IsObjectOf : ℕ → (text reply : List ℕ) → Type 0
-IsObjectOf number text reply =
-    (front : List ℕ) × WritesObject [] number text (front ++ object_end)
+abbrev pub IsObjectOf : ℕ → AnswerValue → (reply : List ℕ) → Type 0
+IsObjectOf number a reply =
+    (front : List ℕ) × WritesObject [] number a (front ++ object_end)
     × ((reply ≡ front ++ object_end) ⊎ ((keys : List ℕ) × HasKeys front keys reply))
 
 -- a reply, and a text in it: that of an answer; none, if no line was run; any, if the reply was lost
 abbrev pub HasText : List ℕ × List ℕ → Type 0
 HasText pair =
-    ((number : ℕ) × IsObjectOf number pair.1 pair.0) ⊎ ((pair.1 ≡ []) ⊎ (pair.0 ≡ lost_object))
+    ((number : ℕ) × (a : AnswerValue) × (pair.1 ≡ a.text) × IsObjectOf number a pair.0)
+    ⊎ ((pair.1 ≡ []) ⊎ (pair.0 ≡ lost_object))
 
 -- the replies to a scenario's talk, with the texts in them: joined they are what `hotplug serial` writes
 -- for the lines so far

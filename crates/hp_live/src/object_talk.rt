@@ -125,7 +125,7 @@ impl ObjectTalk {
     ) -> Result<(), AllocError>
         ensures ok { OnOk result ((reply : List ℕ)
             × ShowsObject (number_of self.old.answer.did self.old.session.lines)
-            self.old.answer.text self.old.states self.old.session.machine reply self.new.states
+            self.old.answer self.old.states self.old.session.machine reply self.new.states
             × (out.new.items ≡ out.old.items ++ reply)) }
         ensures kept { OnErr result (out.new.items ≡ out.old.items) }
         ensures session { self.new.session ≡ self.old.session }
@@ -158,7 +158,7 @@ impl ObjectTalk {
     /// Returns the answer's object.
     fn object(&self, alloc: Global) -> Result<Vec<u8>, AllocError>
         ensures { IfOk result (λ object. WritesObject []
-            (number_of self.now.answer.did self.now.session.lines) self.now.answer.text object.items) }
+            (number_of self.now.answer.did self.now.session.lines) self.now.answer object.items) }
     {
         let buffer = Vec::with_capacity(alloc, 256)?;
         write_object(

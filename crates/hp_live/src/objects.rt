@@ -1,10 +1,11 @@
 //! An answer as an object of JSON.
-ghost use Rattle.std.specs.Prelude.{IfOk, OnOk};
-ghost use Rattle.hp_live.specs.Objects.{Adds, AddsObject, Appends, WritesObject, head_of};
+ghost use Rattle.std.specs.Prelude.{◌∷◌, [], ◌++◌, ℕ, List, IfOk, OnOk, codes, decimal};
+ghost use Rattle.json.specs.Token.{Token, begin_array, end_array, key, number};
+ghost use Rattle.hp_live.specs.Objects.{Adds, AddsDid, AddsObject, TellsCalls, WritesObject, call_object, fault_keys, head_of, pair, reply_keys, serial_keys};
 
 use crate::answers::{Did, LineAnswer};
 use hp_text::{write_event, write_reply_words};
-use hp_units::{Event, Receipt};
+use hp_units::{Event, Receipt, Reply, Serial};
 use indexmap::IndexSet;
 use json::Writer;
 use std::alloc::{AllocError, Global};
@@ -21,7 +22,7 @@ pub fn write_object(
     answer: &LineAnswer,
     hint: &str,
 ) -> Result<Vec<u8>, AllocError>
-    ensures { IfOk result (λ new. WritesObject out.items number answer.now.text new.items) }
+    ensures { IfOk result (λ new. WritesObject out.items number answer.now new.items) }
 {
     let mut writer = Writer::new(out);
     write_tokens(&mut writer, alloc, number, answer, hint)?;
@@ -38,7 +39,7 @@ fn write_tokens(
     answer: &LineAnswer,
     hint: &str,
 ) -> Result<(), AllocError>
-    ensures { OnOk result (AddsObject writer.old number answer.now.text writer.new) }
+    ensures { OnOk result (AddsObject writer.old number answer.now writer.new) }
 {
     begin(writer, number, answer.text())?;
     write_parts(writer, alloc, answer, hint)?;
@@ -63,12 +64,12 @@ fn write_parts(
     answer: &LineAnswer,
     hint: &str,
 ) -> Result<(), AllocError>
-    ensures { OnOk result (Appends writer.old writer.new) }
+    ensures { OnOk result (AddsDid writer.old answer.now writer.new) }
 {
     let words = words_of(answer.text());
     match answer.did() {
-        Did::NoLine => write_fault(writer, hint),
-        Did::Event { serial, .. } => write_answer(writer, serial.0, words),
+        Did::NoLine => write_fault_keys(writer, hint),
+        Did::Event { serial, reply } => write_answer(writer, alloc, serial, reply),
         Did::Unrecorded(_) | Did::NotTaken(_) => write_pair(writer, "answer", words),
         Did::Plan(_) => write_plan(writer, alloc, answer.calls(), words),
         Did::File => Ok(()),
@@ -86,19 +87,33 @@ fn words_of(text: &str) -> &str {
 }
 
 /// Writes that a text is no line.
-fn write_fault(writer: &mut Writer, hint: &str) -> Result<(), AllocError>
-    ensures { OnOk result (Appends writer.old writer.new) }
+pub(crate) fn write_fault_keys(writer: &mut Writer, hint: &str) -> Result<(), AllocError>
+    ensures { OnOk result (Adds writer.old writer.new (fault_keys hint.now)) }
 {
     write_pair(writer, "fault", "no line")?;
     write_pair(writer, "hint", hint)
 }
 
 /// Writes the serial of a call and its reply.
-fn write_answer(writer: &mut Writer, serial: u64, words: &str) -> Result<(), AllocError>
-    ensures { OnOk result (Appends writer.old writer.new) }
+fn write_answer(
+    writer: &mut Writer,
+    alloc: Global,
+    serial: Serial,
+    reply: Reply,
+) -> Result<(), AllocError>
+    ensures { OnOk result (Adds writer.old writer.new (serial_keys serial ++ reply_keys reply)) }
 {
-    write_number(writer, "serial", serial)?;
-    write_pair(writer, "answer", words)
+    write_number(writer, "serial", serial.0)?;
+    write_reply(writer, alloc, reply)
+}
+
+/// Writes a reply.
+fn write_reply(writer: &mut Writer, alloc: Global, reply: Reply) -> Result<(), AllocError>
+    ensures { OnOk result (Adds writer.old writer.new (reply_keys reply)) }
+{
+    let mut words = String::new(alloc);
+    write_reply_words(&mut words, reply)?;
+    write_pair(writer, "answer", words.as_str())
 }
 
 /// Writes the calls of a plan, and how it ended.
@@ -108,36 +123,39 @@ fn write_plan(
     calls: &[Receipt],
     words: &str,
 ) -> Result<(), AllocError>
-    ensures { OnOk result (Appends writer.old writer.new) }
+    ensures { OnOk result ((told : List Token) × TellsCalls calls.now told
+        × Adds writer.old writer.new
+        (key (codes "calls") ∷ begin_array ∷ (told ++ end_array ∷ pair (codes "end") words.now))) }
 {
     writer.key("calls")?;
+    writer.begin_array()?;
     write_calls(writer, alloc, calls)?;
+    writer.end_array()?;
     write_pair(writer, "end", words)
 }
 
-/// Writes the calls of a plan as an array.
+/// Writes the calls of a plan as objects.
 fn write_calls(writer: &mut Writer, alloc: Global, calls: &[Receipt]) -> Result<(), AllocError>
-    ensures { OnOk result (Appends writer.old writer.new) }
+    ensures { OnOk result
+        ((told : List Token) × TellsCalls calls.now told × Adds writer.old writer.new told) }
 {
-    writer.begin_array()?;
     for call in calls {
         write_call(writer, alloc, call)?;
     }
-    writer.end_array()
+    Ok(())
 }
 
 /// Writes a call of a plan as an object.
 fn write_call(writer: &mut Writer, alloc: Global, call: &Receipt) -> Result<(), AllocError>
-    ensures { OnOk result (Appends writer.old writer.new) }
+    ensures { OnOk result
+        ((words : List ℕ) × Adds writer.old writer.new (call_object call.now words)) }
 {
     let mut words = String::new(alloc);
     write_step(&mut words, alloc, &call.event)?;
     writer.begin_object()?;
     write_number(writer, "serial", call.serial.0)?;
     write_pair(writer, "call", words.as_str())?;
-    words.clear();
-    write_reply_words(&mut words, call.reply)?;
-    write_pair(writer, "answer", words.as_str())?;
+    write_reply(writer, alloc, call.reply)?;
     writer.end_object()
 }
 
@@ -147,17 +165,18 @@ fn write_step(out: &mut String, alloc: Global, event: &Event) -> Result<(), Allo
 }
 
 /// Writes a key and its text.
-fn write_pair(writer: &mut Writer, key: &str, text: &str) -> Result<(), AllocError>
-    ensures { OnOk result (Appends writer.old writer.new) }
+fn write_pair(writer: &mut Writer, name: &str, text: &str) -> Result<(), AllocError>
+    ensures { OnOk result (Adds writer.old writer.new (pair name.now text.now)) }
 {
-    writer.key(key)?;
+    writer.key(name)?;
     writer.string(text)
 }
 
 /// Writes a key and its number.
-fn write_number(writer: &mut Writer, key: &str, number: u64) -> Result<(), AllocError>
-    ensures { OnOk result (Appends writer.old writer.new) }
+fn write_number(writer: &mut Writer, name: &str, value: u64) -> Result<(), AllocError>
+    ensures { OnOk result
+        (Adds writer.old writer.new (key name.now ∷ number (decimal value) ∷ [])) }
 {
-    writer.key(key)?;
-    writer.u64(number)
+    writer.key(name)?;
+    writer.u64(value)
 }

@@ -134,7 +134,8 @@ impl RowTalk {
     /// Runs what may be a line, and writes its rows. It is kept, unless there is no memory for it.
     fn write_to_line(&mut self, alloc: Global, text: &str) -> Result<(), AllocError>
         requires { self.old.text ≡ [] }
-        ensures ok { OnOk result (RowsRead (line_in self.old.names text.now) self.old self.new.text self.new) }
+        ensures ok { OnOk result
+            (RowsRead (line_in self.old.names text.now) self.old self.new.text self.new) }
         ensures err { OnErr result (IsLostRow self.old text.now self.new) }
     {
         self.lines.reserve(1)?;

@@ -1,10 +1,9 @@
 //! Objects that are no answer to a line.
 ghost use Rattle.std.specs.Prelude.{◌≡◌, ◌++◌, [], ◌∷◌, OnErr, OnOk};
-ghost use Rattle.json.specs.Token.{key, string};
 ghost use Rattle.hp_live.specs.Objects.{Adds};
 ghost use Rattle.hp_live.specs.Talks.{fault_object, fault_tokens, word_object};
 
-use crate::objects::begin;
+use crate::objects::{begin, write_fault_keys};
 use json::Writer;
 use std::alloc::{AllocError, Global};
 
@@ -46,17 +45,8 @@ fn write_fault_tokens(writer: &mut Writer, number: u64, hint: &str) -> Result<()
     ensures { OnOk result (Adds writer.old writer.new (fault_tokens number hint.now)) }
 {
     begin(writer, number, "")?;
-    add_pair(writer, "fault", "no line")?;
-    add_pair(writer, "hint", hint)?;
+    write_fault_keys(writer, hint)?;
     writer.end_object()
-}
-
-/// Writes a key and its text.
-fn add_pair(writer: &mut Writer, name: &str, text: &str) -> Result<(), AllocError>
-    ensures { OnOk result (Adds writer.old writer.new (key name.now ∷ string text.now ∷ [])) }
-{
-    writer.key(name)?;
-    writer.string(text)
 }
 
 /// Appends an object and a newline.
