@@ -33,6 +33,8 @@ sys.path.insert(0, str(ROOT / "bench"))
 from differ import Lines, Seen, layout_of  # noqa: E402
 
 COUNT = 1000
+# Seconds that the example's test may take on a busy machine.
+LONG = 600
 NO_LINES = ["0 map Db 0", "0  map db 0", "0 mapp db 0", "x", "0 kalloc 00", " ", "0 read db 0 1 2 3"]
 TYPED = ["0 map db 0", "", "0 plan 2 off 0", "0 cat memory0/state", "nonsense", "0 kalloc 1"]
 
@@ -225,10 +227,10 @@ def check_no_lines(checks, programs):
 def check_oracle(checks, programs):
     """The allocator of examples/oracle, with its fault and without."""
     test = [sys.executable, str(ROOT / "examples" / "oracle" / "test_buddy.py"), str(programs.lab)]
-    ran = subprocess.run([*test, "--calls", "20000"], capture_output=True, timeout=SECONDS)
+    ran = subprocess.run([*test, "--calls", "20000"], capture_output=True, timeout=LONG)
     checks.holds("oracle", ran.returncode == 0, f"a fault without a fault: {ran.stdout}")
     for seed in range(1, 6):
-        ran = subprocess.run([*test, "--faulty", "--seed", str(seed)], capture_output=True, timeout=SECONDS)
+        ran = subprocess.run([*test, "--faulty", "--seed", str(seed)], capture_output=True, timeout=LONG)
         found = json.loads(ran.stdout) if ran.returncode == 1 else {"calls": []}
         checks.holds("oracle", 0 < len(found["calls"]) <= 8, f"seed {seed}: {found['calls']}")
 
