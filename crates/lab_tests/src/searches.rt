@@ -83,7 +83,7 @@ const IN_OTHER_FORMS: &[Searched] = &[
     (NOT_FREE, ScheduleForm::Object, REFUSED_OBJECT, true),
     (NOT_THERE, ScheduleForm::Object, ABSENT_OBJECT, false),
     (NOT_FREE, ScheduleForm::Scenario, REFUSED_SCENARIO, true),
-    (NOT_THERE, ScheduleForm::Scenario, ABSENT, false),
+    (NOT_THERE, ScheduleForm::Scenario, "", false),
 ];
 
 /// The place of the first search that has another text.
