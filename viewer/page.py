@@ -236,13 +236,13 @@ class Page:
         most, walks = QUICK if frames <= SMALL else SLOW, []
         self.browser.ask("Performance.enable", timeDomain="threadTicks")
         while len(walks) < WALKS and min(walks, default=(most,))[0] >= most:
-            walks.append(self.walk())
+            walks.append(self.timed())
         best, step, slow = min(walks)
         print(f"{self.name}: {self.last} steps; {step:.1f} ms a step, {slow:.1f} a slow one;"
               f" {best:.1f} at best")
         self.holds(f"a step takes {best:.1f} ms", best < most)
 
-    def walk(self):
+    def timed(self):
         """The milliseconds that a step took, by the clock or of processor, and by the clock those
         of a usual and of a slow step."""
         steps, before = 20, self.used()
