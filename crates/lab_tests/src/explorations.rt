@@ -1,6 +1,6 @@
 //! Explorations and their text.
 use hp_explore::Silent;
-use hp_search::{EndsForm, explore_text};
+use hp_search::{EndsForm, GroupBy, explore_text};
 use std::alloc::{AllocError, Global};
 use std::test::Fail;
 
@@ -29,6 +29,23 @@ const RACE_OBJECTS: &str =
      {\"end\": 3, \"interleavings\": 1, \"answers\": [[\"opened 0\", \"moved 2 1\", \
      \"refused NotFree 3\"], [\"done\"]], \"blocks\": [\"online normal\", \"going movable\"], \
      \"first\": [\"1 map web 0\", \"0 begin off 1\", \"0 migrate 5\", \"0 commit 5\"]}\n";
+
+/// The second end with the third one's count, which has the same memory blocks.
+const RACE_BLOCKS: &str =
+    "interleavings: 4\nends: 2\n\nend 1\ninterleavings: 2\ncpu 0\nopened 0\nmoved 2 1\ndone\n\
+     cpu 1\nrefused NoFrame\nblock 0 online normal\nblock 1 offline\nfirst:\n\"0 begin off 1\",\n\
+     \"0 migrate 4\",\n\"0 commit 4\",\n\"1 map web 0\"\n\nend 2\ninterleavings: 2\ncpu 0\n\
+     opened 0\nrefused NoFrame\nrefused NotFree 2\ncpu 1\ndone\nblock 0 online normal\n\
+     block 1 going movable\nfirst:\n\"0 begin off 1\",\n\"1 map web 0\",\n\"0 migrate 4\",\n\
+     \"0 commit 4\"\n";
+
+const RACE_SUMMARY: &str =
+    "interleavings: 4\nends: 3\nend 1: 2, 50.0 %, 1 refused, 0:N 1:off\n\
+     end 2: 1, 25.0 %, 2 refused, 0:N 1:M>off\nend 3: 1, 25.0 %, 1 refused, 0:N 1:M>off\n";
+
+const BLOCKS_SUMMARY: &str =
+    "interleavings: 4\nends: 2\nend 1: 2, 50.0 %, 1 refused, 0:N 1:off\n\
+     end 2: 2, 50.0 %, 2 refused, 0:N 1:M>off\n";
 
 /// A setup with a line of each kind, after which one line brings the block online again.
 const SETUP: &str = "0 cat buddyinfo;0 map db 0;0 unmap db 0;0 echo offline memory1/state;0 seal;\
@@ -67,17 +84,32 @@ const AGAIN_TEXT: &str =
      cpu 1\nrefused NoOp\nblock 0 online normal\nblock 1 offline\nfirst:\n\
      \"0 cancel 1\",\n\"0 begin off 1\",\n\"0 commit 3\",\n\"1 commit 0\"\n";
 
-/// The lines of a scenario, how many of them are run first, and the text of its exploration in a form.
-type Explored = (&'static str, u64, EndsForm, &'static str);
+/// The lines of a scenario, how many of them are run first, and the text of its exploration in a form,
+/// with its ends put together by a part.
+type Explored = (
+    &'static str,
+    u64,
+    EndsForm,
+    Option<GroupBy>,
+    &'static str,
+);
+
+const BLOCKS: Option<GroupBy> = Some(GroupBy::Blocks);
+
+const ANSWERS: Option<GroupBy> = Some(GroupBy::Answers);
 
 const EXPLORED: &[Explored] = &[
-    (RACE, 3, EndsForm::Words, RACE_TEXT),
-    (RACE, 3, EndsForm::Objects, RACE_OBJECTS),
-    (SETUP, 8, EndsForm::Words, SETUP_TEXT),
-    (PLAN, 3, EndsForm::Words, NO_SCRIPT_TEXT),
-    (PLAN, 0, EndsForm::Words, PLAN_TEXT),
-    (BEGUN, 1, EndsForm::Words, BEGUN_TEXT),
-    (AGAIN, 2, EndsForm::Words, AGAIN_TEXT),
+    (RACE, 3, EndsForm::Words, None, RACE_TEXT),
+    (RACE, 3, EndsForm::Objects, None, RACE_OBJECTS),
+    (SETUP, 8, EndsForm::Words, None, SETUP_TEXT),
+    (PLAN, 3, EndsForm::Words, None, NO_SCRIPT_TEXT),
+    (PLAN, 0, EndsForm::Words, None, PLAN_TEXT),
+    (BEGUN, 1, EndsForm::Words, None, BEGUN_TEXT),
+    (AGAIN, 2, EndsForm::Words, None, AGAIN_TEXT),
+    (RACE, 3, EndsForm::Words, BLOCKS, RACE_BLOCKS),
+    (RACE, 3, EndsForm::Objects, ANSWERS, RACE_OBJECTS),
+    (RACE, 3, EndsForm::Summary, None, RACE_SUMMARY),
+    (RACE, 3, EndsForm::Summary, BLOCKS, BLOCKS_SUMMARY),
 ];
 
 /// The scenario of these lines, on a layout of two memory blocks of one pageblock of two frames,
@@ -93,9 +125,10 @@ pub fn scenario(alloc: Global, history: u64, lines: &str) -> Result<String, Allo
 
 /// Whether the exploration of a scenario after so many lines has its text.
 fn explores(alloc: Global, row: &Explored) -> Result<bool, AllocError> {
-    let (lines, setup, form, text) = row;
+    let (lines, setup, form, by, text) = row;
     let scenario = scenario(alloc, 40, lines)?;
-    match explore_text(alloc, scenario.as_bytes(), *setup, 100, *form, &mut Silent) {
+    let input = scenario.as_bytes();
+    match explore_text(alloc, input, *setup, 100, *form, *by, &mut Silent) {
         Ok(finding) => Ok(finding.text.as_str() == *text),
         Err(_fault) => Ok(false),
     }
@@ -134,7 +167,7 @@ fn stops(alloc: Global, row: &Limited) -> Result<bool, AllocError> {
     let (lines, setup, limit, form, text) = row;
     let scenario = scenario(alloc, 40, lines)?;
     let input = scenario.as_bytes();
-    match explore_text(alloc, input, *setup, *limit, *form, &mut Silent) {
+    match explore_text(alloc, input, *setup, *limit, *form, None, &mut Silent) {
         Ok(finding) => Ok(!finding.is_found && finding.text.as_str() == *text),
         Err(_fault) => Ok(false),
     }
