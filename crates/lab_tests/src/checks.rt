@@ -89,7 +89,7 @@ const CHECKED: &[Checked] = &[
     ),
 ];
 
-/// Texts that are no JSON, each with a common cause that the report names.
+/// Texts that are no JSON, most of them for a common reason that the report names.
 const HINTED: &[Checked] = &[
     (
         "",
@@ -114,7 +114,7 @@ const HINTED: &[Checked] = &[
     ),
 ];
 
-/// Lines with one wrong word each.
+/// Texts with a small error each, such as a capital letter or a leading zero.
 const SLIPPED: Checked = (
     "{\"layout\":{\"order\":1,\"pageblocks\":1,\"blocks\":2,\"cpus\":2,\"batch\":1,\"high\":1,\
          \"owners\":2,\"pages\":2,\"words\":1,\"history\":40,\"boot\":[\"normal\",\"movable\"]},\n\

@@ -39,7 +39,7 @@ const ESCAPED: &str =
 echo: fault BadText
 ";
 
-/// The memory of `SCENARIO`, with one more line that changes nothing in the picture.
+/// The memory of `SCENARIO`, with lines that change nothing in the picture.
 const NARROW: &[u8] =
     br#"{"layout":{"order":2,"pageblocks":1,"blocks":3,"cpus":1,"batch":2,"high":2,
 "owners":1,"pages":4,"words":1,"history":9,"boot":["normal","movable","offline"]},

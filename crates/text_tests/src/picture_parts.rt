@@ -68,8 +68,8 @@ pub(crate) const THREE: &[Block] = &[
     ("2:M", "..", &[(0, 1, false)], &[], "UM"),
 ];
 
-/// Rows with the blocks of `THREE`: one has texts that need lines of their own, and a page that
-/// moved to the second strip.
+/// Two rows with the blocks of `THREE`, the second with texts that need lines of their own and a
+/// page that moved to the second strip; then a row of only text.
 pub(crate) const FOLDED: &[Row] = &[
     ("", "", None, THREE),
     (
