@@ -73,10 +73,11 @@ impl<L: Job> Locked<L> {
     /// lock.
     ///
     /// Errors are those of `Machine::answer`, with `HistoryFull` if and only if the history holds
-    /// its limit or the last serial is 2^64 - 1. On an error, nothing but `told` changes. A share
-    /// with a part for each processor counts all records: it gets `HistoryFull` only if these,
-    /// without the sealed ones that the seat counts, are as many as the limit, or they are 2^64 -
-    /// 1.
+    /// its limit or the last serial is 2^64 - 1. On an error, nothing but `told` changes.
+    ///
+    /// A share with a part for each processor counts all records. It gets `HistoryFull` only if
+    /// their number, less the sealed ones that the seat counts, has reached the limit, or no serial
+    /// is left.
     pub fn turn(
         &mut self,
         alloc: Global,
