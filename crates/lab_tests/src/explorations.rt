@@ -110,7 +110,8 @@ fn explorations_have_their_text(rt: HostRuntime) -> Result<(), Fail> {
     Ok(())
 }
 
-/// The first two interleavings of the race, and the objects for none.
+/// The text for the first two interleavings of the race; then the objects for a limit of 0, of the
+/// race and of a plan.
 const FIRST_TEXT: &str =
     "4 interleavings; these are the first 2\nends: 1\n\nend 1\ninterleavings: 2\ncpu 0\n\
      opened 0\nmoved 2 1\ndone\ncpu 1\nrefused NoFrame\nblock 0 online normal\nblock 1 offline\n\

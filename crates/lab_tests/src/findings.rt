@@ -294,7 +294,7 @@ fn first_unwanted(alloc: Global, rows: &[Checked]) -> Result<Option<usize>, Allo
     Ok(None)
 }
 
-/// Returns the place of the first text that is no JSON and has another report.
+/// Returns the place of the first text with another report.
 fn first_unstopped(alloc: Global, rows: &[Checked]) -> Result<Option<usize>, AllocError> {
     for (place, (text, said)) in rows.iter().enumerate() {
         let expected = format!(in alloc; "{said}\nfaults: 1, warnings: 0\n")?;
