@@ -6,11 +6,12 @@ use hp_search::{LabFault, ScheduleForm, find_text};
 use std::alloc::{AllocError, Global};
 use std::test::Fail;
 
-/// An offline against a map, where each finds one free frame outside the block.
+/// An offline against a map, with one free frame outside the block, which both may need.
 const RACE: &str =
     "0 map db 0;0 write db 0 0 7;0 kalloc 0;0 begin off 1;0 migrate 0;0 commit 0;1 map web 0";
 
-/// Each order of the four calls was played by another program, written by hand.
+/// The expected replies in each order of the four calls are those of a separate program, written by
+/// hand.
 const REFUSED: &str =
     "changes: 1\nfirst:\n\"1 map web 0\",\n\"0 begin off 1\",\n\"0 migrate 5\",\n\"0 commit 5\"\n";
 
@@ -30,7 +31,7 @@ const REFUSED_SCENARIO: &str =
      \"boot\": [\"normal\", \"movable\"]},\n\"calls\": [\n\"0 map db 0\",\n\"0 write db 0 0 7\",\n\
      \"0 kalloc 0\",\n\"1 map web 0\",\n\"0 begin off 1\",\n\"0 migrate 5\",\n\"0 commit 5\"\n]}\n";
 
-/// Adds the line of an end that a text is, if it is one.
+/// Parses the line of an end, and appends it if it is one.
 fn push_line(alloc: Global, wanted: &mut Vec<Wanted>, text: &str) -> Result<(), AllocError> {
     match wanted_line(alloc, text) {
         Ok(Some(line)) => {
@@ -42,7 +43,7 @@ fn push_line(alloc: Global, wanted: &mut Vec<Wanted>, text: &str) -> Result<(), 
     }
 }
 
-/// Texts as lines, of which each is one.
+/// Parses lines of ends, all of which must be such lines.
 fn wanted_of(alloc: Global, texts: &[&str]) -> Result<Vec<Wanted>, AllocError> {
     let mut wanted = Vec::new(alloc);
     for text in texts {
@@ -51,7 +52,7 @@ fn wanted_of(alloc: Global, texts: &[&str]) -> Result<Vec<Wanted>, AllocError> {
     Ok(wanted)
 }
 
-/// Whether the search for an end with lines has its text.
+/// Returns whether a search for an end has the expected text and status.
 fn finds(alloc: Global, searched: &Searched) -> Result<bool, AllocError> {
     let (texts, form, text, is_found) = searched;
     let wanted = wanted_of(alloc, texts)?;
@@ -63,10 +64,10 @@ fn finds(alloc: Global, searched: &Searched) -> Result<bool, AllocError> {
     }
 }
 
-/// The lines of an end, the form and the text of the search for it, and whether it is found.
+/// The wanted lines of an end, the form of the search, its text, and whether it finds one.
 type Searched = (&'static [&'static str], ScheduleForm, &'static str, bool);
 
-/// The lines of two ends that the race has, and of one that it has not.
+/// The lines of two ends of the race, `NOT_FREE` and `TOO_LATE`, and lines that no end has.
 const NOT_FREE: &[&str] = &["refused NotFree"];
 
 const TOO_LATE: &[&str] = &["0: refused NoFrame", "block 1 going movable", "1: done"];
@@ -86,7 +87,7 @@ const IN_OTHER_FORMS: &[Searched] = &[
     (NOT_THERE, ScheduleForm::Scenario, "", false),
 ];
 
-/// The place of the first search that has another text.
+/// Returns the place of the first search with another text.
 fn first_other(alloc: Global, rows: &[Searched]) -> Result<Option<usize>, AllocError> {
     for (place, row) in rows.iter().enumerate() {
         if !finds(alloc, row)? {
@@ -102,7 +103,7 @@ fn the_fewest_changes_are_found(rt: HostRuntime) -> Result<(), Fail> {
     Ok(())
 }
 
-/// Lines of which the third names what is past the layout, which has four frames.
+/// Wanted lines. The third names a frame past the layout, which has four.
 const PAST: &[&str] = &["1: done", "block 1 offline", "frame 4"];
 
 #[test]
