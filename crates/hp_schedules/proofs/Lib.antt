@@ -4,6 +4,7 @@ pub mod Asked
 pub mod ClosedNets
 pub mod Coefficients
 pub mod Compared
+pub mod Continuing
 pub mod Copied
 pub mod Counting
 pub mod Counts

@@ -66,8 +66,14 @@ impl Positions {
             × (length part ≡ 5) × ((g : Setting) (news : List NewRecord) → AreCursors g news self.now.cursors.items
             → IsSteered g cpu news part)) }
     {
-        let cursor = &self.cursors[cpu as usize];
-        cursor.push_steering(numbers)
+        let steering = self.cursors[cpu as usize].steering();
+        for number in &steering {
+            if *number > u64::from(u32::MAX) {
+                return Ok(false);
+            }
+            numbers.push(*number as u32)?;
+        }
+        Ok(true)
     }
 
     /// Moves the processor past its call and returns its former position, for `go_back`.
