@@ -23,6 +23,7 @@ pub mod Places
 pub mod Plays
 pub mod Regions
 pub mod Shares
+pub mod Steering
 pub mod Steps
 pub mod Trails
 pub mod Uniqueness
