@@ -1,5 +1,5 @@
 -- Positions with equal numbers: their scripts call the same after the same further receipts.
-use Rattle.std.proofs.Common.{◌≡◌, ℕ, ◌+◌, ◌-◌, ltb, List, [], ◌∷◌, ◌++◌, drop, get_or, Option, Some, None, slice_get, refl, ap, sym, subst, ◌∙◌, arith}
+use Rattle.std.proofs.Common.{◌≡◌, ℕ, ◌-◌, ltb, List, [], ◌∷◌, ◌++◌, drop, get_or, Option, Some, None, slice_get, refl, ap, sym, subst, ◌∙◌, arith}
 use Rattle.std.specs.Option.{option_map_or}
 use Rattle.std.proofs.lemmas.List.{append-nil, append_assoc}
 use Rattle.hp_ops.specs.Stages.{key_of}
@@ -120,8 +120,7 @@ steered_alike g cpu lines h k part here first second =
     let b = second lines here in
     let same : steering_of a.0 ≡ steering_of b.0 = sym a.2 ∙ b.2 in
     let line : a.0.line ≡ b.0.line = ap (λ (numbers : List ℕ). get_or numbers 0 0) same in
-    let op_is : a.0.op ≡ b.0.op = ap (λ (numbers : List ℕ). get_or numbers 1 0) same in
-    (
+    let op_is : a.0.op ≡ b.0.op = ap (λ (numbers : List ℕ). get_or numbers 1 0) same in (
       sym a.1.begun ∙ (op_is ∙ b.1.begun),
       λ op later. a.1.ahead op later
           ∙ (ap (λ (n : ℕ). next_in g.layout.cpus op (drop n lines) (a.1.own ++ later)) line
