@@ -87,7 +87,8 @@ impl Driver {
         self.stage = self.stage_after(event, reply);
     }
 
-    /// Returns three numbers; drivers with equal ones ask for the same events after the same replies.
+    /// Returns what the next events depend on. Drivers with equal keys, for equally many
+    /// processors, ask for the same events after the same replies.
     pub fn key(&self) -> DriverKey
         ensures { result ≡ key_of self.now }
     {

@@ -26,7 +26,7 @@ use Rattle.hp_schedules.proofs.Unnumbered.{next_plain}
 
 -- ---- alike records continue alike
 
-continue_alike : (g : Setting) (h k : List Record) → AreAlike g h k → ContinueAlike g h k
+pub continue_alike : (g : Setting) (h k : List Record) → AreAlike g h k → ContinueAlike g h k
 continue_alike g h k alike = record {
   calls = alike.calls;
   begun = alike.begun;

@@ -95,7 +95,7 @@ impl Cursor {
         }
     }
 
-    /// Returns the numbers that the further calls depend on.
+    /// Returns the numbers that the further calls depend on, beside the replies to them.
     pub(crate) fn steering(&self) -> [u64; 5]
         ensures { result ≡ steering_of self.now }
     {

@@ -58,20 +58,21 @@ impl Positions {
         cursor.op
     }
 
-    /// Appends the numbers that the processor's further calls depend on, and returns whether each fits
-    /// 32 bits. If not, `numbers` holds a part of them.
+    /// Appends five numbers that the processor's further calls depend on, beside the replies to
+    /// them, and returns whether each fits 32 bits. If not, `numbers` holds a part of them.
     pub fn push_steering(&self, cpu: u32, numbers: &mut Vec<u32>) -> Result<bool, AllocError>
         requires { cpu < length self.now.cursors.items }
-        ensures { IfOk result (λ fit. fit ≡ true → (part : List ℕ) × (numbers.new.items ≡ numbers.old.items ++ part)
-            × (length part ≡ 5) × ((g : Setting) (news : List NewRecord) → AreCursors g news self.now.cursors.items
+        ensures { IfOk result (λ fit. fit ≡ true → (part : List ℕ)
+            × (numbers.new.items ≡ numbers.old.items ++ part) × (length part ≡ 5)
+            × ((g : Setting) (news : List NewRecord) → AreCursors g news self.now.cursors.items
             → IsSteered g cpu news part)) }
     {
         let steering = self.cursors[cpu as usize].steering();
         for number in &steering {
-            if *number > u64::from(u32::MAX) {
+            let Ok(number) = u32::try_from(*number) else {
                 return Ok(false);
-            }
-            numbers.push(*number as u32)?;
+            };
+            numbers.push(number)?;
         }
         Ok(true)
     }
