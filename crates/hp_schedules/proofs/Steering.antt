@@ -1,18 +1,23 @@
 -- Positions with equal numbers: their scripts call the same after the same further receipts.
-use Rattle.std.proofs.Common.{◌≡◌, ℕ, ◌-◌, ltb, List, [], ◌∷◌, ◌++◌, drop, get_or, Option, Some, None, slice_get, refl, ap, sym, subst, ◌∙◌, arith}
+use Rattle.std.proofs.Common.{◌≡◌, ℕ, ◌-◌, ◌<◌, ltb, List, [], ◌∷◌, ◌++◌, drop, get_or, length, Option, Some, None, slice_get, refl, ap, sym, subst, ◌∙◌, arith}
 use Rattle.std.specs.Option.{option_map_or}
 use Rattle.std.proofs.lemmas.List.{append-nil, append_assoc}
+use Rattle.std.proofs.lemmas.Option.{slice_get_within}
+use Rattle.hp_laws.proofs.Lists.{get_some}
 use Rattle.hp_ops.specs.Stages.{key_of}
 use Rattle.hp_ops.specs.declared.stages.Driver.{Driver}
 use Rattle.hp_ops.specs.declared.stages.DriverKey.{DriverKey}
 use Rattle.hp_ops.proofs.Keys.{same_event, same_left}
 use Rattle.hp_ops.proofs.Receipts.{count_push, left_is, next_push}
 use Rattle.hp_units.specs.Driver.{next_event, tried}
+use Rattle.hp_units.specs.History.{net_of}
 use Rattle.hp_units.specs.Receipts.{receipts_of}
 use Rattle.hp_units.specs.declared.events.Event.{Event}
 use Rattle.hp_units.specs.declared.plans.Item.{Item}
 use Rattle.hp_units.specs.declared.replies.Receipt.{Receipt}
 use Rattle.hp_units.specs.declared.replies.Record.{Record}
+use Rattle.hp_schedules.specs.Alike.{AreJoined}
+use Rattle.hp_schedules.specs.Continuing.{ContinueAlike}
 use Rattle.hp_schedules.specs.Cursors.{IsInFirst, IsSteered, steering_of}
 use Rattle.hp_schedules.specs.Schedules.{Setting}
 use Rattle.hp_schedules.specs.Scripts.{after_line, line_next, next_in, own_operation}
@@ -129,3 +134,20 @@ steered_alike g cpu lines h k part here first second =
           (subst (λ (n : ℕ). IsInFirst g.layout.cpus (drop n lines) a.1.own a.0.driver) line a.1.here)
           b.1.here ∙ sym (b.1.ahead op later))),
     )
+
+-- beginnings after which equal numbers steer every processor, and whose nets join, continue alike
+pub steered_continue : (g : Setting) (h k : List Record) → length h ≡ length k
+    → ((cpu : ℕ) → cpu < length g.scripts
+    → (part : List ℕ) × IsSteered g cpu h part × IsSteered g cpu k part)
+    → AreJoined g.layout g.base (net_of (g.start ++ h)) (net_of (g.start ++ k)) → ContinueAlike g h k
+steered_continue g h k calls steered nets = record {
+  calls = calls;
+  begun =
+      λ cpu within. let numbers = steered cpu within in
+      let script = get_some g.scripts cpu within in
+      (steered_alike g cpu script.0 h k numbers.0 script.1 numbers.1 numbers.2).0;
+  ahead =
+      λ cpu lines here op later. let numbers = steered cpu (slice_get_within g.scripts cpu lines here) in
+      (steered_alike g cpu lines h k numbers.0 here numbers.1 numbers.2).1 op later;
+  nets = nets;
+}
