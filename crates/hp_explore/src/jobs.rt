@@ -29,6 +29,8 @@ struct PartWatch {
 }
 
 impl Watch for PartWatch {
+    ghost has_ended = { λ _. ⊥ };
+
     fn counted(&mut self, _schedules: u64) {}
 
     fn memory(&self) -> u64 {
@@ -36,6 +38,10 @@ impl Watch for PartWatch {
     }
 
     fn filled(&mut self) {}
+
+    fn goes_on(&mut self, _places: u64, _bytes: u64) -> bool {
+        true
+    }
 }
 
 /// Explores all schedules like `explore`, in `jobs` threads, at most 256.

@@ -82,6 +82,8 @@ impl<W: Write + Drop> Drop for Progress<W> {
 }
 
 impl<W: Write + Drop> Watch for Progress<W> {
+    ghost has_ended = { λ _. ⊥ };
+
     fn counted(&mut self, schedules: u64) {
         if self.silent > 0 {
             self.silent -= 1;
@@ -111,5 +113,9 @@ impl<W: Write + Drop> Watch for Progress<W> {
             let _ = writeln!(self.out);
         }
         let _ = writeln!(self.out, "{FILLED}");
+    }
+
+    fn goes_on(&mut self, _places: u64, _bytes: u64) -> bool {
+        true
     }
 }

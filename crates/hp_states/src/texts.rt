@@ -147,7 +147,7 @@ fn text_in<'a>(bytes: &'a [u8], ends: &[usize], number: usize) -> &'a [u8]
 }
 
 /// Returns the place where a string starts, which is where the one before it ends.
-fn start_of(ends: &[usize], number: usize) -> usize
+pub(crate) fn start_of(ends: &[usize], number: usize) -> usize
     requires { number < length ends.now }
     ensures { result ≡ start_of 0 ends.now number }
 {
