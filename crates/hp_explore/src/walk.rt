@@ -308,7 +308,7 @@ fn memo_at(
 
 /// Returns whether walked places are worth keeping: there are several scripts, and none of them
 /// undoes steps by their serials.
-fn keeps_places(scripts: &[CallScript]) -> bool
+pub(crate) fn keeps_places(scripts: &[CallScript]) -> bool
     ensures { result ≡ true → UndoNothing scripts.now }
 {
     if scripts.len() < 2 {

@@ -1,4 +1,5 @@
 mod Below
 pub mod Lists
+pub mod Marking
 pub mod Scripted
 pub mod Started
