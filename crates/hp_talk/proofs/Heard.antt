@@ -80,11 +80,6 @@ heard_last P Broken d e f bytes rest front after h k other t cut heard =
 
 -- ---- what waits is sent
 
-pub heard_sent : {S : Type 0} (P : S → List ℕ → List ℕ → S → Type 0) (d e : Desk S) (bytes : List ℕ)
-    (h : HeldValue) (sent : Option (List ℕ)) → Hears P More d bytes e h → Appends e.sent sent e.waiting
-    → Hears P More d bytes (desk e.talk sent []) h
-heard_sent P d e bytes h sent x now = grind (arith, answers_sent)
-
 pub more_broken : {S : Type 0} (P : S → List ℕ → List ℕ → S → Type 0) (d e : Desk S) (line block : List ℕ)
     (h : HeldValue) (sent input left : Option (List ℕ)) → Consumes input left block
     → Hears P More d (line ++ block) e h → Breaks e.sent e.waiting [] sent

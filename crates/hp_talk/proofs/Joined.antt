@@ -6,15 +6,9 @@ use Rattle.hp_talk.specs.Talks.{Answers, AreReplies, Breaks, Desk, Fails, IsTurn
 
 -- ---- known bytes
 
-pub appends_none : (a : Option (List ℕ)) → Appends a a []
-appends_none a = grind (arith, append-nil)
-
 pub appends_joined : (a b c : Option (List ℕ)) (m n : List ℕ) → Appends a b m → Appends b c n
     → Appends a c (m ++ n)
 appends_joined a b c m n p q = grind (arith, append_assoc)
-
-pub appends_kept : (a b c : Option (List ℕ)) (m : List ℕ) → Appends a b m → Keeps b c → Appends a c m
-appends_kept a b c m p q = grind arith
 
 pub consumes_none : (a : Option (List ℕ)) → Consumes a a []
 consumes_none a = grind arith
@@ -35,10 +29,6 @@ sends_joined a b c w x u y v s t = grind (arith, appends_joined, append_assoc)
 breaks_joined : (a b c : Option (List ℕ)) (w x u y : List ℕ) → Sends a w x b u → Breaks b u y c
     → Breaks a w (x ++ y) c
 breaks_joined a b c w x u y s t = grind (arith, appends_joined, append_assoc)
-
--- what waits was sent
-sends_all : (a b c : Option (List ℕ)) (w x u : List ℕ) → Sends a w x b u → Appends b c u → Sends a w x c []
-sends_all a b c w x u s sent = grind (arith, appends_joined, append-nil)
 
 -- a beginning of what waits was sent
 breaks_off : (a b c : Option (List ℕ)) (w x u : List ℕ) → Sends a w x b u → Breaks b u [] c → Breaks a w x c
@@ -65,7 +55,7 @@ broken_before a b w text t = record {
 -- a beginning of bytes was sent, and then no more
 pub broken_at : (a b c : Option (List ℕ)) (bytes : List ℕ) (at : ℕ) → Appends a b (take at bytes) → Keeps b c
     → take at bytes ++ drop at bytes ≡ bytes → Breaks a bytes [] c
-broken_at a b c bytes at first kept cut = grind (arith, appends_kept, append-nil)
+broken_at a b c bytes at first kept cut = grind (arith, append-nil)
 
 -- ---- replies
 
@@ -82,7 +72,7 @@ replies_joined {S} P s mid new (l ∷ xs) ys x y p q = (
 )
 
 pub answers_none : {S : Type 0} (P : S → List ℕ → List ℕ → S → Type 0) (d : Desk S) → Answers P d [] d
-answers_none P d = grind (arith, All-nil, appends_none, append-nil)
+answers_none P d = grind (arith, All-nil, append-nil)
 
 pub answers_joined : {S : Type 0} (P : S → List ℕ → List ℕ → S → Type 0) (d e f : Desk S)
     (xs ys : List (List ℕ)) → Answers P d xs e → Answers P e ys f → Answers P d (xs ++ ys) f
@@ -115,7 +105,7 @@ missed_once P d e line turn misses = grind (arith, All-push, All-nil, append-nil
 pub answers_sent : {S : Type 0} (P : S → List ℕ → List ℕ → S → Type 0) (d e : Desk S)
     (sent : Option (List ℕ)) (xs : List (List ℕ)) → Answers P d xs e → Appends e.sent sent e.waiting
     → Answers P d xs (desk e.talk sent [])
-answers_sent P d e sent xs a now = grind (arith, sends_all)
+answers_sent P d e sent xs a now = grind (arith, appends_joined, append-nil)
 
 pub answers_broken : {S : Type 0} (P : S → List ℕ → List ℕ → S → Type 0) (d e : Desk S)
     (sent : Option (List ℕ)) (xs : List (List ℕ)) → Answers P d xs e → Breaks e.sent e.waiting [] sent
