@@ -3,8 +3,7 @@ use Rattle.std.proofs.Common.{◌≡◌, ℕ, ◌+◌, ◌<◌, ◌≤◌, Bool,
 use Rattle.std.proofs.lemmas.List.Sums.{count_by_more_no, count_by_more_yes}
 use Rattle.std.proofs.lemmas.List.{get_or_default}
 use Rattle.std.proofs.lemmas.Option.{slice_get_read}
-use Rattle.hp_call_lines.specs.EntryLines.{AreSignLines, KeepSignLines, is_newline, line_after}
-use Rattle.hp_call_lines.specs.Lexemes.{is_space}
+use Rattle.hp_check.specs.JsonPositions.{AreSignLines, KeepSignLines, is_newline, is_space, line_after}
 
 after_byte : (input : List ℕ) (place byte line : ℕ) (ends : Bool) → place < length input
     → byte ≡ get_or input place 0 → is_newline byte ≡ ends → line ≡ 1 + count_by is_newline (take place input)
