@@ -9,7 +9,8 @@ use Rattle.hp_check.proofs.shape.push_missing.Goals as goal
 pub loop-key-preserved : goal.loop-key-preserved
 loop-key-preserved c =
     test_added (is_there (view c.args.value.now)) c.keys_of-keys.result.now c.loop-key.key-index _
-    c.loop-key-test.true c.loop-key.invariant (of_test c.is_there-is_there.ensures c.in_ok-push_unless.ensures)
+    c.loop-key-test.true c.loop-key.invariant
+    (of_test c.is_there-is_there.ensures c.in_ok-push_unless.ensures)
 
 pub returns : goal.returns
 returns c =

@@ -1,11 +1,10 @@
-use Rattle.std.proofs.Common.{ℕ, List, sym, ap, ◌∙◌}
+use Rattle.std.proofs.Common.{ℕ, List, ap, ◌∙◌}
 use Rattle.std.specs.List.{list_all}
 use Rattle.serde_json.specs.Find.{get}
 use Rattle.serde_json.specs.View.{view}
-use Rattle.hp_check.specs.Adds.{IsShape}
 use Rattle.hp_check.specs.Shape.{if_there, is_number, is_number_at}
 use Rattle.hp_check.specs.declared.finding.Key.{Key}
-use Rattle.hp_check.proofs.Added.{none_added, of_test, test_added, tests_added}
+use Rattle.hp_check.proofs.Added.{of_test, test_added, tests_added}
 use Rattle.hp_check.proofs.shape.push_numbers.Goals as goal
 
 pub loop-key-preserved : goal.loop-key-preserved
