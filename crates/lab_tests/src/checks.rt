@@ -1,6 +1,8 @@
 //! Scenarios, and the report of a check on each.
-use hp_call_lines::{call_lines, halves_at, has_comment, is_blank, keys_at, nests_deeper};
-use hp_check::{Finding, Key, check, fault_count, write_report};
+use hp_check::{
+    Finding, Key, call_lines, check, fault_count, halves_at, has_comment, is_blank, keys_at,
+    nests_deeper, write_report,
+};
 use std::alloc::{AllocError, Global};
 use std::test::Fail;
 

@@ -1,6 +1,6 @@
 use Rattle.std.proofs.Common.{◌≡◌, ◌+◌, ◌≤◌, count_by, take}
-use Rattle.hp_call_lines.specs.EntryLines.{AreSignLines, is_newline}
-use Rattle.hp_call_lines.proofs.entry_lines.call_lines.Given as goal
+use Rattle.hp_check.specs.JsonPositions.{AreSignLines, is_newline}
+use Rattle.hp_check.proofs.json_positions.call_lines.Given as goal
 
 abbrev pub invariant-loop-place : goal.invariant-loop-place
 invariant-loop-place l =

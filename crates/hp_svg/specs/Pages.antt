@@ -1,11 +1,11 @@
 -- The page of a trace.
 use Rattle.std.specs.Prelude.{ℕ, List, ◌++◌}
-use Rattle.hp_page.specs.declared.viewer.html.TheConstants.{BODY, END, HEAD, MIDDLE}
-use Rattle.hp_page.specs.declared.viewer.machine.TheConstants.{MACHINE}
-use Rattle.hp_page.specs.declared.viewer.panels.TheConstants.{PANELS}
-use Rattle.hp_page.specs.declared.viewer.style.TheConstants.{STYLE}
-use Rattle.hp_page.specs.declared.viewer.trace.TheConstants.{TRACE}
-use Rattle.hp_page.specs.declared.viewer.words.TheConstants.{WORDS}
+use Rattle.hp_svg.specs.declared.viewer.html.TheConstants.{BODY, END, HEAD, MIDDLE}
+use Rattle.hp_svg.specs.declared.viewer.machine.TheConstants.{MACHINE}
+use Rattle.hp_svg.specs.declared.viewer.panels.TheConstants.{PANELS}
+use Rattle.hp_svg.specs.declared.viewer.style.TheConstants.{STYLE}
+use Rattle.hp_svg.specs.declared.viewer.trace.TheConstants.{TRACE}
+use Rattle.hp_svg.specs.declared.viewer.words.TheConstants.{WORDS}
 
 -- the viewer, up to the lines of a trace
 unfoldable pub viewer_before : List ℕ

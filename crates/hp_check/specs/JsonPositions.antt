@@ -1,7 +1,9 @@
--- In which lines of a text something is.
-use Rattle.std.specs.Prelude.{◌≡◌, ℕ, ◌+◌, ◌==◌, Bool, true, false, List, count_by, slice_get, take, Some, if◌then◌else◌}
+-- White space of JSON (RFC 8259, section 2), and in which lines of a text something is.
+use Rattle.std.specs.Prelude.{◌≡◌, ℕ, ◌+◌, ◌==◌, ◌||◌, Bool, true, false, List, count_by, slice_get, take, Some, if◌then◌else◌}
 use Rattle.std.specs.List.{All}
-use Rattle.hp_call_lines.specs.Lexemes.{is_space}
+
+abbrev pub is_space : ℕ → Bool
+is_space b = b == 32 || (b == 9 || (b == 10 || b == 13))
 
 abbrev pub is_newline : ℕ → Bool
 is_newline b = b == 10

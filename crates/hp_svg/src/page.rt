@@ -1,6 +1,6 @@
 //! The lines of a trace within the viewer.
 ghost use Rattle.std.specs.Prelude.{◌++◌, ◌≡◌, IfOk, OnOk, string_bytes};
-ghost use Rattle.hp_page.specs.Pages.{viewer_after, viewer_before, viewer_drawing, viewer_rules};
+ghost use Rattle.hp_svg.specs.Pages.{viewer_after, viewer_before, viewer_drawing, viewer_rules};
 
 use crate::viewer::{BODY, END, HEAD, MACHINE, MIDDLE, PANELS, STYLE, TRACE, WORDS};
 use std::alloc::{AllocError, Global};

@@ -1,6 +1,6 @@
 use Rattle.std.proofs.Common.{refl}
-use Rattle.hp_call_lines.proofs.Lines.{bound_more, depth_more, line_counted, signs_more}
-use Rattle.hp_call_lines.proofs.entry_lines.call_lines.Goals as goal
+use Rattle.hp_check.proofs.JsonPositions.{bound_more, depth_more, line_counted, signs_more}
+use Rattle.hp_check.proofs.json_positions.call_lines.Goals as goal
 
 pub loop-place-preserved : goal.loop-place-preserved
 loop-place-preserved c =
