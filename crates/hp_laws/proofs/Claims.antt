@@ -186,12 +186,10 @@ plan_claims l s plan e block =
     by_item (Some item) is f g =
         let same : item.block ≡ block =
         eqb-true item.block block (found_passes (λ i. i.block == block) plan item is) in
-        subst (λ (b : ℕ). MayClaim (row_of s.blocks b) item.wish) same
-        (may_claim (row_of s.blocks item.block) item.wish
-        (found_fails (λ i. is_off i.wish && not (is_online (row_of s.blocks i.block))) (λ i. i.block == block)
-        plan item f is)
-        (found_fails (λ i. not (is_off i.wish) && not (is_offline (row_of s.blocks i.block)))
-        (λ i. i.block == block) plan item g is))
+        rw (← same)
+        (may_claim (row_of s.blocks item.block) item.wish (found_fails (λ i. is_off i.wish && not (is_online
+        (row_of s.blocks i.block))) (λ i. i.block == block) plan item f is) (found_fails (λ i. not (is_off
+        i.wish) && not (is_offline (row_of s.blocks i.block))) (λ i. i.block == block) plan item g is))
 
 pub begin-placed : (l : LayoutParts) (s : Memory) (op : ℕ) (plan : List Item) → IsLayout l → IsWellPlaced l s
     → first_some (plan_refusals l s plan) ≡ None → IsWellPlaced l (begin_plan l s op plan)

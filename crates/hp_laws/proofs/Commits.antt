@@ -1,6 +1,6 @@
 -- An operation commits: its going blocks leave the areas, and its other ones go online.
 use Rattle.std.proofs.Common.{◌≡◌, ℕ, zero, suc, ◌+◌, ◌*◌, ◌^◌, ◌<◌, ◌≤◌, List, [], ◌∷◌, ◌++◌, length, Bool, true, false, cond, Option, Some, None, refl, sym, ◌∙◌, ap, subst, arith, inl, inr, eqb-true, eq-eqb, ◌==◌, ◌||◌}
-use Rattle.std.specs.Prelude.{filter, fold, unwrap_or}
+use Rattle.std.specs.Prelude.{filter, fold}
 use Rattle.std.specs.List.{range_with_len, list_all}
 use Rattle.std.specs.Option.{option_map_or}
 use Rattle.std.proofs.lemmas.Bool.{and_parts, cases_eq, or_cases, or_left}
@@ -20,7 +20,7 @@ use Rattle.hp_units.specs.LayoutParts.{LayoutParts, IsLayout}
 use Rattle.hp_units.specs.Arithmetic.{all_blocks, block_of_pageblock, pageblocks_of}
 use Rattle.hp_units.specs.Memory.{FreeAreas, Memory, free_list, with_free_list, offline_row, row_of, isolated_class, usable_class}
 use Rattle.hp_units.specs.FreeAreas.{is_on}
-use Rattle.hp_units.specs.Isolation.{add_pageblock, remove_block}
+use Rattle.hp_units.specs.Isolation.{add_pageblock}
 use Rattle.hp_units.specs.Refusals.{is_all_free}
 use Rattle.hp_units.specs.Rows.{blocks_of, commit_block, is_absent_state, commit_blocks, going_blocks, grant, is_claimed_by, is_going, is_going_state, is_off, is_offline_state, offline_block, online_block, zone_of_block}
 use Rattle.hp_units.specs.Placement.{IsRowOf, IsWellPlaced, is_unplugged, wishes_off}
@@ -30,7 +30,7 @@ use Rattle.hp_laws.proofs.Onlines.{online_block-placed, quotient}
 use Rattle.hp_laws.proofs.Isolations.{pageblock_elsewhere, some_pageblocks}
 use Rattle.hp_laws.proofs.Claims.{fold_blocks, later_rows}
 use Rattle.hp_laws.specs.Commits.{IsAllFree, IsGrantable}
-use Rattle.hp_laws.proofs.Offlined.{IsOutside, remove_block-range, offlined-placed}
+use Rattle.hp_laws.proofs.Offlined.{remove_block-range, offlined-placed}
 
 -- ---- what the blocks that come later need
 
@@ -121,8 +121,7 @@ offline-next l s t block layout low going all h =
           (going_plugged row.state going) all;
       later = later_rows t.blocks.rows s.blocks.rows block offline_row h.later;
       stays = λ class pageblock above on. range.stays class l.order (pageblock * 2 ^ l.order)
-          (subst (λ (n : ℕ). IsOutside (block * l.pageblocks) l.pageblocks n)
-          (sym (shl-shr pageblock l.order))
+          (rw (shl-shr pageblock l.order)
           (pageblock_elsewhere l block pageblock (λ same. absurd (omega arith))))
           (h.stays class pageblock (omega arith) on);
     }
@@ -135,9 +134,7 @@ grantable_later l s t block ready h going pageblock among =
     let here : block_of_pageblock l pageblock ≡ block =
     quotient pageblock l.pageblocks block among.low among.high in
     h.stays (isolated_class (zone_of_block t.blocks block)) pageblock (omega arith)
-    (subst (λ (row : Row). is_on (pageblock * 2 ^ l.order)
-    (free_list s.free.areas (isolated_class (unwrap_or row.zone NormalZone)) l.order) ≡ true) (sym same)
-    (ready (ap is_going (sym same) ∙ going) pageblock among))
+    (rw same (ready (ap is_going (sym same) ∙ going) pageblock among))
 
 pub commit_block-next : (l : LayoutParts) (s : Memory) (t : Memory) (block : ℕ) → IsLayout l
     → block < l.blocks → IsGrantable l s block → CommitsFrom l s block t

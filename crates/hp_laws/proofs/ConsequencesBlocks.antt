@@ -176,8 +176,7 @@ number_in frame order first aligned same =
     let some : 0 < 2 ^ order = pow_pos order in
     let high : frame < frame / 2 ^ order * 2 ^ order + 2 ^ order = lt-div-mul-add some in
     let low : frame / 2 ^ order * 2 ^ order ≤ frame = omega (arith, div-add-mod' frame (2 ^ order)) in
-    let both : frame / 2 ^ order * 2 ^ order ≡ first / 2 ^ order * 2 ^ order =
-    ap (λ (n : ℕ). n * 2 ^ order) same in
+    let both : frame / 2 ^ order * 2 ^ order ≡ first / 2 ^ order * 2 ^ order = rw same in
     record { low = omega arith; high = omega arith }
 
 -- two aligned blocks of one order, of which one has the other's first frame, are one
@@ -196,8 +195,7 @@ buddy_aligned first order aligned = elim (cases_eq (first / 2 ^ order % 2) 0) [
       let next : first / 2 ^ order / 2 * 2 * 2 ^ order + 2 ^ order
       ≡ (first / 2 ^ order / 2 * 2 + 1) * 2 ^ order =
       grind arith in
-      subst (λ (n : ℕ). buddy n order % 2 ^ order ≡ 0) (sym is)
-      (rw (buddy_even, next) (multiple_aligned (first / 2 ^ order / 2 * 2 + 1) order))
+      rw is (rw (buddy_even, next) (multiple_aligned (first / 2 ^ order / 2 * 2 + 1) order))
   | inr odd ↦
       let next : (first / 2 ^ order / 2 * 2 + 1) * 2 ^ order
       ≡ first / 2 ^ order / 2 * 2 * 2 ^ order + 2 ^ order =
@@ -205,8 +203,7 @@ buddy_aligned first order aligned = elim (cases_eq (first / 2 ^ order % 2) 0) [
       let is : first ≡ first / 2 ^ order / 2 * 2 * 2 ^ order + 2 ^ order =
       multiple first order aligned ∙ ap (λ (n : ℕ). n * 2 ^ order) (half_odd (first / 2 ^ order) odd)
       ∙ next in
-      subst (λ (n : ℕ). buddy n order % 2 ^ order ≡ 0) (sym is)
-      (rw buddy_odd (multiple_aligned (first / 2 ^ order / 2 * 2) order))
+      rw is (rw buddy_odd (multiple_aligned (first / 2 ^ order / 2 * 2) order))
 ]
   where
     half_even : (q : ℕ) → q % 2 ≡ 0 → q ≡ q / 2 * 2
@@ -236,9 +233,7 @@ unjoined l class_at a class order first h below on other same above =
           same_Some class other.class
           (sym block.class_agrees ∙ ap class_at (sym same) ∙ its.class_agrees) in
           let joined : is_on (buddy first order) (free_list a class order) ≡ true =
-          subst (λ (f : ℕ). is_on f (free_list a class order) ≡ true) that
-          (subst (λ (c : Class). is_on other.first (free_list a c order) ≡ true) (sym one)
-          (subst (λ (n : ℕ). is_on other.first (free_list a other.class n) ≡ true) (sym is) other.on)) in
+          rw (← that, one, is) other.on in
           both_ways (is_on (buddy first order) (free_list a class order))
           (h.joined class order first below on) joined
       | inr ne ↦
@@ -268,8 +263,7 @@ orders_from : (l : LayoutParts) (class_at : ℕ → Option Class) (a : FreeAreas
 orders_from l class_at a pageblock zero h free low class o first on here = omega arith
 orders_from l class_at a pageblock (suc order) h free low class o first on here = elim (cases_eq o order) [
   | inl same ↦
-      let there : is_on first (free_list a class order) ≡ true =
-      subst (λ (n : ℕ). is_on first (free_list a class n) ≡ true) same on in
+      let there : is_on first (free_list a class order) ≡ true = rw (← same) on in
       let aligned = (h.blocks class order first there).aligned in
       let beside : pageblock_of l (buddy first order) ≡ pageblock =
       buddy_above first order l.order aligned low ∙ here in
@@ -310,6 +304,5 @@ whole_pageblock l class_at a pageblock class h is free =
     (subst (λ (n : ℕ). IsFrameOf start n block.first) whole block.within) in
     let one : block.class ≡ class =
     same_Some block.class class (sym its.class_agrees ∙ ap class_at close ∙ is) in
-    subst (λ (f : ℕ). is_on f (free_list a class l.order) ≡ true) that
-    (subst (λ (c : Class). is_on block.first (free_list a c l.order) ≡ true) one
+    rw (← that) (subst (λ (c : Class). is_on block.first (free_list a c l.order) ≡ true) one
     (subst (λ (n : ℕ). is_on block.first (free_list a block.class n) ≡ true) whole block.on))

@@ -155,8 +155,7 @@ block_tested l class_at a frame h b =
     let aligned = (h.blocks b.class b.order b.first b.on).aligned in
     let low = (on_free l class_at a b.class b.order b.first h b.on).low in
     let is : b.first ≡ ancestor frame b.order =
-    multiple b.first b.order aligned
-    ∙ ap (λ (n : ℕ). n * 2 ^ b.order) (sym (in_number frame b.order b.first aligned b.within)) in
+    rw (multiple b.first b.order aligned, ← in_number frame b.order b.first aligned b.within) in
     on_any (λ (o : ℕ). is_free_start a o (ancestor frame o)) (range_with_len 0 (l.order + 1)) b.order
     (range_on 0 (l.order + 1) b.order (omega arith) (omega arith))
     (on_class (λ (c : Class). is_on (ancestor frame b.order) (free_list a c b.order)) b.class
@@ -184,8 +183,7 @@ frames_all_free l s block p going free =
     let among = on_range pageblock (block * l.pageblocks) l.pageblocks on in
     let here : block_of_pageblock l pageblock ≡ block =
     quotient pageblock l.pageblocks block among.low among.high in
-    let zone_is : (row_at l s.blocks.rows pageblock).zone ≡ Some zone =
-    subst (λ (b : ℕ). (row_of s.blocks b).zone ≡ Some zone) (sym here) zoned in
+    let zone_is : (row_at l s.blocks.rows pageblock).zone ≡ Some zone = rw here zoned in
     let isolated : (kind_at s.free.areas.kinds pageblock).isolated ≡ true =
     p.in_order.isolated pageblock
     ∙ subst (λ (b : ℕ). is_going (row_of s.blocks b) ≡ true) (sym here) going in
@@ -235,8 +233,7 @@ block_has l block frame layout e =
     lt-div-mul-add (some_frames l layout) in
     let low : frame / block_size l * block_size l ≤ frame =
     omega (arith, div-add-mod' frame (block_size l)) in
-    subst (λ (b : ℕ). is_on frame (frames_of_block l b) ≡ true) e
-    (range_on (frame / block_size l * block_size l) (block_size l) frame low high)
+    rw (← e) (range_on (frame / block_size l * block_size l) (block_size l) frame low high)
 
 -- a row that is claimed is one of the layout's
 claimed_low : (rows : List Row) (op block : ℕ) → is_claimed_by op (get_or rows block offline_row) ≡ true

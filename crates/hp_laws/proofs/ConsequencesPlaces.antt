@@ -39,8 +39,7 @@ use Rattle.hp_laws.proofs.ConsequencesBlocks.{in_number, on_head}
 pub row_zone : (l : LayoutParts) (rows : List Row) (frame : ℕ) (zone : Zone)
     → (row_at l rows (pageblock_of l frame)).zone ≡ Some zone
     → (get_or rows (block_of l frame) offline_row).zone ≡ Some zone
-row_zone l rows frame zone e =
-    subst (λ (b : ℕ). (get_or rows b offline_row).zone ≡ Some zone) (sym (block_of-pageblock l frame)) e
+row_zone l rows frame zone e = rw (block_of-pageblock l frame) e
 
 -- a frame on a processor's list
 pub cached_zone : (l : LayoutParts) (s : Memory) (cpu : ℕ) (pool : Pool) (frame : ℕ) → IsWellPlaced l s
@@ -71,8 +70,7 @@ pub kernel_zone : (l : LayoutParts) (s : Memory) (first order frame : ℕ) → I
     → (row_of s.blocks (block_of l frame)).zone ≡ Some NormalZone
 kernel_zone l s first order frame p e within =
     let k = kernel_at l s first order p (kernel_order s first) refl e in
-    row_zone l s.blocks.rows frame NormalZone (subst (λ (n : ℕ). (row_at l s.blocks.rows n).zone
-    ≡ Some NormalZone) (sym (kernel_inside l s first order frame p e within)) k.normal)
+    row_zone l s.blocks.rows frame NormalZone (rw (kernel_inside l s first order frame p e within) k.normal)
 
 -- a page's frame is in no offline or absent block
 pub page_plugged : (l : LayoutParts) (s : Memory) (owner page frame : ℕ) → IsWellPlaced l s
@@ -202,8 +200,7 @@ times_covered k order (x ∷ xs) =
       | inl none ↦ omega arith
       | inr some ↦
           (let same = in_single k x some in
-          subst (λ (n : ℕ). covered k 0 n ≤ covered k order n) same
-          (omega (arith, covered-self order k, covered-self 0 k)))
+          rw (← same) (omega (arith, covered-self order k, covered-self 0 k)))
     ]
       where
         in_single : (k x : ℕ) → 1 ≤ covered k 0 x → k ≡ x

@@ -106,9 +106,8 @@ rooted_push before h r is ok = record {
     come i x (inr at) =
         let le : i ≤ length (net_of h) = omega (arith, at.0) in
         rw (last x at.1)
-        ((take-append-le i (net_of h) (r ∷ []) le ∙ take_all i (net_of h) (omega (arith, at.0)))
-        ∙ ap net_of
-        (sym (take-append-le (length h) h (r ∷ []) (omega arith) ∙ take_all (length h) h (omega arith))))
+        (rw (take-append-le i (net_of h) (r ∷ []) le, take_all i (net_of h) (omega (arith, at.0))) (ap net_of
+        (sym (take-append-le (length h) h (r ∷ []) (omega arith) ∙ take_all (length h) h (omega arith)))))
 
 -- the net of a legal history is rooted in it
 pub rooted_net : (l : LayoutParts) (base : Memory) (before : ℕ) (h : List Record) → IsLegal l base before h

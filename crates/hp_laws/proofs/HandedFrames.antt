@@ -43,8 +43,7 @@ zone_plugged : (l : LayoutParts) (s : Memory) (frame : ℕ) (zone : Zone) → Is
     → (row_at l s.blocks.rows (pageblock_of l frame)).zone ≡ Some zone → IsPlugged l s frame
 zone_plugged l s frame zone h e =
     let row : Row = row_of s.blocks (block_of l frame) in
-    let is : row.zone ≡ Some zone =
-    subst (λ (b : ℕ). (row_of s.blocks b).zone ≡ Some zone) (sym (block_of-pageblock l frame)) e in
+    let is : row.zone ≡ Some zone = rw (block_of-pageblock l frame) e in
     false_from_ne_true (is_unplugged row) (λ off.
     no_zone (sym (unplugged_zone row.state row.zone row.claim off (h.rows (block_of l frame))) ∙ is))
   where
@@ -110,9 +109,8 @@ map-plugged l s cpu owner page low layout p some_owner some_page none =
         (with_pages (with_free s h.free) (map_page s.pages owner page h.frame (fresh_words l)))) o (done s))
     handed None h = subst (λ (o : Option ℕ). IfSome o (IsPlugged l s)) (sym none) tt
     handed (Some given) h =
-        subst (λ (o : Option ℕ). IfSome o (IsPlugged l s)) (sym (entry-same l.owners l.pages s.pages.table
-        owner page (Some given.frame) some_owner some_page (table_of l s p.in_order)))
-        (zone_plugged l s given.frame h.0 p.in_order h.1.zone_is)
+        rw (entry-same l.owners l.pages s.pages.table owner page (Some given.frame) some_owner some_page
+        (table_of l s p.in_order)) (zone_plugged l s given.frame h.0 p.in_order h.1.zone_is)
 
 unmap-plugged : (l : LayoutParts) (s : Memory) (cpu owner page : ℕ)
     → HandsPlugged l s (Unmap owner page) (unmap_step l s cpu owner page)

@@ -121,9 +121,7 @@ restored_cut l base before op h r legal event is =
       here = sole.1;
       serial = sole.2;
       opens = sole.3;
-      value =
-          ap (run l base) (net-push h r ∙ net_restored op place.0 (net_of h) r event (ap is_refused is)
-          place.1);
+      value = rw (net-push h r, net_restored op place.0 (net_of h) r event (ap is_refused is) place.1);
     }
 
 -- the state after a Cancel that restores
@@ -143,6 +141,5 @@ restored l base before op h r legal event is =
       rw (← serial) (roots.stands cut.place cut.begin cut.here),
       cut.serial,
       opens.1,
-      cut.value ∙ ap (run l base)
-          (roots.comes cut.place cut.begin cut.here ∙ ap (λ (m : ℕ). net_of (take m h)) serial),
+      rw (cut.value, roots.comes cut.place cut.begin cut.here, serial),
     )

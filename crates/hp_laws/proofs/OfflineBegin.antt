@@ -67,8 +67,7 @@ set-from op plan s t block row wish is carries h other claim e =
           (sym carries ∙ (ap (λ (r : Row). r.claim) (sym new.1) ∙ e)) in
           inr (
             ap (λ (c : Claim). c.op) (sym same),
-            ap (λ (n : ℕ). wish_of plan n) new.0 ∙ is
-                ∙ ap (λ (c : Claim). Some c.wish) same,
+            rw (new.0, is) (ap (λ (c : Claim). Some c.wish) same),
           )
     ]
 
@@ -169,8 +168,7 @@ kernel_none l s plan block wish e is off = by_item (find (λ item. item.block ==
         let wishes : item.wish ≡ wish = cc in
         let its : kernel_frame_in l s item ≡ None =
         found_none (kernel_frame_in l s) (λ i. i.block == block) plan item none found in
-        subst (λ (n : ℕ). find (λ frame. is_some (kernel_order s frame)) (frames_of_block l n) ≡ None) same
-        (when_off (is_off item.wish) (ap is_off wishes ∙ off) its)
+        rw (← same) (when_off (is_off item.wish) (ap is_off wishes ∙ off) its)
       where
         when_off : (b : Bool) → b ≡ true
             → cond b (find (λ frame. is_some (kernel_order s frame)) (frames_of_block l item.block)) None

@@ -1,6 +1,6 @@
 -- An operation that nothing disturbed commits: each frame of its going blocks is in a free block,
 -- as it is nowhere else.
-use Rattle.std.proofs.Common.{◌≡◌, ◌≢◌, ℕ, zero, suc, ◌+◌, ◌-◌, ◌*◌, ◌/◌, ◌%◌, ◌<◌, List, [], ◌∷◌, ◌++◌, length, get_or, Bool, true, false, cond, Option, Some, None, map, slice_get, refl, ap, sym, subst, ◌∙◌, arith, inl, inr, ◌==◌}
+use Rattle.std.proofs.Common.{◌≡◌, ◌≢◌, ℕ, zero, suc, ◌+◌, ◌*◌, ◌/◌, ◌%◌, ◌<◌, List, [], ◌∷◌, ◌++◌, length, get_or, Bool, true, false, cond, Option, Some, None, map, slice_get, refl, ap, sym, subst, ◌∙◌, arith, inl, inr, ◌==◌}
 use Rattle.std.specs.Prelude.{position}
 use Rattle.std.specs.List.{count_by, enumerate_from, list_any, position_from, sum_by}
 use Rattle.std.specs.Option.{option_map, option_map_or, option_or}
@@ -24,7 +24,7 @@ use Rattle.hp_units.specs.Step.{step}
 use Rattle.hp_units.specs.Placement.{IsWellPlaced, cached_places, covers, kernel_places, mapped_places, offline_places}
 use Rattle.hp_laws.specs.Consequences.{IsFrameOf, IsGoingFor, IsFrameInUse, IsInFreeBlock}
 use Rattle.hp_laws.specs.Offline.{AreHeldBy, IsUndisturbed, drains_for}
-use Rattle.hp_laws.proofs.Names.{Begin, Commit, Done, Event, Record}
+use Rattle.hp_laws.proofs.Names.{Begin, Commit, Done, Record}
 use Rattle.hp_laws.proofs.LawProofs.{last_follows, front_legal, opening_is_begin}
 use Rattle.hp_laws.proofs.Lists.{get_left}
 use Rattle.hp_laws.proofs.Net.{Numbered, run-append}
@@ -133,8 +133,7 @@ kernel_sum : (frame n : ℕ) (entries : List (Option ℕ))
 kernel_sum frame n [] none = refl
 kernel_sum frame n (entry ∷ entries) none =
     let start : n + 0 ≡ n = omega arith in
-    let here : kernel_covered frame n entry ≡ 0 =
-    subst (λ (k : ℕ). kernel_covered frame k entry ≡ 0) start (none 0) in
+    let here : kernel_covered frame n entry ≡ 0 = rw (← start) (none 0) in
     let rest =
     kernel_sum frame (n + 1) entries (λ i. (let next : n + suc i ≡ n + 1 + i = omega arith in
     subst (λ (k : ℕ). kernel_covered frame k (get_or entries i None) ≡ 0) next (none (suc i)))) in
@@ -151,8 +150,7 @@ pub none_kernel : (l : LayoutParts) (s : Memory) (op frame : ℕ) → IsWellPlac
     → ((first : ℕ) → IsGoingFor l s op first → kernel_order s first ≡ None) → IsGoingFor l s op frame
     → kernel_places s frame ≡ 0
 none_kernel l s op frame p movable h =
-    kernel_sum frame 0 s.kernel (λ i. subst (λ (k : ℕ). kernel_covered frame k (get_or s.kernel i None) ≡ 0)
-    (start i) (each i (kernel_order s i) refl))
+    kernel_sum frame 0 s.kernel (λ i. rw (← start i) (each i (kernel_order s i) refl))
   where
     start : (i : ℕ) → i ≡ 0 + i
     start i = omega arith
@@ -228,19 +226,14 @@ ready l s op cpu plan work layout p claims good own succeeds drained =
     let done = own_run l op begun work own succeeds in
     let end : Memory = run l begun work in
     let still : (first : ℕ) → IsGoingFor l begun op first → kernel_order begun first ≡ None =
-    subst (λ (t : Memory). (first : ℕ) → IsGoingFor l t op first → kernel_order t first ≡ None)
-    (sym performed.memory)
-    (λ first h. begun_movable l s op plan first layout claims performed.free
+    rw performed.memory (λ first h. begun_movable l s op plan first layout claims performed.free
     (subst (λ (t : Memory). IsWellPlaced l t) performed.memory placed) h) in
     record {
       placed = run-placed l begun work layout placed;
       drained = λ c low. done.drained c (drained c low);
       movable =
-          λ first h. ap (λ (ks : List (Option ℕ)). get_or ks first None) done.work.kernel
-          ∙ still first (going_same l begun end op first done.work.blocks h);
-      live =
-          subst (λ (bs : Blocks). is_live bs op ≡ true) (sym done.work.blocks)
-          (done.live 0 (drained 0 (omega (arith, layout.some_cpus))));
+          λ first h. rw done.work.kernel (still first (going_same l begun end op first done.work.blocks h));
+      live = rw done.work.blocks (done.live 0 (drained 0 (omega (arith, layout.some_cpus))));
     }
 
 -- then its Commit is done
@@ -284,9 +277,7 @@ pub undisturbed_new : (l : LayoutParts) (base : Memory) (before op : ℕ) (h : L
     → IsLegal l base before h → IsUndisturbed l s op (net_of h) → before < op
 undisturbed_new l base before op h s legal u =
     let opens = and_parts (is_opening (mark_of u.begin.event)) (u.begin.serial == op) u.opens in
-    let numbered =
-    subst (λ (n : List Record). Numbered before (before + length h) n) u.steps
-    (numbered_net l base before h legal) in
+    let numbered = rw u.steps at (numbered_net l base before h legal) in
     subst (λ (n : ℕ). before < n) (eqb-true u.begin.serial op opens.1)
     (numbered.over (length u.earlier) u.begin (get_middle u.earlier u.work u.begin))
 
@@ -300,9 +291,7 @@ undisturbed_ready l base before op h layout p claims legal u =
     let opens = and_parts (is_opening (mark_of u.begin.event)) (u.begin.serial == op) u.opens in
     let event = opening_is_begin u.begin.event opens.0 in
     let serial : u.begin.serial ≡ op = eqb-true u.begin.serial op opens.1 in
-    let numbered =
-    subst (λ (n : List Record). Numbered before (before + length h) n) u.steps
-    (numbered_net l base before h legal) in
+    let numbered = rw u.steps at (numbered_net l base before h legal) in
     let start : Memory = run l base u.earlier in
     let succeeds : AllSucceed l start (u.begin ∷ u.work) =
     succeed_behind l base u.earlier (u.begin ∷ u.work)
@@ -312,9 +301,8 @@ undisturbed_ready l base before op h layout p claims legal u =
     (earlier_other before (before + length h) u.earlier u.work u.begin numbered i r e)) claims in
     let whole : run l base (net_of h) ≡ run l start (u.begin ∷ u.work) =
     ap (run l base) u.steps ∙ run-append l base u.earlier (u.begin ∷ u.work) in
-    subst (λ (t : Memory). IsReady l t op) (sym whole)
-    (at_begin start u.begin u.work event.0 event.1 serial (run-placed l base u.earlier layout p) new succeeds
-    u.own u.drained)
+    rw whole (at_begin start u.begin u.work event.0 event.1 serial (run-placed l base u.earlier layout p) new
+    succeeds u.own u.drained)
   where
     at_begin : (start : Memory) (begin : Record) (work : List Record) (plan : List Item)
         → begin.event ≡ Begin plan → begin.serial ≡ op → IsWellPlaced l start
@@ -323,25 +311,16 @@ undisturbed_ready l base before op h layout p claims legal u =
         → ((c : ℕ) → c < l.cpus → list_any (λ (r : Record). drains_for op c r.event) work ≡ true)
         → IsReady l (run l (step l start begin.serial begin.cpu begin.event).memory work) op
     at_begin start begin work plan event serial placed new succeeds own drained =
-        subst (λ (e : Event). IsReady l (run l (step l start begin.serial begin.cpu e).memory work) op)
-        (sym event)
-        (subst (λ (n : ℕ). IsReady l (run l (step l start n begin.cpu (Begin plan)).memory work) op)
-        (sym serial)
-        (ready l start op begin.cpu plan work layout placed new
-        (subst (λ (n : ℕ). is_refused (step l start n begin.cpu (Begin plan)).reply ≡ false) serial (subst
-        (λ (e : Event). is_refused (step l start begin.serial begin.cpu e).reply ≡ false) event succeeds.0))
-        own
-        (subst (λ (n : ℕ). AllSucceed l (step l start n begin.cpu (Begin plan)).memory work) serial (subst
-        (λ (e : Event). AllSucceed l (step l start begin.serial begin.cpu e).memory work) event succeeds.1))
-        drained))
+        rw (event, serial)
+        (ready l start op begin.cpu plan work layout placed new (rw (← serial, ← event) succeeds.0) own
+        (rw (← serial, ← event) succeeds.1) drained)
 
 -- the reply to a recorded Commit is that of the step
 pub commit_step : (l : LayoutParts) (base : Memory) (before op : ℕ) (h : List Record) (r : Record)
     → IsLegal l base before (h ++ r ∷ []) → r.event ≡ Commit op
     → r.reply ≡ (step l (value_of l base h) (before + length h + 1) r.cpu (Commit op)).reply
 unfolding reply_of
-commit_step l base before op h r legal event =
-    (last_follows l base before h r legal).reply ∙ ap (λ (e : Event). reply_of l base before h r.cpu e) event
+commit_step l base before op h r legal event = rw ((last_follows l base before h r legal).reply, event)
 
 -- an operation that nothing disturbed commits
 pub undisturbed_done : (l : LayoutParts) (base : Memory) (before op : ℕ) (h : List Record) (r : Record)

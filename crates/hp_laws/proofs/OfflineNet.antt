@@ -51,9 +51,7 @@ good_more l base before g r follows h = record {
   legal = legal_push l base before g r h.legal follows;
   good = subst (λ (n : List Record). AllSucceed l base n) (sym (net-push g r))
       (elim (net_cases before (before + length g) (net_of g) r (numbered_net l base before g h.legal)) [
-        | inl cut ↦
-            subst (λ (n : List Record). AllSucceed l base n) (sym cut.2)
-            (succeed_take l base cut.0 (net_of g) h.good)
+        | inl cut ↦ rw cut.2 (succeed_take l base cut.0 (net_of g) h.good)
         | inr adds ↦ subst (λ (n : List Record). AllSucceed l base n) (sym adds)
             (succeed_both l base (net_of g) (r ∷ []) h.good (added_good l base before g r follows adds, tt))
       ]);

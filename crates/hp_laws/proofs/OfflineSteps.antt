@@ -1,5 +1,5 @@
 -- What an operation's own drains and migrations keep, and which processors' lists they leave empty.
-use Rattle.std.proofs.Common.{◌≡◌, ℕ, zero, suc, ◌+◌, ◌*◌, List, [], ◌∷◌, get_or, set, true, false, Option, Some, None, map, refl, sym, subst, ◌∙◌, inl, inr, ◌==◌, eqb-true}
+use Rattle.std.proofs.Common.{◌≡◌, ℕ, zero, suc, ◌+◌, ◌*◌, List, [], ◌∷◌, get_or, set, true, false, Option, Some, None, map, refl, subst, ◌∙◌, inl, inr, ◌==◌, eqb-true}
 use Rattle.std.specs.List.{list_any}
 use Rattle.std.specs.Option.{option_map_or}
 use Rattle.std.proofs.lemmas.Bool.{and_parts, not-false, or_cases}
@@ -153,8 +153,7 @@ own_step : (l : LayoutParts) (op : ℕ) (s : Memory) (serial cpu : ℕ) (event :
     → OwnStep l op s event (step l s serial cpu event).memory
 own_step l op s serial cpu event own good =
     let performed = step_performed l s serial cpu event good in
-    subst (λ (t : Memory). OwnStep l op s event t) (sym performed.memory)
-    (own_perform l op s serial cpu event own performed)
+    rw performed.memory (own_perform l op s serial cpu event own performed)
 
 -- ---- one of its own steps after another
 

@@ -1,8 +1,7 @@
 -- A block goes online.
-use Rattle.std.proofs.Common.{◌≡◌, ◌≢◌, ℕ, zero, suc, ◌+◌, ◌-◌, ◌*◌, ◌/◌, ◌^◌, ◌<◌, ◌≤◌, List, [], ◌∷◌, ◌++◌, length, get_or, set, Bool, true, false, cond, Option, Some, None, refl, sym, ◌∙◌, ap, subst, arith, inl, inr, add-zero, ◌&&◌}
+use Rattle.std.proofs.Common.{◌≡◌, ◌≢◌, ℕ, zero, suc, ◌+◌, ◌-◌, ◌*◌, ◌/◌, ◌^◌, ◌<◌, ◌≤◌, List, [], ◌∷◌, ◌++◌, length, get_or, set, true, false, cond, Option, Some, None, refl, sym, subst, arith, inl, inr, add-zero, ◌&&◌}
 use Rattle.std.specs.Prelude.{fold, nat_le, nat_lt}
 use Rattle.std.specs.List.{range_with_len}
-use Rattle.std.specs.Option.{option_map}
 use Rattle.std.proofs.lemmas.Bool.{cases_eq, cases_lt}
 use Rattle.std.proofs.lemmas.Bool.Decides.{nat_tests}
 use Rattle.std.proofs.lemmas.List.{get_or-set_other, get_or-set_same}
@@ -17,7 +16,6 @@ use Rattle.hp_units.specs.declared.rows.State.TheVariants.{Online as OnlineState
 use Rattle.hp_units.specs.LayoutParts.{LayoutParts, IsLayout}
 use Rattle.hp_units.specs.Arithmetic.{block_of, block_of_pageblock}
 use Rattle.hp_units.specs.Memory.{FreeAreas, Memory, free_list, with_free_list, row_of, offline_row, usable_class, isolated_class}
-use Rattle.hp_units.specs.FreeAreas.{class_of_kind}
 use Rattle.hp_units.specs.Isolation.{add_pageblock, add_block}
 use Rattle.hp_units.specs.Rows.{with_block_row, online_block}
 use Rattle.hp_units.specs.Placement.{is_unplugged, free_places, offline_places, IsInOrder, IsWellPlaced, class_at, kind_at, covered}
@@ -54,8 +52,7 @@ pub inside : (frame size block : ℕ) → 0 < size → frame / size ≡ block
 inside frame size block some e =
     let high : frame < frame / size * size + size = lt-div-mul-add some in
     let low : frame / size * size ≤ frame = omega (arith, div-add-mod' frame size) in
-    subst (λ (b : ℕ). within frame (b * size) (b * size + size) ≡ 1) e
-    (within-yes frame (frame / size * size) (frame / size * size + size) low high)
+    rw (← e) (within-yes frame (frame / size * size) (frame / size * size + size) low high)
 
 pub quotient : (n size q : ℕ) → q * size ≤ n → n < q * size + size → n / size ≡ q
 quotient n size q low high =
@@ -181,28 +178,22 @@ online_block-placed l zone s block layout p off low =
     λ pageblock from to.
     let here : block_of_pageblock l pageblock ≡ block = quotient pageblock l.pageblocks block from to in
     let now : get_or rows (block_of_pageblock l pageblock) offline_row ≡ row =
-    ap (λ (b : ℕ). get_or rows b offline_row) here
-    ∙ get_or-set_same s.blocks.rows block row offline_row short in
-    ap (λ (r : Row). option_map (λ z. class_of_kind z (kind_at s.free.areas.kinds pageblock)) r.zone) now
-    ∙ ap (λ (c : Class). Some c) (online_class s.free.areas.kinds zone (kind_at s.free.areas.kinds pageblock)
-    (plain.isolated pageblock here) (plain.mobility pageblock here)) in
+    rw here (get_or-set_same s.blocks.rows block row offline_row short) in
+    rw now (rw (online_class s.free.areas.kinds zone (kind_at s.free.areas.kinds pageblock)
+    (plain.isolated pageblock here) (plain.mobility pageblock here))) in
     let offline : (frame : ℕ)
     → offline_places l (with_block_row s block row) frame + within frame
     (block * (l.pageblocks * 2 ^ l.order))
     (block * (l.pageblocks * 2 ^ l.order) + l.pageblocks * 2 ^ l.order) ≡ offline_places l s frame =
     λ frame. elim (cases_eq (block_of l frame) block) [
       | inl same ↦
-          let old : offline_places l s frame ≡ 1 =
-          ap (λ (b : ℕ). cond (is_unplugged (get_or s.blocks.rows b offline_row)) 1 0) same
-          ∙ ap (λ (t : Bool). cond t 1 0) off in
+          let old : offline_places l s frame ≡ 1 = rw (same, off) in
           let new : offline_places l (with_block_row s block row) frame ≡ 0 =
-          ap (λ (b : ℕ). cond (is_unplugged (get_or rows b offline_row)) 1 0) same ∙ ap (λ (r : Row). cond
-          (is_unplugged r) 1 0) (get_or-set_same s.blocks.rows block row offline_row short) in
+          rw (same, get_or-set_same s.blocks.rows block row offline_row short) in
           omega (arith, inside frame (l.pageblocks * 2 ^ l.order) block size same)
       | inr ne ↦
           let new : offline_places l (with_block_row s block row) frame ≡ offline_places l s frame =
-          ap (λ (r : Row). cond (is_unplugged r) 1 0)
-          (get_or-set_other s.blocks.rows block (block_of l frame) row offline_row ne) in
+          rw (get_or-set_other s.blocks.rows block (block_of l frame) row offline_row ne) in
           omega (arith, outside frame (l.pageblocks * 2 ^ l.order) block ne)
     ] in
     let added =

@@ -27,7 +27,7 @@ use Rattle.hp_units.specs.Migrations.{migration_source, migration_target}
 use Rattle.hp_units.specs.Refusals.{event_refusals, refusal_of}
 use Rattle.hp_units.specs.Step.{Answered, done, kernel_takes, kernel_gives, give_back, map_step, unmap_step, migrate_step, auto_online, perform, answer, step}
 use Rattle.hp_units.specs.Contents.{contents_after}
-use Rattle.hp_units.specs.History.{is_refused, run}
+use Rattle.hp_units.specs.History.{is_refused}
 
 abbrev pub Contents : Type 0
 Contents = List (List (Option (List ℕ)))
@@ -186,10 +186,8 @@ perform-contents l s serial cpu (Unmap owner page) e =
 perform-contents l s serial cpu (Write owner page index value) e = refl
 perform-contents l s serial cpu (Read owner page index) e = refl
 perform-contents l s serial cpu (Drain drained) e = refl
-perform-contents l s serial cpu (Online block zone) e =
-    ap (λ (p : Pages). p.contents) (online_block-pages l zone s block)
-perform-contents l s serial cpu (Begin plan) e =
-    ap (λ (p : Pages). p.contents) (begin_plan-pages l s serial plan)
+perform-contents l s serial cpu (Online block zone) e = rw (online_block-pages l zone s block)
+perform-contents l s serial cpu (Begin plan) e = rw (begin_plan-pages l s serial plan)
 perform-contents l s serial cpu (DrainFor op drained) e = refl
 perform-contents l s serial cpu (Migrate op) e = migrate_step-contents l s op
 perform-contents l s serial cpu (Commit op) e = ap (λ (p : Pages). p.contents) (commit_blocks-pages l s op)

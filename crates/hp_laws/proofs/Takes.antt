@@ -34,8 +34,7 @@ take_first-ordered l class_at a class order wanted (first ∷ frames) e low w h 
     let has : HasOrder a order = has_order l class_at a order h low in
     let left : FreeAreas = with_free_list a class order frames in
     let on : is_on first (free_list a class order) ≡ true =
-    subst (λ (xs : List ℕ). is_on first xs ≡ true) (sym e)
-    (or_left (first == first) (is_on first frames) (eq-eqb first first refl)) in
+    rw e (or_left (first == first) (is_on first frames) (eq-eqb first first refl)) in
     let block : IsBlockOf l class_at class order first = h.blocks class order first on in
     let part = subst (λ (xs : List ℕ). IsPart order frames xs) (sym e) (tail-part order first frames) in
     let ordered : AreOrdered l class_at left = part-ordered l class_at a class order frames low part h in

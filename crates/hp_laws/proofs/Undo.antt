@@ -105,8 +105,7 @@ only_each : (op : ℕ) (ts : List Tag) → holds_only_own_work op ts ≡ true �
 only_each op [] h i u e = absurd cc
 only_each op (t ∷ ts) h zero u e =
     let same : t ≡ u = cc in
-    subst (λ (x : Tag). is_work_of op x.mark ≡ true) same
-    (and_parts (is_work_of op t.mark) (holds_only_own_work op ts) h).0
+    rw (← same) (and_parts (is_work_of op t.mark) (holds_only_own_work op ts) h).0
 only_each op (t ∷ ts) h (suc i) u e =
     only_each op ts (and_parts (is_work_of op t.mark) (holds_only_own_work op ts) h).1 i u e
 
