@@ -11,7 +11,7 @@ use Rattle.hp_units.specs.declared.rows.Class.{Class}
 use Rattle.hp_units.specs.declared.rows.Mobility.TheVariants.{Movable}
 use Rattle.hp_units.specs.declared.rows.Row.{Row}
 use Rattle.hp_units.specs.declared.rows.State.{State}
-use Rattle.hp_units.specs.declared.rows.State.TheVariants.{Offline as OfflineState, Online as OnlineState, Going as GoingState, Absent as AbsentState}
+use Rattle.hp_units.specs.declared.rows.State.TheVariants.{Offline as OfflineState, Going as GoingState}
 use Rattle.hp_units.specs.declared.rows.Wish.{Wish}
 use Rattle.hp_units.specs.declared.rows.Wish.TheVariants.{Off as OffWish, Normal as NormalWish, Movable as MovableWish}
 use Rattle.hp_units.specs.declared.rows.Zone.{Zone}
@@ -27,7 +27,7 @@ use Rattle.hp_units.specs.Placement.{IsRowOf, IsWellPlaced, is_unplugged, wishes
 use Rattle.hp_lemmas.proofs.Sizes.{with_free_list-size}
 use Rattle.hp_lemmas.proofs.Lists.{free_list-cases, on_tail}
 use Rattle.hp_laws.proofs.Onlines.{online_block-placed, quotient}
-use Rattle.hp_laws.proofs.Isolations.{pageblock_elsewhere, some_pageblocks}
+use Rattle.hp_laws.proofs.Isolations.{pageblock_elsewhere}
 use Rattle.hp_laws.proofs.Claims.{fold_blocks, later_rows}
 use Rattle.hp_laws.specs.Commits.{IsAllFree, IsGrantable}
 use Rattle.hp_laws.proofs.Offlined.{remove_block-range, offlined-placed}
@@ -75,24 +75,19 @@ pub claim_going : (state : State) (zone : Option Zone) (claim : Option Claim) �
     → IsRowOf state zone claim → is_going_state state ≡ true
 claim_going GoingState zone claim e h = refl
 claim_going OfflineState zone claim e h = absurd (cc (e, h.1))
-claim_going OnlineState zone None e h = cc
-claim_going OnlineState zone (Some claim) e h = absurd (cc h.1)
-claim_going AbsentState zone None e h = cc
-claim_going AbsentState zone (Some claim) e h = absurd (cc h.1)
+claim_going _ zone None e h = cc
+claim_going _ zone (Some claim) e h = absurd (cc h.1)
 
 pub claim_offline : (state : State) (zone : Option Zone) (claim : Option Claim) (c : Claim) → claim ≡ Some c
     → wishes_off claim ≡ false → IsRowOf state zone claim → is_offline_state state ≡ true
 claim_offline OfflineState zone claim c is e h = refl
 claim_offline GoingState zone claim c is e h = absurd (cc (e, h.1))
-claim_offline OnlineState zone claim c is e h = absurd (cc (is, h.1))
-claim_offline AbsentState zone claim c is e h = absurd (cc (is, h.1))
+claim_offline _ zone claim c is e h = absurd (cc (is, h.1))
 
 pub going_plugged : (state : State) → is_going_state state ≡ true
     → (is_offline_state state || is_absent_state state) ≡ false
 going_plugged GoingState e = refl
-going_plugged OfflineState e = cc
-going_plugged OnlineState e = cc
-going_plugged AbsentState e = cc
+going_plugged _ e = cc
 
 online-next : (l : LayoutParts) (s t : Memory) (block : ℕ) (zone : Zone) → IsLayout l → block < l.blocks
     → is_unplugged (row_of t.blocks block) ≡ true → CommitsFrom l s block t
@@ -112,13 +107,11 @@ offline-next : (l : LayoutParts) (s t : Memory) (block : ℕ) → IsLayout l →
     → CommitsFrom l s block t
     → CommitsFrom l s (block + 1) (offline_block l t block)
 offline-next l s t block layout low going all h =
-    let row : Row = row_of t.blocks block in
-    let some : 0 < l.pageblocks = some_pageblocks l layout in
     let range = remove_block-range l t block (zone_of_block t.blocks block) h.placed low all in
     record {
       placed =
           offlined-placed l t block (zone_of_block t.blocks block) layout h.placed low
-          (going_plugged row.state going) all;
+          (going_plugged (row_of t.blocks block).state going) all;
       later = later_rows t.blocks.rows s.blocks.rows block offline_row h.later;
       stays = λ class pageblock above on. range.stays class l.order (pageblock * 2 ^ l.order)
           (rw (shl-shr pageblock l.order)

@@ -165,7 +165,6 @@ two_lists a class order c o frame has has_o ne =
 pub in_number : (frame order first : ℕ) → first % 2 ^ order ≡ 0 → IsFrameOf frame order first
     → frame / 2 ^ order ≡ first / 2 ^ order
 in_number frame order first aligned h =
-    let is : first ≡ first / 2 ^ order * 2 ^ order = multiple first order aligned in
     quotient frame (2 ^ order) (first / 2 ^ order) (omega (arith, h.low)) (omega (arith, h.high))
 
 -- and the frames of one number are in the block
@@ -173,8 +172,7 @@ pub number_in : (frame order first : ℕ) → first % 2 ^ order ≡ 0 → frame 
     → IsFrameOf frame order first
 number_in frame order first aligned same =
     let is : first ≡ first / 2 ^ order * 2 ^ order = multiple first order aligned in
-    let some : 0 < 2 ^ order = pow_pos order in
-    let high : frame < frame / 2 ^ order * 2 ^ order + 2 ^ order = lt-div-mul-add some in
+    let high : frame < frame / 2 ^ order * 2 ^ order + 2 ^ order = lt-div-mul-add (pow_pos order) in
     let low : frame / 2 ^ order * 2 ^ order ≤ frame = omega (arith, div-add-mod' frame (2 ^ order)) in
     let both : frame / 2 ^ order * 2 ^ order ≡ first / 2 ^ order * 2 ^ order = rw same in
     record { low = omega arith; high = omega arith }
@@ -264,9 +262,8 @@ orders_from l class_at a pageblock zero h free low class o first on here = omega
 orders_from l class_at a pageblock (suc order) h free low class o first on here = elim (cases_eq o order) [
   | inl same ↦
       let there : is_on first (free_list a class order) ≡ true = rw (← same) on in
-      let aligned = (h.blocks class order first there).aligned in
       let beside : pageblock_of l (buddy first order) ≡ pageblock =
-      buddy_above first order l.order aligned low ∙ here in
+      buddy_above first order l.order (h.blocks class order first there).aligned low ∙ here in
       let other = free_block a (buddy first order) (free (buddy first order) beside) in
       let its = h.blocks other.class other.order other.first other.on in
       let small = (on_free l class_at a other.class other.order other.first h other.on).low in

@@ -12,7 +12,7 @@ use Rattle.hp_units.specs.declared.rows.Claim.{Claim}
 use Rattle.hp_units.specs.declared.rows.Pool.{Pool}
 use Rattle.hp_units.specs.declared.rows.Row.{Row}
 use Rattle.hp_units.specs.declared.rows.State.{State}
-use Rattle.hp_units.specs.declared.rows.State.TheVariants.{Offline as OfflineState, Online as OnlineState, Going as GoingState, Absent as AbsentState}
+use Rattle.hp_units.specs.declared.rows.State.TheVariants.{Offline as OfflineState, Absent as AbsentState}
 use Rattle.hp_units.specs.declared.rows.Zone.{Zone}
 use Rattle.hp_units.specs.declared.rows.Zone.TheVariants.{Normal as NormalZone}
 use Rattle.hp_units.specs.LayoutParts.{LayoutParts, IsLayout}
@@ -83,10 +83,9 @@ page_plugged l s owner page frame p e =
 -- a block that is neither offline nor absent is online or going
 plugged_state : (state : State) → (is_offline_state state || is_absent_state state) ≡ false
     → (is_online_state state || is_going_state state) ≡ true
-plugged_state OnlineState e = refl
-plugged_state GoingState e = refl
 plugged_state OfflineState e = cc
 plugged_state AbsentState e = cc
+plugged_state _ e = refl
 
 -- 1 for true and 0 for false
 abbrev one_if : Bool → ℕ
@@ -114,8 +113,6 @@ plugged l s frame p e =
 -- a block with a zone is online or going
 zoned_state : (state : State) (zone : Option Zone) (claim : Option Claim) (z : Zone) → zone ≡ Some z
     → IsRowOf state zone claim → (is_online_state state || is_going_state state) ≡ true
-zoned_state OnlineState zone claim z e h = refl
-zoned_state GoingState zone claim z e h = refl
 zoned_state OfflineState zone claim z e h = absurd (no_zone (sym h.0 ∙ e))
   where
     no_zone : None ≡ Some z → ⊥
@@ -124,6 +121,7 @@ zoned_state AbsentState zone claim z e h = absurd (no_zone (sym h.0 ∙ e))
   where
     no_zone : None ≡ Some z → ⊥
     no_zone e = cc
+zoned_state _ zone claim z e h = refl
 
 -- a frame whose block has a zone is plugged in
 pub zone_plugged : (l : LayoutParts) (s : Memory) (frame : ℕ) (zone : Zone) → IsWellPlaced l s
@@ -168,10 +166,6 @@ sum_one (suc n) x low = elim (cases_lt x n) [
   | inr above ↦ (let same : x ≡ n = omega arith in omega (arith, times_one x n same))
 ]
 
--- the first of a list, and the rest
-times_split : (k x : ℕ) (xs : List ℕ) → times k (x ∷ xs) ≡ times k (x ∷ []) + times k xs
-times_split k x xs = omega (arith, times-cons k x xs, times-cons k x [])
-
 -- a list of numbers below one has a place for each
 length_sum : (n : ℕ) (xs : List ℕ) → ((x : ℕ) → is_on x xs ≡ true → x < n)
     → length xs ≤ sum_below n (λ k. times k xs)
@@ -181,7 +175,8 @@ length_sum n (x ∷ xs) low =
       arith,
       length_sum n xs (λ y on. low y (on_tail y x xs on)),
       sum_one n x (low x (on_head x xs)),
-      sum_both n (λ k. times k (x ∷ xs)) (λ k. times k (x ∷ [])) (λ k. times k xs) (λ k. times_split k x xs),
+      sum_both n (λ k. times k (x ∷ xs)) (λ k. times k (x ∷ [])) (λ k. times k xs)
+          (λ k. omega (arith, times-cons k x xs, times-cons k x [])),
     )
 
 -- numbers below one, each at most once, are no more than that one

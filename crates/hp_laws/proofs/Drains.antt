@@ -187,16 +187,10 @@ cached-in_order l s cpu pool frames h low agrees =
 
 pub pool_zone : (zone : Option Zone) (mobility : Mobility) (pool : Pool)
     → option_map (λ z. pool_of z mobility) zone ≡ Some pool → zone ≡ Some (zone_of_pool pool)
-pool_zone None mobility pool e = cc
 pool_zone (Some NormalZone) Unmovable NuPool e = refl
-pool_zone (Some NormalZone) Unmovable NmPool e = cc
-pool_zone (Some NormalZone) Unmovable MmPool e = cc
-pool_zone (Some NormalZone) Movable NuPool e = cc
 pool_zone (Some NormalZone) Movable NmPool e = refl
-pool_zone (Some NormalZone) Movable MmPool e = cc
-pool_zone (Some MovableZone) mobility NuPool e = cc
-pool_zone (Some MovableZone) mobility NmPool e = cc
 pool_zone (Some MovableZone) mobility MmPool e = refl
+pool_zone _ _ _ e = cc
 
 -- ---- Drain
 
@@ -232,6 +226,5 @@ pub drain_lists-placed : (l : LayoutParts) (s : Memory) (cpu : ℕ) → cpu < l.
 unfolding drain_lists
 drain_lists-placed l s cpu low p =
     let a = drain_pool-placed l s cpu NuPool low p in
-    let b = drain_pool-placed l (with_free s (drain_pool l cpu s.free NuPool)) cpu NmPool low a in
     drain_pool-placed l (with_free s (drain_pool l cpu (drain_pool l cpu s.free NuPool) NmPool)) cpu MmPool
-    low b
+    low (drain_pool-placed l (with_free s (drain_pool l cpu s.free NuPool)) cpu NmPool low a)

@@ -97,9 +97,8 @@ rooted_push before h r is ok = record {
     come : (i : ℕ) (x : Record) → ((slice_get (net_of h) i ≡ Some x) ⊎ ((i ≡ length (net_of h)) × (r ≡ x)))
         → take i (net_of h ++ r ∷ []) ≡ net_of (take (x.serial - before - 1) (h ++ r ∷ []))
     come i x (inl at) =
-        let here = slice_get_within (net_of h) i x at in
         let within = slice_get_within h (x.serial - before - 1) x (ok.stands i x at) in
-        let le : i ≤ length (net_of h) = omega (arith, here) in
+        let le : i ≤ length (net_of h) = omega (arith, slice_get_within (net_of h) i x at) in
         let le' : x.serial - before - 1 ≤ length h = omega (arith, within) in
         take-append-le i (net_of h) (r ∷ []) le
         ∙ (ok.comes i x at ∙ ap net_of (sym (take-append-le (x.serial - before - 1) h (r ∷ []) le')))

@@ -23,7 +23,7 @@ use Rattle.hp_units.specs.Refusals.{event_refusals, refusal_of}
 use Rattle.hp_units.specs.Rows.{is_going, with_areas, zone_of}
 use Rattle.hp_units.specs.Step.{Answered, answer, done, give_back, kernel_gives, kernel_takes, map_step, migrate_step, perform, step, unmap_step, with_free, with_pages}
 use Rattle.hp_units.specs.Placement.{IsInOrder, IsWellPlaced, is_unplugged, row_at}
-use Rattle.hp_laws.proofs.Names.{Event, Reply, Refusal, NoCpu, GivesFrame, Moved, KernelAlloc, KernelFree, Map, Unmap, Write, Read, Drain, Online, Begin, DrainFor, Migrate, Commit, Cancel, UndoAfter, Probe, Remove, SetAuto}
+use Rattle.hp_laws.proofs.Names.{Event, Reply, Refusal, NoCpu, GivesFrame, Moved, KernelAlloc, KernelFree, Map, Unmap, Migrate}
 use Rattle.hp_laws.proofs.Options.{some_weaker}
 use Rattle.hp_laws.proofs.OwnedContents.{all_none, none_rest}
 use Rattle.hp_laws.proofs.States.{block_of-pageblock}
@@ -206,19 +206,8 @@ perform-plugged l s serial cpu (Map owner page) layout p low e =
     map-plugged l s cpu owner page low layout p (below l.owners owner _ none.0)
     (below l.pages page _ none.1.0) (not_there (frame_at s.pages owner page) (then_none _ _ none.1.1.0))
 perform-plugged l s serial cpu (Unmap owner page) layout p low e = unmap-plugged l s cpu owner page
-perform-plugged l s serial cpu (Write owner page index value) layout p low e = tt
-perform-plugged l s serial cpu (Read owner page index) layout p low e = tt
-perform-plugged l s serial cpu (Drain drained) layout p low e = tt
-perform-plugged l s serial cpu (Online block zone) layout p low e = tt
-perform-plugged l s serial cpu (Begin plan) layout p low e = tt
-perform-plugged l s serial cpu (DrainFor op drained) layout p low e = tt
 perform-plugged l s serial cpu (Migrate op) layout p low e = migrate-plugged l s op layout p
-perform-plugged l s serial cpu (Commit op) layout p low e = tt
-perform-plugged l s serial cpu (Cancel op) layout p low e = tt
-perform-plugged l s serial cpu (UndoAfter after) layout p low e = tt
-perform-plugged l s serial cpu (Probe address) layout p low e = tt
-perform-plugged l s serial cpu (Remove block) layout p low e = tt
-perform-plugged l s serial cpu (SetAuto auto) layout p low e = tt
+perform-plugged l s serial cpu _ layout p low e = tt
 
 answer-plugged : (l : LayoutParts) (s : Memory) (serial cpu : ℕ) (event : Event) (o : Option Refusal)
     → IsLayout l → IsWellPlaced l s → refusal_of l s cpu event ≡ o
@@ -283,19 +272,8 @@ perform-staying l s serial cpu (KernelAlloc order) layout p = alloc-staying l s 
 perform-staying l s serial cpu (KernelFree frame) layout p = free-staying l s cpu frame
 perform-staying l s serial cpu (Map owner page) layout p = map-staying l s cpu owner page
 perform-staying l s serial cpu (Unmap owner page) layout p = unmap-staying l s cpu owner page
-perform-staying l s serial cpu (Write owner page index value) layout p = tt
-perform-staying l s serial cpu (Read owner page index) layout p = tt
-perform-staying l s serial cpu (Drain drained) layout p = tt
-perform-staying l s serial cpu (Online block zone) layout p = tt
-perform-staying l s serial cpu (Begin plan) layout p = tt
-perform-staying l s serial cpu (DrainFor op drained) layout p = tt
 perform-staying l s serial cpu (Migrate op) layout p = migrate-staying l s op layout p
-perform-staying l s serial cpu (Commit op) layout p = tt
-perform-staying l s serial cpu (Cancel op) layout p = tt
-perform-staying l s serial cpu (UndoAfter after) layout p = tt
-perform-staying l s serial cpu (Probe address) layout p = tt
-perform-staying l s serial cpu (Remove block) layout p = tt
-perform-staying l s serial cpu (SetAuto auto) layout p = tt
+perform-staying l s serial cpu _ layout p = tt
 
 answer-staying : (l : LayoutParts) (s : Memory) (serial cpu : ℕ) (event : Event) (o : Option Refusal)
     → IsLayout l → IsWellPlaced l s → IfSome (to_of (answer l s serial cpu event o).reply) (IsStaying l s)

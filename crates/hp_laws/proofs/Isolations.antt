@@ -42,10 +42,9 @@ kept_away : (l : LayoutParts) (at : ℕ → Option Class) (a : FreeAreas) (from 
     → at pageblock ≡ Some from → AreOrdered l at a
     → IsKeptBlock l a from pageblock (l.order + 1) class order first → pageblock_of l first ≢ pageblock
 kept_away l at a from pageblock class order first is h kept here =
-    let free = on_free l at a class order first h kept.was in
     let same : class ≡ from =
     same_Some class from (sym (h.blocks class order first kept.was).class_agrees ∙ ap at here ∙ is) in
-    kept.away (omega (arith, free.low)) same here
+    kept.away (omega (arith, (on_free l at a class order first h kept.was).low)) same here
 
 moves-block : (l : LayoutParts) (at now : ℕ → Option Class) (a : FreeAreas) (from to : Class) (pageblock : ℕ)
     (class : Class) (order first : ℕ)
@@ -188,12 +187,11 @@ move_all-range l rows zone isolated a from zero short zones h = record {
   outside = λ pageblock away. refl;
 }
 move_all-range l rows zone isolated a from (suc count) short zones h =
-    let b : FreeAreas = move_pageblock l zone isolated a from in
     let first =
     move_pageblock-range l rows zone isolated a from (omega arith)
     (zones from (record { low = omega arith; high = omega arith })) h in
     let rest =
-    move_all-range l rows zone isolated b (from + 1) count (omega
+    move_all-range l rows zone isolated (move_pageblock l zone isolated a from) (from + 1) count (omega
     (arith, first.size)) (λ pageblock among. zones pageblock
     (record { low = omega (arith, among.low); high = omega (arith, among.high) })) first.ordered in
     record {

@@ -36,9 +36,7 @@ legal_push l base before h r legal next n x e =
           let le : n ≤ length h = omega arith in
           rw (take-append-le n h (r ∷ []) le) (legal n x at))
       | inr at ↦ (let le : n ≤ length h = omega arith in
-          let whole : take n (h ++ r ∷ []) ≡ h =
-          take-append-le n h (r ∷ []) le ∙ take_all n h (omega arith) in
-          rw (whole, ← at.1) next)
+          rw (take-append-le n h (r ∷ []) le ∙ take_all n h (omega arith), ← at.1) next)
     ]
 
 -- a beginning of a legal history is legal

@@ -26,10 +26,9 @@ record IsTaken (k : ℕ) (n : List Record) : Type 0 where
   pub few : length (take k n) ≤ k
 
 taken : (k : ℕ) (n : List Record) → IsTaken k n
-taken zero n = record { shorter = omega arith; few = omega arith }
-taken (suc k) [] = record { shorter = omega arith; few = omega arith }
 taken (suc k) (r ∷ n) =
     (let rest = taken k n in record { shorter = omega (arith, rest.shorter); few = omega (arith, rest.few) })
+taken _ _ = record { shorter = omega arith; few = omega arith }
 
 until_shorter : (serial : ℕ) (n : List Record) → length (steps_until serial n) ≤ length n
 unfolding steps_until

@@ -21,7 +21,7 @@ use Rattle.hp_units.specs.Pages.{holds, page_at, page_from}
 use Rattle.hp_units.specs.Refusals.{frame_in_use}
 use Rattle.hp_units.specs.Rows.{is_claimed_by, is_going, is_live}
 use Rattle.hp_units.specs.Step.{step}
-use Rattle.hp_units.specs.Placement.{IsWellPlaced, cached_places, covers, kernel_places, mapped_places, offline_places}
+use Rattle.hp_units.specs.Placement.{IsWellPlaced, cached_places, covers, kernel_places, mapped_places}
 use Rattle.hp_laws.specs.Consequences.{IsFrameOf, IsGoingFor, IsFrameInUse, IsInFreeBlock}
 use Rattle.hp_laws.specs.Offline.{AreHeldBy, IsUndisturbed, drains_for}
 use Rattle.hp_laws.proofs.Names.{Begin, Commit, Done, Record}
@@ -99,11 +99,6 @@ no_entry_from frame n (entry ∷ row) e =
     by_test true is e rest sum = cc
     by_test false is e rest sum = (let none = rest e in omega (arith, sum, ap one_if is))
 
--- and so of the first entry that has it
-no_entry : (frame : ℕ) (row : List (Option ℕ)) → position (holds frame) row ≡ None
-    → count_by (holds frame) row ≡ 0
-no_entry frame row e = no_entry_from frame 0 row (sym (position_from-zero (holds frame) row) ∙ e)
-
 -- of the whole table
 no_page : (owner frame : ℕ) (table : List (List (Option ℕ))) → page_from owner table frame ≡ None
     → sum_by (λ row. count_by (holds frame) row) table ≡ 0
@@ -118,7 +113,8 @@ no_page owner frame (row ∷ rows) e =
         → sum_by (λ r. count_by (holds frame) r) (row ∷ rows)
         ≡ count_by (holds frame) row + sum_by (λ r. count_by (holds frame) r) rows
         → sum_by (λ r. count_by (holds frame) r) (row ∷ rows) ≡ 0
-    by_position None is e rest sum = (let none = no_entry frame row is in let later = rest e in omega arith)
+    by_position None is e rest sum = (let none = no_entry_from frame 0 row
+        (sym (position_from-zero (holds frame) row) ∙ is) in let later = rest e in omega arith)
     by_position (Some page) is e rest sum = cc
 
 -- a frame without a page is in no place of one
@@ -183,15 +179,13 @@ pub frame_free : (l : LayoutParts) (s : Memory) (op frame : ℕ) → IsWellPlace
     → ((first : ℕ) → IsGoingFor l s op first → kernel_order s first ≡ None)
     → page_at s.pages frame ≡ None → IsGoingFor l s op frame → IsInFreeBlock s.free.areas frame
 frame_free l s op frame p drained movable unmapped h =
-    let plugged : offline_places l s frame ≡ 0 =
-    ap one_if (going_plugged (row_of s.blocks (block_of l frame)).state h.going) in
     free_block s.free.areas frame (omega (
       arith,
       p.once frame,
       none_cached l s frame p drained,
       none_mapped s frame unmapped,
       none_kernel l s op frame p movable h,
-      plugged,
+      ap one_if (going_plugged (row_of s.blocks (block_of l frame)).state h.going),
     ))
 
 -- ---- the state that the operation's own steps lead to

@@ -1,5 +1,5 @@
 -- No step of the net of a legal history was refused, and each was performed.
-use Rattle.std.proofs.Common.{◌≡◌, ℕ, zero, suc, ◌+◌, List, [], ◌∷◌, ◌++◌, length, take, false, Option, Some, None, refl, ap, sym, subst, inl, inr}
+use Rattle.std.proofs.Common.{◌≡◌, ℕ, suc, ◌+◌, List, [], ◌∷◌, ◌++◌, length, take, false, Option, Some, None, refl, ap, sym, subst, inl, inr}
 use Rattle.std.specs.Prelude.{nat_le}
 use Rattle.std.specs.Bool.{then_some}
 use Rattle.hp_units.specs.LayoutParts.{LayoutParts}
@@ -34,9 +34,8 @@ succeed_behind l s (r ∷ a) b h = succeed_behind l (step l s r.serial r.cpu r.e
 -- a beginning
 succeed_take : (l : LayoutParts) (s : Memory) (k : ℕ) (n : List Record) → AllSucceed l s n
     → AllSucceed l s (take k n)
-succeed_take l s zero n h = tt
-succeed_take l s (suc k) [] h = tt
 succeed_take l s (suc k) (r ∷ n) h = (h.0, succeed_take l (step l s r.serial r.cpu r.event).memory k n h.1)
+succeed_take l s _ _ h = tt
 
 -- a legal history of whose net no step is refused
 record IsGood (l : LayoutParts) (base : Memory) (before : ℕ) (g : List Record) : Type 0 where

@@ -15,7 +15,7 @@ use Rattle.hp_units.specs.Refusals.{event_refusals}
 use Rattle.hp_units.specs.Rows.{is_live}
 use Rattle.hp_units.specs.Step.{Answered, done, migrate_step, perform, step, with_free}
 use Rattle.hp_laws.specs.Offline.{drains_for}
-use Rattle.hp_laws.proofs.Names.{Event, KernelAlloc, KernelFree, Map, Unmap, Write, Read, Drain, Online, Begin, DrainFor, Migrate, Commit, Cancel, UndoAfter, Probe, Remove, SetAuto, Record}
+use Rattle.hp_laws.proofs.Names.{Event, DrainFor, Migrate, Record}
 use Rattle.hp_laws.proofs.OwnedContents.{AllSucceed, all_none}
 use Rattle.hp_laws.proofs.EventSteps.{then_none}
 use Rattle.hp_laws.proofs.OfflineNet.{IsPerformed, step_performed}
@@ -24,17 +24,15 @@ use Rattle.hp_laws.proofs.OfflineNet.{IsPerformed, step_performed}
 
 -- a list that becomes empty, and one that is so
 emptied : (lists : List (List ℕ)) (i : ℕ) → get_or (set lists i []) i [] ≡ []
-emptied [] i = refl
-emptied (frames ∷ lists) zero = refl
 emptied (frames ∷ lists) (suc i) = emptied lists i
+emptied _ _ = refl
 
 -- and one that is so stays so
 still_empty : (lists : List (List ℕ)) (i k : ℕ) → get_or lists k [] ≡ [] → get_or (set lists i []) k [] ≡ []
-still_empty [] i k e = refl
-still_empty (frames ∷ lists) zero zero e = refl
 still_empty (frames ∷ lists) zero (suc k) e = e
 still_empty (frames ∷ lists) (suc i) zero e = e
 still_empty (frames ∷ lists) (suc i) (suc k) e = still_empty lists i k e
+still_empty _ _ _ e = refl
 
 -- the lists of the processor are empty
 abbrev pub IsDrained : FreeFrames → ℕ → Type 0
@@ -131,21 +129,7 @@ own_perform l op s serial cpu (Migrate other) own h =
           subst (λ (n : ℕ). is_live s.blocks n ≡ true) same (not-false (is_live s.blocks other)
           (then_none _ _ (all_none (event_refusals l s cpu (Migrate other)) h.free).0));
     }
-own_perform l op s serial cpu (KernelAlloc order) own h = absurd cc
-own_perform l op s serial cpu (KernelFree frame) own h = absurd cc
-own_perform l op s serial cpu (Map owner page) own h = absurd cc
-own_perform l op s serial cpu (Unmap owner page) own h = absurd cc
-own_perform l op s serial cpu (Write owner page index value) own h = absurd cc
-own_perform l op s serial cpu (Read owner page index) own h = absurd cc
-own_perform l op s serial cpu (Drain drained) own h = absurd cc
-own_perform l op s serial cpu (Online block zone) own h = absurd cc
-own_perform l op s serial cpu (Begin plan) own h = absurd cc
-own_perform l op s serial cpu (Commit other) own h = absurd cc
-own_perform l op s serial cpu (Cancel other) own h = absurd cc
-own_perform l op s serial cpu (UndoAfter after) own h = absurd cc
-own_perform l op s serial cpu (Probe address) own h = absurd cc
-own_perform l op s serial cpu (Remove block) own h = absurd cc
-own_perform l op s serial cpu (SetAuto auto) own h = absurd cc
+own_perform l op s serial cpu _ own h = absurd cc
 
 -- each of its own steps
 own_step : (l : LayoutParts) (op : ℕ) (s : Memory) (serial cpu : ℕ) (event : Event)

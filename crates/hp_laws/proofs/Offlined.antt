@@ -36,8 +36,7 @@ pub on_without-other : (first block : ℕ) (frames : List ℕ) → first ≢ blo
 on_without-other first block [] ne on = cc
 on_without-other first block (x ∷ xs) ne on = elim (or_cases (x == first) (is_on first xs) on) [
   | inl same ↦
-      let is : x ≡ first = eqb-true x first same in
-      kept_first (x == block) (ne_eqb x block (λ e. ne (sym is ∙ e))) same
+      kept_first (x == block) (ne_eqb x block (λ e. ne (sym (eqb-true x first same) ∙ e))) same
   | inr there ↦ kept_later (x == block) (on_without-other first block xs ne there)
 ]
   where

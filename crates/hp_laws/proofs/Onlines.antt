@@ -6,7 +6,6 @@ use Rattle.std.proofs.lemmas.Bool.{cases_eq, cases_lt}
 use Rattle.std.proofs.lemmas.Bool.Decides.{nat_tests}
 use Rattle.std.proofs.lemmas.List.{get_or-set_other, get_or-set_same}
 use Rattle.std.proofs.lemmas.Nat.{mul-le, pow_pos, shl-shr, div-mul-add, div-add-mod'}
-use Rattle.std.proofs.Math.Nat.{lt-div-mul-add}
 use Rattle.hp_units.specs.declared.rows.Class.{Class}
 use Rattle.hp_units.specs.declared.rows.Row.{Row}
 use Rattle.hp_units.specs.declared.rows.Kind.{Kind}
@@ -38,35 +37,24 @@ pub within-split : (frame low middle high : ℕ) → low ≤ middle → middle �
     → within frame low high ≡ within frame low middle + within frame middle high
 within-split frame low middle high h k = grind (arith, nat_tests)
 
-within-yes : (frame low high : ℕ) → low ≤ frame → frame < high → within frame low high ≡ 1
-within-yes frame low high h k = grind (arith, nat_tests)
-
-within-below : (frame low high : ℕ) → frame < low → within frame low high ≡ 0
-within-below frame low high h = grind (arith, nat_tests)
-
-within-above : (frame low high : ℕ) → high ≤ frame → within frame low high ≡ 0
-within-above frame low high h = grind (arith, nat_tests)
-
 pub inside : (frame size block : ℕ) → 0 < size → frame / size ≡ block
     → within frame (block * size) (block * size + size) ≡ 1
 inside frame size block some e =
-    let high : frame < frame / size * size + size = lt-div-mul-add some in
     let low : frame / size * size ≤ frame = omega (arith, div-add-mod' frame size) in
-    rw (← e) (within-yes frame (frame / size * size) (frame / size * size + size) low high)
+    rw (← e) (grind (arith, nat_tests))
 
 pub quotient : (n size q : ℕ) → q * size ≤ n → n < q * size + size → n / size ≡ q
 quotient n size q low high =
     let is : n ≡ q * size + (n - q * size) = omega arith in
-    let e : (q * size + (n - q * size)) / size ≡ q = div-mul-add q size (n - q * size) (omega arith) in
-    subst (λ (m : ℕ). m / size ≡ q) (sym is) e
+    subst (λ (m : ℕ). m / size ≡ q) (sym is) (div-mul-add q size (n - q * size) (omega arith))
 
 pub outside : (frame size block : ℕ) → frame / size ≢ block
     → within frame (block * size) (block * size + size) ≡ 0
 outside frame size block ne = elim (cases_lt frame (block * size)) [
-  | inl below ↦ within-below frame (block * size) (block * size + size) below
+  | inl below ↦ grind (arith, nat_tests)
   | inr low ↦ elim (cases_lt frame (block * size + size)) [
     | inl high ↦ absurd (ne (quotient frame size block low high))
-    | inr above ↦ within-above frame (block * size) (block * size + size) above
+    | inr above ↦ grind (arith, nat_tests)
   ]
 ]
 
@@ -99,8 +87,6 @@ add_all-ordered l class_at zone a from (suc count) h classes room =
     let frames : List ℕ = free_list a class l.order ++ first ∷ [] in
     let next : (from + 1) * 2 ^ l.order ≡ first + 2 ^ l.order = grind arith in
     let sum : from + 1 + count ≡ from + suc count = omega arith in
-    let far : (from + 1) * 2 ^ l.order ≤ (from + suc count) * 2 ^ l.order =
-    mul-le (from + 1) (2 ^ l.order) (from + suc count) (2 ^ l.order) (omega arith) (omega arith) in
     let split : (frame : ℕ)
     → within frame first ((from + suc count) * 2 ^ l.order) ≡ covered frame l.order first
     + within frame ((from + 1) * 2 ^ l.order) ((from + suc count) * 2 ^ l.order) =

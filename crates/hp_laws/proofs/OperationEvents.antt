@@ -6,11 +6,11 @@ use Rattle.std.proofs.lemmas.Bool.{both_ways, cases_eq}
 use Rattle.std.proofs.lemmas.List.{get_or-set_other, get_or-set_same}
 use Rattle.hp_units.specs.declared.plans.Item.{Item}
 use Rattle.hp_units.specs.declared.rows.Auto.{Auto}
-use Rattle.hp_units.specs.declared.rows.Auto.TheVariants.{Offline as OfflineAuto, Online as OnlineAuto, OnlineKernel as KernelAuto, OnlineMovable as MovableAuto}
+use Rattle.hp_units.specs.declared.rows.Auto.TheVariants.{Offline as OfflineAuto, OnlineMovable as MovableAuto}
 use Rattle.hp_units.specs.declared.rows.Claim.{Claim}
 use Rattle.hp_units.specs.declared.rows.Row.{Row}
 use Rattle.hp_units.specs.declared.rows.State.{State}
-use Rattle.hp_units.specs.declared.rows.State.TheVariants.{Offline as OfflineState, Online as OnlineState, Going as GoingState, Absent as AbsentState}
+use Rattle.hp_units.specs.declared.rows.State.TheVariants.{Online as OnlineState, Absent as AbsentState}
 use Rattle.hp_units.specs.declared.rows.Wish.{Wish}
 use Rattle.hp_units.specs.declared.rows.Wish.TheVariants.{Off as OffWish, Normal as NormalWish, Movable as MovableWish}
 use Rattle.hp_units.specs.declared.rows.Zone.{Zone}
@@ -118,19 +118,15 @@ auto-row : (l : LayoutParts) (op serial : ℕ) (event : Event) (auto : Auto) (s 
     → IsRowStep op serial event (row_of s.blocks block) (row_of (auto_online l auto s at).blocks block)
 auto-row l op serial event OfflineAuto s at block short was =
     row_stays op serial event (row_of s.blocks block) (row_of s.blocks block) refl
-auto-row l op serial event OnlineAuto s at block short was =
-    online_block-row l op serial event NormalZone s at block short was
-auto-row l op serial event KernelAuto s at block short was =
-    online_block-row l op serial event NormalZone s at block short was
 auto-row l op serial event MovableAuto s at block short was =
     online_block-row l op serial event MovableZone s at block short was
+auto-row l op serial event _ s at block short was = online_block-row l op serial event NormalZone s at block
+    short was
 
 absent_claim : (state : State) (zone : Option Zone) (claim : Option Claim) → is_absent_state state ≡ true
     → IsRowOf state zone claim → claim ≡ None
 absent_claim AbsentState _ claim e h = h.1
-absent_claim OfflineState _ claim e h = cc
-absent_claim OnlineState _ claim e h = cc
-absent_claim GoingState _ claim e h = cc
+absent_claim _ _ claim e h = cc
 
 pub probe-row : (l : LayoutParts) (op serial : ℕ) (event : Event) (s : Memory) (at block : ℕ)
     → IsWellPlaced l s

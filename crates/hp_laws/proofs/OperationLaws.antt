@@ -1,5 +1,5 @@
 -- The laws of operations, over whole histories.
-use Rattle.std.proofs.Common.{◌≡◌, ℕ, suc, ◌+◌, ◌-◌, ◌<◌, List, [], ◌∷◌, ◌++◌, length, take, map, Bool, true, false, cond, Option, Some, None, slice_get, refl, ap, sym, subst, ◌∙◌, arith, ◌⊎◌, inl, inr}
+use Rattle.std.proofs.Common.{◌≡◌, ℕ, suc, ◌+◌, ◌-◌, List, [], ◌∷◌, ◌++◌, length, take, map, Bool, true, false, cond, Option, Some, None, slice_get, refl, ap, sym, subst, ◌∙◌, arith, ◌⊎◌, inl, inr}
 use Rattle.std.proofs.lemmas.Bool.{both_ways}
 use Rattle.hp_units.specs.declared.plans.Item.{Item}
 use Rattle.hp_units.specs.LayoutParts.{LayoutParts, IsLayout}
@@ -65,8 +65,7 @@ is_begin l base before h place b plan legal at =
     let m : ℕ = b.serial - before - 1 in
     let stands : slice_get h m ≡ Some b = roots.stands place b at.here in
     let comes : take place (net_of h) ≡ net_of (take m h) = roots.comes place b at.here in
-    let over : before < b.serial = roots.over place b at.here in
-    let next : b.serial - before ≡ suc m = omega (arith, over) in
+    let next : b.serial - before ≡ suc m = omega (arith, roots.over place b at.here) in
     let good : is_refused (step l (value_of l base (take m h)) b.serial b.cpu b.event).reply ≡ false =
     rw (← comes) (net_good l base before h legal place b at.here) in
     record {
@@ -138,9 +137,8 @@ pub commit_ends : (l : LayoutParts) (base : Memory) (before : ℕ) (h : List Rec
     → IsEndOf (value_of l base h) (value_of l base (h ++ r ∷ [])) (commit_blocks l (value_of l base h) op) op
 commit_ends l base before h r op legal is good =
     let follows : Follows l base before h r = last_follows l base before h r legal in
-    let acts : effect_of r.event ≡ Acts = ap effect_of is in
     let same : r.reply ≡ (step l (value_of l base h) r.serial r.cpu r.event).reply =
-    rw (reply_at l base before h r follows, acts) in
+    rw (reply_at l base before h r follows, ap effect_of is) in
     elim (record_cases l base before h r follows good) [
       | inl back ↦
           absurd (both_ways (goes_back r.reply)

@@ -9,7 +9,7 @@ use Rattle.hp_units.specs.declared.plans.Item.{Item}
 use Rattle.hp_units.specs.declared.rows.Claim.{Claim}
 use Rattle.hp_units.specs.declared.rows.Row.{Row}
 use Rattle.hp_units.specs.declared.rows.State.{State}
-use Rattle.hp_units.specs.declared.rows.State.TheVariants.{Offline as OfflineState, Online as OnlineState, Going as GoingState, Absent as AbsentState}
+use Rattle.hp_units.specs.declared.rows.State.TheVariants.{Offline as OfflineState, Online as OnlineState}
 use Rattle.hp_units.specs.declared.rows.Wish.{Wish}
 use Rattle.hp_units.specs.declared.rows.Wish.TheVariants.{Off as OffWish, Normal as NormalWish, Movable as MovableWish}
 use Rattle.hp_units.specs.LayoutParts.{LayoutParts, IsLayout}
@@ -17,7 +17,7 @@ use Rattle.hp_units.specs.Choices.{first_some}
 use Rattle.hp_units.specs.Memory.{Memory, offline_row, row_of}
 use Rattle.hp_units.specs.FreeAreas.{is_on}
 use Rattle.hp_units.specs.Refusals.{event_refusals, first_repeated, plan_refusals, refusal_of}
-use Rattle.hp_units.specs.Rows.{begin_plan, claimed_row, commit_blocks, is_claimed, is_claimed_by, is_going_state, is_live, is_offline, is_offline_state, is_online, is_online_state, release_blocks, wish_of}
+use Rattle.hp_units.specs.Rows.{begin_plan, claimed_row, commit_blocks, is_claimed, is_claimed_by, is_going_state, is_live, is_offline, is_offline_state, is_online_state, release_blocks, wish_of}
 use Rattle.hp_units.specs.Step.{answer, step}
 use Rattle.hp_units.specs.History.{is_refused, run}
 use Rattle.hp_units.specs.Placement.{IsWellPlaced}
@@ -332,19 +332,11 @@ commit-grants l s op old plan p begun =
 
 online_only : (state : State) → is_online_state state ≡ true → OnlineState ≡ state
 online_only OnlineState e = refl
-online_only OfflineState e = cc
-online_only GoingState e = cc
-online_only AbsentState e = cc
+online_only _ e = cc
 
 offline_still : (state : State) → is_offline_state state ≡ true → is_going_state state ≡ false
 offline_still OfflineState e = refl
-offline_still OnlineState e = cc
-offline_still GoingState e = cc
-offline_still AbsentState e = cc
-
--- a row without a claim is the same row after a claim was put on it and taken off
-back_online : (row : Row) → is_online row ≡ true → row.claim ≡ None → row_with OnlineState row.zone None ≡ row
-back_online row on none = rw (online_only row.state on, ← none)
+offline_still _ e = cc
 
 back_offline : (row : Row) (c : Option Claim) → is_offline row ≡ true → row.claim ≡ None
     → released_row (row_with row.state row.zone c) ≡ row
@@ -352,7 +344,7 @@ back_offline row c off none = rw (offline_still row.state off, ← none)
 
 given_back : (op : ℕ) (old : Row) (wish : Wish) → MayClaim old wish → old.claim ≡ None
     → released_row (claimed_row old op wish) ≡ old
-given_back op old OffWish may none = back_online old may none
+given_back op old OffWish may none = rw (online_only old.state may, ← none)
 given_back op old NormalWish may none =
     back_offline old (Some (record { op = op; wish = NormalWish })) may none
 given_back op old MovableWish may none =

@@ -53,8 +53,7 @@ pub fold_row : (f : Memory → ℕ → Memory) (g : ℕ → Row → Row) (p : �
 fold_row f g p from zero t block w low high short = absurd (omega arith)
 fold_row f g p from (suc count) t block w low high short = elim (cases_eq block from) [
   | inl same ↦
-      let at_first : from < length t.blocks.rows = subst (λ (b : ℕ). b < length t.blocks.rows) same short in
-      rw same (first at_first (p from))
+      rw same (first (subst (λ (b : ℕ). b < length t.blocks.rows) same short) (p from))
   | inr ne ↦
       later ne (λ u within.
       fold_row f g p (from + 1) count u block w (omega (arith, ne)) (omega arith) within) (p from)

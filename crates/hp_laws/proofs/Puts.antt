@@ -54,16 +54,13 @@ times_on frame (x ∷ xs) some =
     step true other h e some = refl
     step false other h e some = h (omega arith)
 
-times-reverse : (frame : ℕ) (frames : List ℕ) → times frame (reverse frames) ≡ times frame frames
-times-reverse frame frames =
-    sum_by-IsPermutation (λ y. cond (y == frame) 1 0) frames (reverse frames) (IsPermutation-reverse frames)
-
 parted : (frame kept : ℕ) (frames : List ℕ)
     → times frame (take kept frames) + times frame (reverse (drop kept frames)) ≡ times frame frames
 parted frame kept frames =
     omega (
       arith,
-      times-reverse frame (drop kept frames),
+      sum_by-IsPermutation (λ y. cond (y == frame) 1 0) (drop kept frames) (reverse (drop kept frames))
+          (IsPermutation-reverse (drop kept frames)),
       sum_by-take-drop (λ y. cond (y == frame) 1 0) frames kept,
     )
 

@@ -130,14 +130,11 @@ good_push : (l : LayoutParts) (base : Memory) (n : List Record) (r : Record) →
     → is_refused (step l (run l base n) r.serial r.cpu r.event).reply ≡ false → AllGood l base (n ++ r ∷ [])
 good_push l base n r h good i x e = elim (get_push_cases n r x i e) [
   | inl at ↦
-      let within = slice_get_within n i x at in
-      let le : i ≤ length n = omega (arith, within) in
+      let le : i ≤ length n = omega (arith, slice_get_within n i x at) in
       rw (take-append-le i n (r ∷ []) le) (h i x at)
   | inr at ↦
       let le : i ≤ length n = omega (arith, at.0) in
-      let whole : take i (n ++ r ∷ []) ≡ n =
-      take-append-le i n (r ∷ []) le ∙ take_all i n (omega (arith, at.0)) in
-      rw (whole, ← at.1) good
+      rw (take-append-le i n (r ∷ []) le ∙ take_all i n (omega (arith, at.0)), ← at.1) good
 ]
 
 record IsSound (l : LayoutParts) (base : Memory) (before : ℕ) (g : List Record) : Type 0 where

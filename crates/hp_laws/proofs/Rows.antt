@@ -9,7 +9,7 @@ use Rattle.hp_units.specs.declared.rows.Row.{Row}
 use Rattle.hp_units.specs.declared.rows.Kind.{Kind}
 use Rattle.hp_units.specs.declared.rows.Claim.{Claim}
 use Rattle.hp_units.specs.declared.rows.State.{State}
-use Rattle.hp_units.specs.declared.rows.State.TheVariants.{Offline as OfflineState, Online as OnlineState, Going as GoingState, Absent as AbsentState}
+use Rattle.hp_units.specs.declared.rows.State.TheVariants.{Online as OnlineState, Going as GoingState}
 use Rattle.hp_units.specs.declared.rows.Zone.{Zone}
 use Rattle.hp_units.specs.declared.rows.Zone.TheVariants.{Normal as NormalZone}
 use Rattle.hp_units.specs.declared.rows.Mobility.{Mobility}
@@ -83,12 +83,6 @@ row_at-other l rows block frame row ne =
     get_or-set_other rows block (block_of_pageblock l (pageblock_of l frame)) row offline_row
     (λ same. ne (block_of-pageblock l frame ∙ same))
 
-pub class_at-other : (l : LayoutParts) (kinds : List Kind) (rows : List Row) (block frame : ℕ) (row : Row)
-    → block_of l frame ≢ block
-    → class_at l kinds (set rows block row) (pageblock_of l frame)
-    ≡ class_at l kinds rows (pageblock_of l frame)
-class_at-other l kinds rows block frame row ne = rw (row_at-other l rows block frame row ne)
-
 pool_at-other : (l : LayoutParts) (kinds : List Kind) (rows : List Row) (block frame : ℕ) (row : Row)
     → block_of l frame ≢ block
     → pool_at l kinds (set rows block row) (pageblock_of l frame)
@@ -98,17 +92,14 @@ pool_at-other l kinds rows block frame row ne = rw (row_at-other l rows block fr
 -- an unplugged row has no zone and isn't going
 pub unplugged_zone : (state : State) (zone : Option Zone) (claim : Option Claim)
     → (is_offline_state state || is_absent_state state) ≡ true → IsRowOf state zone claim → zone ≡ None
-unplugged_zone OfflineState zone claim e h = h.0
-unplugged_zone AbsentState zone claim e h = h.0
 unplugged_zone OnlineState zone claim e h = cc
 unplugged_zone GoingState zone claim e h = cc
+unplugged_zone _ zone claim e h = h.0
 
 pub unplugged_stays : (state : State) → (is_offline_state state || is_absent_state state) ≡ true
     → is_going_state state ≡ false
-unplugged_stays OfflineState e = refl
-unplugged_stays AbsentState e = refl
-unplugged_stays OnlineState e = refl
 unplugged_stays GoingState e = cc
+unplugged_stays _ e = refl
 
 pub record HasPlainKinds (l : LayoutParts) (s : Memory) (block : ℕ) : Type 0 where
   pub mobility : (pageblock : ℕ) → block_of_pageblock l pageblock ≡ block
@@ -148,8 +139,8 @@ row-in_order l s block row p off low is still =
     let ordered =
     other-ordered l (class_at l s.free.areas.kinds s.blocks.rows)
     (class_at l s.free.areas.kinds (set s.blocks.rows block row)) s.free.areas
-    (λ first some. class_at-other l s.free.areas.kinds s.blocks.rows block first row
-    (away l s block first p off (omega arith))) (areas_of l s p) in
+    (λ first some. rw (row_at-other l s.blocks.rows block first row
+    (away l s block first p off (omega arith)))) (areas_of l s p) in
     record {
       shape =
           record {

@@ -76,8 +76,7 @@ good_both : (l : LayoutParts) (base : Memory) (a b : List Record) → AllGood l 
     → AllGood l (run l base a) b → AllGood l base (a ++ b)
 good_both l base a b first second i r e = elim (get_append_cases a b i r e) [
   | inl at ↦
-      let within = slice_get_within a i r at in
-      let le : i ≤ length a = omega (arith, within) in
+      let le : i ≤ length a = omega (arith, slice_get_within a i r at) in
       rw (take-append-le i a b le) (first i r at)
   | inr past ↦ rw (run_past l base a b i past.place past.sum) (second past.place r past.here)
 ]

@@ -4,8 +4,8 @@ use Rattle.std.specs.Option.{option_map}
 use Rattle.std.proofs.lemmas.Bool.{cases_eq, cases_lt}
 use Rattle.std.proofs.lemmas.List.{get_or-set_other, get_or-set_same, get_or_past}
 use Rattle.std.specs.Prelude.{unwrap_or}
-use Rattle.std.proofs.lemmas.Nat.{pow_pos, mul-le}
-use Rattle.std.proofs.Math.Nat.{div-div-eq-div-mul, lt-div-mul-add}
+use Rattle.std.proofs.lemmas.Nat.{pow_pos}
+use Rattle.std.proofs.Math.Nat.{div-div-eq-div-mul}
 use Rattle.hp_units.specs.declared.rows.Auto.{Auto}
 use Rattle.hp_units.specs.declared.rows.Zone.{Zone}
 use Rattle.hp_units.specs.declared.rows.Zone.TheVariants.{Normal as NormalZone}
@@ -143,8 +143,6 @@ block_of-pageblock l frame =
 
 div_lt : (n k m : ℕ) → 0 < k → n / k < m → n < m * k
 div_lt n k m some low =
-    let above : n < n / k * k + k = lt-div-mul-add some in
-    let more : (n / k + 1) * k ≤ m * k = mul-le (n / k + 1) k m k (omega arith) (omega arith) in
     grind arith
 
 in_rows : (rows : List Row) (block : ℕ) (zone : Zone) → (get_or rows block offline_row).zone ≡ Some zone
@@ -153,7 +151,6 @@ in_rows rows block zone e = elim (cases_lt block (length rows)) [
   | inl low ↦ low
   | inr high ↦
       let past : get_or rows block offline_row ≡ offline_row = get_or_past rows block offline_row high in
-      let none : None ≡ Some zone = subst (λ (r : Row). r.zone ≡ Some zone) past e in
       cc
 ]
 
@@ -163,7 +160,6 @@ pub in_layout : (l : LayoutParts) (s : Memory) (frame : ℕ) (zone : Zone) → I
 in_layout l s frame zone layout size e =
     let k : ℕ = layout.pageblocks.0 in
     let some : 0 < 2 ^ k = pow_pos k in
-    let more : 0 < 2 ^ l.order = pow_pos l.order in
     let is : l.pageblocks ≡ 2 ^ k = layout.pageblocks.2 in
     let some' : 0 < l.pageblocks = omega arith in
     let low : pageblock_of l frame / l.pageblocks < l.blocks =
@@ -171,9 +167,7 @@ in_layout l s frame zone layout size e =
     let middle : pageblock_of l frame < l.blocks * l.pageblocks =
     div_lt (pageblock_of l frame) l.pageblocks l.blocks some' low in
     let all : frame < l.blocks * l.pageblocks * 2 ^ l.order =
-    div_lt frame (2 ^ l.order) (l.blocks * l.pageblocks) more middle in
-    let turned : l.blocks * l.pageblocks * 2 ^ l.order ≡ l.blocks * (l.pageblocks * 2 ^ l.order) =
-    omega arith in
+    div_lt frame (2 ^ l.order) (l.blocks * l.pageblocks) (pow_pos l.order) middle in
     omega arith
 
 -- a frame in a free block has no kernel's block at it
@@ -199,18 +193,13 @@ class_known l s frame zone e =
     rw (zone_known l s frame zone e)
     (ap (option_map (λ z. class_of_kind z (kind_at s.free.areas.kinds (pageblock_of l frame)))) e)
 
-kernel_there : (l : LayoutParts) (s : Memory) (first order : ℕ) → (entry : Option ℕ) → entry ≡ Some order
-    → IfSome entry (IsKernelAt l s.blocks.rows first) → IsKernelAt l s.blocks.rows first order
-kernel_there l s first order entry e h =
-    subst (λ (o : Option ℕ). IfSome o (IsKernelAt l s.blocks.rows first)) e h
-
 pub kernel_give-placed : (l : LayoutParts) (s : Memory) (first order : ℕ) → IsLayout l → IsWellPlaced l s
     → kernel_order s first ≡ Some order
     → IsWellPlaced l (with_areas (with_kernel_order s first None)
     (give_block l s.free.areas (zone_of l s first) first order))
 kernel_give-placed l s first order layout p e =
     let block : IsKernelAt l s.blocks.rows first order =
-    kernel_there l s first order (kernel_order s first) e (p.in_order.kernel first) in
+    subst (λ (o : Option ℕ). IfSome o (IsKernelAt l s.blocks.rows first)) e (p.in_order.kernel first) in
     let within : first < frame_count l =
     in_layout l s first NormalZone layout p.in_order.shape.rows block.normal in
     let short : first < length s.kernel = omega (arith, p.in_order.shape.kernel) in

@@ -3,7 +3,7 @@ use Rattle.std.proofs.Common.{◌≡◌, ℕ, ◌<◌, List, Bool, true, false, 
 use Rattle.hp_units.specs.declared.rows.Claim.{Claim}
 use Rattle.hp_units.specs.declared.rows.Row.{Row}
 use Rattle.hp_units.specs.declared.rows.State.{State}
-use Rattle.hp_units.specs.declared.rows.State.TheVariants.{Offline as OfflineState, Online as OnlineState, Going as GoingState, Absent as AbsentState}
+use Rattle.hp_units.specs.declared.rows.State.TheVariants.{Online as OnlineState, Going as GoingState}
 use Rattle.hp_units.specs.declared.rows.Zone.{Zone}
 use Rattle.hp_units.specs.LayoutParts.{LayoutParts}
 use Rattle.hp_units.specs.Arithmetic.{block_of, pageblock_of}
@@ -72,12 +72,11 @@ pub record HasZone (l : LayoutParts) (rows : List Row) (frame : ℕ) : Type 0 wh
 live_zone : (state : State) (zone : Option Zone) (claim : Option Claim)
     → (is_offline_state state || is_absent_state state) ≡ false → IsRowOf state zone claim
     → (z : Zone) × (zone ≡ Some z)
-live_zone OfflineState zone claim e h = cc
-live_zone AbsentState zone claim e h = cc
 live_zone OnlineState (Some z) claim e h = (z, refl)
 live_zone OnlineState None claim e h = absurd (cc h.0)
 live_zone GoingState (Some z) claim e h = (z, refl)
 live_zone GoingState None claim e h = absurd (cc h.0)
+live_zone _ zone claim e h = cc
 
 pub live_row : (l : LayoutParts) (s : Memory) (frame : ℕ) → IsInOrder l s → offline_places l s frame ≡ 0
     → HasZone l s.blocks.rows frame

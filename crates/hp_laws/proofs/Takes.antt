@@ -7,7 +7,7 @@ use Rattle.hp_units.specs.LayoutParts.{LayoutParts}
 use Rattle.hp_units.specs.Memory.{FreeAreas, free_list, with_free_list}
 use Rattle.hp_units.specs.FreeAreas.{Taken, is_on, least_order, take_first, take_front, take_block}
 use Rattle.hp_units.specs.Placement.{free_places, IsBlockOf, covered}
-use Rattle.hp_lemmas.proofs.Places.{list_places-cons, HasOrder, with_free_list-places, with_halves-places, least_order-among, IsOrderAmong}
+use Rattle.hp_lemmas.proofs.Places.{list_places-cons, with_free_list-places, with_halves-places, least_order-among, IsOrderAmong}
 use Rattle.hp_lemmas.proofs.Geometry.{below_aligned}
 use Rattle.hp_lemmas.proofs.Parts.{IsPart, tail-part}
 use Rattle.hp_lemmas.proofs.Sizes.{halves-kinds}
@@ -31,7 +31,6 @@ pub take_first-ordered : (l : LayoutParts) (class_at : ℕ → Option Class) (a 
     → IfSome (take_first a class class order wanted frames) (TakesOrdered l class_at a class wanted)
 take_first-ordered l class_at a class order wanted [] e low w h = tt
 take_first-ordered l class_at a class order wanted (first ∷ frames) e low w h =
-    let has : HasOrder a order = has_order l class_at a order h low in
     let left : FreeAreas = with_free_list a class order frames in
     let on : is_on first (free_list a class order) ≡ true =
     rw e (or_left (first == first) (is_on first frames) (eq-eqb first first refl)) in
@@ -42,7 +41,7 @@ take_first-ordered l class_at a class order wanted (first ∷ frames) e low w h 
     let without : (frame : ℕ) → free_places left frame + covered frame order first ≡ free_places a frame =
     λ frame. omega (
       arith,
-      rw e at (with_free_list-places a class order frame frames has),
+      rw e at (with_free_list-places a class order frame frames (has_order l class_at a order h low)),
       list_places-cons frame order first frames,
     ) in
     let room : (frame : ℕ) → free_places left frame + covered frame (wanted + (order - wanted)) first ≤ 1 =
