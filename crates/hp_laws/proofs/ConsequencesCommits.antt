@@ -115,7 +115,7 @@ ancestor_has frame order =
     record { low = omega (arith, div-add-mod' frame (2 ^ order)); high = omega arith }
 
 -- a test of the five classes
-on_class : (p : Class → Bool) (class : Class) → p class ≡ true
+pub on_class : (p : Class → Bool) (class : Class) → p class ≡ true
     → list_any p (Nu ∷ Nm ∷ Mm ∷ IsoN ∷ IsoM ∷ []) ≡ true
 on_class p Nu e = or_left (p Nu) _ e
 on_class p Nm e = or_right (p Nu) _ (or_left (p Nm) _ e)

@@ -1,6 +1,6 @@
 -- Frames of processors' lists, kernel's blocks and pages lie in blocks with a zone, and no list is
 -- longer than there are frames.
-use Rattle.std.proofs.Common.{◌≡◌, ℕ, zero, suc, ◌+◌, ◌*◌, ◌<◌, ◌≤◌, List, [], ◌∷◌, length, get_or, Bool, true, false, cond, Option, Some, None, refl, sym, ◌∙◌, subst, arith, inl, inr, IfSome, ◌==◌, ◌||◌}
+use Rattle.std.proofs.Common.{◌≡◌, ℕ, zero, suc, ◌+◌, ◌*◌, ◌<◌, ◌≤◌, List, [], ◌∷◌, length, get_or, Bool, true, false, Option, Some, None, refl, sym, ◌∙◌, subst, arith, inl, inr, IfSome, ◌==◌, ◌||◌}
 use Rattle.std.specs.List.{count_by}
 use Rattle.std.specs.Option.{option_map}
 use Rattle.std.proofs.lemmas.Bool.{cases_lt}
@@ -32,6 +32,7 @@ use Rattle.hp_laws.proofs.Drains.{pool_zone, times, times-cons}
 use Rattle.hp_laws.proofs.Tables.{live_row}
 use Rattle.hp_lemmas.proofs.Tables.{mapped_some, table_of}
 use Rattle.hp_laws.proofs.ConsequencesBlocks.{in_number, on_head}
+use Rattle.hp_laws.proofs.Lists.{one_if}
 
 -- ---- the zone of a frame's block
 
@@ -86,10 +87,6 @@ plugged_state : (state : State) → (is_offline_state state || is_absent_state s
 plugged_state OfflineState e = cc
 plugged_state AbsentState e = cc
 plugged_state _ e = refl
-
--- 1 for true and 0 for false
-abbrev one_if : Bool → ℕ
-one_if b = cond b 1 0
 
 -- the block of a frame that is in no such place
 not_unplugged : (l : LayoutParts) (s : Memory) (frame : ℕ) → offline_places l s frame ≡ 0

@@ -1,5 +1,5 @@
 -- A block's pageblocks become isolated, or are so no more, and its row changes with them.
-use Rattle.std.proofs.Common.{◌≡◌, ◌≢◌, ℕ, zero, suc, ◌+◌, ◌*◌, ◌/◌, ◌^◌, ◌<◌, ◌≤◌, List, length, get_or, set, Bool, false, cond, Option, Some, None, refl, sym, ◌∙◌, ap, subst, arith, ◌⊎◌, inl, inr, length-set}
+use Rattle.std.proofs.Common.{◌≡◌, ◌≢◌, ℕ, zero, suc, ◌+◌, ◌*◌, ◌/◌, ◌^◌, ◌<◌, ◌≤◌, List, length, get_or, set, Bool, false, Option, Some, None, refl, sym, ◌∙◌, ap, subst, arith, ◌⊎◌, inl, inr, length-set}
 use Rattle.std.specs.Prelude.{fold}
 use Rattle.std.specs.List.{range_with_len}
 use Rattle.std.specs.Option.{option_map}
@@ -28,6 +28,7 @@ use Rattle.hp_laws.proofs.Rows.{unplugged_zone}
 use Rattle.hp_laws.proofs.Onlines.{quotient}
 use Rattle.hp_laws.specs.Commits.{IsInRange}
 use Rattle.hp_laws.proofs.Pageblocks.{IsKeptBlock, MovesBelow, WasBlock, moves_below}
+use Rattle.hp_laws.proofs.Lists.{one_if}
 
 -- ---- one pageblock's free blocks
 
@@ -239,10 +240,6 @@ pub some_pageblocks : (l : LayoutParts) → IsLayout l → 0 < l.pageblocks
 some_pageblocks l layout =
     let some : 0 < 2 ^ layout.pageblocks.0 = pow_pos layout.pageblocks.0 in
     omega (arith, layout.pageblocks.2)
-
--- 1 for true and 0 for false
-abbrev one_if : Bool → ℕ
-one_if b = cond b 1 0
 
 pub moved_block-placed : (l : LayoutParts) (s : Memory) (block : ℕ) (zone : Zone) (isolated : Bool)
     (row : Row)

@@ -1,5 +1,5 @@
 -- Places in lists, by slice_get.
-use Rattle.std.proofs.Common.{◌≡◌, ℕ, zero, suc, ◌<◌, List, [], ◌∷◌, ◌++◌, length, take, Some, slice_get, refl, ap, arith, inl, inr}
+use Rattle.std.proofs.Common.{◌≡◌, ℕ, zero, suc, ◌<◌, List, [], ◌∷◌, ◌++◌, length, take, Some, slice_get, refl, ap, arith, inl, inr, Bool, cond}
 use Rattle.std.specs.Prelude.{◌⊎◌}
 
 -- a place in the first of two lists
@@ -41,3 +41,6 @@ pub take_next : {A : Type 0} (xs : List A) (k : ℕ) (x : A) → slice_get xs k 
 take_next [] k x h = absurd cc
 take_next (y ∷ xs) zero x h = cc
 take_next (y ∷ xs) (suc k) x h = ap (λ ys. y ∷ ys) (take_next xs k x h)
+
+abbrev pub one_if : Bool → ℕ
+one_if b = cond b 1 0

@@ -20,14 +20,14 @@ use Rattle.hp_units.specs.Arithmetic.{all_blocks, block_bytes}
 use Rattle.hp_units.specs.Boot.{boot_block, boot_memory, empty_memory}
 use Rattle.hp_units.specs.Memory.{Blocks, Memory, offline_row, row_of}
 use Rattle.hp_units.specs.History.{IsLegal, net_of, run, value_of}
-use Rattle.hp_units.specs.Migrations.{migration_source, migration_target}
 use Rattle.hp_units.specs.Refusals.{refusal_of}
 use Rattle.hp_units.specs.Rows.{is_claimed_by, begin_block, begin_plan, blocks_of, claim_block, commit_block, commit_blocks, grant, is_going, online_again, online_block, release_block, release_blocks, wish_of, with_block_row}
-use Rattle.hp_units.specs.Step.{answer, auto_online, migrate_step, perform, step}
+use Rattle.hp_units.specs.Step.{answer, auto_online, perform, step}
 use Rattle.hp_laws.specs.Offline.{AreClaimedUpTo, AreHeldBy, IsHeldBy}
 use Rattle.hp_laws.proofs.Names.{Event, KernelAlloc, KernelFree, Map, Unmap, Online, Begin, Migrate, Commit, Cancel, Probe, Remove, Record, Refusal}
 use Rattle.hp_laws.proofs.Earlier.{numbered_net}
-use Rattle.hp_laws.proofs.StepBlocks.{answered-blocks, kernel_takes-blocks, kernel_gives-blocks, map_step-blocks, unmap_step-blocks}
+use Rattle.hp_laws.proofs.StepBlocks.{kernel_takes-blocks, kernel_gives-blocks, map_step-blocks, unmap_step-blocks}
+use Rattle.hp_laws.proofs.OperationEvents.{migrate_step-blocks}
 
 -- ---- rows written one after another
 
@@ -156,13 +156,6 @@ auto-claims : (l : LayoutParts) (P : ℕ → Type 0) (auto : Auto) (s : Memory) 
 auto-claims l P OfflineAuto s block h = h
 auto-claims l P MovableAuto s block h = online-claims l P MovableZone s block h
 auto-claims l P _ s block h = online-claims l P NormalZone s block h
-
--- a page moves
-migrate_step-blocks : (l : LayoutParts) (s : Memory) (op : ℕ) → (migrate_step l s op).memory.blocks ≡ s.blocks
-unfolding migrate_step
-migrate_step-blocks l s op =
-    answered-blocks _ s (migration_source l s op)
-    (λ from. answered-blocks _ s (migration_target l s.free.areas) (λ taken. refl))
 
 -- ---- each step
 

@@ -26,7 +26,7 @@ use Rattle.hp_laws.specs.Consequences.{IsFrameOf, IsGoingFor, IsFrameInUse, IsIn
 use Rattle.hp_laws.specs.Offline.{AreHeldBy, IsUndisturbed, drains_for}
 use Rattle.hp_laws.proofs.Names.{Begin, Commit, Done, Record}
 use Rattle.hp_laws.proofs.LawProofs.{last_follows, front_legal, opening_is_begin}
-use Rattle.hp_laws.proofs.Lists.{get_left}
+use Rattle.hp_laws.proofs.Lists.{get_left, one_if}
 use Rattle.hp_laws.proofs.Net.{Numbered, run-append}
 use Rattle.hp_laws.proofs.Earlier.{numbered_net}
 use Rattle.hp_laws.proofs.OwnedContents.{AllSucceed}
@@ -78,10 +78,6 @@ none_cached l s frame p drained = empty_lists frame s.free.cached each
           subst (λ (n : ℕ). get_or s.free.cached n [] ≡ []) number (drained (i / 3) cpu pool.0)
       | inr high ↦ get_or_past s.free.cached i [] high
     ]
-
--- 1 for true and 0 for false
-abbrev one_if : Bool → ℕ
-one_if b = cond b 1 0
 
 -- a frame that has no page is in no entry of the table
 no_entry_from : (frame n : ℕ) (row : List (Option ℕ)) → position_from (holds frame) n row ≡ None

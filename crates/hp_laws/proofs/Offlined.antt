@@ -28,6 +28,7 @@ use Rattle.hp_laws.proofs.States.{areas_of, block_of-pageblock, get_or-cases}
 use Rattle.hp_laws.proofs.Rows.{kernel_some, on_cached, row_at-other}
 use Rattle.hp_laws.proofs.Onlines.{inside, outside, within, within-split}
 use Rattle.hp_laws.proofs.Isolations.{pageblock_elsewhere, pageblock_range, some_pageblocks}
+use Rattle.hp_laws.proofs.Lists.{one_if}
 
 -- ---- what stays on a list
 
@@ -186,10 +187,6 @@ remove_block-range l s block zone p low all =
     let next : (block + 1) * l.pageblocks ≡ block * l.pageblocks + l.pageblocks = grind arith in
     remove_all l (class_at l s.free.areas.kinds s.blocks.rows) zone s.free.areas (block * l.pageblocks)
     l.pageblocks (omega (arith, p.in_order.shape.kinds)) (areas_of l s p) all
-
--- 1 for true and 0 for false
-abbrev one_if : Bool → ℕ
-one_if b = cond b 1 0
 
 pub offlined-placed : (l : LayoutParts) (s : Memory) (block : ℕ) (zone : Zone) → IsLayout l → IsWellPlaced l s
     → block < l.blocks → is_unplugged (row_of s.blocks block) ≡ false → IsAllFree l s.free.areas zone block

@@ -1,6 +1,6 @@
 -- Taking and stealing blocks from the areas of a state, and the kernel's larger blocks.
 use Rattle.std.proofs.Common.{◌≡◌, ◌≢◌, ℕ, suc, ◌+◌, ◌-◌, ◌/◌, ◌%◌, ◌^◌, ◌<◌, ◌≤◌, List, [], ◌∷◌, length, get_or, set, Bool, true, false, cond, Option, Some, None, refl, sym, ◌∙◌, ap, subst, arith, inl, inr, IfSome, length-set, eq-eqb, eqb-true, ◌==◌}
-use Rattle.std.specs.Option.{option_map, option_map_or, option_and_then, option_or}
+use Rattle.std.specs.Option.{option_map, option_map_or, option_or}
 use Rattle.std.proofs.lemmas.Bool.{cases_eq, or_left}
 use Rattle.std.proofs.lemmas.List.{get_or-set_other, get_or-set_same}
 use Rattle.std.proofs.lemmas.Nat.{pow_pos}
@@ -20,14 +20,14 @@ use Rattle.hp_units.specs.Step.{kernel_takes, with_free, done}
 use Rattle.hp_units.specs.ProcessorLists.{handed_from}
 use Rattle.hp_units.specs.declared.replies.Reply.TheVariants.{Frame as GivesFrame}
 use Rattle.hp_units.specs.Placement.{free_places, cached_places, kernel_places, IsBlockOf, IsInOrder, IsWellPlaced, class_at, row_at, kind_at, covered}
-use Rattle.hp_lemmas.proofs.Places.{list_places-cons, HasOrder, with_free_list-places, with_halves-places, IsOrderAmong, greatest_order-among}
+use Rattle.hp_lemmas.proofs.Places.{list_places-cons, HasOrder, with_free_list-places, with_halves-places, greatest_order-among}
 use Rattle.hp_lemmas.proofs.Geometry.{multiple, below_aligned, pageblock_in}
 use Rattle.hp_lemmas.proofs.Lists.{covered-self}
 use Rattle.hp_lemmas.proofs.Parts.{IsPart, tail-part}
 use Rattle.hp_lemmas.proofs.Sizes.{halves-kinds}
 use Rattle.hp_laws.proofs.Ordered.{AreOrdered}
 use Rattle.hp_laws.proofs.Areas.{has_order, part-ordered, halves-ordered, other-ordered}
-use Rattle.hp_laws.proofs.Takes.{TakesOrdered, take_first-ordered, take_block-ordered}
+use Rattle.hp_laws.proofs.Takes.{TakesOrdered, take_first-ordered, take_block-ordered, and_then-ordered}
 use Rattle.hp_laws.proofs.States.{areas_of, areas-in_order, kernel-in_order, in_layout, kernel_free}
 use Rattle.hp_lemmas.proofs.KernelBlocks.{kernel-places}
 use Rattle.hp_laws.proofs.Rows.{on_cached}
@@ -227,18 +227,12 @@ steal_front-placed l s m order wanted layout p low w =
     (take_first-ordered l (class_at l s.free.areas.kinds s.blocks.rows) s.free.areas from order wanted
     (free_list s.free.areas from order) refl low w (areas_of l s p)))
 
-and_then-placed : (P : Taken → Type 0) (first count : ℕ) (f : ℕ → Option Taken) (o : Option ℕ)
-    → IfSome o (IsOrderAmong first count)
-    → ((order : ℕ) → IsOrderAmong first count order → IfSome (f order) P) → IfSome (option_and_then f o) P
-and_then-placed P first count f None h k = tt
-and_then-placed P first count f (Some order) h k = k order h
-
 pub steal_block-placed : (l : LayoutParts) (s : Memory) (m : Mobility) (wanted : ℕ) → IsLayout l
     → IsWellPlaced l s
     → IfSome (steal_block l s.free.areas m wanted) (TakesPlaced l s NormalZone wanted)
 unfolding steal_block
 steal_block-placed l s m wanted layout p =
-    and_then-placed (TakesPlaced l s NormalZone wanted) wanted (l.order + 1 - wanted)
+    and_then-ordered (TakesPlaced l s NormalZone wanted) wanted (l.order + 1 - wanted)
     (λ order. steal_front l s.free.areas m order wanted)
     (greatest_order s.free.areas (usable_class NormalZone (other_mobility m)) wanted (l.order + 1 - wanted))
     (greatest_order-among s.free.areas (usable_class NormalZone (other_mobility m)) wanted

@@ -64,7 +64,7 @@ take_first-ordered l class_at a class order wanted (first ∷ frames) e low w h 
       kinds = halves-kinds left class first wanted (order - wanted);
     }
 
-and_then-ordered : (P : Taken → Type 0) (first count : ℕ) (f : ℕ → Option Taken) (o : Option ℕ)
+pub and_then-ordered : (P : Taken → Type 0) (first count : ℕ) (f : ℕ → Option Taken) (o : Option ℕ)
     → IfSome o (IsOrderAmong first count)
     → ((order : ℕ) → IsOrderAmong first count order → IfSome (f order) P) → IfSome (option_and_then f o) P
 and_then-ordered P first count f None h k = tt
