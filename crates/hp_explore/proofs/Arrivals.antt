@@ -62,7 +62,8 @@ followed : (p : PathValue) (cpu : ℕ) (event : Event) (latest : Record) (old ne
     → next_call p.setting cpu p.news ≡ Some event → latest ≡ record_of_call p.setting p.news cpu event
     → (old.is_on ≡ true → UndoNothing p.setting.scripts) → AreFollowed p.setting p.news old
     → ((g : Setting) (news : List Record) → AreFollowed g news old
-    → (old.is_on ≡ true → leaves_steps (effect_of latest.event) ≡ true) → AreFollowed g (news ++ latest ∷ []) new)
+    → (old.is_on ≡ true → leaves_steps (effect_of latest.event) ≡ true)
+    → AreFollowed g (news ++ latest ∷ []) new)
     → AreFollowed p.setting (p.news ++ record_of_call p.setting p.news cpu event ∷ []) new
 followed p cpu event latest old new asked is undo way on =
     subst (λ (r : Record). AreFollowed p.setting (p.news ++ r ∷ []) new) is (on p.setting p.news way leaves)
@@ -82,9 +83,11 @@ pub comes_to : (wanted : List Wanted) (budget : Option ℕ) (p q : PathValue) (s
     → ((before : List Record) (r : Record) → q.news ≡ before ++ r ∷ [] → latest ≡ r)
     → new.is_on ≡ old.is_on → new.keys ≡ old.keys → KeepStops old.stops new.stops
     → ((g : Setting) (news : List Record) → AreFollowed g news old
-    → (old.is_on ≡ true → leaves_steps (effect_of latest.event) ≡ true) → AreFollowed g (news ++ latest ∷ []) new)
+    → (old.is_on ≡ true → leaves_steps (effect_of latest.event) ≡ true)
+    → AreFollowed g (news ++ latest ∷ []) new)
     → IsArriving wanted budget (search_at q t next new)
-comes_to wanted budget p q s t next latest old new v is here played forth longer within last on keys keep way =
+comes_to wanted budget p q s t next latest old new v is here played forth longer within last on keys keep
+    way =
     subst (λ (r : PathValue). IsArriving wanted budget (search_at r t next new)) (sym forth.3)
     (subst (λ (u : List ℕ). IsArriving wanted budget (search_at (path_of p.setting
     (p.news ++ record_of_call p.setting p.news next forth.0 ∷ [])) u next new)) (sym longer)
@@ -107,7 +110,8 @@ turn_near wanted budget p q s t next old new v u turn is less here forth longer 
     turned_near wanted budget v (search_at q t next new) u turn less
     (ap (λ (x : PathValue). x.setting) forth.3 ∙ ap (λ (w : SearchValue). w.path.setting) is)
     (longer ∙ ap (λ (w : SearchValue). w.schedule ++ w.next ∷ []) is)
-    (subst (λ (w : SearchValue). is_full_after w.path.setting w.path.news ≡ false) is forth.2) here.schedule arrived
+    (subst (λ (w : SearchValue). is_full_after w.path.setting w.path.news ≡ false) is forth.2) here.schedule
+    arrived
 
 -- ---- the place
 
@@ -129,7 +133,8 @@ looked_up wanted budget v new true here played on keep is =
     on_the_way wanted budget v new here
     (stops_kept v.path.setting wanted budget here.before v.visited new on is.0 keep here.visited)
 looked_up wanted budget v new false here played on keep is =
-    visited_more v.path.setting wanted budget v.schedule v.path.news v.visited new played here.schedule on keep is
+    visited_more v.path.setting wanted budget v.schedule v.path.news v.visited new played here.schedule on
+    keep is
     (on_the_way wanted budget v v.visited here here.visited)
 
 -- where it is known it is passed

@@ -66,7 +66,8 @@ back_within p q cpu played back =
 -- ---- back
 
 -- the schedule without its latest call
-pub popped : (old rest q : List ℕ) (latest : Option ℕ) (cpu many few : ℕ) → old ≡ rest ++ option_to_list latest
+pub popped : (old rest q : List ℕ) (latest : Option ℕ) (cpu many few : ℕ)
+    → old ≡ rest ++ option_to_list latest
     → MatchOption latest ((many ≡ 0) × (few ≡ 0)) (λ _. few + 1 ≡ many) → many ≡ length old
     → old ≡ q ++ cpu ∷ [] → rest ≡ q
 popped old rest q None cpu many few is cases counted longer =

@@ -80,7 +80,8 @@ pub arriving : (wanted : List Wanted) (budget : Option ℕ) (v : SearchValue) (e
 arriving wanted budget v event later next played here has_room within kept way = record {
   schedule =
       ap (λ (s : List ℕ). s ++ v.next ∷ []) here.schedule
-      ∙ (ap (λ (c : ℕ). schedule_of v.path.news ++ c ∷ []) (sym (caller v.path.setting v.path.news v.next event))
+      ∙ (ap (λ (c : ℕ). schedule_of v.path.news ++ c ∷ [])
+      (sym (caller v.path.setting v.path.news v.next event))
       ∙ sym (longer_schedule v.path.news (record_of_call v.path.setting v.path.news v.next event)));
   within = within;
   room = omega (arith, length_push v.schedule v.next, shorter v has_room here.schedule);
@@ -158,9 +159,11 @@ near_back wanted budget v u later n On all up closer = record {
   searching = closer.searching;
   same = closer.same;
   few =
-      let most = left_over (length v.path.setting.scripts) (room_of v.path.setting) v.schedule 0 (omega arith) in
+      let most =
+      left_over (length v.path.setting.scripts) (room_of v.path.setting) v.schedule 0 (omega arith) in
       let here = ap (turns_left (length v.path.setting.scripts) (room_of v.path.setting) v.schedule) all in
-      let fewer : turns_of u < turns_left (length v.path.setting.scripts) (room_of v.path.setting) v.schedule n =
+      let fewer : turns_of u
+      < turns_left (length v.path.setting.scripts) (room_of v.path.setting) v.schedule n =
       closer.fewer in
       omega (arith, most, here, fewer);
 }

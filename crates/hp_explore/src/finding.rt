@@ -61,12 +61,22 @@ pub fn find<W: Watch>(
     ensures err { IfErr result (IsFindCause (setting machine.now scripts.now) wanted.now) }
     ensures stopped { IfErr result (λ fault. fault ≡ Stopped → W.has_ended watch.new) }
 {
-    if let Some(schedule) = nearest_below(alloc, machine, scripts, wanted, 0, FEW, watch)? {
+    let mut places = 0;
+    if let Some(schedule) = nearest_below(
+        alloc,
+        machine,
+        scripts,
+        wanted,
+        0,
+        FEW,
+        watch,
+        &mut places,
+    )? {
         return Ok(Found::Nearest(schedule));
     }
-    match first_within(alloc, machine, scripts, wanted, None, watch)? {
+    match first_within(alloc, machine, scripts, wanted, None, watch, &mut places)? {
         Some(known) => {
-            let schedule = nearest_to(alloc, machine, scripts, wanted, known, watch)?;
+            let schedule = nearest_to(alloc, machine, scripts, wanted, known, watch, &mut places)?;
             Ok(Found::Nearest(schedule))
         }
         None => Ok(Found::Absent),
@@ -83,6 +93,7 @@ fn nearest_to<W: Watch>(
     wanted: &[Wanted],
     known: Vec<Cpu>,
     watch: &mut W,
+    places: &mut u64,
 ) -> Result<Vec<Cpu>, FindFault>
     requires few { length scripts.now < 2 ^ 32 }
     requires known { ReachesFirst (setting machine.now scripts.now) wanted.now known.items }
@@ -95,7 +106,7 @@ fn nearest_to<W: Watch>(
     ensures stopped { IfErr result (λ fault. fault ≡ Stopped → W.has_ended watch.new) }
 {
     let below = changes_of(known.as_slice()) as u64;
-    match nearest_below(alloc, machine, scripts, wanted, FEW, below, watch)? {
+    match nearest_below(alloc, machine, scripts, wanted, FEW, below, watch, places)? {
         Some(schedule) => Ok(schedule),
         None => Ok(known),
     }
@@ -112,6 +123,7 @@ fn nearest_below<W: Watch>(
     from: u64,
     below: u64,
     watch: &mut W,
+    places: &mut u64,
 ) -> Result<Option<Vec<Cpu>>, FindFault>
     requires few { length scripts.now < 2 ^ 32 }
     requires from { NeedsChanges (setting machine.now scripts.now) wanted.now from }
@@ -129,6 +141,7 @@ fn nearest_below<W: Watch>(
             wanted,
             Some(budget),
             watch,
+            places,
         )? {
             return Ok(Some(schedule));
         }

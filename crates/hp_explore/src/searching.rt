@@ -59,7 +59,8 @@ impl<'a> Model for Search<'a> {
 }
 
 /// Returns the first schedule, in the order of the search, that ends as wanted with at most
-/// `budget` changes of processor; or with any number of changes, if there is no budget.
+/// `budget` changes of processor; or with any number of changes, if there is no budget. Adds the
+/// places that it reaches to `places`.
 ///
 /// # Errors
 ///
@@ -72,6 +73,7 @@ pub(crate) fn first_within<W: Watch>(
     wanted: &[Wanted],
     budget: Option<u64>,
     watch: &mut W,
+    places: &mut u64,
 ) -> Result<Option<Vec<Cpu>>, FindFault>
     requires { length scripts.now < 2 ^ 32 }
     ensures ok { IfOk result (λ found. IsFirstWithin (setting machine.now scripts.now) wanted.now budget
@@ -81,13 +83,12 @@ pub(crate) fn first_within<W: Watch>(
 {
     let mut search = Search::start(alloc, machine, scripts)?;
     let processors = scripts.len() as u32;
-    let mut places: u64 = 0;
     'turns: loop {
         match search.turn(alloc, processors, wanted, budget)? {
             Turn::On => {}
             Turn::New => {
-                places = places.saturating_add(1);
-                if !watch.goes_on(places, search.bytes()) {
+                *places = places.saturating_add(1);
+                if !watch.goes_on(*places, search.bytes()) {
                     return Err(FindFault::Stopped);
                 }
             }
@@ -210,7 +211,8 @@ impl<'a> Search<'a> {
     ) -> Result<bool, AllocError>
         requires arriving { IsArriving wanted.now budget self.old }
         requires processors { processors ≡ length self.old.path.setting.scripts }
-        ensures same { OnOk result ((self.new.path ≡ self.old.path) × (self.new.schedule ≡ self.old.schedule)) }
+        ensures same { OnOk result
+            ((self.new.path ≡ self.old.path) × (self.new.schedule ≡ self.old.schedule)) }
         ensures visited { OnOk result
             (AreVisited self.old.path.setting wanted.now budget self.old.schedule self.new.visited) }
         ensures way { OnOk result (AreFollowed self.old.path.setting self.old.path.news self.new.visited) }

@@ -1,22 +1,20 @@
 -- What the replies so far have, and what ends that go on from them have.
-use Rattle.std.proofs.Common.{◌≡◌, ℕ, zero, suc, ◌+◌, ◌-◌, ◌<◌, ◌≤◌, Bool, true, false, List, [], ◌∷◌, ◌++◌, length, map, filter, take, drop, eqb, Option, Some, None, slice_get, refl, ap, sym, subst, ◌∙◌, arith, inl, inr}
-use mir.Val.{bool_byte}
-use Rattle.std.specs.Prelude.{◌⊎◌, ◌↔◌, IsTrue}
-use Rattle.std.specs.List.{range_with_len}
+use Rattle.std.proofs.Common.{◌≡◌, ℕ, zero, suc, ◌+◌, ◌-◌, ◌<◌, ◌≤◌, Bool, true, false, List, [], ◌∷◌, ◌++◌, length, map, filter, take, eqb, Option, Some, None, slice_get, refl, ap, sym, subst, ◌∙◌, arith, inl, inr}
+use Rattle.std.specs.Prelude.{◌⊎◌}
 use Rattle.std.proofs.lemmas.Bool.{cases_lt}
-use Rattle.std.proofs.lemmas.List.{append_assoc, length-append, length_push, map-append}
+use Rattle.std.proofs.lemmas.List.{length_push, map-append}
 use Rattle.std.proofs.lemmas.List.Elements.{filter-append}
-use Rattle.std.proofs.lemmas.List.FromFn.{get_or-map-range_with_len, length-map-range_with_len, map-range_with_len_more}
-use Rattle.std.proofs.lemmas.Option.{none-some, same_Some, slice_get-get_or, slice_get_within}
-use Rattle.hp_laws.proofs.Lists.{get_end, get_left}
+use Rattle.std.proofs.lemmas.List.FromFn.{get_or-map-range_with_len, length-map-range_with_len}
+use Rattle.std.proofs.lemmas.Option.{same_Some, slice_get-get_or, slice_get_within}
+use Rattle.hp_laws.proofs.Lists.{get_left}
 use Rattle.hp_units.specs.LayoutParts.{LayoutParts}
 use Rattle.hp_units.specs.Memory.{Memory}
 use Rattle.hp_units.specs.declared.replies.Record.{Record}
 use Rattle.hp_units.specs.declared.replies.Reply.{Reply}
 use Rattle.hp_units.specs.declared.rows.Row.{Row}
-use Rattle.hp_schedules.specs.Outcomes.{ended_rows_below, outcome, outcome_with, replies_below, replies_to, told}
+use Rattle.hp_schedules.specs.Outcomes.{ended_rows_below, outcome, replies_below, replies_to, told}
 use Rattle.hp_schedules.proofs.Compared.{replies_own, replies_past}
-use Rattle.hp_questions.specs.Marks.{AreMarks, AreMet, HasLineSoFar, IsLost, IsMissed, IsRuledOut, line_of}
+use Rattle.hp_questions.specs.Marks.{AreMarks, HasLineSoFar, IsLost, IsMissed, IsRuledOut, line_of}
 use Rattle.hp_questions.specs.Wanted.{HasAnswer, HasAnswerAt, HasLine, HasReply, IsAsWanted, IsMetBy, Meets}
 use Rattle.hp_questions.specs.declared.wanted.EndLine.{EndLine}
 use Rattle.hp_questions.specs.declared.wanted.EndLine.TheVariants.{Answer, AnswerAt, Block}
@@ -26,7 +24,7 @@ use Rattle.hp_questions.specs.declared.wanted.Wanted.TheVariants.{Has, Lacks}
 
 -- ---- places in lists
 
-get_right : {A : Type 0} (xs ys : List A) (k : ℕ) → length xs ≤ k
+pub get_right : {A : Type 0} (xs ys : List A) (k : ℕ) → length xs ≤ k
     → slice_get (xs ++ ys) k ≡ slice_get ys (k - length xs)
 get_right [] ys k past = let same : k ≡ k - 0 = omega arith in ap (slice_get ys) same
 get_right (x ∷ xs) ys zero past = absurd (omega (arith, past))
@@ -66,7 +64,8 @@ pub below_at : (n : ℕ) (news : List Record) (cpu : ℕ) → cpu < n
     → slice_get (replies_below n news) cpu ≡ Some (replies_to cpu news)
 below_at n news cpu within =
     slice_get-get_or (replies_below n news) cpu (replies_to cpu news) less
-    ∙ ap Some (get_or-map-range_with_len (λ (c : ℕ). replies_to c news) 0 n cpu cpu (replies_to cpu news) within
+    ∙ ap Some
+    (get_or-map-range_with_len (λ (c : ℕ). replies_to c news) 0 n cpu cpu (replies_to cpu news) within
     (omega arith))
   where
     less : cpu < length (replies_below n news)
@@ -74,7 +73,8 @@ below_at n news cpu within =
 
 pub below_is : (n : ℕ) (news : List Record) (cpu : ℕ) (replies : List Reply)
     → slice_get (replies_below n news) cpu ≡ Some replies → (cpu < n) × (replies ≡ replies_to cpu news)
-below_is n news cpu replies is = (within, same_Some replies (replies_to cpu news) (sym is ∙ below_at n news cpu within))
+below_is n news cpu replies is =
+    (within, same_Some replies (replies_to cpu news) (sym is ∙ below_at n news cpu within))
   where
     within : cpu < n
     within =
@@ -236,7 +236,8 @@ at_carried : (p : Pattern) (n : ℕ) (h k more : List Record) (cpu earlier : ℕ
     → (HasAnswerAt p (replies_below n h) cpu earlier → HasAnswerAt p (replies_below n k) cpu earlier)
     → HasAnswerAt p (replies_below n (h ++ more)) cpu earlier
     → HasAnswerAt p (replies_below n (k ++ more)) cpu earlier
-at_carried p n h k more cpu earlier as_many so_far has = by_place (cases_lt earlier (length (replies_to cpu h)))
+at_carried p n h k more cpu earlier as_many so_far has =
+    by_place (cases_lt earlier (length (replies_to cpu h)))
   where
     is : (cpu < n) × (has.0 ≡ replies_to cpu (h ++ more))
     is = below_is n (h ++ more) cpu has.0 has.1
@@ -349,115 +350,3 @@ pub lost : (wanted : List Wanted) (n : ℕ) (h : List Record) (k : ℕ) (one : W
 lost wanted n h k (Has line) here out more l s meets = missed n h more l s line out (meets k (Has line) here)
 lost wanted n h k (Lacks line) here out more l s meets =
     meets k (Lacks line) here (line_kept n h more l s line out)
-
--- ---- tests
-
--- of the reply at a place, if there is one
-pub told_at_some : (p : Pattern) (n : ℕ) (news : List Record) (cpu earlier : ℕ) (answer : Reply)
-    (told : Bool)
-    → cpu < n → Some answer ≡ slice_get (replies_to cpu news) earlier
-    → (IsTrue told ↔ IsAsWanted p answer)
-    → IsTrue told ↔ HasAnswerAt p (replies_below n news) cpu earlier
-told_at_some p n news cpu earlier answer told within is same = (
-  λ yes. (replies_to cpu news, below_at n news cpu within, (answer, sym is, same.0 yes)),
-  λ has. same.1 (subst (IsAsWanted p) (same_Some has.2.0 answer (sym has.2.1
-      ∙ (ap (λ (xs : List Reply). slice_get xs earlier) (below_is n news cpu has.0 has.1).1 ∙ sym is)))
-      has.2.2),
-)
-
-pub told_at_none : (p : Pattern) (n : ℕ) (news : List Record) (cpu earlier : ℕ)
-    → None ≡ slice_get (replies_to cpu news) earlier
-    → HasAnswerAt p (replies_below n news) cpu earlier → ⊥
-told_at_none p n news cpu earlier is has =
-    none-some has.2.0 (is
-    ∙ (ap (λ (xs : List Reply). slice_get xs earlier) (sym (below_is n news cpu has.0 has.1).1) ∙ has.2.1))
-
--- ---- the marks are made
-
--- one processor more
-pub calls_more : (news : List Record) (cpu : ℕ) (old mid new : List ℕ) (n : ℕ)
-    → mid ≡ old ++ map (λ c. length (replies_to c news)) (range_with_len 0 cpu) → new ≡ mid ++ n ∷ []
-    → n ≡ length (replies_to cpu news)
-    → new ≡ old ++ map (λ c. length (replies_to c news)) (range_with_len 0 (cpu + 1))
-calls_more news cpu old mid new n so_far is many =
-    is
-    ∙ (ap (λ (xs : List ℕ). xs ++ n ∷ []) so_far
-    ∙ (append_assoc old (map (λ c. length (replies_to c news)) (range_with_len 0 cpu)) (n ∷ [])
-    ∙ ap (λ (xs : List ℕ). old ++ xs)
-    (ap (λ (m : ℕ). map (λ c. length (replies_to c news)) (range_with_len 0 cpu) ++ m ∷ []) many
-    ∙ sym (map-range_with_len_more (λ (c : ℕ). length (replies_to c news)) 0 cpu cpu (omega arith)))))
-
--- one wanted line more
-one_or_none : (P : Type 0) (told : Bool) (n : ℕ) → n ≡ bool_byte told → (IsTrue told ↔ P)
-    → ((n ≡ 1) ↔ P) × ((n ≡ 0) ⊎ (n ≡ 1))
-one_or_none P true n is same = ((λ one. same.0 refl, λ p. is), inr is)
-one_or_none P false n is same =
-    ((λ one. absurd (omega (arith, is, one)), λ p. absurd (let no = same.1 p in cc)), inl is)
-
-pub met_more : (wanted : List Wanted) (processors : ℕ) (news : List Record) (i : ℕ) (one : Wanted)
-    (told : Bool) (n : ℕ) (old mid new : List ℕ)
-    → slice_get wanted i ≡ Some one
-    → (met : List ℕ) × (mid ≡ old ++ met) × AreMet wanted processors news i met → new ≡ mid ++ n ∷ []
-    → n ≡ bool_byte told → (IsTrue told ↔ HasLineSoFar processors news (line_of one))
-    → (met : List ℕ) × (new ≡ old ++ met) × AreMet wanted processors news (i + 1) met
-met_more wanted processors news i one told n old mid new here so_far is n_is same = (
-  so_far.0 ++ n ∷ [],
-  is ∙ (ap (λ (xs : List ℕ). xs ++ n ∷ []) so_far.1 ∙ append_assoc old so_far.0 (n ∷ [])),
-  (
-    omega (arith, length_push so_far.0 n, so_far.2.0),
-    λ k other less at. by_place k other at (cases_lt k i) less,
-  ),
-)
-  where
-    last : ((n ≡ 1) ↔ HasLineSoFar processors news (line_of one)) × ((n ≡ 0) ⊎ (n ≡ 1))
-    last = one_or_none (HasLineSoFar processors news (line_of one)) told n n_is same
-
-    by_place : (k : ℕ) (other : Wanted) → slice_get wanted k ≡ Some other → (k < i) ⊎ (i ≤ k) → k < i + 1
-        → (m : ℕ) × (slice_get (so_far.0 ++ n ∷ []) k ≡ Some m)
-        × ((m ≡ 1) ↔ HasLineSoFar processors news (line_of other)) × ((m ≡ 0) ⊎ (m ≡ 1))
-    by_place k other at (inl below) less =
-        let x = so_far.2.1 k other below at in
-        (x.0, get_left so_far.0 (n ∷ []) k (slice_get_within so_far.0 k x.0 x.1) ∙ x.1, x.2, x.3)
-    by_place k other at (inr past) less =
-        let place : length so_far.0 ≡ k = omega (arith, so_far.2.0, past, less) in
-        let index : i ≡ k = omega (arith, past, less) in
-        let same_line : one ≡ other =
-        same_Some one other (sym here ∙ (ap (slice_get wanted) index ∙ at)) in (
-          n,
-          ap (slice_get (so_far.0 ++ n ∷ [])) (sym place) ∙ get_end so_far.0 n,
-          subst (λ (w : Wanted). (n ≡ 1) ↔ HasLineSoFar processors news (line_of w)) same_line last.0,
-          last.1,
-        )
-
--- a list that is appended to another one
-pub marks_made : (wanted : List Wanted) (n : ℕ) (news : List Record) (old mid new met : List ℕ)
-    → mid ≡ old ++ map (λ cpu. length (replies_to cpu news)) (range_with_len 0 n) → new ≡ mid ++ met
-    → AreMet wanted n news (length wanted) met
-    → (marks : List ℕ) × (new ≡ old ++ marks) × AreMarks wanted n news marks
-marks_made wanted n news old mid new met calls_are is are = (
-  calls ++ met,
-  is ∙ (ap (λ (xs : List ℕ). xs ++ met) calls_are ∙ append_assoc old calls met),
-  record {
-    many = omega (arith, length-append calls met, long, are.0);
-    calls =
-        λ cpu within.
-        get_left calls met cpu (omega (arith, within, long))
-        ∙ (slice_get-get_or calls cpu 0 (omega (arith, within, long)) ∙ ap Some
-        (get_or-map-range_with_len (λ (c : ℕ). length (replies_to c news)) 0 n cpu cpu 0 within (omega arith)));
-    met =
-        λ k one here. let x = are.1 k one (slice_get_within wanted k one here) here in (
-          x.0,
-          get_right calls met (n + k) (omega (arith, long))
-              ∙ (let place : n + k - length calls ≡ k = omega (arith, long) in
-              ap (slice_get met) place ∙ x.1),
-          x.2,
-          x.3,
-        );
-  },
-)
-  where
-    calls : List ℕ
-    calls = map (λ cpu. length (replies_to cpu news)) (range_with_len 0 n)
-
-    long : length calls ≡ n
-    long = length-map-range_with_len (λ (c : ℕ). length (replies_to c news)) 0 n

@@ -1,5 +1,5 @@
 -- One processor's numbers more.
-use Rattle.hp_explore.proofs.Visits.{steered_more}
+use Rattle.hp_explore.proofs.PlaceKeys.{steered_more}
 use Rattle.hp_explore.proofs.visited.push_all_steering.Goals as goal
 
 pub loop-cpu-preserved : goal.loop-cpu-preserved

@@ -12,7 +12,8 @@ returns-then-cpu-processors c =
     told_no (HasAnswer c.args.reply.now (replies_below c.args.processors c.args.records.now) c.args.cpu)
     (λ all.
     let has =
-    subst (HasAnswer c.args.reply.now (replies_below c.args.processors c.args.records.now)) c.in-Some.is all in
+    subst (HasAnswer c.args.reply.now (replies_below c.args.processors c.args.records.now)) c.in-Some.is
+    all in
     let is = below_is c.args.processors c.args.records.now c.in-Some.cpu has.0 has.1 in
     omega (arith, is.0, c.if-cpu-processors.true, c.cpu.view_is))
 
@@ -28,5 +29,6 @@ returns-else-cpu-processors c =
         below_at n news cpu (omega (arith, c.if-cpu-processors.false, c.cpu.view_is)),
         c.is_told.ensures.0 yes,
       ),
-      λ has. c.is_told.ensures.1 (subst (HasReply c.args.reply.now) (below_is n news cpu has.0 has.1).1 has.2),
+      λ has. c.is_told.ensures.1
+          (subst (HasReply c.args.reply.now) (below_is n news cpu has.0 has.1).1 has.2),
     )

@@ -3,7 +3,8 @@ use Rattle.std.proofs.Common.{arith, sym, ◌∙◌}
 use Rattle.hp_schedules.specs.Outcomes.{replies_below}
 use Rattle.hp_questions.specs.Wanted.{HasAnswerAt}
 use Rattle.hp_questions.proofs.Below.{told_no}
-use Rattle.hp_questions.proofs.Marking.{below_is, told_at_none, told_at_some}
+use Rattle.hp_questions.proofs.Marking.{below_is}
+use Rattle.hp_questions.proofs.MarksMade.{told_at_none, told_at_some}
 use Rattle.hp_questions.proofs.marks.is_answered_at.Goals as goal
 
 pub returns-then-cpu-processors : goal.returns-then-cpu-processors

@@ -4,7 +4,6 @@ use Rattle.std.proofs.lemmas.Bool.{iff_false, not-false, not-true}
 use Rattle.std.proofs.lemmas.List.{take_all}
 use Rattle.std.proofs.lemmas.Option.{slice_get_read}
 use Rattle.hp_units.specs.declared.replies.Record.{Record}
-use Rattle.hp_units.specs.declared.replies.Reply.{Reply}
 use Rattle.std.proofs.Common.{List}
 use Rattle.hp_schedules.specs.Outcomes.{replies_to}
 use Rattle.hp_questions.specs.Wanted.{HasReply, IsAsWanted}

@@ -1,6 +1,6 @@
 -- One processor more.
 use Rattle.std.proofs.Common.{◌∙◌}
-use Rattle.hp_questions.proofs.Marking.{calls_more}
+use Rattle.hp_questions.proofs.MarksMade.{calls_more}
 use Rattle.hp_questions.proofs.marks.push_calls.Goals as goal
 
 pub loop-cpu-preserved : goal.loop-cpu-preserved

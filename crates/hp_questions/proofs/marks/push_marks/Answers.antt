@@ -1,5 +1,5 @@
 -- The replies' counts, and then the lines'.
-use Rattle.hp_questions.proofs.Marking.{marks_made}
+use Rattle.hp_questions.proofs.MarksMade.{marks_made}
 use Rattle.hp_questions.proofs.marks.push_marks.Goals as goal
 
 pub returns : goal.returns

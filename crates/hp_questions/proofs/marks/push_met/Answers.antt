@@ -4,7 +4,7 @@ use Rattle.std.specs.Prelude.{◌↔◌, IsTrue}
 use Rattle.hp_questions.specs.Marks.{HasLineSoFar}
 use Rattle.hp_questions.specs.declared.wanted.EndLine.{EndLine}
 use Rattle.hp_questions.proofs.Below.{read_here}
-use Rattle.hp_questions.proofs.Marking.{met_more}
+use Rattle.hp_questions.proofs.MarksMade.{met_more}
 use Rattle.hp_questions.proofs.marks.push_met.Goals as goal
 
 pub loop-index-preserved : goal.loop-index-preserved

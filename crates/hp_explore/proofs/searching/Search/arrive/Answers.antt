@@ -17,7 +17,8 @@ returns-then-branch c =
     (ap (λ (w : SearchValue). w.path) here.view_is ∙ c.in_ok-is_done.ensures.same.0)
     (ap (λ (w : SearchValue). w.schedule) here.view_is ∙ c.in_ok-is_done.ensures.same.1)
     c.requires.processors
-    (subst (λ (w : SearchValue). AreVisited v.path.setting c.args.wanted.now c.args.budget v.schedule w.visited)
+    (subst (λ (w : SearchValue). AreVisited v.path.setting c.args.wanted.now c.args.budget v.schedule
+    w.visited)
     (sym here.view_is) c.in_ok-is_done.ensures.visited)
     (subst (λ (w : SearchValue). AreFollowed v.path.setting v.path.news w.visited) (sym here.view_is)
     c.in_ok-is_done.ensures.way)
@@ -31,7 +32,8 @@ returns c =
     here.inside.visited c.requires.arriving
     (ap (λ (w : SearchValue). w.path) here.view_is ∙ c.in_ok-is_done.ensures.same.0)
     (ap (λ (w : SearchValue). w.schedule) here.view_is ∙ c.in_ok-is_done.ensures.same.1)
-    (subst (λ (w : SearchValue). AreVisited v.path.setting c.args.wanted.now c.args.budget v.schedule w.visited)
+    (subst (λ (w : SearchValue). AreVisited v.path.setting c.args.wanted.now c.args.budget v.schedule
+    w.visited)
     (sym here.view_is) c.in_ok-is_done.ensures.visited)
     (subst (λ (w : SearchValue). AreFollowed v.path.setting v.path.news w.visited) (sym here.view_is)
     c.in_ok-is_done.ensures.way)

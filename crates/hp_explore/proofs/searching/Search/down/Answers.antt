@@ -13,8 +13,9 @@ use Rattle.hp_explore.proofs.searching.Search.down.Goals as goal
 
 pub returns-then-exceeds-clause-ok : goal.returns-then-exceeds-clause-ok
 returns-then-exceeds-clause-ok c =
-    turn_far c.args.wanted.now c.args.budget c.self.inside.path c.self.inside.schedule.items c.self.inside.next
-    c.self.inside.visited c.args.self.now c.self.view_is (omega (arith, c.requires.some, c.requires.processors))
+    turn_far c.args.wanted.now c.args.budget c.self.inside.path c.self.inside.schedule.items
+    c.self.inside.next c.self.inside.visited c.args.self.now c.self.view_is
+    (omega (arith, c.requires.some, c.requires.processors))
     c.requires.searching
     (subst (λ (s : List ℕ). Exceeds c.args.budget (s ++ c.self.inside.next ∷ [])) c.as_slice.ensures.value
     (c.exceeds.ensures.more c.if-exceeds.true))
@@ -22,7 +23,8 @@ returns-then-exceeds-clause-ok c =
 pub returns-in_err-forward-clause-err : goal.returns-in_err-forward-clause-err
 returns-in_err-forward-clause-err c =
     let v = c.args.self.now in
-    let p = err_from_is_err_and c.from_residual-in_err-forward.result c.from_residual-in_err-forward.ensures.1 in
+    let p =
+    err_from_is_err_and c.from_residual-in_err-forward.result c.from_residual-in_err-forward.ensures.1 in
     rw (p.1, p.2)
     (turn_cause c.args.wanted.now c.args.budget v c.in_err-forward.field-0.0
     (subst (λ (w : SearchValue). plays w.path.setting (schedule_of w.path.news) ≡ Some w.path.news)
