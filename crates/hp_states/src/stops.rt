@@ -25,8 +25,8 @@ pub(crate) struct Stop {
 /// The numbers of the place where a walk is, and of each place before it, from the beginning of the
 /// scripts.
 ///
-/// A number of cancellable operations is unknown until a step that no Cancel can drop, and a state
-/// has no number until it is given one.
+/// At the beginning it may be unknown which operations a Cancel can take back. A state has no number
+/// until `number_state` gives it one.
 pub struct Stops {
     codes: Codes,
     openings: Openings,
