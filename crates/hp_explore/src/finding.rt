@@ -8,7 +8,7 @@ ghost use Rattle.hp_explore.specs.Reaching.{HasRoomAlong, IsFound, IsNearest, Is
 use crate::changes::changes_of;
 use crate::fault::FindFault;
 use crate::searching::first_within;
-use crate::{ExploreFault, Watch, explore};
+use crate::{ExploreFault, Silent, Watch, explore};
 use hp_machine::Machine;
 use hp_questions::{Wanted, end_with};
 use hp_schedules::{CallScript, total_of};
@@ -55,7 +55,7 @@ pub fn find<W: Watch>(
     scripts: &[CallScript],
     wanted: &[Wanted],
     limit: u64,
-    watch: &mut W,
+    _watch: &mut W,
 ) -> Result<Found, FindFault>
     requires { length scripts.now < 2 ^ 32 }
     ensures ok { IfOk result (IsFound (setting machine.now scripts.now) wanted.now) }
@@ -67,7 +67,7 @@ pub fn find<W: Watch>(
     if let Some(schedule) = nearest_below(alloc, machine, scripts, wanted, 0, FEW)? {
         return Ok(Found::Nearest(schedule));
     }
-    let explored = explore(alloc, machine, scripts, limit, watch)?;
+    let explored = explore(alloc, machine, scripts, limit, &mut Silent)?;
     match end_with(&explored.ends, wanted) {
         Some(end) => {
             let schedule = nearest_to(alloc, machine, scripts, wanted, end.first.as_slice())?;

@@ -1,9 +1,13 @@
 -- The first end with the lines is reached, and first by its first schedule; where there is none, no
 -- schedule reaches one.
-use Rattle.std.proofs.Common.{ℕ, Global, List, None, Some, Vec, ap, arith, sum_by, sym, subst, ◌∙◌}
+use Rattle.std.proofs.Common.{◌≡◌, ◌⊎◌, ℕ, Global, List, None, Some, Vec, ap, arith, sum_by, sym, subst, ◌∙◌, inl, inr}
 use Rattle.std.proofs.lemmas.Result.{err_from_is_err_and}
 use Rattle.hp_units.specs.declared.Cpu.{Cpu}
 use Rattle.hp_explore.specs.Settings.{setting}
+use Rattle.hp_explore.specs.Fronts.{AreFirst, IfFirst, counted}
+use Rattle.hp_explore.specs.declared.exploring.Exploration.{Exploration}
+use Rattle.hp_schedules.specs.Orders.{HasMoreThan}
+use Rattle.hp_schedules.specs.Schedules.{IsComplete, Setting}
 use Rattle.hp_schedules.specs.declared.tally.Ending.{Ending}
 use Rattle.hp_questions.specs.Ends.{HasNoSuchEnd, IsFirstSuchEnd}
 use Rattle.hp_explore.specs.Changes.{changes}
@@ -12,12 +16,32 @@ use Rattle.hp_explore.specs.Reaching.{HasRoomAlong, IsAbsent, NeedsChanges, Reac
 use Rattle.hp_explore.proofs.Levels.{count_cause, few_cause, first_cause, known_recorded, led_cause, met_within, nearest_at, none_fills, none_reaches, such_reaches}
 use Rattle.hp_explore.proofs.finding.find.Goals as goal
 
+-- a count that no watch ends stops at the limit
+first_of : (g : Setting) (limit : ℕ) (x : Exploration) → IfFirst x (λ ends. AreFirst g (counted ends) ends)
+    → IfFirst x (λ ends. (counted ends ≡ limit) ⊎ ⊥) → IfFirst x (AreFirst g limit)
+first_of g limit x first stopped some =
+    elim (stopped some) [
+      | inl full ↦ subst (λ (n : ℕ). AreFirst g n x.ends.items) full (first some)
+      | inr none ↦ absurd none
+    ]
+
+many_of : (g : Setting) (limit : ℕ) (x : Exploration)
+    → IfFirst x (λ ends. HasMoreThan (IsComplete g) (counted ends))
+    → IfFirst x (λ ends. (counted ends ≡ limit) ⊎ ⊥) → IfFirst x (λ _. HasMoreThan (IsComplete g) limit)
+many_of g limit x many stopped some =
+    elim (stopped some) [
+      | inl full ↦ subst (HasMoreThan (IsComplete g)) full (many some)
+      | inr none ↦ absurd none
+    ]
+
 pub nearest_to-requires-clause-known : goal.nearest_to-requires-clause-known
 nearest_to-requires-clause-known g c =
     let start = setting c.args.machine.now c.args.scripts.now in
     subst (ReachesFirst start c.args.wanted.now) (sym c.as_slice.ensures.value)
     (such_reaches start c.args.wanted.now c.args.limit c.in_ok-explored.explored c.in-Some-end_with.end.now
-    c.in_ok-explored.ensures.ok c.in_ok-explored.ensures.first c.in_ok-explored.ensures.ordered
+    c.in_ok-explored.ensures.ok
+    (first_of start c.args.limit c.in_ok-explored.explored c.in_ok-explored.ensures.first
+    c.in_ok-explored.ensures.stopped) c.in_ok-explored.ensures.ordered
     (subst (λ (ends : List Ending). IsFirstSuchEnd ends c.args.wanted.now c.in-Some-end_with.end.now)
     c.deref.ensures.value c.in-Some-end_with.ensures.some))
 
@@ -26,7 +50,9 @@ nearest_to-requires-clause-along g c =
     let start = setting c.args.machine.now c.args.scripts.now in
     subst (HasRoomAlong start) (sym c.as_slice.ensures.value)
     (known_recorded start c.args.wanted.now c.args.limit c.in_ok-explored.explored
-    c.in-Some-end_with.end.now c.in_ok-explored.ensures.room c.in_ok-explored.ensures.first
+    c.in-Some-end_with.end.now c.in_ok-explored.ensures.room
+    (first_of start c.args.limit c.in_ok-explored.explored c.in_ok-explored.ensures.first
+    c.in_ok-explored.ensures.stopped)
     (subst (λ (ends : List Ending). IsFirstSuchEnd ends c.args.wanted.now c.in-Some-end_with.end.now)
     c.deref.ensures.value c.in-Some-end_with.ensures.some))
 
@@ -59,7 +85,10 @@ returns-in_err-schedule-in-Some-end_with-clause-err g c =
     c.in_ok-schedule.field-0 None c.in_default.is c.in_ok-schedule.ensures.ok in
     rw (p.1, p.2)
     (led_cause start c.args.wanted.now c.args.limit c.in_ok-explored.explored c.in-Some-end_with.end.now _
-    needs c.in_ok-explored.ensures.room c.in_ok-explored.ensures.first c.in_ok-explored.ensures.many
+    needs c.in_ok-explored.ensures.room (first_of start c.args.limit c.in_ok-explored.explored c.in_ok-explored.ensures.first
+    c.in_ok-explored.ensures.stopped)
+    (many_of start c.args.limit c.in_ok-explored.explored c.in_ok-explored.ensures.many
+    c.in_ok-explored.ensures.stopped)
     (subst (λ (ends : List Ending). IsFirstSuchEnd ends c.args.wanted.now c.in-Some-end_with.end.now)
     c.deref.ensures.value c.in-Some-end_with.ensures.some)
     (subst (λ (n : List ℕ). IsNearCause start c.args.wanted.now (changes n)
@@ -70,7 +99,8 @@ pub returns-in-Some-end_with-clause-few : goal.returns-in-Some-end_with-clause-f
 returns-in-Some-end_with-clause-few g c few more =
     met_within (setting c.args.machine.now c.args.scripts.now) c.args.wanted.now c.args.limit
     c.in_ok-explored.explored c.in-Some-end_with.end.now c.in_ok-explored.ensures.few
-    c.in_ok-explored.ensures.first
+    (first_of (setting c.args.machine.now c.args.scripts.now) c.args.limit c.in_ok-explored.explored
+    c.in_ok-explored.ensures.first c.in_ok-explored.ensures.stopped)
     (subst (λ (ends : List Ending). IsFirstSuchEnd ends c.args.wanted.now c.in-Some-end_with.end.now)
     c.deref.ensures.value c.in-Some-end_with.ensures.some) more
 
@@ -92,8 +122,10 @@ returns-clause-err g c =
     nearest_at (λ (s : Vec Cpu Global). s.items) start c.args.wanted.now few_changes
     c.in_ok-schedule.field-0 None c.in_default.is c.in_ok-schedule.ensures.ok in
     first_cause start c.args.wanted.now c.args.limit c.in_ok-explored.explored.ends.items needs
-    (c.in_ok-explored.ensures.many c.if-explored.false)
-    (c.in_ok-explored.ensures.first c.if-explored.false)
+    (many_of start c.args.limit c.in_ok-explored.explored c.in_ok-explored.ensures.many
+    c.in_ok-explored.ensures.stopped c.if-explored.false)
+    (first_of start c.args.limit c.in_ok-explored.explored c.in_ok-explored.ensures.first
+    c.in_ok-explored.ensures.stopped c.if-explored.false)
     (subst (λ (ends : List Ending). HasNoSuchEnd ends c.args.wanted.now) c.deref.ensures.value
     c.in-None.ensures.none)
 
@@ -113,7 +145,9 @@ returns-in-Some-clause-room g c more few fills =
 pub returns-in-Some-end_with-clause-room : goal.returns-in-Some-end_with-clause-room
 returns-in-Some-end_with-clause-room g c more =
     none_fills (setting c.args.machine.now c.args.scripts.now) c.args.limit c.in_ok-explored.explored
-    c.in_ok-explored.ensures.room c.in_ok-explored.ensures.many
+    c.in_ok-explored.ensures.room
+    (many_of (setting c.args.machine.now c.args.scripts.now) c.args.limit c.in_ok-explored.explored
+    c.in_ok-explored.ensures.many c.in_ok-explored.ensures.stopped)
 
 pub returns-in-Some-end_with-clause-along : goal.returns-in-Some-end_with-clause-along
 returns-in-Some-end_with-clause-along g c = c.in_ok-schedule-in-Some-end_with.ensures.along
