@@ -7,11 +7,6 @@ use std::io::Write;
 /// after one on a line of its own. A search makes some hundred thousand reports per second.
 const SILENT: u32 = 1024;
 
-/// Printed after a search that kept all that it may.
-const FILLED: &str =
-    "hotplug_lab: the memory for states was used up: those that came later were walked each \
-     time (--memory)";
-
 /// Where progress is shown.
 #[derive(Clone, Copy, Drop)]
 pub(crate) enum Shown {
@@ -105,14 +100,6 @@ impl<W: Write + Drop> Watch for Progress<W> {
 
     fn memory(&self) -> u64 {
         self.memory
-    }
-
-    fn filled(&mut self) {
-        if self.is_open {
-            self.is_open = false;
-            let _ = writeln!(self.out);
-        }
-        let _ = writeln!(self.out, "{FILLED}");
     }
 
     fn goes_on(&mut self, _places: u64, _bytes: u64) -> bool {

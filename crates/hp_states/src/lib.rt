@@ -38,4 +38,4 @@ pub use key_table::KeyTable;
 pub use laws::codes_tell_states_apart;
 pub use memo::Memo;
 pub use stops::Stops;
-pub use watch::{KEPT_BYTES, Silent, Watch};
+pub use watch::{KEPT_BYTES, Reach, Silent, Watch};

@@ -27,8 +27,7 @@ pub struct Memo {
     rows: Rows,
     key: Vec<u32>,
     standing: Standing,
-    /// How many bytes may be kept, and how many the shares take.
-    limit: u64,
+    /// How many bytes the shares take.
     size: u64,
 }
 
@@ -55,7 +54,6 @@ impl Drop for Memo {
             rows: _rows,
             key: _,
             standing: _standing,
-            limit: _,
             size: _,
         } = self;
     }
@@ -65,14 +63,12 @@ impl Memo {
     /// Creates an empty memo for a walk at the beginning of the scripts. With `is_on` false, no
     /// place is ever stored.
     ///
-    /// `is_closed` states that no Cancel can drop a step that led there. Once states and places take
-    /// `memory` bytes, no more are stored, and those that are stored stay in use.
+    /// `is_closed` states that no Cancel can drop a step that led there.
     pub fn start(
         alloc: Global,
         is_on: bool,
         processors: usize,
         is_closed: bool,
-        memory: u64,
     ) -> Result<Memo, AllocError>
         ensures on { IfOk result (λ memo. memo.is_on ≡ is_on) }
         ensures rows { IfOk result (λ memo. (memo.keys ≡ []) × (memo.rows ≡ [])) }
@@ -93,7 +89,6 @@ impl Memo {
             rows: Rows::new(alloc),
             key: Vec::new(alloc),
             standing,
-            limit: memory,
             size: 0,
         })
     }
@@ -153,15 +148,14 @@ impl Memo {
         if !self.is_on {
             return Ok(false);
         }
-        let adds = !self.is_full();
-        self.standing.number_state(alloc, memory, adds)?;
+        self.standing.number_state(alloc, memory)?;
         self.standing.key(positions, processors, &mut self.key)
     }
 
-    /// Returns whether the states and places take all the memory that they may.
-    pub fn is_full(&self) -> bool {
+    /// Returns about how many bytes the states and places take.
+    pub fn bytes(&self) -> u64 {
         let places = self.keys.bytes().saturating_add(self.size);
-        self.standing.size().saturating_add(places) >= self.limit
+        self.standing.size().saturating_add(places)
     }
 
     /// Writes the key of the place where the walk is, after `come_to`, and returns whether it has

@@ -87,19 +87,14 @@ impl Standing {
         self.exchanges.go_back(cpu);
     }
 
-    /// Gives the current state the number that it has, and with `adds` a new one if it has none;
-    /// unless it is unknown which operations a Cancel can take back.
-    pub(crate) fn number_state(
-        &mut self,
-        alloc: Global,
-        memory: &Memory,
-        adds: bool,
-    ) -> Result<(), AllocError>
+    /// Gives the current state the number that it has, or a new one, unless it is unknown which
+    /// operations a Cancel can take back.
+    pub(crate) fn number_state(&mut self, alloc: Global, memory: &Memory) -> Result<(), AllocError>
         ensures kept { KeepMeanings self.old self.new }
         ensures here { (g : Setting) (news : List NewRecord) → memory.now ≡ memory_at g news
             → IsStanding g news self.old → IsStanding g news self.new }
     {
-        self.stops.number_state(alloc, memory, adds)
+        self.stops.number_state(alloc, memory)
     }
 
     /// Returns about how many bytes the states take.

@@ -25,8 +25,8 @@ pub(crate) struct Stop {
 /// The numbers of the place where a walk is, and of each place before it, from the beginning of the
 /// scripts.
 ///
-/// A number of cancellable operations is unknown until a step that no Cancel can drop, and a state
-/// has no number until it is given one.
+/// At the beginning it may be unknown which operations a Cancel can take back. A state has no number
+/// until `number_state` gives it one.
 pub struct Stops {
     codes: Codes,
     openings: Openings,
@@ -109,27 +109,9 @@ impl Stops {
         self.here = here;
     }
 
-    /// Gives the current state the number that it has, and with `adds` a new one if it has none;
-    /// unless it is unknown which operations a Cancel can take back.
-    pub fn number_state(
-        &mut self,
-        alloc: Global,
-        memory: &Memory,
-        adds: bool,
-    ) -> Result<(), AllocError>
-        ensures kept { KeepStops self.old self.new }
-        ensures here { (g : Setting) (news : List NewRecord) → memory.now ≡ memory_at g news
-            → AreStopsAt g news self.old → AreStopsAt g news self.new }
-    {
-        if adds {
-            self.add_state(alloc, memory)
-        } else {
-            self.find_state(memory)
-        }
-    }
-
-    /// Gives the current state the number that it has, or a new one.
-    fn add_state(&mut self, alloc: Global, memory: &Memory) -> Result<(), AllocError>
+    /// Gives the current state the number that it has, or a new one, unless it is unknown which
+    /// operations a Cancel can take back.
+    pub fn number_state(&mut self, alloc: Global, memory: &Memory) -> Result<(), AllocError>
         ensures kept { KeepStops self.old self.new }
         ensures here { (g : Setting) (news : List NewRecord) → memory.now ≡ memory_at g news
             → AreStopsAt g news self.old → AreStopsAt g news self.new }
@@ -139,21 +121,6 @@ impl Stops {
         }
         let state = self.codes.number_of(alloc, memory)?;
         self.here.state = Some(state);
-        Ok(())
-    }
-
-    /// Gives the current state the number that it has, if any.
-    fn find_state(&mut self, memory: &Memory) -> Result<(), AllocError>
-        ensures kept { KeepStops self.old self.new }
-        ensures here { (g : Setting) (news : List NewRecord) → memory.now ≡ memory_at g news
-            → AreStopsAt g news self.old → AreStopsAt g news self.new }
-    {
-        if self.here.openings.is_none() {
-            return Ok(());
-        }
-        if let Some(state) = self.codes.find(memory)? {
-            self.here.state = Some(state);
-        }
         Ok(())
     }
 

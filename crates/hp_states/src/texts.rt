@@ -69,13 +69,6 @@ impl Texts {
         }
     }
 
-    /// Returns the number of `text` if it is found.
-    pub(crate) fn find(&self, text: &[u8]) -> Option<usize>
-        ensures { IfSome result (λ n. slice_get self.now n ≡ Some text.now) }
-    {
-        self.found(digest_of(text), text)
-    }
-
     /// Returns about how many bytes the strings take.
     pub(crate) fn size(&self) -> u64 {
         (self.bytes.len() as u64).saturating_add(

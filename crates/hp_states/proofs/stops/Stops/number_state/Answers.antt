@@ -2,7 +2,7 @@
 use Rattle.std.proofs.Common.{Some, refl, subst, sym}
 use Rattle.hp_states.specs.Stops.{AreStopsAt, StopsValue}
 use Rattle.hp_states.proofs.StopNumbers.{coded_more, state_known}
-use Rattle.hp_states.proofs.stops.Stops.add_state.Goals as goal
+use Rattle.hp_states.proofs.stops.Stops.number_state.Goals as goal
 
 pub returns-clause-here : goal.returns-clause-here
 returns-clause-here c =
