@@ -61,7 +61,7 @@ impl Visited {
     {
         let is_on = keeps_places(scripts);
         let mut stops = Stops::start(alloc, is_closed(machine.history()));
-        stops.number_state(alloc, memory, true)?;
+        stops.number_state(alloc, memory)?;
         Ok(Visited {
             is_on,
             stops,
@@ -122,7 +122,7 @@ impl Visited {
         if !self.is_on {
             return Ok(false);
         }
-        self.stops.number_state(alloc, path.memory(), true)?;
+        self.stops.number_state(alloc, path.memory())?;
         if !self.write_key(path, schedule, processors, wanted, budget)? {
             return Ok(false);
         }
