@@ -1,7 +1,7 @@
 #!/usr/bin/env python3
-"""Writes the viewer as constants of crates/hp_page, from the files beside this script.
+"""Writes the viewer as constants of crates/hp_svg, from the files beside this script.
 
-    build.py                    writes crates/hp_page/src/viewer/*.rt
+    build.py                    writes crates/hp_svg/src/viewer/*.rt
     build.py --check            exit status 1 if those are not what the viewer's files give
     build.py --page TRACE       prints the page of a trace (what `hotplug_lab trace --json` prints)
 
@@ -16,7 +16,7 @@ import sys
 from pathlib import Path
 
 HERE = Path(__file__).resolve().parent
-TARGET = HERE.parent / "crates/hp_page/src/viewer"
+TARGET = HERE.parent / "crates/hp_svg/src/viewer"
 STYLE, SCRIPTS = "viewer.css", ["trace.js", "words.js", "machine.js", "panels.js"]
 MARKS = re.compile("@(STYLE|TRACE|SCRIPT)@")
 WIDTH = 100

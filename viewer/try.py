@@ -4,7 +4,7 @@ alone it takes the folder of the crates in which the programs were built:
 
     python3 viewer/try.py [--shots FOLDER] [CRATES]        without CRATES: crates
 
-- crates/hp_page holds what the files of viewer/ give (viewer/build.py).
+- crates/hp_svg holds what the files of viewer/ give (viewer/build.py).
 - docs/pages/NAME.html is what the program writes of examples/NAME.json, and docs/LESSONS.md or
   README.md links it.
 - A page is what `trace --json` prints, within the viewer, on each file of examples/, hostile texts,

@@ -15,8 +15,8 @@ pub struct Call {
     event: Event,
 }
 
-/// What a run of calls gave: how many were made, the checksum of the replies, and the time that the
-/// calls and the seals took.
+/// What a run of calls took: the number of calls, the checksum of the replies, and the time of the
+/// calls and of the seals.
 #[derive(Clone, Copy, Drop)]
 pub struct Figures {
     made: usize,
@@ -26,7 +26,7 @@ pub struct Figures {
 }
 
 impl Figures {
-    /// Of no calls.
+    /// Returns the figures of no calls.
     fn none() -> Figures {
         Figures {
             made: 0,
@@ -36,7 +36,7 @@ impl Figures {
         }
     }
 
-    /// Makes calls.
+    /// Makes the calls, and adds their number, checksum and time.
     fn make(&mut self, rt: &HostRuntime, machine: &mut Machine, calls: &[Call]) -> Result<()> {
         let start = Instant::now(rt)?;
         self.sum = make_calls(rt.alloc(), machine, calls, self.sum)?;
@@ -46,7 +46,7 @@ impl Figures {
         Ok(())
     }
 
-    /// Seals the machine, and lets go of what was sealed.
+    /// Seals the machine and drops the volume.
     fn seal(&mut self, rt: &HostRuntime, machine: &mut Machine) -> Result<()> {
         let start = Instant::now(rt)?;
         let_go(machine.seal(rt.alloc()))?;
@@ -55,7 +55,7 @@ impl Figures {
         Ok(())
     }
 
-    /// Makes the next of the calls, at most so many, and seals the machine.
+    /// Makes the next calls, at most `part` of them, and seals the machine.
     fn make_part(
         &mut self,
         rt: &HostRuntime,
@@ -69,7 +69,7 @@ impl Figures {
         self.seal(rt, machine)
     }
 
-    /// Makes calls, and seals the machine after every so many.
+    /// Makes all calls, and seals the machine after every `part` of them.
     fn make_parts(
         &mut self,
         rt: &HostRuntime,
@@ -87,7 +87,7 @@ impl Figures {
     }
 }
 
-/// Lets go of what a seal handed out.
+/// Drops the volume that a seal returned.
 fn let_go(sealed: Result<Volume, AllocError>) -> Result<(), AllocError> {
     match sealed {
         Ok(_volume) => Ok(()),
@@ -95,8 +95,8 @@ fn let_go(sealed: Result<Volume, AllocError>) -> Result<(), AllocError> {
     }
 }
 
-/// Makes calls on a machine at its start, which is sealed after every so many; where that is 0 it
-/// is not sealed.
+/// Makes the calls on a machine just booted, which is sealed after every `part` calls, or never if
+/// `part` is 0.
 pub fn time_calls(
     rt: &HostRuntime,
     layout: &Layout,
@@ -107,7 +107,7 @@ pub fn time_calls(
     time_on(rt, &mut machine, calls, part)
 }
 
-/// The same on a machine.
+/// Makes the calls on a machine, as `time_calls` does.
 fn time_on(
     rt: &HostRuntime,
     machine: &mut Machine,
@@ -123,7 +123,7 @@ fn time_on(
     Ok(figures)
 }
 
-/// The calls of lines, each of which asks for one event.
+/// Returns the calls of lines, each of which must ask for one event.
 pub fn calls_of(alloc: Global, lines: Lines) -> Result<Vec<Call>> {
     let lines = lines.into_vec();
     let mut calls = Vec::with_capacity(alloc, lines.len())?;
@@ -133,7 +133,7 @@ pub fn calls_of(alloc: Global, lines: Lines) -> Result<Vec<Call>> {
     Ok(calls)
 }
 
-/// The call of a line that asks for one event, maybe by a control file.
+/// Returns the call of a line. An `echo` that asks for one event counts as one.
 fn call_of(alloc: Global, line: Line) -> Result<Call> {
     match line.work.asked() {
         Asked::Event(event) => Ok(Call {
@@ -144,9 +144,10 @@ fn call_of(alloc: Global, line: Line) -> Result<Call> {
     }
 }
 
-/// Makes calls on a machine, and answers the checksum of their replies, after one of earlier
-/// replies. Each reply is read where the call left it, as in the peer: an answer that is handed on
-/// as a `Result` of anyhow's is copied with room for an error.
+/// Makes calls, and returns the checksum of their replies, continued from `sum`.
+///
+/// Each reply is read where the call left it, as in the peer: handing it on in a `Result` of anyhow
+/// would copy it, with room for an error.
 fn make_calls(alloc: Global, machine: &mut Machine, calls: &[Call], sum: u64) -> Result<u64> {
     let mut sum = sum;
     for call in calls {

@@ -1,7 +1,7 @@
-//! One number of many replies.
+//! A checksum of replies.
 use hp_units::{Refusal, Reply};
 
-/// The checksum of replies, with one more.
+/// Returns the checksum after one more reply.
 pub fn mix(sum: u64, reply: &Reply) -> u64 {
     let (kind, value) = code_of(reply);
     (sum.rotate_left(7) ^ value ^ (kind.wrapping_mul(0x100_0000_0000_0000))).wrapping_mul(
@@ -9,7 +9,7 @@ pub fn mix(sum: u64, reply: &Reply) -> u64 {
     )
 }
 
-/// Two numbers that tell a reply.
+/// Returns a reply as two numbers: its kind and its value.
 fn code_of(reply: &Reply) -> (u64, u64) {
     match reply {
         Reply::Done => (0, 0),
@@ -24,7 +24,7 @@ fn code_of(reply: &Reply) -> (u64, u64) {
     }
 }
 
-/// Two numbers that tell a refusal.
+/// Returns a refusal as two numbers: its kind and its value.
 fn refusal_code(refusal: &Refusal) -> (u64, u64) {
     match refusal {
         Refusal::NoOwner => (101, 0),

@@ -1,10 +1,10 @@
-//! How long calls of a machine take, without any text: `bench_calls [RUNS [PART]] < SCENARIO`.
+//! Times calls of a machine, without any text: `bench_calls [RUNS [PART]] < SCENARIO`.
 //!
-//! It reads a scenario whose lines each ask for one event, as the peer's `gen_big .. --events` writes
-//! them, makes their calls on machines at their start, and prints for each run nanoseconds a call and
-//! the checksum of the replies. With a part it seals the machine after every so many calls, which keeps
-//! no more history than that. With no word it makes the calls once and prints no time, since no two runs
-//! take the same.
+//! It reads a scenario whose lines each ask for one event, as the peer's `gen_big .. --events`
+//! writes them, makes their calls on machines just booted, and prints for each run the nanoseconds
+//! per call and the checksum of the replies. With PART it seals the machine after every PART calls,
+//! which keeps the history that short. With no argument it makes the calls once and prints no time,
+//! so that its output is always the same.
 #![tactic(auto)]
 
 mod calls;
@@ -17,7 +17,7 @@ use hp_streams::{Counted, read_all};
 use hp_units::Layout;
 use std::env;
 
-/// How often the calls are to be made, and after how many the machine is sealed, 0 for never.
+/// How many runs to make, and after how many calls to seal the machine; 0 for never.
 #[derive(Clone, Copy)]
 struct Asked {
     runs: u64,
@@ -34,7 +34,7 @@ fn main(rt: HostRuntime) -> Result<()> {
     }
 }
 
-/// What the words ask for, where there are some.
+/// Parses the arguments, if there are any.
 fn asked_for(rt: &HostRuntime) -> Result<Option<Asked>> {
     let mut words = env::args(rt)?.skip(1);
     let Some(runs) = words.next() else {
@@ -48,7 +48,7 @@ fn asked_for(rt: &HostRuntime) -> Result<Option<Asked>> {
     Ok(Some(Asked { runs, part }))
 }
 
-/// The scenario on standard input.
+/// Reads the scenario on standard input.
 fn read_scenario(rt: &HostRuntime) -> Result<Scenario> {
     let Ok(input) = read_all(rt.alloc(), &mut Counted::new(rt.stdin())) else {
         return Err(anyhow!("reading failed"));
@@ -56,7 +56,7 @@ fn read_scenario(rt: &HostRuntime) -> Result<Scenario> {
     Ok(Scenario::read(rt.alloc(), &input)?)
 }
 
-/// One line: how many calls, and the checksum of their replies.
+/// Prints the number of calls and the checksum of their replies.
 fn print_sum(rt: &HostRuntime, layout: &Layout, calls: &[Call]) -> Result<()> {
     let Figures { sum, .. } = time_calls(rt, layout, calls, 0)?;
     let count = calls.len();
@@ -64,7 +64,7 @@ fn print_sum(rt: &HostRuntime, layout: &Layout, calls: &[Call]) -> Result<()> {
     Ok(())
 }
 
-/// Times the calls so often, and prints a line for each run.
+/// Times as many runs as asked, and prints a line for each.
 fn print_times(rt: &HostRuntime, layout: &Layout, calls: &[Call], asked: Asked) -> Result<()> {
     for _run in 0..asked.runs {
         let timed = time_calls(rt, layout, calls, asked.part)?;
@@ -73,7 +73,7 @@ fn print_times(rt: &HostRuntime, layout: &Layout, calls: &[Call], asked: Asked) 
     Ok(())
 }
 
-/// One line: a run of so many calls.
+/// Prints the line of one run of `count` calls.
 fn print_line(rt: &HostRuntime, count: usize, timed: &Figures) -> Result<()> {
     let each = timed.calls.as_nanos().saturating_mul(10) / (count as u128).max(1);
     let tenths = each % 10;

@@ -1,4 +1,4 @@
-//! Histories and chains of volumes that something is wrong with, each with its fault.
+//! Histories and chains of volumes with an error each, and the fault that reports it.
 use hp_history::{Records, Volume};
 use hp_machine::Machine;
 use hp_plain::Image;
@@ -8,13 +8,13 @@ use layouts_for_tests::{LAST_OFFLINE, four_blocks};
 use std::alloc::{AllocError, Global};
 use std::test::Fail;
 
-/// A block of the kernel is taken.
+/// Takes a block of two frames for the kernel.
 const TAKE: Event = Event::KernelAlloc { order: Order(1) };
 
-/// It is given back.
+/// Gives that block back.
 const GIVE: Event = Event::KernelFree { frame: Frame(0) };
 
-/// A record of the first processor.
+/// Returns a record of processor 0.
 fn record_of(serial: u64, event: Event, reply: Reply) -> Record {
     Record {
         serial: Serial(serial),
@@ -24,13 +24,14 @@ fn record_of(serial: u64, event: Event, reply: Reply) -> Record {
     }
 }
 
-/// The record of an undo to a serial.
+/// Returns the record of an undo to serial `to`.
 fn undo_of(serial: u64, to: u64, reply: Reply) -> Record {
     let undo = Event::UndoAfter { serial: Serial(to) };
     record_of(serial, undo, reply)
 }
 
-/// A block is taken and given back, and then both are undone, which takes back this many steps.
+/// Returns three records: a block is taken, given back, and both steps are undone; the undo's reply
+/// is that `count` steps were.
 fn undone(alloc: Global, count: u64) -> Result<Vec<Record>, AllocError> {
     let mut records = Vec::with_capacity(alloc, 3)?;
     records.push(record_of(1, TAKE, Reply::Frame(Frame(0))))?;
@@ -39,7 +40,7 @@ fn undone(alloc: Global, count: u64) -> Result<Vec<Record>, AllocError> {
     Ok(records)
 }
 
-/// The same, without the second record.
+/// Returns the same records without the second.
 fn with_a_gap(alloc: Global) -> Result<Vec<Record>, AllocError> {
     let mut records = Vec::with_capacity(alloc, 2)?;
     records.push(record_of(1, TAKE, Reply::Frame(Frame(0))))?;
@@ -47,7 +48,7 @@ fn with_a_gap(alloc: Global) -> Result<Vec<Record>, AllocError> {
     Ok(records)
 }
 
-/// Returns the fault of records; none if they are a legal history.
+/// Returns the fault of a replay of the records, or `None` if they are a legal history.
 fn fault_of(alloc: Global, layout: &Layout, records: &[Record]) -> Option<ReplayFault> {
     match replay(alloc, layout, records) {
         Ok(_image) => None,
@@ -75,7 +76,7 @@ fn a_wrong_serial_is_named_by_its_place(rt: HostRuntime) -> Result<(), Fail> {
     Ok(())
 }
 
-/// Returns whether an event gets a reply.
+/// Makes a call, and returns whether it gets this reply.
 fn gets(alloc: Global, machine: &mut Machine, event: &Event, reply: &Reply) -> bool {
     match machine.answer(alloc, Cpu(0), event) {
         Ok((_, answered)) => answered.same(reply),
@@ -83,13 +84,13 @@ fn gets(alloc: Global, machine: &mut Machine, event: &Event, reply: &Reply) -> b
     }
 }
 
-/// Returns whether an undo to a serial gets a reply.
+/// Makes an undo to serial `to`, and returns whether it gets this reply.
 fn undo_gets(alloc: Global, machine: &mut Machine, to: u64, reply: &Reply) -> bool {
     let undo = Event::UndoAfter { serial: Serial(to) };
     gets(alloc, machine, &undo, reply)
 }
 
-/// Returns the volume of a block that is taken and given back.
+/// Takes a block, gives it back and seals. Returns the volume.
 fn first_volume(alloc: Global, machine: &mut Machine) -> Result<Volume, Fail> {
     let first = Reply::Frame(Frame(0));
     if gets(alloc, machine, &TAKE, &first) && gets(alloc, machine, &GIVE, &Reply::Done) {
@@ -98,7 +99,9 @@ fn first_volume(alloc: Global, machine: &mut Machine) -> Result<Volume, Fail> {
     Err(Fail::from("other replies before the seal"))
 }
 
-/// Returns the volume after that one: what was sealed is no longer undone, and a block is taken.
+/// Makes the calls after the first seal and seals again. Returns the volume.
+///
+/// Sealed steps cannot be undone any more; then a block is taken.
 fn second_volume(alloc: Global, machine: &mut Machine) -> Result<Volume, Fail> {
     let gone = Reply::Refused(Refusal::Gone);
     let none = Reply::Undone { count: 0 };
@@ -112,7 +115,7 @@ fn second_volume(alloc: Global, machine: &mut Machine) -> Result<Volume, Fail> {
     Err(Fail::from("other replies after the seal"))
 }
 
-/// Returns the two volumes that a machine seals.
+/// Returns the two volumes of one machine.
 fn both_volumes(alloc: Global, layout: &Layout) -> Result<Vec<Volume>, Fail> {
     let mut machine = Machine::boot(alloc, layout)?;
     let mut volumes = Vec::with_capacity(alloc, 2)?;
@@ -121,7 +124,7 @@ fn both_volumes(alloc: Global, layout: &Layout) -> Result<Vec<Volume>, Fail> {
     Ok(volumes)
 }
 
-/// Returns the first of these volumes, twice.
+/// Returns the first volume twice, from two machines.
 fn first_twice(alloc: Global, layout: &Layout) -> Result<Vec<Volume>, Fail> {
     let mut machine = Machine::boot(alloc, layout)?;
     let mut twin = Machine::boot(alloc, layout)?;
@@ -131,13 +134,13 @@ fn first_twice(alloc: Global, layout: &Layout) -> Result<Vec<Volume>, Fail> {
     Ok(volumes)
 }
 
-/// Gives a volume the state at boot as its base.
+/// Sets the base of a volume to the state at boot.
 fn begin_at_boot(alloc: Global, layout: &Layout, volume: &mut Volume) -> Result<(), AllocError> {
     volume.base = Image::boot(alloc, layout)?;
     Ok(())
 }
 
-/// Gives the last of a volume's three records another reply.
+/// Changes the reply of the last of a volume's three records.
 fn reply_otherwise(alloc: Global, volume: &mut Volume) -> Result<(), AllocError> {
     let mut records = Vec::with_capacity(alloc, 3)?;
     records.push(undo_of(3, 0, Reply::Refused(Refusal::Gone)))?;
@@ -147,7 +150,7 @@ fn reply_otherwise(alloc: Global, volume: &mut Volume) -> Result<(), AllocError>
     Ok(())
 }
 
-/// Returns the fault of a chain; none if the volumes follow one another.
+/// Returns the fault of an audit of the chain, or `None` if the volumes follow one another.
 fn chain_fault(alloc: Global, layout: &Layout, volumes: &[Volume]) -> Option<ChainFault> {
     match audit_chain(alloc, layout, volumes) {
         Ok(_image) => None,
@@ -155,7 +158,7 @@ fn chain_fault(alloc: Global, layout: &Layout, volumes: &[Volume]) -> Option<Cha
     }
 }
 
-/// Returns whether two volumes follow one another, and the second alone follows none.
+/// Returns whether the two volumes follow one another, and the second alone has a wrong count.
 fn follow(alloc: Global, layout: &Layout, volumes: &[Volume]) -> bool {
     match volumes {
         [_first, second @ ..] => {
@@ -184,7 +187,7 @@ fn the_first_volume_does_not_follow_itself(rt: HostRuntime) -> Result<(), Fail> 
     Ok(())
 }
 
-/// Returns the fault of the two volumes after the second got the state at boot as its base.
+/// Returns the fault of the two volumes if the second begins with the state at boot.
 fn fault_at_boot(alloc: Global, layout: &Layout) -> Result<Option<ChainFault>, Fail> {
     let mut volumes = both_volumes(alloc, layout)?;
     if let Some(second) = volumes.get_mut(1) {
@@ -193,7 +196,7 @@ fn fault_at_boot(alloc: Global, layout: &Layout) -> Result<Option<ChainFault>, F
     Ok(chain_fault(alloc, layout, volumes.as_slice()))
 }
 
-/// Returns the fault of the two volumes after the second's last record got another reply.
+/// Returns the fault of the two volumes if the second's last reply is changed.
 fn fault_of_reply(alloc: Global, layout: &Layout) -> Result<Option<ChainFault>, Fail> {
     let mut volumes = both_volumes(alloc, layout)?;
     if let Some(second) = volumes.get_mut(1) {

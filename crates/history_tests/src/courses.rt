@@ -1,4 +1,4 @@
-//! A course of a few records, and worked records that lead back to the state at boot.
+//! A course of two records, and an audit of records that lead back to the state at boot.
 use hp_history::{Course, Records, Volume};
 use hp_plain::Image;
 use hp_replays::audit_chain;
@@ -7,13 +7,13 @@ use layouts_for_tests::{LAST_OFFLINE, four_blocks};
 use std::alloc::{AllocError, Global};
 use std::test::Fail;
 
-/// A block of the kernel is taken.
+/// Takes a block of two frames for the kernel.
 const TAKE: Event = Event::KernelAlloc { order: Order(1) };
 
-/// It is given back.
+/// Gives that block back.
 const GIVE: Event = Event::KernelFree { frame: Frame(0) };
 
-/// A record of the first processor.
+/// Returns a record of processor 0.
 fn record_of(serial: u64, event: Event, reply: Reply) -> Record {
     Record {
         serial: Serial(serial),
@@ -23,7 +23,7 @@ fn record_of(serial: u64, event: Event, reply: Reply) -> Record {
     }
 }
 
-/// A block is taken and given back, and both steps are undone.
+/// Returns three records: a block is taken, given back, and both steps are undone.
 fn worked(alloc: Global) -> Result<Vec<Record>, AllocError> {
     let mut records = Vec::with_capacity(alloc, 3)?;
     let undo = Event::UndoAfter { serial: Serial(0) };
@@ -33,7 +33,7 @@ fn worked(alloc: Global) -> Result<Vec<Record>, AllocError> {
     Ok(records)
 }
 
-/// Whether an audit of these records leads back to the state at boot.
+/// Returns whether an audit of the records of `worked` leads back to the state at boot.
 fn leads_back(alloc: Global, layout: &Layout) -> Result<bool, Fail> {
     let records = Records::new(worked(alloc)?);
     let boot = Image::boot(alloc, layout)?;
@@ -54,7 +54,7 @@ fn a_history_leads_back_to_boot(rt: HostRuntime) -> Result<(), Fail> {
     Ok(())
 }
 
-/// Answers an event of processor 0, where there is a further serial.
+/// Carries out an event of processor 0, unless the course has no serial left.
 fn act(alloc: Global, course: &mut Course, event: &Event) -> Result<(), AllocError> {
     if course.is_spent() {
         return Ok(());
@@ -65,7 +65,7 @@ fn act(alloc: Global, course: &mut Course, event: &Event) -> Result<(), AllocErr
     }
 }
 
-/// Whether a course shows two steps, and the deltas of each.
+/// Returns whether a course shows two steps and their deltas.
 fn shows_two_steps(course: &Course) -> bool {
     course.journal_len() == 2
         && course.entry(1).is_some()
@@ -74,7 +74,8 @@ fn shows_two_steps(course: &Course) -> bool {
         && course.memory().layout().cpus() == 2
 }
 
-/// Takes a block and gives it back: whether the course shows both steps, and a seal hands them out.
+/// Takes a block and gives it back. Returns whether the course shows both steps, and a seal hands
+/// them out.
 fn seals_two(alloc: Global, course: &mut Course) -> Result<bool, AllocError> {
     act(alloc, course, &TAKE)?;
     act(alloc, course, &GIVE)?;
@@ -84,19 +85,19 @@ fn seals_two(alloc: Global, course: &mut Course) -> Result<bool, AllocError> {
     Ok(shown && records.len() == 2 && course.before() == 2 && course.last_serial() == 2)
 }
 
-/// Whether a copy of a course is at its base.
+/// Returns whether the base of a course, and of its copy, is its present state.
 fn is_at_its_base(alloc: Global, course: &Course) -> Result<bool, AllocError> {
     let image = course.image(alloc)?;
     let copy = course.copy(alloc)?;
     Ok(course.base().same(&image) && copy.base().same(&image))
 }
 
-/// Whether both hold.
+/// Returns whether `seals_two` and then `is_at_its_base` hold.
 fn goes_on(alloc: Global, course: &mut Course) -> Result<bool, AllocError> {
     Ok(seals_two(alloc, course)? && is_at_its_base(alloc, course)?)
 }
 
-/// A course of the four blocks.
+/// Boots a course on the layout of four blocks.
 fn booted(alloc: Global) -> Result<Course, Fail> {
     let layout = four_blocks(alloc, LAST_OFFLINE, 9)?;
     Ok(Course::boot(alloc, &layout)?)

@@ -1,5 +1,5 @@
-//! Parts that take no memory, added to an empty state of four memory blocks. crates/refused_values
-//! adds the others.
+//! Parts that need no memory, added to an empty state of four memory blocks. Those that need some
+//! are added in crates/refused_values.
 ghost use Rattle.std.specs.Prelude.{◌≡◌};
 ghost use Rattle.hp_units.specs.Arithmetic.{frame_count, pageblock_count};
 
@@ -14,7 +14,7 @@ const ISOLATED: Kind = Kind {
     isolated: true,
 };
 
-/// Adds a block of the kernel, and what added blocks become.
+/// Adds a kernel block, and sets what a probed block becomes.
 fn add_single_parts(image: &mut Image) -> Result<(), AllocError>
     requires order { image.old.layout.order ≡ 2 }
     requires frames { frame_count image.old.layout ≡ 16 }
@@ -26,7 +26,7 @@ fn add_single_parts(image: &mut Image) -> Result<(), AllocError>
     image.add(Part::Auto { auto: Auto::Online })
 }
 
-/// Whether an image shows those parts.
+/// Returns whether an image has the parts of `add_single_parts`.
 fn shows_single_parts(image: &Image) -> bool {
     image.kernel_at(Frame(4)) == Some(Order(1)) && image.auto() == Auto::Online
 }
@@ -40,7 +40,7 @@ fn single_parts_are_added(rt: HostRuntime) -> Result<(), Fail> {
     Ok(())
 }
 
-/// Whether an added kind and an added row are read.
+/// Adds a pageblock's kind and a memory block's row. Returns whether both are read back.
 fn adds_a_kind_and_a_row(image: &mut Image) -> Result<bool, AllocError>
     requires pageblocks { pageblock_count image.old.layout ≡ 4 }
     requires blocks { image.old.layout.blocks ≡ 4 }
@@ -72,7 +72,7 @@ fn a_plan_wishes(rt: HostRuntime) -> Result<(), Fail> {
     Ok(())
 }
 
-/// A block of a plan.
+/// Returns an item of a plan.
 fn item(block: u32, wish: Wish) -> Item {
     Item {
         block: Block(block),

@@ -1,4 +1,4 @@
-//! A block that goes offline by the driver of a plan, and an operation that is sealed under way.
+//! A block that the driver of a plan takes offline, and an operation that is sealed under way.
 use crate::sealed::{commit, hands_out_plugged_frames, replayed, seal};
 use hp_machine::Machine;
 use hp_units::{
@@ -9,13 +9,13 @@ use layouts_for_tests::{LAST_OFFLINE, four_blocks};
 use std::alloc::{AllocError, Global};
 use std::test::Fail;
 
-/// A machine of the four blocks, with a limit of records.
+/// Boots a machine of four blocks, with room for `history` records.
 fn booted(alloc: Global, history: u64) -> Result<Machine, Fail> {
     let layout = four_blocks(alloc, LAST_OFFLINE, history)?;
     Ok(Machine::boot(alloc, &layout)?)
 }
 
-/// The plan that takes block 2 offline.
+/// Returns the plan that takes block 2 offline.
 fn offline(alloc: Global) -> Result<Plan, AllocError> {
     let mut items = Vec::new(alloc);
     items.push(Item {
@@ -25,12 +25,12 @@ fn offline(alloc: Global) -> Result<Plan, AllocError> {
     Plan::new(alloc, items)
 }
 
-/// Whether block 2 is offline.
+/// Returns whether block 2 is offline.
 fn is_offline(machine: &Machine) -> bool {
     machine.row(Block(2)) == Some(Row::bare(State::Offline))
 }
 
-/// Whether the first call's receipt has its serial, its event and its reply.
+/// Maps a page, and returns whether the receipt has the call's serial, event and reply.
 fn gives_a_receipt(alloc: Global, machine: &mut Machine) -> bool {
     let (owner, page) = (Owner(0), Page(0));
     let map = Event::Map { owner, page };
@@ -44,7 +44,8 @@ fn gives_a_receipt(alloc: Global, machine: &mut Machine) -> bool {
     }
 }
 
-/// Whether a page is mapped, and then its block goes offline by the driver of a plan: seven records.
+/// Maps a page and takes its block offline with the driver of a plan. Returns whether this works.
+/// It makes seven records.
 fn moves_a_page(alloc: Global, machine: &mut Machine) -> Result<bool, AllocError> {
     let mapped = gives_a_receipt(alloc, machine) && machine.reserve(8).is_ok();
     let plan = offline(alloc)?;
@@ -53,7 +54,7 @@ fn moves_a_page(alloc: Global, machine: &mut Machine) -> Result<bool, AllocError
     Ok(mapped && end == OpEnd::Done && moved && is_offline(machine))
 }
 
-/// Whether the history has no room for one more call.
+/// Returns whether the history has no room for one more call.
 fn is_full(alloc: Global, machine: &mut Machine) -> bool {
     match machine.call(alloc, Cpu(0), &Event::Drain { cpu: Cpu(0) }) {
         Ok(_receipt) => false,
@@ -71,7 +72,7 @@ fn a_mapped_block_goes_offline(rt: HostRuntime) -> Result<(), Fail> {
     Ok(())
 }
 
-/// Whether an event of processor 0 gets this reply.
+/// Makes a call of processor 0, and returns whether it gets this reply.
 fn is_answered(alloc: Global, machine: &mut Machine, event: &Event, reply: &Reply) -> bool {
     match machine.answer(alloc, Cpu(0), event) {
         Ok((_, answered)) => answered.same(reply),
@@ -79,20 +80,20 @@ fn is_answered(alloc: Global, machine: &mut Machine, event: &Event, reply: &Repl
     }
 }
 
-/// Whether an operation that takes block 2 offline gets a number.
+/// Begins to take block 2 offline, and returns whether the operation gets this number.
 fn begins(alloc: Global, machine: &mut Machine, op: Serial) -> Result<bool, AllocError> {
     let plan = offline(alloc)?;
     let begin = Event::Begin { plan };
     Ok(is_answered(alloc, machine, &begin, &Reply::Opened { op }))
 }
 
-/// Whether a processor's lists are drained for an operation.
+/// Drains a processor's lists for an operation, and returns whether that is done.
 fn drains(alloc: Global, machine: &mut Machine, op: Serial, cpu: Cpu) -> bool {
     let drain = Event::DrainFor { op, cpu };
     is_answered(alloc, machine, &drain, &Reply::Done)
 }
 
-/// Whether an operation commits.
+/// Commits an operation, and returns whether that is done.
 fn commits(alloc: Global, machine: &mut Machine, op: Serial) -> bool {
     match commit(alloc, machine, Cpu(0), op) {
         Ok((_, reply)) => reply.same(&Reply::Done),
@@ -100,7 +101,8 @@ fn commits(alloc: Global, machine: &mut Machine, op: Serial) -> bool {
     }
 }
 
-/// Whether an operation begins, three records are sealed, and it commits after that.
+/// Begins an operation, seals three records, and commits the operation. Returns whether each call
+/// succeeds.
 fn commits_across_a_seal(alloc: Global, machine: &mut Machine) -> Result<bool, AllocError> {
     let begun = begins(alloc, machine, Serial(1))?;
     let drained = drains(alloc, machine, Serial(1), Cpu(0))
@@ -113,7 +115,7 @@ fn commits_across_a_seal(alloc: Global, machine: &mut Machine) -> Result<bool, A
     Ok(begun && drained && sealed && committed)
 }
 
-/// Whether a replay of a machine's records leads to its state.
+/// Returns whether a replay of the machine's records leads to its state.
 fn is_replayed(alloc: Global, machine: &Machine) -> bool {
     match (replayed(alloc, machine), machine.image(alloc)) {
         (Ok(image), Ok(now)) => image.same(&now),

@@ -24,7 +24,7 @@ fn a_state_with_an_absent_block_is_well_placed(rt: HostRuntime) -> Result<(), Fa
     Ok(())
 }
 
-/// Returns a state whose first block is online in zone Normal, and has its frames nowhere.
+/// Returns a state whose first block is online in zone Normal, with its frames in no place yet.
 fn one_block(alloc: Global, layout: &Layout) -> Result<Image, AllocError>
     requires { layout.now.blocks ≡ 4 }
     ensures { IfOk result (λ image. image.layout ≡ layout.now) }

@@ -1,5 +1,5 @@
-//! What the laws of histories say of a machine, sealed or not, by what it shows of itself: each
-//! function here is proved from public clauses alone.
+//! What the laws of histories imply for a machine, sealed or not. Each function is proved from
+//! public clauses alone.
 ghost use Rattle.std.specs.Prelude.{◌≡◌, ◌<◌, ℕ, false, IfErr, IfOk, List, [], ◌∷◌, ◌++◌, Some};
 ghost use Rattle.hp_units.specs.Arithmetic.{block_of};
 ghost use Rattle.hp_units.specs.Contents.{handed_frame};
@@ -20,7 +20,8 @@ use hp_replays::{ReplayFault, replay_from};
 use hp_units::{CallFault, Cpu, Event, Reply, Serial};
 use std::alloc::{AllocError, Global};
 
-/// The state that a machine's records lead to from its base: its own, unless memory runs out.
+/// Replays a machine's records from its base. The result is the machine's state, unless memory runs
+/// out.
 pub fn replayed(alloc: Global, machine: &Machine) -> Result<Image, ReplayFault>
     ensures value { IfOk result
         (λ image. image ≡ record { layout = machine.now.layout; memory = machine.now.state }) }
@@ -30,7 +31,7 @@ pub fn replayed(alloc: Global, machine: &Machine) -> Result<Image, ReplayFault>
     replay_from(alloc, machine.base(), machine.sealed(), machine.history())
 }
 
-/// The last record of a machine hands out no frame of a block that was offline or absent before it.
+/// Shows that the last record hands out no frame of a block that was offline or absent before it.
 pub fn hands_out_plugged_frames(machine: &Machine)
     ensures { (h : List Record) (r : Record) (frame : ℕ) → machine.now.history ≡ h ++ r ∷ []
         → handed_frame machine.now.state r ≡ Some frame
@@ -42,7 +43,7 @@ pub fn hands_out_plugged_frames(machine: &Machine)
     handed_frames_are_plugged();
 }
 
-/// A commit of an operation that nothing disturbed since its begin, after which it is done.
+/// Commits an operation. If nothing disturbed it since its begin, the reply is `Done`.
 pub fn commit(
     alloc: Global,
     machine: &mut Machine,
@@ -58,8 +59,8 @@ pub fn commit(
     machine.answer(alloc, cpu, &Event::Commit { op })
 }
 
-/// A seal of a machine that goes on from volumes: it then goes on from these and the new one, and
-/// operations are what they should be over all of their records and the machine's.
+/// Seals a machine that goes on from earlier volumes. Afterwards it goes on from these and the new
+/// one, and the rules of operations hold over all their records and the machine's.
 pub fn seal(alloc: Global, machine: &mut Machine) -> Result<Volume, AllocError>
     ensures volumes { IfOk result (λ volume. GoesOnWith machine.old volume machine.new) }
     ensures operations { KeepsOperationsAcrossSeals machine.new }

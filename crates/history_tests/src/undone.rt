@@ -1,4 +1,4 @@
-//! Records undone one at a time: the machine goes back through every earlier state.
+//! Records that are undone one at a time: the machine goes back through every earlier state.
 use hp_machine::Machine;
 use hp_plain::Image;
 use hp_units::{
@@ -8,20 +8,20 @@ use layouts_for_tests::{LAST_ABSENT, four_blocks};
 use std::alloc::{AllocError, Global};
 use std::test::Fail;
 
-/// The number of events.
+/// The number of events that are played.
 const COUNT: u64 = 15;
 
-/// The record that is no step.
+/// The number of the one record that is no step.
 const READ: u64 = 4;
 
-/// The operation that the plan opens.
+/// The operation that the plan begins.
 const OP: Serial = Serial(9);
 
 const OWNER: Owner = Owner(0);
 
 const PAGE: Page = Page(0);
 
-/// The plan that takes block 2 offline.
+/// Returns the plan that takes block 2 offline.
 fn offline(alloc: Global) -> Result<Plan, AllocError> {
     let mut items = Vec::new(alloc);
     items.push(Item {
@@ -31,7 +31,8 @@ fn offline(alloc: Global) -> Result<Plan, AllocError> {
     Plan::new(alloc, items)
 }
 
-/// The first events: a block of the kernel, and a page that is written and read.
+/// Returns the nth event before the begin: a kernel block is taken, and a page is mapped, written
+/// and read.
 fn first_event(nth: u64) -> Event {
     match nth {
         1 => Event::KernelAlloc { order: Order(1) },
@@ -60,7 +61,7 @@ fn first_event(nth: u64) -> Event {
     }
 }
 
-/// The last events: the operation's work, and what may come after it.
+/// Returns the nth event after the begin: the operation's own calls, then others.
 fn last_event(nth: u64) -> Event {
     match nth {
         10 => Event::DrainFor {
@@ -78,7 +79,7 @@ fn last_event(nth: u64) -> Event {
     }
 }
 
-/// The event of the nth record: every kind but Cancel and UndoAfter comes once.
+/// Returns the event of the nth record. Every kind but Cancel and UndoAfter comes once.
 fn event_at(alloc: Global, nth: u64) -> Result<Event, AllocError> {
     if nth < OP.0 {
         return Ok(first_event(nth));
@@ -91,12 +92,12 @@ fn event_at(alloc: Global, nth: u64) -> Result<Event, AllocError> {
     })
 }
 
-/// Returns whether a reply is no refusal.
+/// Returns whether a reply is not a refusal.
 fn is_granted(reply: &Reply) -> bool {
     !matches!(reply, Reply::Refused(_))
 }
 
-/// Returns whether the nth event is granted as the nth record.
+/// Makes the call of the nth event, and returns whether it is granted as record n.
 fn grants(alloc: Global, machine: &mut Machine, nth: u64) -> Result<bool, AllocError> {
     let event = event_at(alloc, nth)?;
     match machine.answer(alloc, Cpu(0), &event) {
@@ -105,7 +106,8 @@ fn grants(alloc: Global, machine: &mut Machine, nth: u64) -> Result<bool, AllocE
     }
 }
 
-/// Makes the calls, and keeps the state before the first and after each.
+/// Makes all calls, and keeps the state before the first and after each. Returns whether all are
+/// granted.
 fn plays(
     alloc: Global,
     machine: &mut Machine,
@@ -121,7 +123,7 @@ fn plays(
     Ok(true)
 }
 
-/// Returns whether an undo to a serial takes back this many steps.
+/// Undoes all steps above a serial, and returns whether they are this many.
 fn undoes(alloc: Global, machine: &mut Machine, serial: u64, count: u64) -> bool {
     let undo = Event::UndoAfter {
         serial: Serial(serial),
@@ -141,7 +143,7 @@ fn is_at(alloc: Global, machine: &Machine, kept: Option<&Image>) -> Result<bool,
     }
 }
 
-/// Returns whether undoing one record at a time gives each earlier state again.
+/// Undoes one record at a time, and returns whether each earlier state comes back.
 fn goes_back(alloc: Global, machine: &mut Machine, states: &[Image]) -> Result<bool, AllocError> {
     for back in 0..COUNT {
         let serial = COUNT - 1 - back;
@@ -154,14 +156,14 @@ fn goes_back(alloc: Global, machine: &mut Machine, states: &[Image]) -> Result<b
     Ok(true)
 }
 
-/// Returns whether all events are granted, and undone one by one.
+/// Makes all calls and undoes them one by one. Returns whether both work.
 fn plays_and_goes_back(alloc: Global, machine: &mut Machine) -> Result<bool, AllocError> {
     let mut states = Vec::new(alloc);
     let played = plays(alloc, machine, &mut states)?;
     Ok(played && goes_back(alloc, machine, states.as_slice())?)
 }
 
-/// A machine whose last block is absent.
+/// Boots a machine whose last block is absent.
 fn booted(alloc: Global) -> Result<Machine, Fail> {
     let layout = four_blocks(alloc, LAST_ABSENT, 100)?;
     Ok(Machine::boot(alloc, &layout)?)

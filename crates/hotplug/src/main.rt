@@ -2,8 +2,8 @@
 //! standard input to standard output.
 //!
 //! hp_commands defines what each command writes. The exit status is 0; or 1 after a fault, which
-//! standard error names; or 2 if the command line names no command. It is the same if standard
-//! error takes no text.
+//! standard error names; or 2 if the command line names no command. The status does not depend on
+//! whether standard error can be written.
 #![tactic(auto)]
 
 mod words;

@@ -1,11 +1,11 @@
-//! The words that the program is called with.
+//! Parses the program's arguments.
 
 use clap::error::ErrorKind;
 use hp_commands::Command;
 use std::alloc::{AllocError, Global};
 
-/// Returns the command that the words name, of which the first is the program's own name; `None` if
-/// they name none, or ask for help.
+/// Returns the command that the arguments name, or `None` if they name none or ask for help. The
+/// first argument is the program's own name.
 pub fn command_from(alloc: Global, words: &[String]) -> Result<Option<Command>, AllocError> {
     match program(alloc)?.try_get_matches_from(words) {
         Ok(matches) => Ok(command_named(matches.subcommand_name())),
@@ -19,7 +19,7 @@ pub fn command_from(alloc: Global, words: &[String]) -> Result<Option<Command>, 
     }
 }
 
-/// Returns the command line: one of three words.
+/// Returns the command line of `hotplug`: one of three subcommands.
 fn program<'a>(alloc: Global) -> Result<clap::Command<'a>, AllocError> {
     let mut program = clap::Command::new(alloc, "hotplug").subcommand_required(true);
     for word in ["serial", "run", "audit"] {

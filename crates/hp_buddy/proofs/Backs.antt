@@ -61,11 +61,10 @@ link-undone v l links new kinds delta list class order f after before s is list_
     subst (λ (w : BuddyValue). FitsAreas delta w.areas → IsDeltaOf w.layout delta
     → areas_of new kinds ≡ areas_undo delta w.areas) s.is
     (λ fits numbers.
-    unlink-areas l links new kinds class order f before s.kept
-    (linked-in l delta list class order f after is list_is numbers)
-    (linked-on (areas_of links kinds) delta list class order f after is list_is fits) u
-    ∙ ap (λ (d : Delta). areas_undo d (areas_of links kinds))
-    (sym (is ∙ ap (λ (k : ListId). Link k f after) list_is))) fits numbers
+    rw (unlink-areas l links new kinds class order f before s.kept
+    (linked-in l delta list class order f after is list_is numbers) (linked-on (areas_of links kinds) delta
+    list class order f after is list_is fits) u) (ap (λ (d : Delta). areas_undo d (areas_of links kinds))
+    (sym (is ∙ ap (λ (k : ListId). Link k f after) list_is)))) fits numbers
 
 -- ---- a frame that left its list comes back
 
@@ -99,10 +98,6 @@ pub unlink-undone : (v : BuddyValue) (l : LayoutParts) (links new : LinkedLists)
     → new ≡ with_list links n (with_behind after f (list_at links n))
     → areas_of new kinds ≡ areas_undo delta v.areas
 unlink-undone v l links new kinds delta list class order f n after s is list_is number relinked =
-    subst (λ (w : BuddyValue). areas_of new kinds ≡ areas_undo delta w.areas) s.is
-    (ap (λ (k : LinkedLists). areas_of k kinds) relinked
-    ∙ ap (λ (m : ℕ). areas_of (with_list links m (with_behind after f (list_at links m))) kinds) number
-    ∙ ap (λ (ys : List ℕ). areas_of (with_list links (5 * order + class_index class) ys) kinds)
-    (sym (put_behind-same after f (get_or links.lists (5 * order + class_index class) [])))
-    ∙ ap (λ (d : Delta). areas_undo d (areas_of links kinds))
-    (sym (is ∙ ap (λ (k : ListId). Unlink k f after) list_is)))
+    rw (← s.is) (rw (relinked, number)
+    (rw (← put_behind-same after f (get_or links.lists (5 * order + class_index class) [])) (ap (λ (d :
+    Delta). areas_undo d (areas_of links kinds)) (sym (is ∙ ap (λ (k : ListId). Unlink k f after) list_is)))))

@@ -1,5 +1,5 @@
 -- Whole pageblocks, added and removed.
-use Rattle.std.proofs.Common.{◌≡◌, ℕ, ◌≤◌, true, sym, ◌∙◌, ap, subst}
+use Rattle.std.proofs.Common.{◌≡◌, ℕ, ◌≤◌, true, sym, subst}
 use Rattle.hp_units.specs.declared.rows.Class.{Class}
 use Rattle.hp_units.specs.declared.rows.Kind.{Kind}
 use Rattle.hp_units.specs.LayoutParts.{LayoutParts}
@@ -16,9 +16,7 @@ pub block_added : (l : LayoutParts) (a new : FreeAreas) (class : Class) (order t
     → first ≡ at → new ≡ with_back a class order first
     → MayBeGiven l a top at → AreApart l a → Gives l a top at new
 block_added l a new class order top first at order_is first_is is block h =
-    let pushed : new ≡ with_back a class top at =
-    is ∙ ap (λ (n : ℕ). with_back a class n first) order_is
-    ∙ ap (λ (n : ℕ). with_back a class top n) first_is in
+    let pushed : new ≡ with_back a class top at = rw (is, order_is, first_is) in
     subst (λ (b : FreeAreas). Gives l a top at b) (sym pushed) (record {
       apart = back-apart l a class top at block h;
       places = λ frame. with_back-places a class top at frame (has_order l a top h block.in_order);
@@ -36,11 +34,8 @@ pub block_removed : (l : LayoutParts) (a mid new : FreeAreas) (class : Class)
     → is_on at (free_list a class top) ≡ true → mid ≡ without_free a class order first
     → new ≡ with_kind mid pageblock kind → AreApart l a → Removes l a top at new
 block_removed l a mid new class order top first at pageblock kind order_is first_is low on left is h =
-    let gone : mid ≡ without_free a class top at =
-    left ∙ ap (λ (n : ℕ). without_free a class n first) order_is
-    ∙ ap (λ (n : ℕ). without_free a class top n) first_is in
-    let same : new ≡ with_kind (without_free a class top at) pageblock kind =
-    is ∙ ap (λ (b : FreeAreas). with_kind b pageblock kind) gone in
+    let gone : mid ≡ without_free a class top at = rw (left, order_is, first_is) in
+    let same : new ≡ with_kind (without_free a class top at) pageblock kind = rw (is, gone) in
     subst (λ (b : FreeAreas). Removes l a top at b) (sym same) (record {
       apart =
           kind-apart l (without_free a class top at) pageblock kind

@@ -1,6 +1,5 @@
 -- What calls make of the small changes: their deltas joined, and the areas that they leave.
-use Rattle.std.proofs.Common.{◌≡◌, ℕ, suc, ◌+◌, ◌-◌, ◌*◌, ◌^◌, ◌<◌, ◌≤◌, List, [], ◌∷◌, ◌++◌, length, get_or, true, Option, Some, None, IfSome, MatchOption, refl, sym, ◌∙◌, ap, subst, arith}
-use Rattle.std.specs.Option.{option_and_then}
+use Rattle.std.proofs.Common.{◌≡◌, ℕ, suc, ◌+◌, ◌-◌, ◌*◌, ◌^◌, ◌<◌, ◌≤◌, List, [], ◌∷◌, ◌++◌, length, true, Option, Some, None, IfSome, MatchOption, refl, sym, ◌∙◌, ap, subst, arith}
 use Rattle.std.proofs.lemmas.Nat.{pow_pos, pow-add}
 use Rattle.std.proofs.Math.Nat.{mul-le-mul_left}
 use Rattle.std.proofs.lemmas.List.{length-append}
@@ -13,7 +12,7 @@ use Rattle.hp_units.specs.LayoutParts.{LayoutParts, IsLayout}
 use Rattle.hp_numbers.specs.Numbers.{ancestor}
 use Rattle.hp_units.specs.Arithmetic.{frame_count, buddy}
 use Rattle.hp_units.specs.Memory.{FreeAreas, free_list, with_free_list, class_index, usable_class}
-use Rattle.hp_units.specs.FreeAreas.{Taken, is_on, without, with_front, with_halves, without_free, without_buddies, least_order, take_first, take_front, take_block, greatest_order, steal_front, steal_block, other_mobility, join_order, give_block, class_of}
+use Rattle.hp_units.specs.FreeAreas.{Taken, is_on, with_front, with_halves, without_free, without_buddies, least_order, take_front, take_block, greatest_order, steal_front, steal_block, other_mobility, join_order, give_block, class_of}
 use Rattle.hp_units.specs.Placement.{free_places}
 use Rattle.hp_lemmas.proofs.Places.{IsOrderAmong, least_order-among, greatest_order-among}
 use Rattle.hp_lemmas.proofs.Joins.{JoinsTo, join_order-joins, without_buddies-other}
@@ -22,7 +21,7 @@ use Rattle.hp_tape.specs.Tapes.{TapeValue, HasRoom, NotesAreas}
 use Rattle.hp_tape.proofs.Leads.{notes-append, notes-more}
 use Rattle.hp_links.specs.LinkedLists.{LinkedLists, list_at, first}
 use Rattle.hp_buddy.specs.Buddy.{BuddyValue, AreApart, MayBeGiven, HasBlockMore}
-use Rattle.hp_buddy.proofs.Linked.{AreDistinct, without-front}
+use Rattle.hp_buddy.proofs.Linked.{without-front}
 use Rattle.hp_buddy.proofs.Apart.{has_order, on_frame}
 use Rattle.hp_buddy.proofs.Splits.{halves-left, split, take_first-takes, front_on, tail-left, IsLeft, Takes}
 use Rattle.hp_buddy.proofs.Gives.{joins_up, buddy_within}
@@ -46,8 +45,7 @@ notes-then l m most more total was mid now before between after same le a b =
 pub room_left : (l : LayoutParts) (most more : ℕ) (was now : TapeValue) (before after : FreeAreas)
     → NotesAreas l most was now after before → HasRoom was (most + more) → HasRoom now more
 room_left l most more was now before after n room =
-    let size : length now.deltas ≡ length (was.deltas ++ n.deltas) =
-    ap (λ (t : TapeValue). length t.deltas) n.tape in
+    let size : length now.deltas ≡ length (was.deltas ++ n.deltas) = rw n.tape in
     let same : now.room ≡ was.room = ap (λ (t : TapeValue). t.room) n.tape in
     omega (arith, n.few, length-append was.deltas n.deltas)
 
@@ -90,13 +88,10 @@ upper l a now class frame half order k f below block h next is at =
     split l (with_halves a class frame (suc half) (order - suc half)) class half frame left.rest
     left.apart in
     let some : 0 < 2 ^ half = pow_pos half in
-    let areas : now ≡ with_halves a class frame (suc half) (order - suc half) =
-    is ∙ ap (λ (n : ℕ). with_halves a class frame n (order - n)) up in
+    let areas : now ≡ with_halves a class frame (suc half) (order - suc half) = rw (is, up) in
     record {
       inside = omega (arith, both.upper.within);
-      unfree =
-          subst (λ (b : FreeAreas). free_places b f ≡ 0) (sym areas)
-          (both.upper.unfree f (omega arith) (omega arith));
+      unfree = rw areas (both.upper.unfree f (omega arith) (omega arith));
     }
 
 -- one more upper half is free
@@ -128,19 +123,15 @@ pub seen-front_is : (v : BuddyValue) (l : LayoutParts) (links : LinkedLists) (ki
     → n ≡ 5 * order + class_index class → Some f ≡ first (list_at links n)
     → IsFront f (free_list v.areas class order)
 seen-front_is v l links kinds class order n f s number e =
-    subst (λ (w : BuddyValue). IsFront f (free_list w.areas class order)) s.is
-    (subst (λ (m : ℕ). IsFront f (get_or links.lists m [])) number (front_of f (list_at links n) e))
+    rw (← s.is, ← number) (front_of f (list_at links n) e)
 
 -- the front block left its list
 pub front_left : (l : LayoutParts) (a mid : FreeAreas) (class : Class) (order f : ℕ) → AreApart l a
     → order ≤ l.order → (front : IsFront f (free_list a class order))
     → mid ≡ without_free a class order f → mid ≡ with_free_list a class order front.rest
 front_left l a mid class order f h low front is =
-    let apart =
-    subst (λ (xs : List ℕ). AreDistinct xs) front.is
-    (distinct a class order (has_order l a order h low) h.once) in
-    is ∙ ap (λ (xs : List ℕ). with_free_list a class order (without f xs)) front.is
-    ∙ ap (λ (xs : List ℕ). with_free_list a class order xs) (without-front f front.rest apart.0)
+    let apart = rw front.is at (distinct a class order (has_order l a order h low) h.once) in
+    rw (is, front.is, without-front f front.rest apart.0)
 
 -- and then it is in no free block
 pub front_free : (l : LayoutParts) (a mid : FreeAreas) (class : Class) (order f : ℕ) → AreApart l a
@@ -162,10 +153,7 @@ pub front_taken : (l : LayoutParts) (a mid new : FreeAreas) (class rest : Class)
     → mid ≡ without_free a class order f → new ≡ with_halves mid rest f wanted (order - wanted)
     → take_front a class rest order wanted ≡ Some (record { areas = new; frame = f })
 front_taken l a mid new class rest order wanted f h low front is split_is =
-    ap (λ (xs : List ℕ). take_first a class rest order wanted xs) front.is
-    ∙ ap (λ (b : FreeAreas). Some (record { areas = b; frame = f }))
-    (sym (split_is ∙ ap (λ (b : FreeAreas). with_halves b rest f wanted (order - wanted))
-    (front_left l a mid class order f h low front is)))
+    rw (front.is, ← front_left l a mid class order f h low front is, ← split_is)
 
 -- ---- what was taken or stolen
 
@@ -208,15 +196,13 @@ pub take_block-found : (l : LayoutParts) (a : FreeAreas) (class : Class) (wanted
     → Some found ≡ least_order a class wanted (l.order + 1 - wanted)
     → take_block l a class wanted ≡ take_front a class class found wanted
 unfolding take_block
-take_block-found l a class wanted found e =
-    ap (λ (o : Option ℕ). option_and_then (λ order. take_front a class class order wanted) o) (sym e)
+take_block-found l a class wanted found e = rw (← e)
 
 -- if no order has a block, none is taken or stolen
 pub take_block-none : (l : LayoutParts) (a : FreeAreas) (class : Class) (wanted : ℕ)
     → None ≡ least_order a class wanted (l.order + 1 - wanted) → take_block l a class wanted ≡ None
 unfolding take_block
-take_block-none l a class wanted e =
-    ap (λ (o : Option ℕ). option_and_then (λ order. take_front a class class order wanted) o) (sym e)
+take_block-none l a class wanted e = rw (← e)
 
 -- ---- buddies that leave
 
@@ -233,15 +219,10 @@ pub buddy_free : (l : LayoutParts) (a now : FreeAreas) (class : Class) (frame fi
     → is_on (buddy (ancestor frame order) order) (free_list a class order) ≡ true
     → IsBuddyFree l now class order other
 buddy_free l a now class frame first order half other low below inside half_is other_is is on =
-    let place : other ≡ buddy (ancestor frame order) order =
-    other_is ∙ ap (λ (n : ℕ). buddy n order) half_is in
+    let place : other ≡ buddy (ancestor frame order) order = rw (other_is, half_is) in
     record {
       inside = subst (λ (n : ℕ). n < frame_count l) (sym place) (buddy_within l frame order inside below);
-      free =
-          subst (λ (b : FreeAreas). is_on other (free_list b class order) ≡ true) (sym is)
-          (subst (λ (xs : List ℕ). is_on other xs ≡ true)
-          (sym (without_buddies-other a class frame first (order - first) order (omega arith)))
-          (subst (λ (n : ℕ). is_on n (free_list a class order) ≡ true) (sym place) on));
+      free = rw (is, without_buddies-other a class frame first (order - first) order (omega arith), place) on;
     }
 
 -- one more buddy leaves
@@ -250,9 +231,7 @@ pub buddies_next : (a now new : FreeAreas) (class : Class) (frame first order ha
     → now ≡ without_buddies a class frame first (order - first) → new ≡ without_free now class order other
     → new ≡ without_buddies a class frame first (order + 1 - first)
 buddies_next a now new class frame first order half other low half_is other_is is left =
-    left ∙ ap (λ (n : ℕ). without_free now class order n) (other_is ∙ ap (λ (n : ℕ). buddy n order) half_is)
-    ∙ ap (λ (b : FreeAreas). without_free b class order (buddy (ancestor frame order) order)) is
-    ∙ sym (without_buddies-more a class frame first order low)
+    rw (left, other_is, half_is, is, ← without_buddies-more a class frame first order low)
 
 -- ---- blocks that were taken off a front
 
@@ -270,8 +249,7 @@ pub taken_frame : (l m : LayoutParts) (a : FreeAreas) (class rest : Class) (orde
     → take_front a class rest order wanted ≡ Some taken → taken.frame < frame_count m
 taken_frame l m a class rest order wanted taken h low w same e =
     let some : 0 < 2 ^ wanted = pow_pos wanted in
-    subst (λ (k : LayoutParts). taken.frame < frame_count k) (sym same)
-    (omega (arith, (front_takes l a class rest order wanted taken h low w e).block.within))
+    rw same (omega (arith, (front_takes l a class rest order wanted taken h low w e).block.within))
 
 -- ---- a block comes back
 
@@ -279,9 +257,7 @@ taken_frame l m a class rest order wanted taken h low w same e =
 pub joins_to : (l : LayoutParts) (a : FreeAreas) (class : Class) (frame order joined : ℕ)
     → joined ≡ join_order a class frame order (l.order - order)
     → JoinsTo a class frame order (l.order - order) joined
-joins_to l a class frame order joined e =
-    subst (λ (n : ℕ). JoinsTo a class frame order (l.order - order) n) (sym e)
-    (join_order-joins a class frame order (l.order - order))
+joins_to l a class frame order joined e = rw e (join_order-joins a class frame order (l.order - order))
 
 -- the block that it joins to, when the buddies have left
 pub joined_left : (l : LayoutParts) (a mid : FreeAreas) (class : Class) (frame order joined : ℕ)
@@ -290,8 +266,7 @@ pub joined_left : (l : LayoutParts) (a mid : FreeAreas) (class : Class) (frame o
     → mid ≡ without_buddies a class frame order (joined - order) → IsLeft l mid joined (ancestor frame joined)
 joined_left l a mid class frame order joined block h e is =
     let j = joins_up l a class frame order joined block h (joins_to l a class frame order joined e) in
-    subst (λ (b : FreeAreas). IsLeft l b joined (ancestor frame joined)) (sym is)
-    (record { apart = j.apart; rest = j.block })
+    rw is (record { apart = j.apart; rest = j.block })
 
 -- the block was given
 pub block_given : (l : LayoutParts) (a mid new : FreeAreas) (zone : Zone) (class : Class)
@@ -302,21 +277,13 @@ pub block_given : (l : LayoutParts) (a mid new : FreeAreas) (zone : Zone) (class
     → new ≡ with_front mid class joined top → new ≡ give_block l a zone frame order
 unfolding give_block
 block_given l a mid new zone class frame order joined top class_is joined_is is top_is pushed =
-    pushed
-    ∙ ap (λ (n : ℕ). with_front mid class joined n) top_is
-    ∙ ap (λ (b : FreeAreas). with_front b class joined (ancestor frame joined)) is
-    ∙ ap (λ (n : ℕ). with_front (without_buddies a class frame order (n - order)) class n (ancestor frame n))
-    joined_is
-    ∙ ap (λ (c : Class). with_front (without_buddies a c frame order
-    (join_order a c frame order (l.order - order) - order)) c (join_order a c frame order
-    (l.order - order)) (ancestor frame (join_order a c frame order (l.order - order)))) class_is
+    rw (pushed, top_is, is, joined_is, class_is)
 
 -- a buddy is a frame
 pub frame_is_buddy : (l : LayoutParts) (frame order half other : ℕ) → frame < frame_count l → order < l.order
     → half ≡ ancestor frame order → other ≡ buddy half order → other < frame_count l
 frame_is_buddy l frame order half other inside below half_is other_is =
-    subst (λ (n : ℕ). n < frame_count l) (sym (other_is ∙ ap (λ (n : ℕ). buddy n order) half_is))
-    (buddy_within l frame order inside below)
+    rw (other_is, half_is) (buddy_within l frame order inside below)
 
 -- ---- the order that is found
 
@@ -345,15 +312,11 @@ pub steal_block-found : (l : LayoutParts) (a : FreeAreas) (mobility : Mobility) 
     → Some found ≡ greatest_order a from wanted (l.order + 1 - wanted)
     → steal_block l a mobility wanted ≡ steal_front l a mobility found wanted
 unfolding steal_block
-steal_block-found l a mobility from wanted found same e =
-    ap (λ (o : Option ℕ). option_and_then (λ order. steal_front l a mobility order wanted) o)
-    (sym (e ∙ ap (λ (c : Class). greatest_order a c wanted (l.order + 1 - wanted)) same))
+steal_block-found l a mobility from wanted found same e = rw (← same, ← e)
 
 -- if no order has a block, none is taken or stolen
 pub steal_block-none : (l : LayoutParts) (a : FreeAreas) (mobility : Mobility) (from : Class) (wanted : ℕ)
     → from ≡ stolen_class mobility
     → None ≡ greatest_order a from wanted (l.order + 1 - wanted) → steal_block l a mobility wanted ≡ None
 unfolding steal_block
-steal_block-none l a mobility from wanted same e =
-    ap (λ (o : Option ℕ). option_and_then (λ order. steal_front l a mobility order wanted) o)
-    (sym (e ∙ ap (λ (c : Class). greatest_order a c wanted (l.order + 1 - wanted)) same))
+steal_block-none l a mobility from wanted same e = rw (← same, ← e)

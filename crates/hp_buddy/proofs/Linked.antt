@@ -97,8 +97,7 @@ pub put_behind-same : (after : Option ℕ) (f : ℕ) (xs : List ℕ)
     → put_behind after f xs ≡ with_behind after f xs
 put_behind-same None f xs = refl
 put_behind-same (Some after) f [] = refl
-put_behind-same (Some after) f (x ∷ xs) =
-    ap (λ (ys : List ℕ). cond (x == after) (x ∷ f ∷ xs) (x ∷ ys)) (put_behind-same (Some after) f xs)
+put_behind-same (Some after) f (x ∷ xs) = rw (put_behind-same (Some after) f xs)
 
 -- ---- lists without duplicates
 

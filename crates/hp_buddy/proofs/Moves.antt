@@ -139,8 +139,7 @@ range_more : (first count : ℕ)
 range_more first zero = ap (λ (n : ℕ). n ∷ []) (sym (add-zero first))
 range_more first (suc count) =
     let sum : first + 1 + count ≡ first + suc count = omega arith in
-    ap (λ (ns : List ℕ). first ∷ ns)
-    (range_more (first + 1) count ∙ ap (λ (n : ℕ). range_with_len (first + 1) count ++ n ∷ []) sum)
+    rw (range_more (first + 1) count, sum)
 
 -- one more frame goes
 going-more : (frames : List ℕ) (first count : ℕ)
@@ -211,16 +210,12 @@ written lists i j rest more = set (set lists i rest) j (get_or (set lists i rest
 written-same : (lists : List (List ℕ)) (i j : ℕ) (rest more : List ℕ) → i < length lists → i ≡ j
     → written lists i j rest more ≡ set lists i (rest ++ more)
 written-same lists i j rest more low same =
-    ap (λ (n : ℕ). written lists i n rest more) (sym same)
-    ∙ ap (λ (xs : List ℕ). set (set lists i rest) i (xs ++ more)) (get_or-set_same lists i rest [] low)
-    ∙ set-set lists i rest (rest ++ more)
+    rw (← same, get_or-set_same lists i rest [] low) (set-set lists i rest (rest ++ more))
 
 -- if they are two lists
 written-apart : (lists : List (List ℕ)) (i j : ℕ) (rest more : List ℕ) → i ≢ j
     → written lists i j rest more ≡ set (set lists i rest) j (get_or lists j [] ++ more)
-written-apart lists i j rest more ne =
-    ap (λ (xs : List ℕ). set (set lists i rest) j (xs ++ more))
-    (get_or-set_other lists i j rest [] (λ same. ne (sym same)))
+written-apart lists i j rest more ne = rw (get_or-set_other lists i j rest [] (λ same. ne (sym same)))
 
 -- the first list after both are written
 written-on : (lists : List (List ℕ)) (i j x : ℕ) (rest more : List ℕ) → i < length lists → j < length lists
@@ -228,13 +223,11 @@ written-on : (lists : List (List ℕ)) (i j x : ℕ) (rest more : List ℕ) → 
     → is_on x (get_or (written lists i j rest more) i []) ≡ is_on x rest
 written-on lists i j x rest more low high off = elim (cases_eq i j) [
   | inl same ↦
-      ap (λ (ls : List (List ℕ)). is_on x (get_or ls i [])) (written-same lists i j rest more low same)
-      ∙ ap (λ (xs : List ℕ). is_on x xs) (get_or-set_same lists i (rest ++ more) [] low)
-      ∙ list_any-append (λ f. f == x) rest more ∙ or_off (is_on x rest) (is_on x more) off
+      rw (written-same lists i j rest more low same, get_or-set_same lists i (rest ++ more) [] low)
+      (rw (list_any-append (λ f. f == x) rest more) (or_off (is_on x rest) (is_on x more) off))
   | inr ne ↦
-      ap (λ (xs : List ℕ). is_on x xs)
-      (get_or-set_other (set lists i rest) j i (get_or (set lists i rest) j [] ++ more) [] ne
-      ∙ get_or-set_same lists i rest [] low)
+      rw (get_or-set_other (set lists i rest) j i (get_or (set lists i rest) j [] ++ more) [] ne)
+      (rw (get_or-set_same lists i rest [] low))
 ]
   where
     or_off : (a b : Bool) → b ≡ false → (a || b) ≡ a
@@ -244,9 +237,7 @@ written-on lists i j x rest more low high off = elim (cases_eq i j) [
 -- without a number that is not on the second part
 without-append : (x : ℕ) (rest more : List ℕ) → is_on x more ≡ false
     → without x (rest ++ more) ≡ without x rest ++ more
-without-append x rest more off =
-    filter-append (λ f. not (f == x)) rest more
-    ∙ ap (λ (ys : List ℕ). without x rest ++ ys) (is_on-none x more off)
+without-append x rest more off = rw ((filter-append (λ f. not (f == x)) rest more), is_on-none x more off)
 
 -- one frame more is moved
 written-more : (lists : List (List ℕ)) (i j x : ℕ) (rest more : List ℕ) → i < length lists → j < length lists
@@ -255,35 +246,23 @@ written-more : (lists : List (List ℕ)) (i j x : ℕ) (rest more : List ℕ) �
     (x ∷ []) ≡ written lists i j (without x rest) (more ++ x ∷ [])
 written-more lists i j x rest more low high off = elim (cases_eq i j) [
   | inl same ↦
-      ap (λ (ls : List (List ℕ)). written ls i j (without x (get_or ls i [])) (x ∷ []))
-      (written-same lists i j rest more low same)
-      ∙ ap (λ (xs : List ℕ). written (set lists i (rest ++ more)) i j (without x xs) (x ∷ []))
-      (get_or-set_same lists i (rest ++ more) [] low)
-      ∙ written-same (set lists i (rest ++ more)) i j (without x (rest ++ more)) (x ∷ [])
-      (omega (arith, length-set lists i (rest ++ more))) same
-      ∙ set-set lists i (rest ++ more) (without x (rest ++ more) ++ x ∷ [])
-      ∙ ap (λ (xs : List ℕ). set lists i (xs ++ x ∷ [])) (without-append x rest more off)
-      ∙ ap (λ (xs : List ℕ). set lists i xs) (append_assoc (without x rest) more (x ∷ []))
-      ∙ sym (written-same lists i j (without x rest) (more ++ x ∷ []) low same)
+      rw (written-same lists i j rest more low same, get_or-set_same lists i (rest ++ more) [] low)
+      (rw (written-same (set lists i (rest ++ more)) i j (without x (rest ++ more)) (x ∷ []) (omega
+      (arith, length-set lists i (rest ++ more))) same) (rw (set-set lists i (rest ++ more) (without x (rest
+      ++ more) ++ x ∷ [])) (rw (without-append x rest more off, append_assoc (without x rest) more (x ∷ []))
+      (rw (← written-same lists i j (without x rest) (more ++ x ∷ []) low same)))))
   | inr ne ↦
       let old : List ℕ = get_or lists j [] ++ more in
       let here : get_or (set (set lists i rest) j old) i [] ≡ rest =
       get_or-set_other (set lists i rest) j i old [] ne ∙ get_or-set_same lists i rest [] low in
       let there : get_or (set (set lists i rest) j old) j [] ≡ old =
       get_or-set_same (set lists i rest) j old [] (omega (arith, length-set lists i rest)) in
-      ap (λ (ls : List (List ℕ)). written ls i j (without x (get_or ls i [])) (x ∷ []))
-      (written-apart lists i j rest more ne)
-      ∙ ap (λ (xs : List ℕ). written (set (set lists i rest) j old) i j (without x xs) (x ∷ [])) here
-      ∙ written-apart (set (set lists i rest) j old) i j (without x rest) (x ∷ []) ne
-      ∙ ap (λ (xs : List ℕ). set (set (set (set lists i rest) j old) i (without x rest)) j (xs ++ x ∷ []))
-      there
-      ∙ ap (λ (ls : List (List ℕ)). set ls j (old ++ x ∷ []))
-      (set_comm (set lists i rest) j i old (without x rest) (λ same. ne (sym same)))
-      ∙ set-set (set (set lists i rest) i (without x rest)) j old (old ++ x ∷ [])
-      ∙ ap (λ (ls : List (List ℕ)). set ls j (old ++ x ∷ [])) (set-set lists i rest (without x rest))
-      ∙ ap (λ (xs : List ℕ). set (set lists i (without x rest)) j xs)
-      (append_assoc (get_or lists j []) more (x ∷ []))
-      ∙ sym (written-apart lists i j (without x rest) (more ++ x ∷ []) ne)
+      rw (written-apart lists i j rest more ne, here)
+      (rw (written-apart (set (set lists i rest) j old) i j (without x rest) (x ∷ []) ne, there)
+      (rw (set_comm (set lists i rest) j i old (without x rest) (λ same. ne (sym same)))
+      (rw (set-set (set (set lists i rest) i (without x rest)) j old (old ++ x ∷ []))
+      (rw (set-set lists i rest (without x rest), append_assoc (get_or lists j []) more (x ∷ []))
+      (rw (← written-apart lists i j (without x rest) (more ++ x ∷ []) ne))))))
 ]
 
 -- ---- `count` frames of a pageblock at once
@@ -356,26 +335,21 @@ parted-none : (a : FreeAreas) (from to : Class) (order first : ℕ) → parted a
 parted-none a from to order first =
     let i : ℕ = 5 * order + class_index from in
     let j : ℕ = 5 * order + class_index to in
-    ap (λ (ls : List (List ℕ)). record a { lists = ls })
-    (ap (λ (xs : List ℕ). written a.lists i j xs []) (stay_all first (get_or a.lists i []))
-    ∙ ap (λ (ls : List (List ℕ)). set ls j (get_or ls j [] ++ [])) (set-get_or a.lists i [])
-    ∙ ap (λ (xs : List ℕ). set a.lists j xs) (append-nil (get_or a.lists j [])) ∙ set-get_or a.lists j [])
+    rw (stay_all first (get_or a.lists i []), set-get_or a.lists i [])
+    (rw (append-nil (get_or a.lists j []), set-get_or a.lists j []))
 
 -- moving blocks one at a time is moving them at once
 pub move_first-parted : (a : FreeAreas) (from to : Class) (order first count : ℕ) → HasOrder a order
     → move_first a from to order first count ≡ parted a from to order first count
 move_first-parted a from to order first zero has = sym (parted-none a from to order first)
 move_first-parted a from to order first (suc count) has =
-    ap (λ (b : FreeAreas). move_one b from to order (first + count))
-    (move_first-parted a from to order first count has)
-    ∙ parted-step a from to order first count
-    (is_on (first + count) (free_list (parted a from to order first count) from order)) has
-    (sym (parted-on a from to order first count has))
+    rw (move_first-parted a from to order first count has)
+    (parted-step a from to order first count (is_on (first + count) (free_list
+    (parted a from to order first count) from order)) has (sym (parted-on a from to order first count has)))
 
 -- a frame is free when its turn comes exactly if it was free at first
 pub move_first-on : (a : FreeAreas) (from to : Class) (order first count : ℕ) → HasOrder a order
     → is_on (first + count) (free_list (move_first a from to order first count) from order)
     ≡ is_on (first + count) (free_list a from order)
 move_first-on a from to order first count has =
-    ap (λ (b : FreeAreas). is_on (first + count) (free_list b from order))
-    (move_first-parted a from to order first count has) ∙ parted-on a from to order first count has
+    rw (move_first-parted a from to order first count has) (parted-on a from to order first count has)

@@ -10,7 +10,7 @@ use Rattle.hp_units.specs.declared.rows.Kind.{Kind}
 use Rattle.hp_units.specs.LayoutParts.{LayoutParts}
 use Rattle.hp_units.specs.Arithmetic.{frame_count, pageblock_count}
 use Rattle.hp_units.specs.Memory.{FreeAreas, free_list, with_kind, kind_of, class_index, plain_kind}
-use Rattle.hp_units.specs.FreeAreas.{is_on, without, without_free, with_front, with_back}
+use Rattle.hp_units.specs.FreeAreas.{is_on, without_free, with_front, with_back}
 use Rattle.hp_units.specs.Placement.{list_places, free_places}
 use Rattle.hp_tape.specs.declared.deltas.Delta.{Delta}
 use Rattle.hp_tape.specs.declared.deltas.Delta.TheVariants.{Link, Unlink, Kind as KindDelta}
@@ -31,9 +31,7 @@ pub notes-one : (l : LayoutParts) (delta : Delta) (was now : TapeValue) (later e
     → NotesAreas l 1 was now later earlier
 notes-one l delta was now later earlier room noted own numbers fits back = record {
   deltas = delta ∷ [];
-  tape =
-      ap (λ (n : ℕ). record { room = n; deltas = now.deltas }) room
-      ∙ ap (λ (ds : List Delta). record { room = was.room; deltas = ds }) noted;
+  tape = rw (room, noted);
   few = omega arith;
   own = (own, tt);
   numbers = (numbers, tt);
@@ -70,8 +68,7 @@ list-there {v} {l} class kept is low place =
 pub frame-there : {v : BuddyValue} {l : LayoutParts} {links : LinkedLists} {kinds : List Kind} {f : ℕ}
     → IsBuddyOf l links kinds → buddy_of l links kinds ≡ v → f < frame_count v.layout
     → f < links.frame_count
-frame-there {f = f} kept is low =
-    subst (λ (n : ℕ). f < n) (sym (kept.frame_count ∙ ap (λ (w : BuddyValue). frame_count w.layout) is)) low
+frame-there {f = f} kept is low = rw (kept.frame_count ∙ ap (λ (w : BuddyValue). frame_count w.layout) is) low
 
 -- the tables are those of the layout with another list in them, and with a frame on no list
 pub kept-with : {l : LayoutParts} {links new : LinkedLists} {kinds : List Kind} (n : ℕ) (frames : List ℕ)
@@ -79,8 +76,7 @@ pub kept-with : {l : LayoutParts} {links new : LinkedLists} {kinds : List Kind} 
 kept-with {links = links} n frames kept is = record {
   layout = kept.layout;
   frame_count = ap (λ (k : LinkedLists). k.frame_count) is ∙ kept.frame_count;
-  list_count =
-      ap (λ (k : LinkedLists). length k.lists) is ∙ length-set links.lists n frames ∙ kept.list_count;
+  list_count = rw (is, length-set links.lists n frames) kept.list_count;
   kind_count = kept.kind_count;
 }
 
@@ -89,9 +85,7 @@ pub kept-off : {l : LayoutParts} {links new : LinkedLists} {kinds : List Kind} (
 kept-off {links = links} f kept is = record {
   layout = kept.layout;
   frame_count = ap (λ (k : LinkedLists). k.frame_count) is ∙ kept.frame_count;
-  list_count =
-      ap (λ (k : LinkedLists). length k.lists) is ∙ length-map links.lists (without_first f)
-      ∙ kept.list_count;
+  list_count = rw (is, length-map links.lists (without_first f)) kept.list_count;
   kind_count = kept.kind_count;
 }
 
@@ -122,12 +116,9 @@ unlink-areas l links new kinds class order f after h low on u =
     let xs : List ℕ = get_or links.lists n [] in
     let is : new ≡ with_list links n (without_first f xs) = u.one_list n (on_contains f xs on) in
     let here : get_or new.lists n [] ≡ without_first f xs =
-    ap (λ (k : LinkedLists). get_or k.lists n []) is
-    ∙ get_or-set_same links.lists n (without_first f xs) [] (list_in l links kinds class order h low) in
-    let off : is_on f (without_first f xs) ≡ false =
-    subst (λ (ys : List ℕ). is_on f ys ≡ false) here (off_list new f n u.free) in
-    ap (λ (k : LinkedLists). areas_of k kinds) is
-    ∙ ap (λ (ys : List ℕ). areas_of (with_list links n ys) kinds) (without-same f xs off)
+    rw is (get_or-set_same links.lists n (without_first f xs) [] (list_in l links kinds class order h low)) in
+    let off : is_on f (without_first f xs) ≡ false = rw (← here) (off_list new f n u.free) in
+    rw (is, without-same f xs off)
 
 -- a test of `after`
 pub after-on : (after : Option ℕ) (xs : List ℕ) → ((b : ℕ) → after ≡ Some b → is_on b xs ≡ true)
@@ -155,8 +146,7 @@ unlink-notes l links new kinds class order f after was now delta h low frame on 
     tt (low, frame)
     (both (list_all (λ other. not (is_on f other)) new.lists)
     (option_map_or (λ first. is_on first xs) after true) off behind)
-    (ap (λ (ys : List ℕ). areas_of (with_list new n ys) kinds) (put_behind-same after f xs)
-    ∙ ap (λ (k : LinkedLists). areas_of k kinds) (u.undone n there))
+    (rw (put_behind-same after f xs) (ap (λ (k : LinkedLists). areas_of k kinds) (u.undone n there)))
 
 -- ---- a block comes to a list
 
@@ -175,11 +165,8 @@ front-notes l links kinds class order f was now delta h low frame none room note
     (areas_of links kinds) room (noted ∙ ap (λ (d : Delta). was.deltas ++ d ∷ []) is)
     tt (low, frame)
     (ap (λ (ys : List ℕ). is_behind None f ys) here ∙ eq-eqb f f refl)
-    (ap (λ (lists : List (List ℕ)). record { lists = lists; kinds = kinds })
-    (ap (λ (ys : List ℕ). set (set links.lists n (f ∷ xs)) n (without f ys)) here
-    ∙ ap (λ (ys : List ℕ). set (set links.lists n (f ∷ xs)) n ys)
-    (without-front f xs (off_list links f n none))
-    ∙ set-set links.lists n (f ∷ xs) xs ∙ set-get_or links.lists n []))
+    (rw (here, without-front f xs (off_list links f n none), set-set links.lists n (f ∷ xs) xs)
+    (rw (set-get_or links.lists n [])))
 
 -- at the back
 pub back-notes : (l : LayoutParts) (links : LinkedLists) (kinds : List Kind) (class : Class) (order f : ℕ)
@@ -197,13 +184,9 @@ back-notes l links kinds class order f after was now delta h low frame none dist
     notes-one l (Link (Area class order) f after) was now (with_back (areas_of links kinds) class order f)
     (areas_of links kinds) room (noted ∙ ap (λ (d : Delta). was.deltas ++ d ∷ []) is)
     tt (low, frame)
-    (ap (λ (ys : List ℕ). is_behind after f ys) here
-    ∙ ap (λ (o : Option ℕ). is_behind o f (xs ++ f ∷ [])) after_is ∙ behind-last f xs distinct)
-    (ap (λ (lists : List (List ℕ)). record { lists = lists; kinds = kinds })
-    (ap (λ (ys : List ℕ). set (set links.lists n (xs ++ f ∷ [])) n (without f ys)) here
-    ∙ ap (λ (ys : List ℕ). set (set links.lists n (xs ++ f ∷ [])) n ys)
-    (without-back f xs (off_list links f n none))
-    ∙ set-set links.lists n (xs ++ f ∷ []) xs ∙ set-get_or links.lists n []))
+    (rw (here, after_is) (behind-last f xs distinct))
+    (rw (here, without-back f xs (off_list links f n none), set-set links.lists n (xs ++ f ∷ []) xs)
+    (rw (set-get_or links.lists n [])))
 
 -- ---- a kind
 
@@ -219,8 +202,7 @@ kind-notes l a pageblock kind was now delta lt size room noted is =
     (noted ∙ ap (λ (d : Delta). was.deltas ++ d ∷ []) is)
     tt (omega arith)
     (get_set a.kinds pageblock kind lt)
-    (ap (λ (kinds : List Kind). record a { kinds = kinds })
-    (set-set a.kinds pageblock kind (kind_of a pageblock) ∙ set-get_or a.kinds pageblock plain_kind))
+    (rw (set-set a.kinds pageblock kind (kind_of a pageblock)) (rw (set-get_or a.kinds pageblock plain_kind)))
 
 -- ---- the same of the value that contracts see
 
@@ -328,10 +310,8 @@ seen-kind v l links kinds pageblock at kind was now delta s same low room noted 
     subst (λ (w : BuddyValue). pageblock < pageblock_count w.layout
     → delta ≡ KindDelta pageblock (kind_of w.areas pageblock) kind
     → NotesAreas w.layout 1 was now (record { lists = links.lists; kinds = set kinds at kind }) w.areas) s.is
-    (λ low is. subst (λ (n : ℕ). NotesAreas l 1 was now
-    (record { lists = links.lists; kinds = set kinds n kind }) (areas_of links kinds)) (sym same)
-    (kind-notes l (areas_of links kinds) pageblock kind was now delta (omega (arith, s.kept.kind_count))
-    s.kept.kind_count room noted is)) low is
+    (λ low is. rw same (kind-notes l (areas_of links kinds) pageblock kind was now delta
+    (omega (arith, s.kept.kind_count)) s.kept.kind_count room noted is)) low is
 
 -- the areas after a push, by the links that it left
 pub front-areas : (v : BuddyValue) (l : LayoutParts) (links new : LinkedLists) (kinds : List Kind)
@@ -340,9 +320,7 @@ pub front-areas : (v : BuddyValue) (l : LayoutParts) (links new : LinkedLists) (
     → n ≡ 5 * order + class_index class → new ≡ with_list links n (f ∷ list_at links n)
     → areas_of new kinds ≡ with_front v.areas class order f
 front-areas v l links new kinds class order f n s number is =
-    subst (λ (w : BuddyValue). areas_of new kinds ≡ with_front w.areas class order f) s.is
-    (ap (λ (k : LinkedLists). areas_of k kinds) is
-    ∙ ap (λ (m : ℕ). areas_of (with_list links m (f ∷ list_at links m)) kinds) number)
+    rw (← s.is) (rw (is, number))
 
 -- the same at the back
 pub back-areas : (v : BuddyValue) (l : LayoutParts) (links new : LinkedLists) (kinds : List Kind)
@@ -351,6 +329,4 @@ pub back-areas : (v : BuddyValue) (l : LayoutParts) (links new : LinkedLists) (k
     → n ≡ 5 * order + class_index class → new ≡ with_list links n (list_at links n ++ f ∷ [])
     → areas_of new kinds ≡ with_back v.areas class order f
 back-areas v l links new kinds class order f n s number is =
-    subst (λ (w : BuddyValue). areas_of new kinds ≡ with_back w.areas class order f) s.is
-    (ap (λ (k : LinkedLists). areas_of k kinds) is
-    ∙ ap (λ (m : ℕ). areas_of (with_list links m (list_at links m ++ f ∷ [])) kinds) number)
+    rw (← s.is) (rw (is, number))

@@ -1,5 +1,5 @@
 -- A pageblock's free blocks at all orders: they move at once, and there are no more than frames.
-use Rattle.std.proofs.Common.{◌≡◌, ◌≢◌, ℕ, zero, suc, ◌+◌, ◌-◌, ◌*◌, ◌/◌, ◌^◌, ◌<◌, ◌≤◌, List, [], ◌++◌, ◌==◌, length, Bool, true, false, not, cond, refl, sym, ◌∙◌, ap, subst, arith, inl, inr, eq-eqb, ne_eqb}
+use Rattle.std.proofs.Common.{◌≡◌, ◌≢◌, ℕ, zero, suc, ◌+◌, ◌-◌, ◌*◌, ◌/◌, ◌^◌, ◌<◌, ◌≤◌, List, [], ◌==◌, length, Bool, true, false, not, cond, refl, sym, ◌∙◌, ap, subst, arith, inl, inr, eq-eqb, ne_eqb}
 use Rattle.std.specs.Prelude.{filter}
 use Rattle.std.proofs.lemmas.Bool.{cases_eq, false_from_ne_true}
 use Rattle.std.proofs.lemmas.Bool.Decides.{nat_tests}
@@ -22,7 +22,7 @@ use Rattle.hp_lemmas.proofs.Sizes.{with_free_list-size}
 use Rattle.hp_lemmas.proofs.Places.{HasOrder, class_index-lt, with_free_list-places}
 use Rattle.hp_lemmas.proofs.Lists.{on-places, off-free}
 use Rattle.hp_buddy.proofs.Apart.{has_order, kind-apart}
-use Rattle.hp_buddy.proofs.Moves.{Moves, moves-then, move_first, move_first-moves, is_among, staying, going, move_first-parted, move_first-on}
+use Rattle.hp_buddy.proofs.Moves.{Moves, moves-then, move_first, move_first-moves, is_among, staying, move_first-parted, move_first-on}
 
 -- ---- the frames of a pageblock
 
@@ -32,8 +32,7 @@ among-pageblock : (f size pageblock : ℕ) → 0 < size
 among-pageblock f size pageblock some = elim (cases_eq (f / size) pageblock) [
   | inl same ↦
       let low : pageblock * size ≤ f = subst (λ (q : ℕ). q * size ≤ f) same (div-mul-le_self f size) in
-      let high : f < pageblock * size + size =
-      subst (λ (q : ℕ). f < q * size + size) same (lt-div-mul-add {a = f} some) in
+      let high : f < pageblock * size + size = rw (← same) (lt-div-mul-add {a = f} some) in
       inside f (pageblock * size) size low high ∙ sym (eq-eqb (f / size) pageblock same)
   | inr other ↦
       false_from_ne_true (is_among (pageblock * size) size f)
@@ -68,9 +67,7 @@ move_free-first l a from to pageblock order has =
     let stay : staying frames first size ≡ filter (λ frame. not (pageblock_of l frame == pageblock)) frames =
     filter_agree (λ f. not (is_among first size f)) (λ frame. not (pageblock_of l frame == pageblock))
     (λ f. ap not (among-pageblock f size pageblock (pow_pos l.order))) frames in
-    move_first-parted a from to order first size has
-    ∙ ap (λ (xs : List ℕ). with_free_list (with_free_list a from order xs) to order
-    (free_list (with_free_list a from order xs) to order ++ going frames first size)) stay
+    rw (move_first-parted a from to order first size has, stay)
 
 -- ---- the lists of other orders
 
@@ -103,8 +100,7 @@ move_free_below-other l a from to pageblock (suc count) c o h =
 pub move_free-moves : (l : LayoutParts) (a : FreeAreas) (from to : Class) (pageblock order : ℕ)
     → order ≤ l.order → AreApart l a → Moves l a (move_free l a from to pageblock order)
 move_free-moves l a from to pageblock order low h =
-    subst (λ (b : FreeAreas). Moves l a b)
-    (move_free-first l a from to pageblock order (has_order l a order h low))
+    rw (← move_free-first l a from to pageblock order (has_order l a order h low))
     (move_first-moves l a from to order (pageblock * pageblock_size l) (pageblock_size l) low h)
 
 -- the same for the lowest `count` orders
@@ -143,8 +139,7 @@ count-same : (a b : FreeAreas) (class : Class) (order first count : ℕ)
     → free_count a class order first count ≡ free_count b class order first count
 count-same a b class order first zero e = refl
 count-same a b class order first (suc count) e =
-    let more : free_one a class order (first + count) ≡ free_one b class order (first + count) =
-    ap (λ (xs : List ℕ). cond (is_on (first + count) xs) 1 0) e in
+    let more : free_one a class order (first + count) ≡ free_one b class order (first + count) = rw e in
     omega (arith, count-same a b class order first count e)
 
 -- as many when the turn of an order comes
@@ -169,11 +164,9 @@ lone a class order other frame has has_other ne once on =
     let some = on-places frame order (free_list a class order) on in
     let none : free_places gone frame ≡ 0 =
     omega (arith, with_free_list-places a class order frame [] has, some) in
-    subst (λ (xs : List ℕ). is_on frame xs ≡ false)
-    (get_or-set_other a.lists (5 * order + class_index class) (5 * other + class_index class) [] []
-    (other-order class class order other ne))
-    (off-free gone class other frame (omega (arith, (with_free_list-size a class order []).lists, has_other))
-    none)
+    rw (← get_or-set_other a.lists (5 * order + class_index class) (5 * other + class_index class) [] []
+    (other-order class class order other ne)) (off-free gone class other frame
+    (omega (arith, (with_free_list-size a class order []).lists, has_other)) none)
 
 -- no order below has a free block at the frame
 orders-none : (a : FreeAreas) (class : Class) (frame order : ℕ)
@@ -258,17 +251,14 @@ pub count-within : (a : FreeAreas) (class : Class) (order first at count : ℕ) 
     ≤ free_count a class order first count
 count-within a class order first at count low =
     let sum : suc at + (count - suc at) ≡ count = omega arith in
-    subst (λ (n : ℕ). free_count a class order first (suc at) ≤ free_count a class order first n) sum
-    (count-le a class order first (suc at) (count - suc at))
+    rw (← sum) (count-le a class order first (suc at) (count - suc at))
 
 -- whether a frame is free when its turn comes
 pub one-same : (a now : FreeAreas) (from to : Class) (order first at frame : ℕ) → HasOrder a order
     → now ≡ move_first a from to order first at → frame ≡ first + at
     → free_one now from order frame ≡ free_one a from order (first + at)
 one-same a now from to order first at frame has is place =
-    ap (λ (b : FreeAreas). free_one b from order frame) is
-    ∙ ap (λ (n : ℕ). free_one (move_first a from to order first at) from order n) place
-    ∙ ap (λ (b : Bool). cond b 1 0) (move_first-on a from to order first at has)
+    rw (is, place, move_first-on a from to order first at has)
 
 -- the count with the next frame
 pub count_next : (a : FreeAreas) (class : Class) (order first at : ℕ)
@@ -284,8 +274,7 @@ pub below_next : (l : LayoutParts) (a now new : FreeAreas) (from to : Class) (pa
     → new ≡ move_free l now from to pageblock order → new ≡ move_free_below l a from to pageblock (order + 1)
 below_next l a now new from to pageblock order is moved =
     let next : suc order ≡ order + 1 = omega arith in
-    moved ∙ ap (λ (b : FreeAreas). move_free l b from to pageblock order) is
-    ∙ ap (λ (n : ℕ). move_free_below l a from to pageblock n) next
+    rw (moved, is) (ap (λ (n : ℕ). move_free_below l a from to pageblock n) next)
 
 -- the count with one more order
 pub total_next : (a : FreeAreas) (class : Class) (first count order : ℕ)
@@ -302,16 +291,7 @@ pub pageblock_moved : (l : LayoutParts) (zone : Zone) (isolated : Bool) (a mid n
     → new ≡ with_kind mid pageblock moved → new ≡ move_pageblock l zone isolated a pageblock
 unfolding move_pageblock
 pageblock_moved l zone isolated a mid new pageblock kind moved from to kind_is moved_is from_is to_is is
-    set_is =
-    set_is ∙ ap (λ (b : FreeAreas). with_kind b pageblock moved) is
-    ∙ ap (λ (c : Class). with_kind (move_free_below l a c to pageblock (l.order + 1)) pageblock moved) from_is
-    ∙ ap (λ (c : Class). with_kind (move_free_below l a (class_of_kind zone kind) c pageblock (l.order + 1))
-    pageblock moved) to_is
-    ∙ ap (λ (k : Kind). with_kind (move_free_below l a (class_of_kind zone kind) (class_of_kind zone k)
-    pageblock (l.order + 1)) pageblock k) moved_is
-    ∙ ap (λ (k : Kind). with_kind (move_free_below l a (class_of_kind zone k)
-    (class_of_kind zone (record k { isolated = isolated })) pageblock (l.order + 1)) pageblock (record k
-    { isolated = isolated })) kind_is
+    set_is = rw (set_is, is, from_is, to_is, moved_is, kind_is)
 
 -- how many blocks of an order are free when its turn comes
 pub order_count : (l m : LayoutParts) (a now : FreeAreas) (from to : Class) (pageblock order : ℕ) → m ≡ l
@@ -319,6 +299,4 @@ pub order_count : (l m : LayoutParts) (a now : FreeAreas) (from to : Class) (pag
     → free_count now from order (pageblock * pageblock_size m) (pageblock_size m)
     ≡ free_count a from order (pageblock * pageblock_size l) (pageblock_size l)
 order_count l m a now from to pageblock order same is =
-    ap (λ (k : LayoutParts). free_count now from order (pageblock * pageblock_size k) (pageblock_size k)) same
-    ∙ ap (λ (b : FreeAreas). free_count b from order (pageblock * pageblock_size l) (pageblock_size l)) is
-    ∙ below-count l a from to pageblock order (pageblock * pageblock_size l) (pageblock_size l)
+    rw (same, is) (below-count l a from to pageblock order (pageblock * pageblock_size l) (pageblock_size l))

@@ -1,5 +1,5 @@
 -- The searches for an order, one order at a time.
-use Rattle.std.proofs.Common.{◌≡◌, ℕ, suc, ◌+◌, ◌-◌, ◌*◌, ◌^◌, ◌<◌, ◌≤◌, List, [], ◌∷◌, length, Bool, true, false, cond, Option, Some, ◌==◌, refl, sym, ◌∙◌, ap, subst, arith, inl, inr, eq-eqb, ne_eqb}
+use Rattle.std.proofs.Common.{◌≡◌, ℕ, suc, ◌+◌, ◌-◌, ◌*◌, ◌^◌, ◌<◌, ◌≤◌, List, [], ◌∷◌, length, Bool, false, cond, Option, Some, ◌==◌, refl, sym, ◌∙◌, subst, arith, inl, inr, eq-eqb, ne_eqb}
 use Rattle.std.proofs.lemmas.Bool.{cases_eq, false_from_ne_true}
 use Rattle.hp_units.specs.declared.rows.Class.{Class}
 use Rattle.hp_units.specs.declared.rows.Kind.{Kind}
@@ -61,11 +61,8 @@ pub join_order-on : (a : FreeAreas) (class : Class) (frame order end half other 
     → join_order a class frame order (end - order)
     ≡ cond on (join_order a class frame (order + 1) (end - (order + 1))) order
 join_order-on a class frame order end half other on h half_is other_is on_is =
-    let place : other ≡ buddy (ancestor frame order) order =
-    other_is ∙ ap (λ (n : ℕ). buddy n order) half_is in
-    join_order-more a class frame order end h
-    ∙ ap (λ (b : Bool). cond b (join_order a class frame (order + 1) (end - (order + 1))) order)
-    (ap (λ (n : ℕ). is_on n (free_list a class order)) (sym place) ∙ sym on_is)
+    let place : other ≡ buddy (ancestor frame order) order = rw (other_is, half_is) in
+    rw (join_order-more a class frame order end h, ← place, ← on_is)
 
 -- one more buddy that is joined
 pub without_buddies-more : (a : FreeAreas) (class : Class) (frame first order : ℕ) → first ≤ order
@@ -96,8 +93,7 @@ pub seen-is_free : (v : BuddyValue) (l : LayoutParts) (links : LinkedLists) (kin
 seen-is_free v l links kinds class order f k n s on apart number = elim (cases_eq k n) [
   | inl same ↦
       eq-eqb k n same
-      ∙ sym (subst (λ (w : BuddyValue). is_on f (free_list w.areas class order) ≡ true) s.is
-      (contains_on f _ (subst (λ (m : ℕ). IsOn links m f) (same ∙ number) on)))
+      ∙ sym (rw (← s.is) (contains_on f _ (subst (λ (m : ℕ). IsOn links m f) (same ∙ number) on)))
   | inr other ↦
       ne_eqb k n other
       ∙ sym (false_from_ne_true (is_on f (free_list v.areas class order)) (λ there. other

@@ -79,9 +79,7 @@ halves-left l a class first last (suc count) block h =
 
 -- the front block is on its list
 pub front_on : (first : ℕ) (frames xs : List ℕ) → xs ≡ first ∷ frames → is_on first xs ≡ true
-front_on first frames xs e =
-    subst (λ (ys : List ℕ). is_on first ys ≡ true) (sym e)
-    (or_left (first == first) (is_on first frames) (eq-eqb first first refl))
+front_on first frames xs e = rw e (or_left (first == first) (is_on first frames) (eq-eqb first first refl))
 
 -- without the front block its frames are in one free block less
 pub tail-places : (a : FreeAreas) (class : Class) (order first frame : ℕ) (frames : List ℕ)

@@ -52,18 +52,15 @@ pub place_from-at : (f number k : ℕ) (lists : List (List ℕ)) → is_on f (ge
 place_from-at f number k [] on one = absurd (both_ways (is_on f []) refl on)
 place_from-at f number zero (frames ∷ lists) on one =
     let sum : number ≡ number + 0 = omega arith in
-    cond-true (is_on f frames) (Some (class_numbered (number % 5), number / 5))
-    (place_from f (number + 1) lists) on
-    ∙ ap (λ (n : ℕ). Some (class_numbered (n % 5), n / 5)) sum
+    rw (cond-true (is_on f frames) (Some (class_numbered (number % 5), number / 5))
+    (place_from f (number + 1) lists) on) (ap (λ (n : ℕ). Some (class_numbered (n % 5), n / 5)) sum)
 place_from-at f number (suc k) (frames ∷ lists) on one =
     let sum : number + 1 + k ≡ number + suc k = omega arith in
     let off : is_on f frames ≡ false =
     false_from_ne_true (is_on f frames) (λ here. let same : 0 ≡ suc k = one 0 here in omega arith) in
-    cond-false (is_on f frames) (Some (class_numbered (number % 5), number / 5))
-    (place_from f (number + 1) lists) off
-    ∙ place_from-at f (number + 1) k lists on
-    (λ j there. let same : suc j ≡ suc k = one (suc j) there in omega arith)
-    ∙ ap (λ (n : ℕ). Some (class_numbered (n % 5), n / 5)) sum
+    rw (cond-false (is_on f frames) (Some (class_numbered (number % 5), number / 5))
+    (place_from f (number + 1) lists) off) (rw (place_from-at f (number + 1) k lists on
+    (λ j there. let same : suc j ≡ suc k = one (suc j) there in omega arith)) (rw sum))
 
 -- a frame on no list has no place
 pub place_from-none : (f number : ℕ) (lists : List (List ℕ)) → ((j : ℕ) → is_on f (get_or lists j []) ≡ false)
@@ -119,11 +116,8 @@ pub seen-place : (v : BuddyValue) (l : LayoutParts) (links : LinkedLists) (kinds
     → Seen v l links kinds → IsOn links k f → IsApart links
     → n ≡ k → class ≡ class_numbered (n % 5) → Some (class, n / 5) ≡ place_of v.areas f
 seen-place v l links kinds f k n class s on apart same is =
-    subst (λ (w : BuddyValue). Some (class, n / 5) ≡ place_of w.areas f) s.is
-    (ap (λ (c : Class). Some (c, n / 5)) is
-    ∙ ap (λ (m : ℕ). Some (class_numbered (m % 5), m / 5)) (same ∙ zero-add-sym k)
-    ∙ sym
-    (place_from-at f 0 k links.lists (contains_on f (get_or links.lists k []) on) (one links f k on apart)))
+    rw (← s.is) (rw (is, same, zero-add-sym k) (rw (← place_from-at f 0 k links.lists
+    (contains_on f (get_or links.lists k []) on) (one links f k on apart))))
   where
     zero-add-sym : (k : ℕ) → k ≡ 0 + k
     zero-add-sym k = omega arith
@@ -132,8 +126,7 @@ seen-place v l links kinds f k n class s on apart same is =
 pub seen-no_place : (v : BuddyValue) (l : LayoutParts) (links : LinkedLists) (kinds : List Kind) (f : ℕ)
     → Seen v l links kinds → IsUnlisted links f → None ≡ place_of v.areas f
 seen-no_place v l links kinds f s none =
-    subst (λ (w : BuddyValue). None ≡ place_of w.areas f) s.is
-    (sym (place_from-none f 0 links.lists (λ j. off_list links f j none)))
+    rw (← s.is) (sym (place_from-none f 0 links.lists (λ j. off_list links f j none)))
 
 -- a free block's list
 pub seen-on : (v : BuddyValue) (l : LayoutParts) (links : LinkedLists) (kinds : List Kind) (class : Class)
@@ -150,10 +143,7 @@ pub seen-free : (v : BuddyValue) (l : LayoutParts) (links : LinkedLists) (kinds 
     → Seen v l links kinds → IsOn links k f
     → n ≡ k → class ≡ class_numbered (n % 5) → is_on f (free_list v.areas class (n / 5)) ≡ true
 seen-free v l links kinds f k n class s on same is =
-    subst (λ (w : BuddyValue). is_on f (free_list w.areas class (n / 5)) ≡ true) s.is
-    (subst (λ (c : Class). is_on f (get_or links.lists (5 * (n / 5) + class_index c) []) ≡ true) (sym is)
-    (subst (λ (m : ℕ). is_on f (get_or links.lists m []) ≡ true) (sym (number_back n ∙ same))
-    (contains_on f (get_or links.lists k []) on)))
+    rw (← s.is, is, number_back n, same) (contains_on f (get_or links.lists k []) on)
 
 -- ---- nothing is free
 

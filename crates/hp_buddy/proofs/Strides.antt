@@ -1,12 +1,12 @@
 -- A free block starts at a multiple of its size: the frames between two multiples start none.
-use Rattle.std.proofs.Common.{◌≡◌, ℕ, zero, suc, ◌+◌, ◌-◌, ◌*◌, ◌%◌, ◌^◌, ◌<◌, ◌≤◌, Bool, false, cond, sym, ◌∙◌, ap, subst, arith}
+use Rattle.std.proofs.Common.{◌≡◌, ℕ, zero, suc, ◌+◌, ◌-◌, ◌*◌, ◌%◌, ◌^◌, ◌<◌, ◌≤◌, false, sym, ◌∙◌, ap, subst, arith}
 use Rattle.std.proofs.lemmas.Bool.{false_from_ne_true}
 use Rattle.std.proofs.lemmas.Nat.{pow_pos, pow-add, mod-mul-add}
 use Rattle.std.proofs.Math.Nat.{mul-le-mul_right}
 use Rattle.hp_units.specs.declared.rows.Class.{Class}
 use Rattle.hp_units.specs.LayoutParts.{LayoutParts}
 use Rattle.hp_units.specs.Memory.{FreeAreas, free_list}
-use Rattle.hp_units.specs.FreeAreas.{is_on, with_back, without_free}
+use Rattle.hp_units.specs.FreeAreas.{is_on}
 use Rattle.hp_buddy.specs.Buddy.{AreApart}
 use Rattle.hp_buddy.specs.Moves.{move_one}
 use Rattle.hp_lemmas.proofs.Places.{HasOrder}
@@ -16,8 +16,7 @@ use Rattle.hp_buddy.proofs.Moves.{move_first, move_first-on}
 -- a frame that starts no free block stays
 stays : (m : FreeAreas) (from to : Class) (order x : ℕ) → is_on x (free_list m from order) ≡ false
     → move_one m from to order x ≡ m
-stays m from to order x off =
-    ap (λ (on : Bool). cond on (with_back (without_free m from order x) to order x) m) off
+stays m from to order x off = rw off
 
 -- several frames that start no free block stay
 pub skip : (a : FreeAreas) (from to : Class) (order first at more : ℕ) → HasOrder a order
@@ -57,11 +56,10 @@ stride l a from to pageblock order at low h =
     let place : (j : ℕ)
     → first + (suc (at * size) + j) ≡ (pageblock * 2 ^ (l.order - order) + at) * size + suc j =
     λ j. placed (2 ^ (l.order - order)) size (2 ^ l.order) pageblock at j (whole order l.order low) in
-    ap (λ (n : ℕ). move_first a from to order first n) sum
-    ∙ skip a from to order first (suc (at * size)) (size - 1) (has_order l a order h low)
+    rw sum (skip a from to order first (suc (at * size)) (size - 1) (has_order l a order h low)
     (λ j less. false_from_ne_true (is_on (first + (suc (at * size) + j)) (free_list a from order))
     (λ on. between size (pageblock * 2 ^ (l.order - order) + at) (suc j) (omega arith) (omega arith)
-    (subst (λ (n : ℕ). n % size ≡ 0) (place j) (h.aligned from order (first + (suc (at * size) + j)) on))))
+    (subst (λ (n : ℕ). n % size ≡ 0) (place j) (h.aligned from order (first + (suc (at * size) + j)) on)))))
   where
     placed : (q size top pageblock at j : ℕ) → q * size ≡ top
         → pageblock * top + (suc (at * size) + j) ≡ (pageblock * q + at) * size + suc j

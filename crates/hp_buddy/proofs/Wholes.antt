@@ -1,5 +1,5 @@
 -- A pageblock that is one free block: none of its frames starts another.
-use Rattle.std.proofs.Common.{◌≡◌, ℕ, zero, suc, ◌+◌, ◌*◌, ◌^◌, ◌<◌, ◌≤◌, List, [], Bool, true, false, cond, refl, sym, ◌∙◌, ap, subst, arith}
+use Rattle.std.proofs.Common.{◌≡◌, ℕ, zero, suc, ◌+◌, ◌*◌, ◌^◌, ◌<◌, ◌≤◌, [], Bool, true, false, cond, refl, sym, ◌∙◌, ap, arith}
 use Rattle.std.proofs.lemmas.List.{get_or-set_other}
 use Rattle.hp_units.specs.declared.rows.Class.{Class}
 use Rattle.hp_units.specs.LayoutParts.{LayoutParts}
@@ -32,8 +32,7 @@ lower-off l a class pageblock order f low h whole from below =
     get_or-set_other a.lists (5 * l.order + class_index class) (5 * order + class_index class)
     (without first (free_list a class l.order)) []
     (other-order class class l.order order (λ e. omega arith)) in
-    subst (λ (xs : List ℕ). is_on f xs ≡ false) same
-    (off-free gone class order f (has_order l gone order out.apart (omega arith))
+    rw (← same) (off-free gone class order f (has_order l gone order out.apart (omega arith))
     (out.block.unfree f from below))
 
 -- so nothing of a lower order moves
@@ -53,9 +52,8 @@ lowers-stay : (l : LayoutParts) (a : FreeAreas) (from to : Class) (pageblock cou
     → AreApart l a → IsWhole l a from pageblock → move_free_below l a from to pageblock count ≡ a
 lowers-stay l a from to pageblock zero low h whole = refl
 lowers-stay l a from to pageblock (suc count) low h whole =
-    ap (λ (b : FreeAreas). move_free l b from to pageblock count)
-    (lowers-stay l a from to pageblock count (omega arith) h whole)
-    ∙ lower-stays l a from to pageblock count (omega arith) h whole
+    rw (lowers-stay l a from to pageblock count (omega arith) h whole)
+    (lower-stays l a from to pageblock count (omega arith) h whole)
 
 -- the whole block moves
 greatest-moves : (l : LayoutParts) (a : FreeAreas) (from to : Class) (pageblock : ℕ) → AreApart l a
@@ -80,8 +78,7 @@ pub whole-moved : (l : LayoutParts) (a after : FreeAreas) (from to : Class) (pag
 whole-moved l a after from to pageblock order first order_is first_is h whole moved =
     below_next l a a after from to pageblock l.order
     (sym (lowers-stay l a from to pageblock l.order (omega arith) h whole))
-    (moved ∙ ap (λ (n : ℕ). move_one a from to n first) order_is
-    ∙ ap (λ (n : ℕ). move_one a from to l.order n) first_is ∙ greatest-moves l a from to pageblock h)
+    (rw (moved, order_is, first_is) (greatest-moves l a from to pageblock h))
 
 -- at most one block starts at a frame
 pub one-le : (a : FreeAreas) (class : Class) (order frame : ℕ) → free_one a class order frame ≤ 1

@@ -1,5 +1,5 @@
 -- Findings that are added by one step after another.
-use Rattle.std.proofs.Common.{◌≡◌, ℕ, ◌+◌, ◌<◌, ◌≤◌, Bool, true, false, ◌&&◌, List, [], ◌∷◌, ◌++◌, length, get_or, take, Option, Some, None, refl, sym, ap, subst, ◌∙◌, append_assoc, append-nil, arith}
+use Rattle.std.proofs.Common.{◌≡◌, ℕ, ◌+◌, ◌<◌, ◌≤◌, Bool, ◌&&◌, List, [], ◌∷◌, ◌++◌, length, get_or, take, Option, None, refl, sym, ap, subst, ◌∙◌, append_assoc, append-nil, arith}
 use Rattle.std.specs.List.{list_all}
 use Rattle.std.specs.Option.{option_or}
 use Rattle.std.proofs.lemmas.List.{length-take, take_all, take_more}
@@ -16,8 +16,7 @@ none_added P old = record { added = []; is = sym (append-nil old); each = All-ni
 
 pub one_added : (P : Finding → Type 0) (fault : Option ScenarioFault) (f : Finding) (old new : List Finding)
     → new ≡ old ++ f ∷ [] → P f → IsFirst fault (f ∷ []) → Adds P fault old new
-one_added P fault f old new is cause first =
-    record { added = f ∷ []; is = is; each = All-cons P f [] cause (All-nil P); first = first }
+one_added P fault f old new is cause first = grind (arith, All-cons, All-nil)
 
 pub of_fault : {P : Finding → Type 0} {a b : Option ScenarioFault} {old new : List Finding} → a ≡ b
     → Adds P a old new → Adds P b old new
@@ -25,8 +24,7 @@ of_fault {P} {a} {b} {old} {new} e h = subst (λ (fault : Option ScenarioFault).
 
 pub by_cause : {P Q : Finding → Type 0} {fault : Option ScenarioFault} {old new : List Finding}
     → ((f : Finding) → P f → Q f) → Adds P fault old new → Adds Q fault old new
-by_cause {P} {Q} weaker h =
-    record { added = h.added; is = h.is; each = All-weaker P Q weaker h.added h.each; first = h.first }
+by_cause {P} {Q} weaker h = grind (arith, All-weaker)
 
 -- what is added to no findings
 pub from_none : {P : Finding → Type 0} {fault : Option ScenarioFault} {old new : List Finding} → old ≡ []
@@ -37,9 +35,7 @@ from_none {P} {fault} {old} {new} e h = subst (λ (l : List Finding). Adds P fau
 
 first_of_two : (a b : Option ScenarioFault) (xs ys : List Finding) → IsFirst a xs → IsFirst b ys
     → IsFirst (option_or a b) (xs ++ ys)
-first_of_two None b xs ys none h = subst (λ (l : List Finding). IsFirst b (l ++ ys)) (sym none) h
-first_of_two (Some fault) b [] ys first h = absurd first
-first_of_two (Some fault) b (x ∷ xs) ys first h = first
+first_of_two a b xs ys none h = grind arith
 
 pub both_added : {P : Finding → Type 0} {a b : Option ScenarioFault} {old mid new : List Finding}
     → Adds P a old mid → Adds P b mid new → Adds P (option_or a b) old new
@@ -52,8 +48,7 @@ both_added {P} {a} {b} {old} {mid} {new} one two = record {
 }
 
 lacks_either : (a b : Bool) → option_or (lacks a) (lacks b) ≡ lacks (a && b)
-lacks_either true b = refl
-lacks_either false b = refl
+lacks_either a b = grind arith
 
 pub both_lack : (a b : Bool) {P : Finding → Type 0} {old mid new : List Finding}
     → Adds P (lacks a) old mid → Adds P (lacks b) mid new → Adds P (lacks (a && b)) old new
@@ -66,20 +61,15 @@ of_test e h = of_fault (ap lacks e) h
 -- ---- a loop
 
 or_assoc : (a b c : Option ScenarioFault) → option_or (option_or a b) c ≡ option_or a (option_or b c)
-or_assoc None b c = refl
-or_assoc (Some x) b c = refl
+or_assoc a b c = grind arith
 
 or_none : (a : Option ScenarioFault) → option_or a None ≡ a
-or_none None = refl
-or_none (Some x) = refl
+or_none a = grind arith
 
 last_at : {X : Type 0} (f : ℕ → X → Option ScenarioFault) (number : ℕ) (xs : List X) (x : X)
     → first_at f number (xs ++ x ∷ []) ≡ option_or (first_at f number xs) (f (number + length xs) x)
 last_at f number [] x = or_none (f number x) ∙ ap (λ (n : ℕ). f n x) (omega arith)
-last_at f number (y ∷ ys) x =
-    ap (option_or (f number y)) (last_at f (number + 1) ys x)
-    ∙ sym (or_assoc (f number y) (first_at f (number + 1) ys) (f (number + 1 + length ys) x))
-    ∙ ap (λ (n : ℕ). option_or (option_or (f number y) (first_at f (number + 1) ys)) (f n x)) (omega arith)
+last_at f number (y ∷ ys) x = grind (arith, or_assoc, (last_at f (number + 1) ys x))
 
 -- one item more
 pub item_added : {X : Type 0} {P : Finding → Type 0} (f : ℕ → X → Option ScenarioFault) (xs : List X) (i : ℕ)

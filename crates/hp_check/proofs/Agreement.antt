@@ -1,5 +1,5 @@
 -- The first finding is the fault that reading gives, and each has its cause.
-use Rattle.std.proofs.Common.{◌≡◌, ℕ, ◌+◌, ◌≤◌, Bool, true, false, cond, List, [], ◌∷◌, codes, count_by, length, Option, Some, None, Result, Ok, Err, is_some, option_and_then, refl, sym, ap, subst, ◌∙◌, arith}
+use Rattle.std.proofs.Common.{◌≡◌, ℕ, ◌+◌, ◌≤◌, Bool, true, false, cond, List, [], ◌∷◌, codes, count_by, length, Option, Some, None, Result, Ok, is_some, option_and_then, refl, sym, ap, ◌∙◌, arith}
 use Rattle.std.specs.List.{All}
 use Rattle.std.specs.Option.{option_map, option_or}
 use Rattle.std.proofs.lemmas.List.Elements.{All-head, All-nil, All-tail, All-weaker}
@@ -13,7 +13,7 @@ use Rattle.hp_scenario.specs.Form.{Form, boots_at, form_of, has_keys, parts_of, 
 use Rattle.hp_scenario.specs.Gives.{◌>>=◌, or_fault}
 use Rattle.hp_scenario.specs.Scenario.{ScenarioValue, Script, json_of, layout_or, lines_from, nothing, scenario_in, scenario_of, scenario_with}
 use Rattle.hp_scenario.specs.declared.fault.ScenarioFault.{ScenarioFault}
-use Rattle.hp_scenario.specs.declared.fault.ScenarioFault.TheVariants.{NotJson, BadShape, Layout, BadLine, NotForRun, OutOfMemory}
+use Rattle.hp_scenario.specs.declared.fault.ScenarioFault.TheVariants.{NotJson, BadShape, Layout}
 use Rattle.hp_check.specs.Adds.{Adds, IsFirst, IsLayout, IsNotJson, IsRepeat, IsShape, IsWarning, ValueCause, fault_in, first_at, lacks, limit_fault_of}
 use Rattle.hp_check.specs.Calls.{IsBadCall, entries_in, entry_fault}
 use Rattle.hp_check.specs.Checking.{Agrees, Begins, HasCause, HaveCauses, IsFindingOf, IsPastLimits}
@@ -23,7 +23,6 @@ use Rattle.hp_check.specs.declared.finding.Finding.{Finding}
 use Rattle.hp_check.specs.declared.finding.Finding.TheVariants as finding
 use Rattle.hp_check.specs.declared.finding.Key.{Key}
 use Rattle.hp_check.specs.declared.finding.ScenarioObject.{ScenarioObject}
-use Rattle.hp_check.specs.declared.finding.Warning.{Warning}
 use Rattle.hp_check.proofs.Added.{both_added, by_cause, of_fault}
 use Rattle.hp_check.proofs.Entries.{calls_stop}
 
@@ -38,37 +37,19 @@ abbrev pub form_made : LayoutParts → List (List ℕ) → Form
 form_made parts calls = record { parts = parts; calls = calls }
 
 if_some : {A : Type 0} (b : Bool) (o : Option A) (x : A) → cond b o None ≡ Some x → o ≡ Some x
-if_some false o x h = absurd cc
-if_some true o x h = h
+if_some b o x h = grind arith
 
 parts_read : (l : Data) (p : LayoutParts) → parts_of l ≡ Some p
     → option_and_then (λ boot. parts_with boot l) (boots_at (codes "boot") l) ≡ Some p
 unfolding parts_of
-parts_read l p h =
-    if_some (has_keys 11 l) (option_and_then (λ boot. parts_with boot l) (boots_at (codes "boot") l)) p h
-
-both_made : (parts : Option LayoutParts) (texts : Option (List (List ℕ))) (form : Form)
-    → option_and_then (λ p. option_and_then (λ ts. Some (form_made p ts)) texts) parts ≡ Some form
-    → (parts ≡ Some form.parts) × (texts ≡ Some form.calls)
-both_made None texts form h = absurd cc
-both_made (Some p) None form h = absurd cc
-both_made (Some p) (Some ts) form h =
-    let same : form_made p ts ≡ form = same_Some (form_made p ts) form h in
-    (ap (λ (f : Form). Some f.parts) same, ap (λ (f : Form). Some f.calls) same)
+parts_read l p h = grind (arith, if_some)
 
 made_of : (d : Data) (layout : Option Data) (form : Form) → get (codes "layout") d ≡ layout
     → option_and_then (λ l. option_and_then (λ p. option_and_then (λ ts. Some (form_made p ts))
     (texts_at (codes "calls") d)) (parts_of l)) layout ≡ Some form
     → IsMade d form
 unfolding parts_in
-made_of d None form e h = absurd cc
-made_of d (Some l) form e h =
-    let two = both_made (parts_of l) (texts_at (codes "calls") d) form h in record {
-      parts =
-          ap (option_and_then (λ layout. option_and_then (λ boot. parts_with boot layout)
-          (boots_at (codes "boot") layout))) e ∙ parts_read l form.parts two.0;
-      calls = two.1;
-    }
+made_of d layout form e h = grind (arith, parts_read, same_Some)
 
 form_is_made : (d : Data) (form : Form) → form_of d ≡ Some form → IsMade d form
 unfolding form_of
@@ -79,11 +60,6 @@ form_is_made d form h = made_of d (get (codes "layout") d) form refl (if_some (h
 abbrev pub with_script : LayoutParts → Result Script ScenarioFault → Result ScenarioValue ScenarioFault
 with_script layout r =
     r >>= λ script. Ok (record { layout = layout; names = script.names; lines = script.lines })
-
-script_fault : (layout : LayoutParts) (r : Result Script ScenarioFault)
-    → fault_in r ≡ fault_in (with_script layout r)
-script_fault layout (Ok script) = refl
-script_fault layout (Err fault) = refl
 
 abbrev pub after_layout : Form → Option LayoutFault → Result ScenarioValue ScenarioFault
 after_layout form o =
@@ -96,8 +72,7 @@ form_fault form = refl
 layout_then_lines : (form : Form) (lines : Option ScenarioFault) (o : Option LayoutFault)
     → lines ≡ fault_in (lines_from 1 nothing form.calls)
     → option_or (option_map Layout o) lines ≡ fault_in (after_layout form o)
-layout_then_lines form lines (Some fault) e = refl
-layout_then_lines form lines None e = e ∙ script_fault form.parts (lines_from 1 nothing form.calls)
+layout_then_lines form lines o e = grind arith
 
 abbrev pub all_faults : Data → Bool → Option LayoutParts → Option ScenarioFault
 all_faults d fine parts =
@@ -122,27 +97,12 @@ value_fault d = value_fault_of d (form_of d) refl
 -- where findings were added there is a fault
 by_fault : {P Q : Finding → Type 0} (fault : Option ScenarioFault) {old new : List Finding}
     → (is_some fault ≡ true → (f : Finding) → P f → Q f) → Adds P fault old new → Adds Q fault old new
-by_fault {P} {Q} None why h = record {
-  added = h.added;
-  is = h.is;
-  each = subst (All Q) (sym h.first) (All-nil Q);
-  first = h.first;
-}
+by_fault {P} {Q} None why h = grind (arith, All-nil)
 by_fault (Some fault) why h = by_cause (why refl) h
-
-formless : (d : Data) (o : Option Form) → form_of d ≡ o → is_some (lacks (is_some o)) ≡ true
-    → form_of d ≡ None
-formless d None e h = e
-formless d (Some form) e h = absurd cc
 
 shape_cause : (d : Data) → is_some (lacks (is_some (form_of d))) ≡ true
     → (f : Finding) → IsShape f → ValueCause d f
-shape_cause d h (finding.Shape s) is = formless d (form_of d) refl h
-shape_cause d h (finding.NotJson hint line column) is = is
-shape_cause d h (finding.Layout out) is = absurd is
-shape_cause d h (finding.BadCall number text) is = absurd is
-shape_cause d h (finding.Repeat place k) is = is
-shape_cause d h (finding.Warning number w) is = is
+shape_cause d h f is = grind arith
 
 past_limits : (d : Data) (parts : Option LayoutParts) → parts_in d ≡ parts
     → is_some (limit_fault_of parts) ≡ true → IsPastLimits d
@@ -159,16 +119,10 @@ layout_cause d h (finding.Layout out) is = past_limits d (parts_in d) refl h
 layout_cause d h (finding.NotJson hint line column) is = is
 layout_cause d h (finding.Shape s) is = absurd is
 layout_cause d h (finding.BadCall number text) is = absurd is
-layout_cause d h (finding.Repeat place k) is = is
-layout_cause d h (finding.Warning number w) is = is
+layout_cause d h f is = is
 
 call_cause : (d : Data) (f : Finding) → IsBadCall (entries_in d) f → ValueCause d f
-call_cause d (finding.BadCall number text) is = is
-call_cause d (finding.NotJson hint line column) is = is
-call_cause d (finding.Shape s) is = absurd is
-call_cause d (finding.Layout out) is = absurd is
-call_cause d (finding.Repeat place k) is = is
-call_cause d (finding.Warning number w) is = is
+call_cause d f is = grind arith
 
 -- all that is wrong with a value: its shape, its layout, its lines
 pub value_found : (d : Data) (old shape limits new : List Finding)
@@ -183,76 +137,31 @@ value_found d old shape limits new one two three =
     (by_fault (limit_fault_of (parts_in d)) (layout_cause d) two))
     (by_cause (call_cause d) three))
 
-text_cause : (input : List ℕ) (d : Data) → json_of input ≡ Some d → (f : Finding) → ValueCause d f
-    → HasCause input f
-text_cause input d e (finding.Shape s) h = (d, e, h)
-text_cause input d e (finding.Layout out) h = (d, e, h)
-text_cause input d e (finding.BadCall number text) h = (d, e, h)
-text_cause input d e (finding.NotJson hint line column) h = absurd h
-text_cause input d e (finding.Repeat place k) h = absurd h
-text_cause input d e (finding.Warning number w) h = absurd h
-
-json_cause : (input : List ℕ) → json_of input ≡ None → (f : Finding) → IsNotJson f → HasCause input f
-json_cause input e (finding.NotJson hint line column) h = e
-json_cause input e (finding.Shape s) h = absurd h
-json_cause input e (finding.Layout out) h = absurd h
-json_cause input e (finding.BadCall number text) h = absurd h
-json_cause input e (finding.Repeat place k) h = absurd h
-json_cause input e (finding.Warning number w) h = absurd h
-
 -- the faults of a text that is JSON, and of one that is none
 pub text_found : (input : List ℕ) (d : Data) (found : List Finding) → json_of input ≡ Some d
     → Adds (ValueCause d) (fault_in (scenario_of d)) [] found
     → Adds (HasCause input) (fault_in (scenario_in input)) [] found
 unfolding scenario_in
-text_found input d found e h =
-    of_fault (ap (λ (o : Option Data). fault_in (or_fault NotJson o >>= scenario_of)) (sym e))
-    (by_cause (text_cause input d e) h)
+text_found input d found e h = grind (arith, of_fault, by_cause)
 
 pub no_json_found : (input : List ℕ) (found : List Finding) → json_of input ≡ None
     → Adds IsNotJson (Some NotJson) [] found
     → Adds (HasCause input) (fault_in (scenario_in input)) [] found
 unfolding scenario_in
-no_json_found input found e h =
-    of_fault (ap (λ (o : Option Data). fault_in (or_fault NotJson o >>= scenario_of)) (sym e))
-    (by_cause (json_cause input e) h)
+no_json_found input found e h = grind (arith, of_fault, by_cause)
 
 -- ---- what is promised
 
-warning_cause : (input : List ℕ) (s : ScenarioValue) → scenario_in input ≡ Ok s
-    → (f : Finding) → IsWarning (length s.lines) f → HasCause input f
-warning_cause input s e (finding.Repeat place k) h = (s, e, tt)
-warning_cause input s e (finding.Warning number w) h = (s, e, h)
-warning_cause input s e (finding.NotJson hint line column) h = absurd h
-warning_cause input s e (finding.Shape x) h = absurd h
-warning_cause input s e (finding.Layout out) h = absurd h
-warning_cause input s e (finding.BadCall number text) h = absurd h
-
-a_repeat_is_warning : (lines : ℕ) (f : Finding) → IsRepeat f → IsWarning lines f
-a_repeat_is_warning lines (finding.Repeat place k) h = tt
-a_repeat_is_warning lines (finding.Warning number w) h = absurd h
-a_repeat_is_warning lines (finding.NotJson hint line column) h = absurd h
-a_repeat_is_warning lines (finding.Shape s) h = absurd h
-a_repeat_is_warning lines (finding.Layout out) h = absurd h
-a_repeat_is_warning lines (finding.BadCall number text) h = absurd h
-
 pub repeats_are_warnings : (lines : ℕ) (found : List Finding) → All IsRepeat found
     → All (IsWarning lines) found
-repeats_are_warnings lines found all =
-    All-weaker IsRepeat (IsWarning lines) (a_repeat_is_warning lines) found all
+repeats_are_warnings lines found all = grind (arith, All-weaker)
 
 pub warnings_have_causes : (input : List ℕ) (s : ScenarioValue) (found : List Finding)
     → scenario_in input ≡ Ok s → All (IsWarning (length s.lines)) found → HaveCauses input found
-warnings_have_causes input s found e all =
-    All-weaker (IsWarning (length s.lines)) (HasCause input) (warning_cause input s e) found all
+warnings_have_causes input s found e all = grind (arith, All-weaker)
 
 no_fault : (lines : ℕ) (f : Finding) → IsWarning lines f → is_fault f ≡ false
-no_fault lines (finding.Repeat place k) h = refl
-no_fault lines (finding.Warning number w) h = refl
-no_fault lines (finding.NotJson hint line column) h = absurd h
-no_fault lines (finding.Shape s) h = absurd h
-no_fault lines (finding.Layout out) h = absurd h
-no_fault lines (finding.BadCall number text) h = absurd h
+no_fault lines f h = grind arith
 
 counted : (b : Bool) (f : Finding) (fs : List Finding) → is_fault f ≡ b
     → count_by is_fault (f ∷ fs) ≡ cond b 1 0 + count_by is_fault fs
@@ -275,35 +184,14 @@ none_counted lines (f ∷ fs) all =
 
 pub warnings_agree : (input : List ℕ) (s : ScenarioValue) (found : List Finding) → scenario_in input ≡ Ok s
     → All (IsWarning (length s.lines)) found → Agrees (scenario_in input) found
-warnings_agree input s found e all =
-    subst (λ (r : Result ScenarioValue ScenarioFault). Agrees r found) (sym e)
-    (none_counted (length s.lines) found all)
-
-not_a_warning : (fault : ScenarioFault) (number : ℕ) (w : Warning)
-    → IsFindingOf fault (finding.Warning number w) → ⊥
-not_a_warning NotJson number w h = h
-not_a_warning BadShape number w h = h
-not_a_warning (Layout f) number w h = h
-not_a_warning (BadLine n) number w h = h
-not_a_warning (NotForRun n) number w h = h
-not_a_warning OutOfMemory number w h = h
+warnings_agree input s found e all = rw e (none_counted (length s.lines) found all)
 
 not_a_repeat : (fault : ScenarioFault) (p : ScenarioObject) (k : Key)
     → IsFindingOf fault (finding.Repeat p k) → ⊥
-not_a_repeat NotJson p k h = h
-not_a_repeat BadShape p k h = h
-not_a_repeat (Layout f) p k h = h
-not_a_repeat (BadLine n) p k h = h
-not_a_repeat (NotForRun n) p k h = h
-not_a_repeat OutOfMemory p k h = h
+not_a_repeat fault p k h = grind arith
 
 first_is_fault : (fault : ScenarioFault) (f : Finding) → IsFindingOf fault f → is_fault f ≡ true
-first_is_fault fault (finding.NotJson hint line column) h = refl
-first_is_fault fault (finding.Shape s) h = refl
-first_is_fault fault (finding.Layout out) h = refl
-first_is_fault fault (finding.BadCall number text) h = refl
-first_is_fault fault (finding.Repeat p k) h = absurd (not_a_repeat fault p k h)
-first_is_fault fault (finding.Warning number w) h = absurd (not_a_warning fault number w h)
+first_is_fault fault f h = grind (arith, not_a_repeat)
 
 some_fault : (fault : ScenarioFault) (found : List Finding) → Begins fault found → 1 ≤ count_by is_fault found
 some_fault fault [] h = absurd h
@@ -311,14 +199,12 @@ some_fault fault (f ∷ fs) h = omega (arith, counted true f fs (first_is_fault 
 
 agrees_of : (r : Result ScenarioValue ScenarioFault) (found : List Finding) → IsFirst (fault_in r) found
     → Agrees r found
-agrees_of (Ok s) found h = ap (count_by is_fault) h
-agrees_of (Err fault) found h = (h, some_fault fault found h)
+agrees_of r found h = grind (arith, some_fault)
 
 -- what was added to nothing is all
 all_added : {P : Finding → Type 0} {fault : Option ScenarioFault} {found : List Finding}
     → Adds P fault [] found → IsFirst fault found × All P found
-all_added {P} {fault} h =
-    (subst (IsFirst fault) (sym h.is) h.first, subst (All P) (sym h.is) h.each)
+all_added {P} {fault} h = grind arith
 
 pub faults_agree : (input : List ℕ) (found : List Finding)
     → Adds (HasCause input) (fault_in (scenario_in input)) [] found → Agrees (scenario_in input) found

@@ -32,19 +32,14 @@ items_seen vs = items_are (map view vs)
 -- the entry at a place
 pub entry_there : (vs : List Value) (i : ℕ) (v : Value) → i < length vs → v ≡ get_or vs i v
     → slice_get (map view vs) i ≡ Some (view v)
-entry_there vs i v lt at =
-    slice_get-map view vs i ∙ ap (option_map view) (slice_get_read vs (length vs) i v refl lt at)
+entry_there vs i v lt at = rw (slice_get-map view vs i, slice_get_read vs (length vs) i v refl lt at)
 
 -- what is wrong with one entry is wrong with that entry of all
 pub bad_entry : (ds : List Data) (at : ℕ) (d : Data) → slice_get ds at ≡ Some d
     → (f : Finding) → IsBadText (at + 1) d f → IsBadCall ds f
 bad_entry ds at d here (finding.BadCall number text) h =
     record { at = at; entry = d; counted = h.0; here = here; is_text = h.1; no_line = h.2 }
-bad_entry ds at d here (finding.NotJson hint line column) h = absurd h
-bad_entry ds at d here (finding.Shape s) h = absurd h
-bad_entry ds at d here (finding.Layout out) h = absurd h
-bad_entry ds at d here (finding.Repeat place k) h = absurd h
-bad_entry ds at d here (finding.Warning number w) h = absurd h
+bad_entry ds at d here f h = absurd h
 
 -- one entry more
 pub entry_added : (vs : List Value) (i : ℕ) (v : Value) {old now next : List Finding}
@@ -62,8 +57,7 @@ entry_added vs i v lt at so_far more =
 pub entries_added : (vs : List Value) (i : ℕ) {old now : List Finding} → length vs ≤ i
     → Adds (IsBadCall (map view vs)) (first_at entry_fault 1 (take i (map view vs))) old now
     → Adds (IsBadCall (map view vs)) (first_at entry_fault 1 (map view vs)) old now
-entries_added vs i over so_far =
-    items_added entry_fault (map view vs) i (omega (arith, over, length-map vs view)) so_far
+entries_added vs i over so_far = grind (arith, items_added, length-map)
 
 -- an entry that is no text, one that is a line, and one that is none
 pub no_text_added : (n : ℕ) (d : Data) (old : List Finding) → None ≡ as_str d
@@ -76,21 +70,12 @@ said_fault n text b e = ap (λ (x : Bool). cond x None (Some (BadLine n))) e
 
 pub line_added : (n : ℕ) (d : Data) (text : List ℕ) (old : List Finding) → Some text ≡ as_str d
     → true ≡ is_some (line_says text) → Adds (IsBadText n d) (entry_fault n d) old old
-line_added n d text old is line =
-    of_fault (said_fault n text true line ∙ ap (text_fault n) is) (none_added (IsBadText n d) old)
-
-none_said : (o : Option Said) → false ≡ is_some o → o ≡ None
-none_said None h = refl
-none_said (Some x) h = absurd cc
+line_added n d text old is line = grind (arith, of_fault, said_fault, none_added)
 
 pub bad_added : (n : ℕ) (d : Data) (text kept : List ℕ) (old new : List Finding) → Some text ≡ as_str d
     → false ≡ is_some (line_says text) → kept ≡ text → new ≡ old ++ finding.BadCall n kept ∷ []
     → Adds (IsBadText n d) (entry_fault n d) old new
-bad_added n d text kept old new is line same pushed =
-    of_fault (said_fault n text false line ∙ ap (text_fault n) is)
-    (one_added (IsBadText n d) (Some (BadLine n)) (finding.BadCall n text) old new
-    (pushed ∙ ap (λ (t : List ℕ). old ++ finding.BadCall n t ∷ []) same)
-    (refl, sym is, none_said (line_says text) line) refl)
+bad_added n d text kept old new is line same pushed = grind (arith, of_fault, said_fault, one_added)
 
 -- ---- where reading stops
 
@@ -104,26 +89,12 @@ first_line : (n : ℕ) (x : List ℕ) (xs : List (List ℕ)) (script : Script)
 unfolding lines_from line_in
 first_line n x xs script = refl
 
-said_step : (n : ℕ) (x : List ℕ) (xs : List (List ℕ)) (script : Script) (later : Option ScenarioFault)
-    (says : Option Said)
-    → line_says x ≡ says
-    → ((next : Script) → later ≡ fault_in (lines_from (n + 1) next xs))
-    → option_or (text_fault n (Some x)) later ≡ fault_in (goes_on n xs script says)
-said_step n x xs script later None e rest = rw e refl
-said_step n x xs script later (Some said) e rest =
-    rw e (rest (with_line script (numbered script.names said)))
-
 text_step : (n : ℕ) (d : Data) (script : Script) (later : Option ScenarioFault) (texts : List (List ℕ))
     (o : Option (List ℕ)) (r : Option (List (List ℕ)))
     → option_and_then (λ x. option_and_then (λ xs. Some (x ∷ xs)) r) o ≡ Some texts
     → ((next : Script) (xs : List (List ℕ)) → r ≡ Some xs → later ≡ fault_in (lines_from (n + 1) next xs))
     → option_or (text_fault n o) later ≡ fault_in (lines_from n script texts)
-text_step n d script later texts None r t rest = absurd cc
-text_step n d script later texts (Some x) None t rest = absurd cc
-text_step n d script later texts (Some x) (Some xs) t rest =
-    said_step n x xs script later (line_says x) refl (λ next. rest next xs refl)
-    ∙ ap fault_in (sym (first_line n x xs script))
-    ∙ ap (λ (ts : List (List ℕ)). fault_in (lines_from n script ts)) (same_Some (x ∷ xs) texts t)
+text_step n d script later texts o r t rest = grind (arith, first_line, same_Some)
 
 no_line : (n : ℕ) (script : Script) → fault_in (lines_from n script []) ≡ None
 unfolding lines_from
@@ -133,9 +104,7 @@ pub entries_stop : (n : ℕ) (ds : Items) (script : Script) (texts : List (List 
     → each_in as_str ds ≡ Some texts
     → first_at entry_fault n (data_of ds) ≡ fault_in (lines_from n script texts)
 unfolding each_in
-entries_stop n no_items script texts t =
-    sym (no_line n script)
-    ∙ ap (λ (ts : List (List ℕ)). fault_in (lines_from n script ts)) (same_Some [] texts t)
+entries_stop n no_items script texts t = rw (← no_line n script, same_Some [] texts t)
 entries_stop n (item d ds) script texts t =
     text_step n d script (first_at entry_fault (n + 1) (data_of ds)) texts (as_str d) (each_in as_str ds) t
     (λ next xs e. entries_stop (n + 1) ds next xs e)
@@ -143,8 +112,7 @@ entries_stop n (item d ds) script texts t =
 list_stops : (o : Option Items) (script : Script) (texts : List (List ℕ))
     → option_and_then (each_in as_str) o ≡ Some texts
     → first_at entry_fault 1 (items_or_none o) ≡ fault_in (lines_from 1 script texts)
-list_stops None script texts t = absurd cc
-list_stops (Some ds) script texts t = entries_stop 1 ds script texts t
+list_stops o script texts t = grind (arith, entries_stop)
 
 pub calls_stop : (d : Data) (script : Script) (texts : List (List ℕ))
     → texts_at (codes "calls") d ≡ Some texts

@@ -1,5 +1,5 @@
 -- The tests of the keys and the values, and the form of a scenario.
-use Rattle.std.proofs.Common.{◌≡◌, ℕ, String, Bor, Bool, true, false, cond, ◌&&◌, ◌==◌, List, [], ◌∷◌, codes, length, Option, Some, None, is_some, option_and_then, refl, sym, ap, ◌∙◌}
+use Rattle.std.proofs.Common.{arith, ◌≡◌, ℕ, String, Bor, Bool, true, false, cond, ◌&&◌, ◌==◌, List, [], ◌∷◌, codes, length, Option, Some, None, is_some, option_and_then, refl, sym, ap, ◌∙◌}
 use Rattle.std.specs.List.{list_all}
 use Rattle.std.specs.Option.{option_map}
 use Rattle.std.proofs.lemmas.List.Folds.{list_all-append}
@@ -7,14 +7,14 @@ use Rattle.std.specs.declared.alloc.Global.{Global}
 use Rattle.serde_json.proofs.Views.{members_len-members_view}
 use Rattle.serde_json.specs.Data.{Data, Items, Members}
 use Rattle.serde_json.specs.Events.{members_len}
-use Rattle.serde_json.specs.Find.{get, as_number, as_u64, as_str, as_array, as_object}
+use Rattle.serde_json.specs.Find.{get, as_str, as_array, as_object}
 use Rattle.serde_json.specs.View.{view, items_view, members_view}
 use Rattle.serde_json.specs.declared.value.Value.{Value}
 use Rattle.hp_units.specs.LayoutParts.{LayoutParts}
 use Rattle.hp_units.specs.declared.rows.Boot.{Boot}
 use Rattle.hp_scenario.specs.Form.{Form, are_keys, boot_at, boots_at, each_in, form_of, has_keys, number_at, parts_of, parts_with, texts_at}
 use Rattle.hp_check.specs.Findings.{key_name, keys_of, number_keys}
-use Rattle.hp_check.specs.Shape.{are_boots, are_parts, are_texts, has_its_keys, if_there, is_number, is_number_at, is_there}
+use Rattle.hp_check.specs.Shape.{are_boots, are_parts, are_texts, has_its_keys, if_there, is_number_at, is_there}
 use Rattle.hp_check.specs.declared.finding.Key.{Key}
 use Rattle.hp_check.specs.declared.finding.Key.TheVariants as key
 use Rattle.hp_check.specs.declared.finding.ScenarioObject.{ScenarioObject}
@@ -29,25 +29,19 @@ seen_there f e = ap (λ (o : Option (Bor Value)). if_there f (option_map (λ v. 
 
 step_some : {B : Type 0} (o : Option B) (r : Option (List B))
     → is_some (option_and_then (λ x. option_and_then (λ xs. Some (x ∷ xs)) r) o) ≡ (is_some o && is_some r)
-step_some None r = refl
-step_some (Some x) None = refl
-step_some (Some x) (Some xs) = refl
+step_some o r = grind arith
 
 -- something is made of each item, if it is of the first and of the others
 pub each_seen : {B : Type 0} (f : Data → Option B) (vs : List Value)
     → list_all (λ v. is_some (f (view v))) vs ≡ is_some (each_in f (items_view vs))
 unfolding each_in
 each_seen f [] = refl
-each_seen f (v ∷ vs) =
-    ap (λ (b : Bool). is_some (f (view v)) && b) (each_seen f vs)
-    ∙ sym (step_some (f (view v)) (each_in f (items_view vs)))
+each_seen f (v ∷ vs) = rw (each_seen f vs, ← step_some (f (view v)) (each_in f (items_view vs)))
 
 pub list_seen : {B : Type 0} (f : Data → Option B) (shown vs : List Value) (d : Data) → shown ≡ vs
     → Some (items_view vs) ≡ as_array d
     → list_all (λ v. is_some (f (view v))) shown ≡ is_some (option_and_then (each_in f) (as_array d))
-list_seen f shown vs d same is =
-    ap (list_all (λ v. is_some (f (view v)))) same ∙ each_seen f vs
-    ∙ ap (λ (o : Option Items). is_some (option_and_then (each_in f) o)) is
+list_seen f shown vs d same is = cc (same, each_seen f vs, is)
 
 pub no_list : {B : Type 0} (f : Data → Option B) (d : Data) → None ≡ as_array d
     → false ≡ is_some (option_and_then (each_in f) (as_array d))
@@ -55,27 +49,12 @@ no_list f d is = ap (λ (o : Option Items). is_some (option_and_then (each_in f)
 
 -- ---- numbers
 
-abbrev pub is_number_of : Option Data → Bool
-is_number_of o = is_some (option_and_then as_u64 (option_and_then as_number o))
-
-there_and_right : (o : Option Data) (there right : Bool)
-    → ((is_some o && there) && (if_there is_number o && right)) ≡ (is_number_of o && (there && right))
-there_and_right None there right = refl
-there_and_right (Some d) there right = shuffled there (is_number d) right
-  where
-    shuffled : (there here right : Bool) → (there && (here && right)) ≡ (here && (there && right))
-    shuffled true here right = refl
-    shuffled false true right = refl
-    shuffled false false right = refl
-
 numbers_are : (d : Data) (ks : List Key)
     → (list_all (is_there d) ks && list_all (is_number_at d) ks)
     ≡ list_all (λ k. is_some (number_at (key_name k) d)) ks
 unfolding number_at
 numbers_are d [] = refl
-numbers_are d (k ∷ ks) =
-    there_and_right (get (key_name k) d) (list_all (is_there d) ks) (list_all (is_number_at d) ks)
-    ∙ ap (λ (b : Bool). is_number_of (get (key_name k) d) && b) (numbers_are d ks)
+numbers_are d (k ∷ ks) = grind (arith, (numbers_are d ks))
 
 abbrev pub parts_made : (order pageblocks blocks cpus batch high owners pages words history : ℕ) → List Boot
     → LayoutParts
@@ -105,27 +84,13 @@ ten : (a b c d e f g h i j : Option ℕ) (boot : List Boot)
     ≡ (is_some a
     && (is_some b && (is_some c && (is_some d
     && (is_some e && (is_some f && (is_some g && (is_some h && (is_some i && (is_some j && true))))))))))
-ten None b c d e f g h i j boot = refl
-ten (Some _) None c d e f g h i j boot = refl
-ten (Some _) (Some _) None d e f g h i j boot = refl
-ten (Some _) (Some _) (Some _) None e f g h i j boot = refl
-ten (Some _) (Some _) (Some _) (Some _) None f g h i j boot = refl
-ten (Some _) (Some _) (Some _) (Some _) (Some _) None g h i j boot = refl
-ten (Some _) (Some _) (Some _) (Some _) (Some _) (Some _) None h i j boot = refl
-ten (Some _) (Some _) (Some _) (Some _) (Some _) (Some _) (Some _) None i j boot = refl
-ten (Some _) (Some _) (Some _) (Some _) (Some _) (Some _) (Some _) (Some _) None j boot = refl
-ten (Some _) (Some _) (Some _) (Some _) (Some _) (Some _) (Some _) (Some _) (Some _) None boot = refl
-ten (Some _) (Some _) (Some _) (Some _) (Some _) (Some _) (Some _) (Some _) (Some _) (Some _) boot = refl
+ten a b c d e f g h i j boot = grind arith
 
 -- the parts are there just where the numbers are
 parts_are_numbers : (boot : List Boot) (d : Data)
     → is_some (parts_with boot d) ≡ list_all (λ k. is_some (number_at (key_name k) d)) number_keys
 unfolding parts_with
-parts_are_numbers boot d =
-    ten (number_at (codes "order") d) (number_at (codes "pageblocks") d) (number_at (codes "blocks") d)
-    (number_at (codes "cpus") d) (number_at (codes "batch") d)
-    (number_at (codes "high") d) (number_at (codes "owners") d) (number_at (codes "pages") d)
-    (number_at (codes "words") d) (number_at (codes "history") d) boot
+parts_are_numbers boot d = grind (arith, ten)
 
 -- ---- the keys of an object
 
@@ -133,16 +98,12 @@ pub counted_keys : (p : ScenarioObject) (d : Data) (entries : List (String Globa
     → count ≡ length entries
     → ((count == length (keys_of p)) && list_all (is_there d) (keys_of p))
     ≡ has_its_keys p d (members_view entries)
-counted_keys p d entries count is =
-    ap (λ (n : ℕ). (n == length (keys_of p)) && list_all (is_there d) (keys_of p))
-    (is ∙ sym (members_len-members_view entries))
+counted_keys p d entries count is = rw (is, ← members_len-members_view entries)
 
 -- where the count or a key is wrong, whatever other keys there are
 pub wrong_keys : (count fine there : Bool) → false ≡ (count && there)
     → ((count && fine) && there) ≡ (count && there)
-wrong_keys true true there h = refl
-wrong_keys true false there h = h
-wrong_keys false fine there h = refl
+wrong_keys count fine there h = grind arith
 
 -- ---- the layout
 
@@ -153,26 +114,17 @@ boots_of o = option_and_then (each_in boot_at) (option_and_then as_array o)
 made_of_boots : (d : Data) (o : Option (List Boot)) (numbers : Bool)
     → list_all (λ k. is_some (number_at (key_name k) d)) number_keys ≡ numbers
     → is_some (option_and_then (λ boot. parts_with boot d) o) ≡ (numbers && is_some o)
-made_of_boots d None true e = refl
-made_of_boots d None false e = refl
-made_of_boots d (Some boot) true e = parts_are_numbers boot d ∙ e
-made_of_boots d (Some boot) false e = parts_are_numbers boot d ∙ e
+made_of_boots d o numbers e = grind (arith, parts_are_numbers)
 
 -- the tests of a layout's keys and values, in this order
 layout_tests : (count there numbers : Bool) (boot : Option Data) (all : Bool)
     → (there && numbers) ≡ all
     → (((count && (there && (is_some boot && true))) && numbers) && if_there are_boots boot)
     ≡ (count && (all && is_some (boots_of boot)))
-layout_tests false there numbers boot all e = refl
-layout_tests true false numbers boot all e = ap (λ (b : Bool). b && is_some (boots_of boot)) e
-layout_tests true true false None all e = ap (λ (b : Bool). b && false) e
-layout_tests true true true None all e = ap (λ (b : Bool). b && false) e
-layout_tests true true false (Some d) all e = ap (λ (b : Bool). b && are_boots d) e
-layout_tests true true true (Some d) all e = ap (λ (b : Bool). b && are_boots d) e
+layout_tests count there numbers boot all e = grind arith
 
 if_some : {A : Type 0} (b : Bool) (o : Option A) → is_some (cond b o None) ≡ (b && is_some o)
-if_some true o = refl
-if_some false o = refl
+if_some b o = grind arith
 
 keys_there : (d : Data)
     → list_all (is_there d) (keys_of place.Layout)
@@ -219,36 +171,12 @@ made layout calls =
     option_and_then (λ l. option_and_then (λ parts. option_and_then (λ texts. Some (form_made parts texts))
     (texts_of calls)) (parts_of l)) layout
 
-two_made : (parts : Option LayoutParts) (texts : Option (List (List ℕ)))
-    → is_some (option_and_then (λ p. option_and_then (λ ts. Some (form_made p ts)) texts) parts)
-    ≡ (is_some parts && is_some texts)
-two_made None texts = refl
-two_made (Some p) None = refl
-two_made (Some p) (Some ts) = refl
-
-whole_tests : (count : Bool) (layout calls : Option Data)
-    → (((count && (is_some layout && (is_some calls && true))) && if_there are_parts layout)
-    && if_there are_texts calls)
-    ≡ (count && is_some (made layout calls))
-whole_tests false layout calls = refl
-whole_tests true None calls = refl
-whole_tests true (Some l) None = sym (two_made (parts_of l) None ∙ and_false (is_some (parts_of l)))
-  where
-    and_false : (b : Bool) → (b && false) ≡ false
-    and_false true = refl
-    and_false false = refl
-whole_tests true (Some l) (Some c) = sym (two_made (parts_of l) (texts_of (Some c)))
-
 pub whole_form : (d : Data) (ms : Members) → as_object d ≡ Some ms
     → ((has_its_keys place.Whole d ms && if_there are_parts (get (codes "layout") d))
     && if_there are_texts (get (codes "calls") d))
     ≡ is_some (form_of d)
 unfolding form_of texts_at
-whole_form d ms e =
-    whole_tests (members_len ms == 2) (get (codes "layout") d) (get (codes "calls") d)
-    ∙ ap (λ (b : Bool). b && is_some (made (get (codes "layout") d) (get (codes "calls") d)))
-    (sym (right_count d ms 2 e))
-    ∙ sym (if_some (has_keys 2 d) (made (get (codes "layout") d) (get (codes "calls") d)))
+whole_form d ms e = grind (arith, right_count, if_some)
 
 pub whole_formless : (d : Data) → as_object d ≡ None → is_some (form_of d) ≡ false
 unfolding form_of has_keys

@@ -1,5 +1,5 @@
 -- What `serde_json` tells of a text.
-use Rattle.std.proofs.Common.{◌≡◌, ℕ, List, Option, Some, None, Ok, Err, refl}
+use Rattle.std.proofs.Common.{arith, ◌≡◌, ℕ, List, Option, Some, None, Ok, Err}
 use Rattle.std.specs.Str.{IsUtf8}
 use Rattle.serde_json.specs.Data.{Data}
 use Rattle.serde_json.specs.Read.{read}
@@ -9,12 +9,10 @@ use Rattle.hp_scenario.specs.Gives.{or_fault}
 use Rattle.hp_scenario.specs.Scenario.{json_of}
 
 is_there : (o : Option Data) (d : Data) → or_fault NotJson o ≡ Ok d → o ≡ Some d
-is_there None d h = absurd cc
-is_there (Some e) d h = cc
+is_there o d h = grind arith
 
 is_none : (o : Option Data) → or_fault NotJson o ≡ Err NotJson → o ≡ None
-is_none None h = refl
-is_none (Some e) h = absurd cc
+is_none o h = grind arith
 
 pub value_read : (bytes : List ℕ) (d : Data) → IsUtf8 bytes → read bytes ≡ Some d → json_of bytes ≡ Some d
 value_read bytes d text e = is_there (json_of bytes) d (json_read bytes d text e)

@@ -3,5 +3,6 @@ pub mod Calls
 pub mod Checking
 pub mod Findings
 pub mod Hints
+pub mod JsonPositions
 pub mod Ranges
 pub mod Shape

@@ -1,7 +1,7 @@
 //! Why a text is likely to be no JSON.
 use crate::finding::Hint;
+use crate::json_positions::{halves_at, has_comment, is_blank, nests_deeper};
 use crate::quotes::is_odd;
-use hp_call_lines::{halves_at, has_comment, is_blank, nests_deeper};
 
 /// The byte order mark of UTF-8.
 const MARK: &[u8] = &[0xEF, 0xBB, 0xBF];

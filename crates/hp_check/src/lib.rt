@@ -2,7 +2,7 @@
 //!
 //! The crate owns the findings: faults, for which a text is no scenario, and warnings, for which a
 //! scenario hardly does what its writer wants. It runs no machine and opens no file or stream. What
-//! a scenario is, hp_scenario says.
+//! a scenario is, hp_scenario says. Where things are in a text, its module `json_positions` finds.
 //!
 //! Read specs/Checking first: what `check` promises. The texts of findings are tested (lab_tests).
 #![tactic(auto)]
@@ -12,6 +12,7 @@ mod checking;
 mod expected;
 mod finding;
 mod hints;
+mod json_positions;
 mod quotes;
 mod ranges;
 mod repeats;
@@ -25,4 +26,5 @@ mod warnings;
 pub use checking::{check, fault_count};
 pub use expected::write_expected;
 pub use finding::{Finding, Hint, Key, OutOfRange, ScenarioObject, Shape, Warning, What};
+pub use json_positions::{call_lines, halves_at, has_comment, is_blank, keys_at, nests_deeper};
 pub use report::write_report;

@@ -4,8 +4,8 @@ ghost use Rattle.std.specs.List.{All};
 ghost use Rattle.hp_check.specs.Adds.{IsRepeat};
 
 use crate::finding::{Finding, ScenarioObject};
+use crate::json_positions::keys_at;
 use crate::shape::keys_of;
-use hp_call_lines::keys_at;
 use std::alloc::AllocError;
 
 /// Adds the keys of a scenario that its text has more than once, of which the last counts.

@@ -2,9 +2,9 @@
 use crate::checking::fault_count;
 use crate::expected::write_expected;
 use crate::finding::{Finding, Hint, OutOfRange, ScenarioObject, Shape, Warning};
+use crate::json_positions::call_lines;
 use crate::quotes::{write_quoted, write_unexpected};
 use crate::shape::keys_of;
-use hp_call_lines::call_lines;
 use std::alloc::{AllocError, Global};
 
 /// Writes findings on a scenario, one per line, and how many faults and warnings there are. A
@@ -81,16 +81,10 @@ fn write_call(out: &mut String, text: &str) -> Result<(), AllocError> {
 
 /// Writes the number of a text of `calls`, and the line in which it begins, if that is known.
 fn write_head(out: &mut String, lines: &[u64], number: u64) -> Result<(), AllocError> {
-    match line_of(lines, number) {
+    match lines.get(number.saturating_sub(1) as usize) {
         Some(line) => write!(out, "calls {number} (line {line}): "),
         None => write!(out, "calls {number}: "),
     }
-}
-
-/// Returns the line in which a text of `calls` begins, by its number.
-fn line_of(lines: &[u64], number: u64) -> Option<u64> {
-    let place = number.checked_sub(1)?;
-    lines.get(place as usize).copied()
 }
 
 /// Writes what is wrong with a key or a value.

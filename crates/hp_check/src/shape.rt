@@ -39,6 +39,13 @@ fn push(found: &mut Vec<Finding>, shape: Shape) -> Result<(), AllocError>
     Ok(())
 }
 
+/// Adds a fault of the shape unless this holds.
+fn push_unless(found: &mut Vec<Finding>, holds: bool, shape: Shape) -> Result<(), AllocError>
+    ensures { OnOk result (Adds IsShape (lacks holds) found.old.items found.new.items) }
+{
+    if holds { Ok(()) } else { push(found, shape) }
+}
+
 /// Adds what is wrong with the keys of an object.
 fn push_keys(
     found: &mut Vec<Finding>,
@@ -55,7 +62,9 @@ fn push_keys(
     if has_its_keys(place, value, count) {
         return Ok(());
     }
-    push_count(found, place, count)?;
+    let is_right = count == keys_of(place).len();
+    let count = count as u64;
+    push_unless(found, is_right, Shape::KeyCount { place, count })?;
     push_unknown(found, alloc, place, members)?;
     push_missing(found, place, value)
 }
@@ -87,7 +96,7 @@ fn has_its_keys(place: ScenarioObject, value: &Value, count: usize) -> bool
     ensures { result ≡ ((count == length (keys_of place))
         && list_all (means.is_there (view value.now)) (keys_of place)) }
 {
-    has_count(place, count) && has_all(place, value)
+    count == keys_of(place).len() && has_all(place, value)
 }
 
 /// Returns whether an object has each of its keys.
@@ -97,34 +106,11 @@ fn has_all(place: ScenarioObject, value: &Value) -> bool
     keys_of(place).iter().all(|key| is_there(value, *key))
 }
 
-/// Returns whether an object must have this many keys.
-fn has_count(place: ScenarioObject, count: usize) -> bool
-    ensures { result ≡ (count == length (keys_of place)) }
-{
-    count == keys_of(place).len()
-}
-
 /// Returns whether the object has a key.
 fn is_there(value: &Value, key: Key) -> bool
     ensures { result ≡ means.is_there (view value.now) key }
 {
     value.get(key.name()).is_some()
-}
-
-/// Adds the number of the object's keys, if it must have another.
-fn push_count(
-    found: &mut Vec<Finding>,
-    place: ScenarioObject,
-    count: usize,
-) -> Result<(), AllocError>
-    ensures { OnOk result
-        (Adds IsShape (lacks (count == length (keys_of place))) found.old.items found.new.items) }
-{
-    if has_count(place, count) {
-        return Ok(());
-    }
-    let count = count as u64;
-    push(found, Shape::KeyCount { place, count })
 }
 
 /// Adds the keys that the object may not have.
@@ -165,10 +151,8 @@ fn push_missing(
     let keys = keys_of(place);
     for key in keys {
         let key = *key;
-        if is_there(value, key) {
-            continue;
-        }
-        push(found, Shape::MissingKey { place, key })?;
+        let is_there = is_there(value, key);
+        push_unless(found, is_there, Shape::MissingKey { place, key })?;
     }
     Ok(())
 }
@@ -220,10 +204,8 @@ fn push_numbers(found: &mut Vec<Finding>, layout: &Value) -> Result<(), AllocErr
     let keys = number_keys();
     for key in keys {
         let key = *key;
-        if may_be_number(layout.get(key.name())) {
-            continue;
-        }
-        push(found, Shape::NotNumber(key))?;
+        let is_fine = may_be_number(layout.get(key.name()));
+        push_unless(found, is_fine, Shape::NotNumber(key))?;
     }
     Ok(())
 }
@@ -259,20 +241,11 @@ fn push_boots(found: &mut Vec<Finding>, words: &[Value]) -> Result<(), AllocErro
         found.old.items found.new.items) }
 {
     for index in 0..words.len() {
-        if is_boot(&words[index]) {
-            continue;
-        }
+        let is_boot = boot_at(&words[index]).is_some();
         let number = index as u64 + 1;
-        push(found, Shape::NotBoot { number })?;
+        push_unless(found, is_boot, Shape::NotBoot { number })?;
     }
     Ok(())
-}
-
-/// Returns whether a value is one of the words of `boot`.
-fn is_boot(value: &Value) -> bool
-    ensures { result ≡ is_some (boot_in (view value.now)) }
-{
-    boot_at(value).is_some()
 }
 
 /// Adds what is wrong with the value at `calls`, if there is one.
@@ -296,11 +269,9 @@ fn push_texts(found: &mut Vec<Finding>, texts: &[Value]) -> Result<(), AllocErro
         found.old.items found.new.items) }
 {
     for index in 0..texts.len() {
-        if texts[index].is_string() {
-            continue;
-        }
+        let is_text = texts[index].is_string();
         let number = index as u64 + 1;
-        push(found, Shape::NotText { number })?;
+        push_unless(found, is_text, Shape::NotText { number })?;
     }
     Ok(())
 }

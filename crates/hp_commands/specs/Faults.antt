@@ -128,9 +128,9 @@ IsAudit Serial = ⊥
 IsAudit Run = ⊥
 IsAudit Audit = Unit {0}
 
--- when each fault comes; `read` and `written` are that a call of the reader or the writer failed.
--- Never: that a seat is missing, that a machine's own history is wrong, or a volume at fault if no
--- line seals
+-- when each fault occurs; `read` and `written` state that a call of the reader or the writer
+-- failed. A missing seat and a wrong record never occur; a broken chain occurs only if some line
+-- seals
 abbrev pub IsFaultOf : Command → (known : Option (List ℕ)) (read written : Type 0) → ProgramFault → Type 0
 IsFaultOf command known read written ReadFailed = read
 IsFaultOf command known read written TooLong = IfSome known (λ input. limit < length input)

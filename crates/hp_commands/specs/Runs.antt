@@ -90,7 +90,8 @@ pub record IsRunTextOf (input text : List ℕ) : Type 0 where
   pub run : IsRunOf input ends volumes machine count
   pub written : text ≡ processors_text ends ++ records_line count
 
--- the number of records of a run whose volumes and history lead from boot to the machine's state
+-- the text of an audit: the number of records and `audit ok`, of a run whose volumes and history
+-- lead from boot to the machine's state
 pub record IsAuditTextOf (input text : List ℕ) : Type 0 where
   pub ends : List (List LineEnd)
   pub volumes : List Volume

@@ -45,13 +45,13 @@ pub enum ProgramFault {
     WrongReply { serial: Serial },
     /// The record at this place, counted from 0, does not have the next serial.
     WrongSerial { at: u64 },
-    /// The sealed volumes lead to another state than the one that the machine's history begins
-    /// with.
+    /// The sealed volumes lead to another state than the machine's base, or its history to another
+    /// state than the machine's.
     AuditDiffers,
     /// The writer failed.
     WriteFailed,
-    /// The volume at this place, counted from 0, does not follow those before it; or, if the place
-    /// is their number, together they do not hold all sealed records.
+    /// The volume at place `at`, counted from 0, does not follow those before it; or, if `at` is
+    /// the number of volumes, they do not hold all sealed records.
     BrokenChain { at: u64 },
 }
 

@@ -85,8 +85,8 @@ pub fn work_off<R: Threads + Wait + Sync>(
     )
 }
 
-/// Boots a machine with room for two records per line, if it can be had; without it, records get
-/// their room as they come. (A plan makes several records.)
+/// Boots a machine. Reserves room for two records per line if there is memory; otherwise records
+/// allocate as they come. (A plan makes several records.)
 fn boot(alloc: Global, layout: &Layout, lines: usize) -> Result<Machine, AllocError>
     ensures { IfOk result (λ machine. machine ≡ booted layout.now) }
 {

@@ -7,7 +7,7 @@ use Rattle.hp_control.specs.Reads.{file_text}
 use Rattle.hp_requests.specs.Writes.{request_of}
 use Rattle.hp_requests.specs.declared.writes.Request.TheVariants.{Event}
 
--- the text of `auto_online_blocks`, written back, asks for what it already is
+-- the text of `auto_online_blocks`, written back to the file, asks for the policy that it shows
 abbrev pub AutoIsWrittenBack : Type 0
 AutoIsWrittenBack =
     (l : LayoutParts) (s : Memory) (text : List ℕ) → file_text l s (codes "auto_online_blocks") ≡ Ok text

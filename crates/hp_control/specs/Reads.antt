@@ -16,7 +16,7 @@ use Rattle.hp_control.specs.Names.{Zone, State, OfflineState, OnlineState, Going
 abbrev pub line : List ℕ → List ℕ
 line text = text ++ 10 ∷ []
 
--- the zones that a block is in or may go to, from the zone that it is in
+-- the word of `valid_zones`: the block's zone, or both if it has none
 abbrev pub zones_word : Option Zone → List ℕ
 zones_word None = codes "Normal Movable"
 zones_word (Some zone) = zone_name zone

@@ -1,7 +1,8 @@
 //! A law of reading and writing, in plain terms.
 ghost use Rattle.hp_control.specs.Laws.{AutoIsWrittenBack};
 
-/// The text of `auto_online_blocks`, written back, asks for what it already is.
+/// Writing the text of `auto_online_blocks` back to the file asks for the policy that it already
+/// shows.
 pub fn auto_is_written_back()
     ensures { AutoIsWrittenBack }
 {}

@@ -136,7 +136,7 @@ fn block_word(file: BlockFile, row: Row) -> Option<&'static str>
     }
 }
 
-/// Returns the zones that a block is in or may go to, from the zone that it is in.
+/// Returns the word of `valid_zones`: the block's zone, or both if it has none.
 fn zones_word(zone: Option<Zone>) -> &'static str
     ensures { result.now ≡ means.zones_word zone }
 {

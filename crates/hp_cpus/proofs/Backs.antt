@@ -1,5 +1,5 @@
 -- Undoing one delta, on the processors' lists.
-use Rattle.std.proofs.Common.{◌≡◌, ℕ, ◌+◌, ◌*◌, ◌<◌, List, [], get_or, true, not, Option, sym, ◌∙◌, ap, subst}
+use Rattle.std.proofs.Common.{◌≡◌, ℕ, ◌+◌, ◌*◌, List, [], get_or, true, not, Option, sym, ◌∙◌, ap, subst}
 use Rattle.std.specs.List.{list_all}
 use Rattle.std.specs.Option.{ForSome, option_map_or}
 use Rattle.std.proofs.lemmas.Bool.{and_parts}
@@ -30,14 +30,6 @@ linked-on v areas delta list cpu pool f after is list_is fits =
     behind-on after f (list_of v cpu pool) (subst (λ (d : Delta). FitsCached d (frames_of areas v))
     (is ∙ ap (λ (k : ListId). Link k f after) list_is) fits)
 
--- and the delta's numbers are in the layout
-linked-in : (l : LayoutParts) (delta : Delta) (list : ListId) (cpu : ℕ) (pool : Pool) (f : ℕ)
-    (after : Option ℕ)
-    → delta ≡ Link list f after → list ≡ CpuList pool cpu
-    → IsDeltaOf l delta → cpu < l.cpus
-linked-in l delta list cpu pool f after is list_is numbers =
-    (subst (λ (d : Delta). IsDeltaOf l d) (is ∙ ap (λ (k : ListId). Link k f after) list_is) numbers).0
-
 -- the frame leaves the list
 pub link-undone : (v : CpusValue) (l : LayoutParts) (links new : LinkedLists) (delta : Delta) (list : ListId)
     (cpu : ℕ) (pool : Pool) (f : ℕ) (after before : Option ℕ) (given : FreeAreas)
@@ -50,7 +42,7 @@ link-undone v l links new delta list cpu pool f after before given s is list_is 
     (λ fits numbers.
     ap (λ (w : CpusValue). frames_of areas w)
     (unlink-cached l links new cpu pool f before s.kept
-    (linked-in l delta list cpu pool f after is list_is numbers)
+    ((subst (λ (d : Delta). IsDeltaOf l d) (is ∙ ap (λ (k : ListId). Link k f after) list_is) numbers).0)
     (linked-on (cpus_of l links) given delta list cpu pool f after is list_is fits) u)
     ∙ ap (λ (d : Delta). cached_undo d (frames_of areas (cpus_of l links)))
     (sym (is ∙ ap (λ (k : ListId). Link k f after) list_is))) fits numbers
@@ -81,11 +73,6 @@ pub unlink-undone : (v : CpusValue) (l : LayoutParts) (links new : LinkedLists) 
     → new ≡ with_list links n (with_behind after f (list_at links n)) → (areas : FreeAreas)
     → frames_of areas (cpus_of l new) ≡ cached_undo delta (frames_of areas v)
 unlink-undone v l links new delta list cpu pool f n after s is list_is place relinked areas =
-    subst (λ (w : CpusValue). frames_of areas (cpus_of l new) ≡ cached_undo delta (frames_of areas w)) s.is
-    (ap (λ (k : LinkedLists). frames_of areas (cpus_of l k)) relinked
-    ∙ ap (λ (m : ℕ). frames_of areas (cpus_of l (with_list links m (with_behind after f (list_at links m)))))
-    place
-    ∙ ap (λ (ys : List ℕ). frames_of areas (cpus_of l (with_list links (number cpu pool) ys)))
-    (sym (put_behind-same after f (get_or links.lists (number cpu pool) [])))
-    ∙ ap (λ (d : Delta). cached_undo d (frames_of areas (cpus_of l links)))
-    (sym (is ∙ ap (λ (k : ListId). Unlink k f after) list_is)))
+    rw (← s.is) (rw (relinked, place, ← put_behind-same after f (get_or links.lists (number cpu pool) []))
+    (ap (λ (d : Delta). cached_undo d (frames_of areas (cpus_of l links)))
+    (sym (is ∙ ap (λ (k : ListId). Unlink k f after) list_is))))

@@ -1,13 +1,13 @@
 -- What the free areas' calls note leads back beside the processors' lists too. The deltas leave
 -- these lists as they are.
-use Rattle.std.proofs.Common.{◌≡◌, ℕ, ◌+◌, ◌≤◌, List, [], ◌∷◌, ◌++◌, length, refl, sym, ◌∙◌, ap, subst, arith}
+use Rattle.std.proofs.Common.{◌≡◌, ℕ, ◌+◌, ◌≤◌, List, [], ◌∷◌, ◌++◌, length, refl, ◌∙◌, ap, subst, arith}
 use Rattle.std.specs.List.{AllByRecursion}
 use Rattle.std.proofs.lemmas.List.{length-append}
 use Rattle.hp_units.specs.LayoutParts.{LayoutParts}
 use Rattle.hp_units.specs.Memory.{FreeAreas, FreeFrames}
 use Rattle.hp_tape.specs.declared.deltas.Delta.{Delta}
-use Rattle.hp_tape.specs.declared.deltas.Delta.TheVariants.{Link, Unlink, Kind as KindDelta, Kernel as KernelDelta, Map as MapDelta, Swap, Word as WordDelta, LargeWord, Filled, Emptied, Row as RowDelta, Auto as AutoDelta}
-use Rattle.hp_tape.specs.declared.deltas.ListId.TheVariants.{Area, Cpu}
+use Rattle.hp_tape.specs.declared.deltas.Delta.TheVariants.{Link, Unlink, Kind as KindDelta}
+use Rattle.hp_tape.specs.declared.deltas.ListId.TheVariants.{Area}
 use Rattle.hp_tape.specs.Deltas.{AllFit, FitsAreas, FitsFree, IsOfAreas, IsOfFree, areas_undo, free_undo, undo_all}
 use Rattle.hp_tape.specs.Tapes.{TapeValue, HasRoom, NotesAreas, NotesFree}
 use Rattle.hp_tape.proofs.Leads.{notes-append, notes-more, notes-none}
@@ -21,50 +21,22 @@ beside cached a = record { areas = a; cached = cached }
 undo-beside : (d : Delta) (cached : List (List ℕ)) (a : FreeAreas) → IsOfAreas d
     → free_undo d (beside cached a) ≡ beside cached (areas_undo d a)
 undo-beside (Link (Area class order) frame after) cached a own = refl
-undo-beside (Link (Cpu pool cpu) frame after) cached a own = absurd own
 undo-beside (Unlink (Area class order) frame after) cached a own = refl
-undo-beside (Unlink (Cpu pool cpu) frame after) cached a own = absurd own
 undo-beside (KindDelta pageblock was now) cached a own = refl
-undo-beside (KernelDelta frame was now) cached a own = absurd own
-undo-beside (MapDelta owner page change) cached a own = absurd own
-undo-beside (Swap one other) cached a own = absurd own
-undo-beside (WordDelta index frame was now) cached a own = absurd own
-undo-beside (LargeWord index frame change) cached a own = absurd own
-undo-beside (Filled index frame now) cached a own = absurd own
-undo-beside (Emptied frame words) cached a own = absurd own
-undo-beside (RowDelta change) cached a own = absurd own
-undo-beside (AutoDelta was now) cached a own = absurd own
+undo-beside _ cached a own = absurd own
 
 fits-beside : (d : Delta) (cached : List (List ℕ)) (a : FreeAreas) → IsOfAreas d → FitsAreas d a
     → FitsFree d (beside cached a)
 fits-beside (Link (Area class order) frame after) cached a own h = (h, tt)
-fits-beside (Link (Cpu pool cpu) frame after) cached a own h = absurd own
 fits-beside (Unlink (Area class order) frame after) cached a own h = (h, tt)
-fits-beside (Unlink (Cpu pool cpu) frame after) cached a own h = absurd own
 fits-beside (KindDelta pageblock was now) cached a own h = (h, tt)
-fits-beside (KernelDelta frame was now) cached a own h = absurd own
-fits-beside (MapDelta owner page change) cached a own h = absurd own
-fits-beside (Swap one other) cached a own h = absurd own
-fits-beside (WordDelta index frame was now) cached a own h = absurd own
-fits-beside (LargeWord index frame change) cached a own h = absurd own
-fits-beside (Filled index frame now) cached a own h = absurd own
-fits-beside (Emptied frame words) cached a own h = absurd own
-fits-beside (RowDelta change) cached a own h = absurd own
-fits-beside (AutoDelta was now) cached a own h = absurd own
+fits-beside _ cached a own h = absurd own
 
 own-beside : (d : Delta) → IsOfAreas d → IsOfFree d
 own-beside (Link list frame after) own = tt
 own-beside (Unlink list frame after) own = tt
 own-beside (KindDelta pageblock was now) own = tt
-own-beside (KernelDelta frame was now) own = own
-own-beside (MapDelta owner page change) own = own
-own-beside (Swap one other) own = own
-own-beside (WordDelta index frame was now) own = own
-own-beside (LargeWord index frame change) own = own
-own-beside (Filled index frame now) own = own
-own-beside (Emptied frame words) own = own
-own-beside (RowDelta change) own = own
-own-beside (AutoDelta was now) own = own
+own-beside _ own = own
 
 -- ---- all of them
 
@@ -73,8 +45,7 @@ undo_all-beside : (deltas : List Delta) (cached : List (List ℕ)) (a : FreeArea
     → undo_all free_undo deltas (beside cached a) ≡ beside cached (undo_all areas_undo deltas a)
 undo_all-beside [] cached a own = refl
 undo_all-beside (d ∷ deltas) cached a own =
-    ap (free_undo d) (undo_all-beside deltas cached a own.1)
-    ∙ undo-beside d cached (undo_all areas_undo deltas a) own.0
+    rw (undo_all-beside deltas cached a own.1) (undo-beside d cached (undo_all areas_undo deltas a) own.0)
 
 all_fit-beside : (deltas : List Delta) (cached : List (List ℕ)) (a : FreeAreas)
     → AllByRecursion IsOfAreas deltas → AllFit FitsAreas areas_undo deltas a
@@ -82,8 +53,7 @@ all_fit-beside : (deltas : List Delta) (cached : List (List ℕ)) (a : FreeAreas
 all_fit-beside [] cached a own h = tt
 all_fit-beside (d ∷ deltas) cached a own h = (
   all_fit-beside deltas cached a own.1 h.0,
-  subst (λ (fs : FreeFrames). FitsFree d fs) (sym (undo_all-beside deltas cached a own.1))
-      (fits-beside d cached (undo_all areas_undo deltas a) own.0 h.1),
+  rw (undo_all-beside deltas cached a own.1) (fits-beside d cached (undo_all areas_undo deltas a) own.0 h.1),
 )
 
 all_own-beside : (deltas : List Delta) → AllByRecursion IsOfAreas deltas → AllByRecursion IsOfFree deltas
@@ -124,8 +94,7 @@ notes-then l m most more total was mid now before between after same le a b =
 pub room_left : (l : LayoutParts) (most more : ℕ) (was now : TapeValue) (before after : FreeFrames)
     → NotesFree l most was now after before → HasRoom was (most + more) → HasRoom now more
 room_left l most more was now before after n room =
-    let size : length now.deltas ≡ length (was.deltas ++ n.deltas) =
-    ap (λ (t : TapeValue). length t.deltas) n.tape in
+    let size : length now.deltas ≡ length (was.deltas ++ n.deltas) = rw n.tape in
     let same : now.room ≡ was.room = ap (λ (t : TapeValue). t.room) n.tape in
     omega (arith, n.few, length-append was.deltas n.deltas)
 

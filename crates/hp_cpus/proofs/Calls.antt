@@ -76,9 +76,8 @@ pub put_one-isolated : (l : LayoutParts) (fs : FreeFrames) (cpu : ℕ) (zone : Z
     → put_one l fs cpu zone f ≡ record fs { areas = give_block l fs.areas zone f 0 }
 unfolding put_one
 put_one-isolated l fs cpu zone f at kind at_is is isolated =
-    let known : kind ≡ kind_of fs.areas (pageblock_of l f) = is ∙ ap (λ (n : ℕ). kind_of fs.areas n) at_is in
     cond-true (kind_of fs.areas (pageblock_of l f)).isolated _ _
-    (sym (ap (λ (k : Kind). k.isolated) known) ∙ isolated)
+    (sym (ap (λ (k : Kind). k.isolated) (is ∙ ap (λ (n : ℕ). kind_of fs.areas n) at_is)) ∙ isolated)
 
 -- any other frame goes to its list
 pub put_one-cached : (l : LayoutParts) (fs : FreeFrames) (cpu : ℕ) (zone : Zone) (f at : ℕ) (kind : Kind)
@@ -90,10 +89,8 @@ pub put_one-cached : (l : LayoutParts) (fs : FreeFrames) (cpu : ℕ) (zone : Zon
 unfolding put_one
 put_one-cached l fs cpu zone f at kind pool at_is is cached pool_is =
     let known : kind ≡ kind_of fs.areas (pageblock_of l f) = is ∙ ap (λ (n : ℕ). kind_of fs.areas n) at_is in
-    cond-false (kind_of fs.areas (pageblock_of l f)).isolated _ _
-    (sym (ap (λ (k : Kind). k.isolated) known) ∙ cached)
-    ∙ ap (λ (p : Pool). spilled l (with_cached_list fs cpu p (f ∷ cached_list fs cpu p)) cpu p)
-    (sym (pool_is ∙ ap (λ (k : Kind). pool_of zone k.mobility) known))
+    rw (cond-false (kind_of fs.areas (pageblock_of l f)).isolated _ _
+    (sym (ap (λ (k : Kind). k.isolated) known) ∙ cached)) (rw (← known, ← pool_is))
 
 -- the bound of a list that is past its mark with one more
 pub put_bound : (l : LayoutParts) (size : ℕ) → l.high < size + 1
@@ -108,19 +105,15 @@ pub other_list : (l : LayoutParts) (fs gs : FreeFrames) (cpu : ℕ) (pool other 
     → gs ≡ drain_pool l cpu fs pool → pool_index other ≢ pool_index pool
     → cached_list gs cpu other ≡ cached_list fs cpu other
 other_list l fs gs cpu pool other is apart =
-    ap (λ (hs : FreeFrames). cached_list hs cpu other) is
-    ∙ get_or-set_other fs.cached (3 * cpu + pool_index pool) (3 * cpu + pool_index other) [] []
-    (λ same. apart (omega arith))
+    rw is (get_or-set_other fs.cached (3 * cpu + pool_index pool) (3 * cpu + pool_index other) [] []
+    (λ same. apart (omega arith)))
 
 -- the three lists one after another
 pub drained : (l m n : LayoutParts) (fs gs hs js : FreeFrames) (cpu : ℕ) → m ≡ l → n ≡ l
     → gs ≡ drain_pool l cpu fs Nu → hs ≡ drain_pool m cpu gs Nm → js ≡ drain_pool n cpu hs Mm
     → js ≡ drain_lists l fs cpu
 unfolding drain_lists
-drained l m n fs gs hs js cpu same other first second third =
-    third ∙ ap (λ (k : LayoutParts). drain_pool k cpu hs Mm) other
-    ∙ ap (λ (is : FreeFrames). drain_pool l cpu is Mm) (second ∙ ap (λ (k : LayoutParts).
-    drain_pool k cpu gs Nm) same ∙ ap (λ (is : FreeFrames). drain_pool l cpu is Nm) first)
+drained l m n fs gs hs js cpu same other first second third = rw (third, other, second, same, first)
 
 -- `each` deltas for each frame of three lists
 pub three_lists : (nu nm mm each : ℕ) → nu * each + nm * each + mm * each ≡ (nu + nm + mm) * each

@@ -41,9 +41,7 @@ pub notes-one : (l : LayoutParts) (delta : Delta) (was now : TapeValue) (later e
     → NotesFree l 1 was now later earlier
 notes-one l delta was now later earlier room noted own numbers fits back = record {
   deltas = delta ∷ [];
-  tape =
-      ap (λ (n : ℕ). record { room = n; deltas = now.deltas }) room
-      ∙ ap (λ (ds : List Delta). record { room = was.room; deltas = ds }) noted;
+  tape = rw (room, noted);
   few = omega arith;
   own = (own, tt);
   numbers = (numbers, tt);
@@ -74,8 +72,7 @@ list-there {v} {l} pool kept is low place =
 
 pub frame-there : {v : CpusValue} {l : LayoutParts} {links : LinkedLists} {f : ℕ} → IsCpusOf l links
     → cpus_of l links ≡ v → f < frame_count v.layout → f < links.frame_count
-frame-there {f = f} kept is low =
-    subst (λ (n : ℕ). f < n) (sym (kept.frame_count ∙ ap (λ (w : CpusValue). frame_count w.layout) is)) low
+frame-there {f = f} kept is low = rw (kept.frame_count ∙ ap (λ (w : CpusValue). frame_count w.layout) is) low
 
 -- the table is that of the layout with another list in it, and with a frame on no list
 pub kept-with : {l : LayoutParts} {links new : LinkedLists} (n : ℕ) (frames : List ℕ) → IsCpusOf l links
@@ -83,8 +80,7 @@ pub kept-with : {l : LayoutParts} {links new : LinkedLists} (n : ℕ) (frames : 
 kept-with {links = links} n frames kept is = record {
   layout = kept.layout;
   frame_count = ap (λ (k : LinkedLists). k.frame_count) is ∙ kept.frame_count;
-  list_count =
-      ap (λ (k : LinkedLists). length k.lists) is ∙ length-set links.lists n frames ∙ kept.list_count;
+  list_count = rw (is, length-set links.lists n frames) kept.list_count;
 }
 
 pub kept-off : {l : LayoutParts} {links new : LinkedLists} (f : ℕ) → IsCpusOf l links
@@ -92,9 +88,7 @@ pub kept-off : {l : LayoutParts} {links new : LinkedLists} (f : ℕ) → IsCpusO
 kept-off {links = links} f kept is = record {
   layout = kept.layout;
   frame_count = ap (λ (k : LinkedLists). k.frame_count) is ∙ kept.frame_count;
-  list_count =
-      ap (λ (k : LinkedLists). length k.lists) is ∙ length-map links.lists (without_first f)
-      ∙ kept.list_count;
+  list_count = rw (is, length-map links.lists (without_first f)) kept.list_count;
 }
 
 -- ---- a frame leaves its list
@@ -119,12 +113,9 @@ unlink-cached l links new cpu pool f after kept low on u =
     let xs : List ℕ = get_or links.lists n [] in
     let is : new ≡ with_list links n (without_first f xs) = u.one_list n (on_contains f xs on) in
     let here : get_or new.lists n [] ≡ without_first f xs =
-    ap (λ (k : LinkedLists). get_or k.lists n []) is
-    ∙ get_or-set_same links.lists n (without_first f xs) [] (number_in l links cpu pool kept low) in
-    let off : is_on f (without_first f xs) ≡ false =
-    subst (λ (ys : List ℕ). is_on f ys ≡ false) here (off_list new f n u.free) in
-    ap (λ (k : LinkedLists). cpus_of l k) is
-    ∙ ap (λ (ys : List ℕ). cpus_of l (with_list links n ys)) (without-same f xs off)
+    rw is (get_or-set_same links.lists n (without_first f xs) [] (number_in l links cpu pool kept low)) in
+    let off : is_on f (without_first f xs) ≡ false = rw (← here) (off_list new f n u.free) in
+    rw (is, without-same f xs off)
 
 -- and the delta of the unlink
 pub unlink-notes : (l : LayoutParts) (links new : LinkedLists) (cpu : ℕ) (pool : Pool) (f : ℕ)
@@ -185,7 +176,6 @@ link-notes : (l : LayoutParts) (links : LinkedLists) (cpu : ℕ) (pool : Pool) (
     (frames_of areas (cpus_of l links))
 link-notes l links cpu pool f frames after was now delta kept low frame behind leaves room noted is areas =
     let n : ℕ = number cpu pool in
-    let xs : List ℕ = get_or links.lists n [] in
     let here : get_or (set links.lists n frames) n [] ≡ frames =
     get_or-set_same links.lists n frames [] (number_in l links cpu pool kept low) in
     notes-one l (Link (CpuList pool cpu) f after) was now (frames_of areas
@@ -193,10 +183,7 @@ link-notes l links cpu pool f frames after was now delta kept low frame behind l
     (noted ∙ ap (λ (d : Delta). was.deltas ++ d ∷ []) is)
     tt (low, frame)
     (tt, ap (λ (ys : List ℕ). is_behind after f ys) here ∙ behind)
-    (ap (λ (lists : List (List ℕ)). record { areas = areas; cached = lists })
-    (ap (λ (ys : List ℕ). set (set links.lists n frames) n (without f ys)) here
-    ∙ ap (λ (ys : List ℕ). set (set links.lists n frames) n ys) leaves
-    ∙ set-set links.lists n frames xs ∙ set-get_or links.lists n []))
+    (rw (here, leaves, set-set links.lists n frames (get_or links.lists n []), set-get_or links.lists n []))
 
 -- the value that contracts see, and what was noted
 pub record LinkSeen (v new : CpusValue) (cpu : ℕ) (pool : Pool) (frames : List ℕ)
@@ -213,8 +200,7 @@ linked : (v new : CpusValue) (cpu : ℕ) (pool : Pool) (frames : List ℕ) (was 
 linked v new cpu pool frames was now is notes = record {
   cached = is;
   notes =
-      λ areas. subst (λ (w : CpusValue). NotesFree v.layout 1 was now (frames_of areas w) (frames_of areas v))
-      (sym is) (notes areas);
+      λ areas. rw is (notes areas);
 }
 
 -- in front
@@ -231,8 +217,7 @@ seen-front v l links new cpu pool f n was now delta s low frame off place pushed
     (λ low frame off.
     let xs : List ℕ = list_of (cpus_of l links) cpu pool in
     linked (cpus_of l links) (cpus_of l new) cpu pool (f ∷ xs) was now
-    (ap (λ (k : LinkedLists). cpus_of l k) pushed
-    ∙ ap (λ (m : ℕ). cpus_of l (with_list links m (f ∷ list_at links m))) place)
+    (rw (pushed, place))
     (link-notes l links cpu pool f (f ∷ xs) None was now delta s.kept low frame (eq-eqb f f refl)
     (without-front f xs off) room noted is)) low frame off
 
@@ -254,9 +239,7 @@ seen-back v l links new cpu pool f n m after was now delta s low frame off apart
     (λ low frame off apart.
     let xs : List ℕ = list_of (cpus_of l links) cpu pool in
     linked (cpus_of l links) (cpus_of l new) cpu pool (xs ++ f ∷ []) was now
-    (ap (λ (k : LinkedLists). cpus_of l k) pushed
-    ∙ ap (λ (i : ℕ). cpus_of l (with_list links i (list_at links i ++ f ∷ []))) place)
+    (rw (pushed, place))
     (link-notes l links cpu pool f (xs ++ f ∷ []) after was now delta s.kept low frame
-    (ap (λ (o : Option ℕ). is_behind o f (xs ++ f ∷ []))
-    (after_is ∙ ap (λ (i : ℕ). last (list_at links i)) found) ∙ behind-last f xs apart)
+    (rw (after_is, found) (behind-last f xs apart))
     (without-back f xs off) room noted is)) low frame off apart

@@ -1,5 +1,5 @@
 -- The first and the last frame of a processor's list.
-use Rattle.std.proofs.Common.{◌≡◌, ℕ, ◌+◌, ◌*◌, ◌<◌, ◌≤◌, List, [], ◌∷◌, ◌++◌, get_or, true, false, Some, None, refl, sym, ◌∙◌, ap, subst, arith, eq-eqb, ◌==◌}
+use Rattle.std.proofs.Common.{◌≡◌, ℕ, ◌+◌, ◌*◌, ◌<◌, ◌≤◌, List, [], ◌∷◌, ◌++◌, true, false, Some, None, refl, sym, ◌∙◌, ap, subst, arith, eq-eqb, ◌==◌}
 use Rattle.std.proofs.lemmas.Bool.{or_left, false_from_ne_true}
 use Rattle.hp_units.specs.declared.rows.Pool.{Pool}
 use Rattle.hp_units.specs.LayoutParts.{LayoutParts}
@@ -72,23 +72,17 @@ lists-there kept is = subst (λ (w : CpusValue). HasLists w) is kept.list_count
 pub seen-first : (v : CpusValue) (l : LayoutParts) (links : LinkedLists) (cpu : ℕ) (pool : Pool) (n f : ℕ)
     → Seen v l links → n ≡ 3 * cpu + pool_index pool
     → Some f ≡ first (list_at links n) → IsFirst f (list_of v cpu pool)
-seen-first v l links cpu pool n f s place e =
-    subst (λ (w : CpusValue). IsFirst f (list_of w cpu pool)) s.is
-    (subst (λ (m : ℕ). IsFirst f (get_or links.lists m [])) place (first_is f (list_at links n) e))
+seen-first v l links cpu pool n f s place e = rw (← s.is, ← place) (first_is f (list_at links n) e)
 
 pub seen-last : (v : CpusValue) (l : LayoutParts) (links : LinkedLists) (cpu : ℕ) (pool : Pool) (n f : ℕ)
     → Seen v l links → n ≡ 3 * cpu + pool_index pool
     → Some f ≡ last (list_at links n) → IsLast f (list_of v cpu pool)
-seen-last v l links cpu pool n f s place e =
-    subst (λ (w : CpusValue). IsLast f (list_of w cpu pool)) s.is
-    (subst (λ (m : ℕ). IsLast f (get_or links.lists m [])) place (last_is f (list_at links n) e))
+seen-last v l links cpu pool n f s place e = rw (← s.is, ← place) (last_is f (list_at links n) e)
 
 pub seen-no_last : (v : CpusValue) (l : LayoutParts) (links : LinkedLists) (cpu : ℕ) (pool : Pool) (n : ℕ)
     → Seen v l links → n ≡ 3 * cpu + pool_index pool
     → None ≡ last (list_at links n) → list_of v cpu pool ≡ []
-seen-no_last v l links cpu pool n s place e =
-    subst (λ (w : CpusValue). list_of w cpu pool ≡ []) s.is
-    (subst (λ (m : ℕ). get_or links.lists m [] ≡ []) place (last-none (list_at links n) e))
+seen-no_last v l links cpu pool n s place e = rw (← s.is, ← place) (last-none (list_at links n) e)
 
 -- ---- the end left
 
@@ -118,9 +112,7 @@ off_back f xs rest few is =
 left : (v new : CpusValue) (cpu : ℕ) (pool : Pool) (f : ℕ) → HasLists v → cpu < v.layout.cpus
     → new ≡ with_list_of v cpu pool (without f (list_of v cpu pool))
     → list_of new cpu pool ≡ without f (list_of v cpu pool)
-left v new cpu pool f size low is =
-    ap (λ (w : CpusValue). list_of w cpu pool) is
-    ∙ list_of-same v cpu pool (without f (list_of v cpu pool)) low size
+left v new cpu pool f size low is = rw is (list_of-same v cpu pool (without f (list_of v cpu pool)) low size)
 
 -- the others come after the first one
 pub first-left : (v new : CpusValue) (cpu : ℕ) (pool : Pool) (f : ℕ) → HasLists v → cpu < v.layout.cpus

@@ -43,9 +43,7 @@ pub taken_as : (l : LayoutParts) (class known : Class) (b e : BuddyValue) (f : �
     → NotesAreas b.layout (take_bound b.layout) was now e.areas b.areas
     → IsTaken l known b e f was now
 taken_as l class known b e f was now same class_is taken layout notes =
-    subst (λ (k : Class). IsTaken l k b e f was now) class_is
-    (subst (λ (k : LayoutParts). IsTaken k class b e f was now) same
-    (record { taken = taken; layout = layout; notes = notes }))
+    rw (← class_is, ← same) (record { taken = taken; layout = layout; notes = notes })
 
 -- a frame that was taken came to the back of a list
 pub taken-turn : (l : LayoutParts) (c d : CpusValue) (b e : BuddyValue) (cpu : ℕ) (pool : Pool) (f : ℕ)
@@ -84,8 +82,7 @@ given-turn l c d b e f was mid now same kept out together places first then = re
   notes =
       notes-then l l 1 (give_bound l) (l.order + 2) was mid now (frames_of b.areas c) (frames_of b.areas d)
       (frames_of e.areas d) refl (omega arith)
-      (subst (λ (k : LayoutParts). NotesFree k 1 was mid (frames_of b.areas d) (frames_of b.areas c)) same
-      first)
+      (rw (← same) first)
       (subst (λ (k : LayoutParts).
       NotesFree k (give_bound k) mid now (frames_of e.areas d) (frames_of b.areas d)) (kept ∙ same) then);
   places = λ o. omega (arith, places o, out.places o);
@@ -98,9 +95,7 @@ pub given_is : (l : LayoutParts) (c d : CpusValue) (b e : BuddyValue) (cpu : ℕ
     → d ≡ with_list_of c cpu pool (list_of d cpu pool) → e.areas ≡ give_block d.layout b.areas zone f 0
     → frames_of e.areas d ≡ given l (frames_of b.areas c) cpu pool f (list_of d cpu pool)
 given_is l c d b e cpu pool zone f same zone_is is gave =
-    let areas : e.areas ≡ give_block l b.areas (zone_of_pool pool) f 0 =
-    gave ∙ ap (λ (k : LayoutParts). give_block k b.areas zone f 0) same
-    ∙ ap (λ (z : Zone). give_block l b.areas z f 0) zone_is in
+    let areas : e.areas ≡ give_block l b.areas (zone_of_pool pool) f 0 = rw (gave, same, zone_is) in
     ap (λ (w : CpusValue). frames_of e.areas w) is
     ∙ ap (λ (a : FreeAreas). frames_of a (with_list_of c cpu pool (list_of d cpu pool))) areas
 

@@ -1,12 +1,11 @@
 -- A refill, one frame after another.
-use Rattle.std.proofs.Common.{◌≡◌, ℕ, zero, suc, ◌+◌, ◌*◌, ◌-◌, ◌<◌, List, [], ◌∷◌, ◌++◌, length, get_or, set, Option, Some, None, refl, sym, ◌∙◌, ap, arith}
-use Rattle.std.specs.Option.{option_map_or}
+use Rattle.std.proofs.Common.{◌≡◌, ℕ, zero, suc, ◌+◌, ◌*◌, ◌-◌, ◌<◌, List, [], ◌∷◌, ◌++◌, length, get_or, set, Some, None, refl, sym, ◌∙◌, ap, arith}
 use Rattle.std.proofs.lemmas.List.{append_assoc, append-nil, length-append, get_or-set_same, set-set, set-get_or}
 use Rattle.hp_units.specs.declared.rows.Pool.{Pool}
 use Rattle.hp_units.specs.LayoutParts.{LayoutParts}
 use Rattle.hp_units.specs.Memory.{FreeAreas, FreeFrames, cached_list, with_cached_list, class_of_pool, pool_index}
-use Rattle.hp_units.specs.FreeAreas.{Taken, take_block}
-use Rattle.hp_units.specs.ProcessorLists.{Refill, with_first, take_frames, refilled, refilled_from, pop_from, pop_cached, take_one}
+use Rattle.hp_units.specs.FreeAreas.{take_block}
+use Rattle.hp_units.specs.ProcessorLists.{Refill, with_first, take_frames, refilled, refilled_from, take_one}
 use Rattle.hp_cpus.specs.Batches.{with_refill, filled}
 use Rattle.hp_cpus.specs.Cpus.{CpusValue, list_of, with_list_of}
 use Rattle.hp_cpus.proofs.Counts.{HasLists, list_in, list_of-same}
@@ -15,9 +14,7 @@ use Rattle.hp_cpus.proofs.Counts.{HasLists, list_in, list_of-same}
 with_refill-none : (fs : FreeFrames) (cpu : ℕ) (pool : Pool)
     → with_refill fs cpu pool (record { areas = fs.areas; frames = [] }) ≡ fs
 with_refill-none fs cpu pool =
-    ap (λ (xs : List ℕ). with_cached_list fs cpu pool xs) (append-nil (cached_list fs cpu pool))
-    ∙ ap (λ (lists : List (List ℕ)). record fs { cached = lists })
-    (set-get_or fs.cached (3 * cpu + pool_index pool) [])
+    rw (append-nil (cached_list fs cpu pool), set-get_or fs.cached (3 * cpu + pool_index pool) [])
 
 -- no frame is asked for
 pub filled-zero : (l : LayoutParts) (fs : FreeFrames) (cpu : ℕ) (pool : Pool) → filled l fs cpu pool 0 ≡ fs
@@ -29,11 +26,7 @@ pub filled-none : (l : LayoutParts) (fs : FreeFrames) (cpu : ℕ) (pool : Pool) 
     → take_block l fs.areas (class_of_pool pool) 0 ≡ None → filled l fs cpu pool count ≡ fs
 unfolding take_frames
 filled-none l fs cpu pool zero none = with_refill-none fs cpu pool
-filled-none l fs cpu pool (suc count) none =
-    ap (λ (o : Option Taken). with_refill fs cpu pool (option_map_or
-    (λ taken. with_first taken.frame (take_frames l pool count taken.areas)) o
-    (record { areas = fs.areas; frames = [] }))) none
-    ∙ with_refill-none fs cpu pool
+filled-none l fs cpu pool (suc count) none = rw none (with_refill-none fs cpu pool)
 
 -- the frames after the first one
 with_refill-more : (fs : FreeFrames) (a : FreeAreas) (cpu : ℕ) (pool : Pool) (f cpus : ℕ) (refill : Refill)
@@ -58,10 +51,7 @@ filled-suc : (l : LayoutParts) (fs : FreeFrames) (a : FreeAreas) (cpu : ℕ) (po
     (with_cached_list (record fs { areas = a }) cpu pool (cached_list fs cpu pool ++ f ∷ [])) cpu pool count
 unfolding take_frames
 filled-suc l fs a cpu pool f count cpus low size some =
-    ap (λ (o : Option Taken). with_refill fs cpu pool (option_map_or
-    (λ taken. with_first taken.frame (take_frames l pool count taken.areas)) o
-    (record { areas = fs.areas; frames = [] }))) some
-    ∙ with_refill-more fs a cpu pool f cpus (take_frames l pool count a) low size
+    rw some (with_refill-more fs a cpu pool f cpus (take_frames l pool count a) low size)
 
 -- the same for a loop that has taken some of all
 pub filled-more : (l : LayoutParts) (fs gs : FreeFrames) (a : FreeAreas) (cpu : ℕ) (pool : Pool)
@@ -72,9 +62,8 @@ pub filled-more : (l : LayoutParts) (fs gs : FreeFrames) (a : FreeAreas) (cpu : 
     → filled l fs cpu pool (all - done) ≡ filled l gs cpu pool (all - (done + 1))
 filled-more l fs gs a cpu pool f done all cpus low size below some is =
     let next : all - done ≡ suc (all - (done + 1)) = omega arith in
-    ap (λ (n : ℕ). filled l fs cpu pool n) next
-    ∙ filled-suc l fs a cpu pool f (all - (done + 1)) cpus low size some
-    ∙ ap (λ (hs : FreeFrames). filled l hs cpu pool (all - (done + 1))) (sym is)
+    rw (next, filled-suc l fs a cpu pool f (all - (done + 1)) cpus low size some)
+    (ap (λ (hs : FreeFrames). filled l hs cpu pool (all - (done + 1))) (sym is))
 
 -- ---- one frame from a list
 
@@ -102,18 +91,13 @@ pub taken-some : (l : LayoutParts) (fs gs new : FreeFrames) (cpu : ℕ) (pool : 
     → new ≡ with_cached_list gs cpu pool rest
     → take_one l fs cpu pool ≡ Some (record { free = new; frame = f })
 unfolding take_one
-taken-some l fs gs new cpu pool f rest is front popped =
-    ap (λ (hs : FreeFrames). pop_cached hs cpu pool) (sym is)
-    ∙ ap (λ (xs : List ℕ). pop_from gs cpu pool xs) front
-    ∙ ap (λ (hs : FreeFrames). Some (record { free = hs; frame = f })) (sym popped)
+taken-some l fs gs new cpu pool f rest is front popped = rw (← is, front, ← popped)
 
 -- no frame is taken
 pub taken-none : (l : LayoutParts) (fs gs : FreeFrames) (cpu : ℕ) (pool : Pool) → gs ≡ refilled l fs cpu pool
     → cached_list gs cpu pool ≡ [] → take_one l fs cpu pool ≡ None
 unfolding take_one
-taken-none l fs gs cpu pool is empty =
-    ap (λ (hs : FreeFrames). pop_cached hs cpu pool) (sym is)
-    ∙ ap (λ (xs : List ℕ). pop_from gs cpu pool xs) empty
+taken-none l fs gs cpu pool is empty = rw (← is, empty)
 
 -- ---- a list that got a frame
 
@@ -122,7 +106,6 @@ pub pushed-some : (v new : CpusValue) (cpu : ℕ) (pool : Pool) (f : ℕ) → Ha
     → new ≡ with_list_of v cpu pool (list_of v cpu pool ++ f ∷ []) → list_of new cpu pool ≡ [] → ⊥
 pushed-some v new cpu pool f size low is empty =
     let list : list_of new cpu pool ≡ list_of v cpu pool ++ f ∷ [] =
-    ap (λ (w : CpusValue). list_of w cpu pool) is
-    ∙ list_of-same v cpu pool (list_of v cpu pool ++ f ∷ []) low size in
+    rw is (list_of-same v cpu pool (list_of v cpu pool ++ f ∷ []) low size) in
     let none : length (list_of new cpu pool) ≡ 0 = ap length empty in
     omega (arith, ap length list ∙ length-append (list_of v cpu pool) (f ∷ []))

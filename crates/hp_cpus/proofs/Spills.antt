@@ -29,13 +29,7 @@ pub given_last-zero : (l : LayoutParts) (fs : FreeFrames) (cpu : ℕ) (pool : Po
 given_last-zero l fs cpu pool =
     let xs : List ℕ = cached_list fs cpu pool in
     let all : length xs - 0 ≡ length xs = omega arith in
-    ap (λ (n : ℕ). spilled_of l fs cpu pool xs n) all
-    ∙ ap (λ (ys : List ℕ). with_cached_list
-    (record fs { areas = give_all l fs.areas (zone_of_pool pool) (reverse ys) }) cpu pool
-    (take (length xs) xs)) (drop-length xs)
-    ∙ ap (λ (ys : List ℕ). with_cached_list fs cpu pool ys) (take-length xs)
-    ∙ ap (λ (lists : List (List ℕ)). record fs { cached = lists })
-    (set-get_or fs.cached (3 * cpu + pool_index pool) [])
+    rw (all, drop-length xs, take-length xs, set-get_or fs.cached (3 * cpu + pool_index pool) [])
 
 -- the last frame is given, and then the others
 given_last-suc : (l : LayoutParts) (fs : FreeFrames) (cpu : ℕ) (pool : Pool) (f count cpus : ℕ) (ys : List ℕ)
@@ -51,21 +45,15 @@ given_last-suc l fs cpu pool f count cpus ys low size is enough =
     get_or-set_same fs.cached n ys [] (list_in cpus cpu (length fs.cached) pool low size) in
     let back : reverse (drop kept (ys ++ f ∷ [])) ≡ f ∷ reverse (drop kept ys) =
     ap reverse (drop-append-le kept ys (f ∷ []) within) ∙ reverse-append (drop kept ys) (f ∷ []) in
-    ap (λ (xs : List ℕ). spilled_of l fs cpu pool xs (length xs - suc count)) is
-    ∙ ap (λ (k : ℕ). spilled_of l fs cpu pool (ys ++ f ∷ []) k) same
-    ∙ ap (λ (zs : List ℕ). with_cached_list (record fs { areas = give_all l fs.areas (zone_of_pool pool) zs })
-    cpu pool (take kept (ys ++ f ∷ []))) back
-    ∙ ap (λ (zs : List ℕ). with_cached_list
-    (record fs { areas = give_all l fs.areas (zone_of_pool pool) (f ∷ reverse (drop kept ys)) }) cpu pool
-    zs) (take-append-le kept ys (f ∷ []) within)
-    ∙ sym (ap (λ (zs : List ℕ). spilled_of l (given l fs cpu pool f ys) cpu pool zs (length zs - count)) here
+    rw (is, same, back, take-append-le kept ys (f ∷ []) within)
+    (sym (ap (λ (zs : List ℕ). spilled_of l (given l fs cpu pool f ys) cpu pool zs (length zs - count)) here
     ∙ ap (λ (lists : List (List ℕ)). record {
       areas = give_all l
           (give_block l fs.areas (zone_of_pool pool) f 0) (zone_of_pool pool)
           (reverse (drop kept ys));
       cached = lists;
     })
-    (set-set fs.cached n ys (take kept ys)))
+    (set-set fs.cached n ys (take kept ys))))
 
 -- the same for a loop that has given some of all
 pub given_last-more : (l : LayoutParts) (fs gs : FreeFrames) (cpu : ℕ) (pool : Pool) (f done all cpus : ℕ)
@@ -76,11 +64,9 @@ pub given_last-more : (l : LayoutParts) (fs gs : FreeFrames) (cpu : ℕ) (pool :
     → given_last l fs cpu pool (all - done) ≡ given_last l gs cpu pool (all - (done + 1))
 given_last-more l fs gs cpu pool f done all cpus ys low size below enough split is =
     let next : all - done ≡ suc (all - (done + 1)) = omega arith in
-    let long : length (cached_list fs cpu pool) ≡ length ys + 1 =
-    ap length split ∙ length-append ys (f ∷ []) in
-    ap (λ (n : ℕ). given_last l fs cpu pool n) next
-    ∙ given_last-suc l fs cpu pool f (all - (done + 1)) cpus ys low size split (omega arith)
-    ∙ ap (λ (hs : FreeFrames). given_last l hs cpu pool (all - (done + 1))) (sym is)
+    let long : length (cached_list fs cpu pool) ≡ length ys + 1 = rw split (length-append ys (f ∷ [])) in
+    rw (next, given_last-suc l fs cpu pool f (all - (done + 1)) cpus ys low size split (omega arith))
+    (ap (λ (hs : FreeFrames). given_last l hs cpu pool (all - (done + 1))) (sym is))
 
 -- ---- a drain
 
@@ -95,20 +81,12 @@ drain_pool-more l fs gs cpu pool f cpus rest low size front is =
     let a : FreeAreas = give_block l fs.areas (zone_of_pool pool) f 0 in
     let here : get_or (set fs.cached n rest) n [] ≡ rest =
     get_or-set_same fs.cached n rest [] (list_in cpus cpu (length fs.cached) pool low size) in
-    ap (λ (xs : List ℕ).
-    with_cached_list (record fs { areas = give_all l fs.areas (zone_of_pool pool) xs }) cpu pool []) front
-    ∙ sym (ap (λ (hs : FreeFrames). drain_pool l cpu hs pool) is
-    ∙ ap (λ (xs : List ℕ).
-    record { areas = give_all l a (zone_of_pool pool) xs; cached = set (set fs.cached n rest) n [] }) here
-    ∙ ap (λ (lists : List (List ℕ)). record { areas = give_all l a (zone_of_pool pool) rest; cached = lists })
-    (set-set fs.cached n rest []))
+    rw front (sym (ap (λ (hs : FreeFrames). drain_pool l cpu hs pool) is ∙ ap (λ (xs : List ℕ). record
+    { areas = give_all l a (zone_of_pool pool) xs; cached = set (set fs.cached n rest) n [] }) here ∙ ap
+    (λ (lists : List (List ℕ)). record { areas = give_all l a (zone_of_pool pool) rest; cached = lists })
+    (set-set fs.cached n rest [])))
 
 -- an empty list gives nothing
 pub drain_pool-none : (l : LayoutParts) (fs : FreeFrames) (cpu : ℕ) (pool : Pool)
     → cached_list fs cpu pool ≡ [] → drain_pool l cpu fs pool ≡ fs
-drain_pool-none l fs cpu pool empty =
-    ap (λ (xs : List ℕ).
-    with_cached_list (record fs { areas = give_all l fs.areas (zone_of_pool pool) xs }) cpu pool []) empty
-    ∙ ap (λ (xs : List ℕ). with_cached_list fs cpu pool xs) (sym empty)
-    ∙ ap (λ (lists : List (List ℕ)). record fs { cached = lists })
-    (set-get_or fs.cached (3 * cpu + pool_index pool) [])
+drain_pool-none l fs cpu pool empty = rw (empty, ← empty, set-get_or fs.cached (3 * cpu + pool_index pool) [])

@@ -172,8 +172,7 @@ pub empty-together : (l : LayoutParts) (cached : List (List ℕ)) → cached ≡
     → (b : BuddyValue) → b.layout ≡ l → AreApart b.layout b.areas
     → AreTogether (record { layout = l; cached = cached }) b
 empty-together l cached is b same apart =
-    subst (λ (lists : List (List ℕ)). AreTogether (record { layout = l; cached = lists }) b) (sym is)
-    (record {
+    rw is (record {
       layout = same;
       lists = length-replicate (3 * l.cpus) [];
       areas = subst (λ (k : LayoutParts). AreApart k b.areas) same apart;

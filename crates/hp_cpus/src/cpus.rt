@@ -204,8 +204,8 @@ impl Cpus {
         self.drain_pool(cpu, Pool::Mm, buddy, tape);
     }
 
-    /// Undoes a delta, which must fit, whatever the free areas are. Its numbers must be within the
-    /// layout. A delta of another layer changes nothing.
+    /// Undoes a delta, which must fit the lists and have numbers within the layout. A delta of
+    /// another layer changes nothing.
     pub fn back(&mut self, delta: Delta)
         requires fits { (areas : FreeAreas) × FitsCached delta (frames_of areas self.old) }
         requires numbers { IsDeltaOf self.old.layout delta }
@@ -216,7 +216,7 @@ impl Cpus {
         self.back_by(&delta);
     }
 
-    /// Undoes a delta that the caller owns, so that none is dropped at each exit here.
+    /// Undoes a borrowed delta. The caller drops it, so that no exit here has to.
     #[inline(always)]
     fn back_by(&mut self, delta: &Delta)
         requires fits { (areas : FreeAreas) × FitsCached delta.now (frames_of areas self.old) }

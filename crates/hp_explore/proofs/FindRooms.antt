@@ -1,16 +1,16 @@
 -- The room for the calls of a schedule that grows and is taken back.
-use Rattle.std.proofs.Common.{◌≡◌, ℕ, ◌+◌, true, false, List, [], ◌∷◌, ◌++◌, length, Option, Some, None, refl, ap, sym, subst, ◌∙◌, arith, inl, inr}
+use Rattle.std.proofs.Common.{◌≡◌, ℕ, ◌+◌, false, List, [], ◌∷◌, ◌++◌, length, Option, Some, None, refl, ap, sym, ◌∙◌, arith, inl, inr}
 use Rattle.std.proofs.lemmas.List.{append-nil, append_assoc, length-append, length_push, same_from_push}
 use Rattle.std.proofs.lemmas.Option.{none-some}
 use Rattle.hp_units.specs.declared.events.Event.{Event}
 use Rattle.hp_units.specs.declared.replies.Record.{Record}
-use Rattle.hp_states.specs.Rooms.{HasNoRoom, is_full_after}
-use Rattle.hp_states.specs.Walks.{HasRoomBefore}
-use Rattle.hp_schedules.specs.Orders.{IsBefore}
+use Rattle.hp_states.specs.Rooms.{is_full_after}
+use Rattle.hp_states.specs.Walks.{HasRoomBefore, HasRoomFrom}
 use Rattle.hp_schedules.specs.Schedules.{Setting, next_call, plays, record_of_call}
-use Rattle.hp_schedules.proofs.Plays.{plays_push, stops}
+use Rattle.hp_schedules.proofs.Plays.{asks_within, plays_push, stops}
+use Rattle.hp_schedules.proofs.Regions.{before_all, before_first, before_longer, before_next, extends_before}
 use Rattle.hp_states.proofs.Rooms.{push_extends, was_room}
-use Rattle.hp_explore.proofs.Filled.{full_on}
+use Rattle.hp_explore.specs.Faults.{FillsHistory}
 use Rattle.hp_explore.specs.Reaching.{HasRoomAlong}
 
 -- no call has room
@@ -50,45 +50,80 @@ room_back g p cpu along fills =
       ),
     )
 
--- ---- a schedule that a walk came to
+-- ---- the room for all calls before a place
 
--- where a call has no room the one after it has none either
-full_next : (g : Setting) (s : List ℕ) (h : HasNoRoom g s) (cpu : ℕ) (rest : List ℕ) (news : List Record)
-    → plays g ((s ++ h.cpu ∷ []) ++ cpu ∷ rest) ≡ Some news
-    → (k : HasNoRoom g (s ++ h.cpu ∷ [])) × (k.cpu ≡ cpu)
-full_next g s h cpu rest news played = by_next (next_call g cpu later) refl
+-- none is before the first place
+pub spared_none : (g : Setting) → HasRoomBefore g (0 ∷ [])
+spared_none g s h before = before_first (s ++ h.cpu ∷ []) [] before
+
+-- from a place to its first continuation
+pub spared_down : (g : Setting) (p : List ℕ) → HasRoomBefore g p → HasRoomBefore g (p ++ 0 ∷ [])
+spared_down g p room s h before = room s h (before_first (s ++ h.cpu ∷ []) p before)
+
+-- past a processor whose script asks for nothing
+pub spared_over : (g : Setting) (p : List ℕ) (news : List Record) (cpu : ℕ) → plays g p ≡ Some news
+    → next_call g cpu news ≡ None → HasRoomBefore g (p ++ cpu ∷ []) → HasRoomBefore g (p ++ (cpu + 1) ∷ [])
+spared_over g p news cpu played over room s h before =
+    elim (before_next (s ++ h.cpu ∷ []) p cpu before) [
+      | inl b ↦ room s h b
+      | inr e ↦ none-some (h.news ++ record_of_call g h.news h.cpu h.event ∷ [])
+          (sym (ap (plays g) (e.1 ∙ append_assoc p (cpu ∷ []) e.0) ∙ stops g p e.0 news cpu played over)
+          ∙ plays_push g s h.news h.cpu h.event h.played h.asked)
+    ]
+
+-- past all continuations of a place, for each of whose calls there is room
+pub spared_known : (g : Setting) (p : List ℕ) (n : ℕ) → HasRoomAlong g p → HasRoomBefore g p
+    → HasRoomFrom g p → HasRoomBefore g (p ++ n ∷ [])
+spared_known g p n along room from s h before =
+    elim (before_all (s ++ h.cpu ∷ []) p n before) [
+      | inl b ↦ room s h b
+      | inr e ↦ elim (push_extends s p e.0 h.cpu e.1) [
+        | inl same ↦ along (s, h, ([], sym same ∙ sym (append-nil (s ++ h.cpu ∷ []))))
+        | inr on ↦ from s h on
+      ]
+    ]
+
+-- all of a place, where all before its last continuation have room
+pub spared_from : (g : Setting) (p : List ℕ) (news : List Record) → plays g p ≡ Some news
+    → HasRoomBefore g (p ++ length g.scripts ∷ []) → HasRoomFrom g p
+spared_from g p news played room s h on = by_rest on.0 on.1
   where
-    later : List Record
-    later = h.news ++ record_of_call g h.news h.cpu h.event ∷ []
+    here : s ≡ p → ⊥
+    here is =
+        room s h (extends_before (s ++ h.cpu ∷ []) p h.cpu (length g.scripts)
+        (asks_within g h.news h.cpu h.event h.asked)
+        ([], ap (λ (t : List ℕ). t ++ h.cpu ∷ []) is ∙ sym (append-nil (p ++ h.cpu ∷ []))))
 
-    led : plays g (s ++ h.cpu ∷ []) ≡ Some later
-    led = plays_push g s h.news h.cpu h.event h.played h.asked
+    by_next : (c : ℕ) (rest : List ℕ) → s ≡ p ++ c ∷ rest → (o : Option Event) → next_call g c news ≡ o → ⊥
+    by_next c rest is None over =
+        none-some h.news (sym (ap (plays g) is ∙ stops g p rest news c played over) ∙ h.played)
+    by_next c rest is (Some e) asks =
+        room s h
+        (extends_before (s ++ h.cpu ∷ []) p c (length g.scripts) (asks_within g news c e asks) (
+          rest ++ h.cpu ∷ [],
+          ap (λ (t : List ℕ). t ++ h.cpu ∷ []) is
+              ∙ (append_assoc p (c ∷ rest) (h.cpu ∷ []) ∙ sym (append_assoc p (c ∷ []) (rest ++ h.cpu ∷ []))),
+        ))
 
-    full : is_full_after g later ≡ true
-    full =
-        full_on g h.news later (omega (arith, length_push h.news (record_of_call g h.news h.cpu h.event)))
-        h.full
+    by_rest : (rest : List ℕ) → s ≡ p ++ rest → ⊥
+    by_rest [] is = here (is ∙ append-nil p)
+    by_rest (c ∷ rest) is = by_next c rest is (next_call g c news) refl
 
-    by_next : (next : Option Event) → next_call g cpu later ≡ next
-        → (k : HasNoRoom g (s ++ h.cpu ∷ [])) × (k.cpu ≡ cpu)
-    by_next None over =
-        absurd (none-some news (sym (stops g (s ++ h.cpu ∷ []) rest later cpu led over) ∙ played))
-    by_next (Some event) asks = (
-      record { news = later; cpu = cpu; event = event; played = led; asked = asks; full = full },
-      refl,
-    )
+-- so the search goes up
+pub spared_up : (g : Setting) (p : List ℕ) (cpu : ℕ) (news : List Record)
+    → plays g (p ++ cpu ∷ []) ≡ Some news → HasRoomAlong g (p ++ cpu ∷ [])
+    → HasRoomBefore g ((p ++ cpu ∷ []) ++ length g.scripts ∷ []) → HasRoomBefore g (p ++ (cpu + 1) ∷ [])
+spared_up g p cpu news played along room s h before =
+    elim (before_next (s ++ h.cpu ∷ []) p cpu before) [
+      | inl b ↦ room s h (before_longer (s ++ h.cpu ∷ []) (p ++ cpu ∷ []) (length g.scripts ∷ []) b)
+      | inr e ↦ elim (push_extends s (p ++ cpu ∷ []) e.0 h.cpu e.1) [
+        | inl same ↦ along (s, h, ([], sym same ∙ sym (append-nil (s ++ h.cpu ∷ []))))
+        | inr on ↦ spared_from g (p ++ cpu ∷ []) news played room s h on
+      ]
+    ]
 
--- so one that stands before a place, up to which each call has room, has room for each of its own
-pub room_before : (g : Setting) (place s : List ℕ) (h : HasNoRoom g s) (rest : List ℕ) (news : List Record)
-    → HasRoomBefore g place → plays g ((s ++ h.cpu ∷ []) ++ rest) ≡ Some news
-    → IsBefore ((s ++ h.cpu ∷ []) ++ rest) place → ⊥
-room_before g place s h [] news room played before =
-    room s h (subst (λ (t : List ℕ). IsBefore t place) (append-nil (s ++ h.cpu ∷ [])) before)
-room_before g place s h (cpu ∷ rest) news room played before =
-    let k = full_next g s h cpu rest news played in
-    let on : (s ++ h.cpu ∷ []) ++ cpu ∷ rest ≡ ((s ++ h.cpu ∷ []) ++ k.0.cpu ∷ []) ++ rest =
-    sym (append_assoc (s ++ h.cpu ∷ []) (cpu ∷ []) rest)
-    ∙ ap (λ (c : ℕ). ((s ++ h.cpu ∷ []) ++ c ∷ []) ++ rest) (sym k.1) in
-    room_before g place (s ++ h.cpu ∷ []) k.0 rest news room
-    (subst (λ (t : List ℕ). plays g t ≡ Some news) on played)
-    (subst (λ (t : List ℕ). IsBefore t place) on before)
+-- or is over
+pub spared_whole : (g : Setting) (news : List Record) → plays g [] ≡ Some news
+    → HasRoomBefore g (length g.scripts ∷ []) → FillsHistory g → ⊥
+spared_whole g news played room fills =
+    spared_from g [] news played room fills.0 fills.1 (fills.0, refl)

@@ -1,5 +1,5 @@
 -- The turns of the walk, by where it stands; and of one schedule, by the machine that it leads to.
-use Rattle.std.proofs.Common.{◌≡◌, ℕ, ◌+◌, ◌<◌, ◌≤◌, Bool, true, false, List, [], ◌∷◌, ◌++◌, length, drop, take, get_or, Some, None, refl, ap, sym, subst, ◌∙◌}
+use Rattle.std.proofs.Common.{◌≡◌, ℕ, ◌+◌, ◌<◌, ◌≤◌, ◌⊎◌, Bool, true, false, List, [], ◌∷◌, ◌++◌, length, drop, take, get_or, Some, None, refl, ap, sym, subst, ◌∙◌}
 use Rattle.std.proofs.lemmas.List.{append_assoc, take-append-drop, take_all}
 use Rattle.std.proofs.lemmas.Option.{slice_get_read}
 use Rattle.std.specs.Prelude.{sum_by}
@@ -8,7 +8,9 @@ use Rattle.hp_machine.specs.Machine.{MachineValue}
 use Rattle.hp_schedules.specs.declared.tally.Ending.{Ending}
 use Rattle.hp_explore.specs.Faults.{FillsAlong}
 use Rattle.hp_schedules.specs.Orders.{HasMoreThan}
-use Rattle.hp_explore.specs.Fronts.{AreFirstInPart}
+use Rattle.hp_explore.specs.Frames.{IsHalted}
+use Rattle.hp_explore.specs.Fronts.{AreFirstInPart, counted}
+use Rattle.hp_explore.specs.declared.walk.Walk.{Walk}
 use Rattle.hp_schedules.specs.declared.scripts.Step.{Step}
 use Rattle.hp_schedules.specs.Parts.{IsCompleteInPart, PartValue}
 use Rattle.hp_schedules.specs.Schedules.{Setting, next_call, outcome_after, plays, schedule_of}
@@ -44,6 +46,20 @@ full_here g part news n true ends limit all here played done end sum =
       };
       full = sum;
     }
+
+-- a walk halts at a schedule that it may not count
+pub halted_here : (w : Walk) (is_end : Bool)
+    → w.processors ≡ length w.path.setting.scripts → is_end ≡ true
+    → plays w.path.setting (schedule_of w.path.news) ≡ Some w.path.news
+    → IsPartWalkedBefore w.path.setting w.part (schedule_of w.path.news ++ w.processors ∷ []) w.tally.ends
+    → IsEndHere w.path.setting w.part w.path.news is_end
+    → (counted w.tally.ends ≡ w.tally.limit) ⊎ (w.reach.is_stopped ≡ true) → IsHalted w
+halted_here w is_end all here played done end cause = record {
+  first =
+      full_here w.path.setting w.part w.path.news w.processors is_end w.tally.ends (counted w.tally.ends) all
+      here played done end refl;
+  cause = cause;
+}
 
 -- so there is a further one
 pub first_exceed : (g : Setting) (part : PartValue) (limit : ℕ) (ends : List Ending)

@@ -1,6 +1,6 @@
 -- The stack of a walk: what it knows of each place from the beginning of the
 -- scripts to where it is.
-use Rattle.std.specs.Prelude.{◌≡◌, ℕ, ◌+◌, ◌-◌, ◌*◌, ◌^◌, ◌<◌, ◌≤◌, Bool, true, false, List, [], ◌∷◌, ◌++◌, Some, length, reverse}
+use Rattle.std.specs.Prelude.{◌≡◌, ℕ, ◌+◌, ◌-◌, ◌*◌, ◌^◌, ◌<◌, ◌≤◌, ◌⊎◌, Bool, true, false, List, [], ◌∷◌, ◌++◌, Some, length, reverse}
 use Rattle.hp_units.specs.declared.events.Event.{Event}
 use Rattle.hp_units.specs.declared.replies.Record.{Record}
 use Rattle.hp_states.specs.Rooms.{is_full_after}
@@ -8,7 +8,7 @@ use Rattle.hp_states.specs.Frames.{IsFrame}
 use Rattle.hp_schedules.specs.Notes.{TallyValue}
 use Rattle.hp_schedules.specs.Parts.{IsOn, PartValue}
 use Rattle.hp_schedules.specs.Schedules.{Setting, next_call, plays, schedule_of}
-use Rattle.hp_explore.specs.Fronts.{AreFirstInPart}
+use Rattle.hp_explore.specs.Fronts.{AreFirstInPart, counted}
 use Rattle.hp_states.specs.Seen.{IsMemo, IsOnWay}
 use Rattle.hp_states.specs.Walks.{IsOverBelow, IsPartWalkedBefore, IsPartWalkedThrough}
 use Rattle.hp_states.specs.declared.frames.Level.{Level}
@@ -92,15 +92,23 @@ pub record IsComing (w : Walk) (frames : List Level) : Type 0 where
   pub few : w.processors < 2 ^ 32
   pub short : length w.path.news ≤ w.path.setting.layout.history
 
--- the result of a turn: less is left; all is walked; or the limit is reached and there
--- is another schedule
+-- a walk that has stopped was ended: this is known of its watch
+abbrev pub IsEndedBy : (ended : Type 0) → Walk → Type 0
+IsEndedBy ended w = w.reach.is_stopped ≡ true → ended
+
+-- the walk is before a further schedule; and the limit is reached, or the walk has stopped
+pub record IsHalted (w : Walk) : Type 0 where
+  pub first : AreFirstInPart w.path.setting w.part (counted w.tally.ends) w.tally.ends
+  pub cause : (counted w.tally.ends ≡ w.tally.limit) ⊎ (w.reach.is_stopped ≡ true)
+
+-- the result of a turn: less is left; all is walked; or there is a schedule that is not to be counted
 abbrev pub IsTurnedTo : (old new : Walk) → Turned → Type 0
 IsTurnedTo old new On =
     IsWalking new (frames_of new) × (left new (frames_of new) < left old (frames_of old))
 IsTurnedTo old new Over = IsPartWalkedThrough new.path.setting new.part [] new.tally.ends
-IsTurnedTo old new Full = AreFirstInPart new.path.setting new.part new.tally.limit new.tally.ends
+IsTurnedTo old new Full = IsHalted new
 
 -- the result of the whole walk
 abbrev pub IsDone : Walk → (is_whole : Bool) → Type 0
 IsDone w true = IsPartWalkedThrough w.path.setting w.part [] w.tally.ends
-IsDone w false = AreFirstInPart w.path.setting w.part w.tally.limit w.tally.ends
+IsDone w false = IsHalted w

@@ -1,4 +1,4 @@
--- An exploration that stops at the limit: the first schedules in the order of the walk.
+-- An exploration that stops before its end: the first schedules in the order of the walk.
 use Rattle.std.specs.Prelude.{◌≡◌, ℕ, true, false, List, sum_by}
 use Rattle.hp_schedules.specs.Parts.{IsCompleteInPart, PartValue}
 use Rattle.hp_schedules.specs.Schedules.{IsComplete, Setting}
@@ -6,19 +6,23 @@ use Rattle.hp_states.specs.Walks.{IsPartWalkedBefore, IsWalkedBefore}
 use Rattle.hp_explore.specs.declared.exploring.Exploration.{Exploration}
 use Rattle.hp_schedules.specs.declared.tally.Ending.{Ending}
 
--- the ends are those of all schedules before some further one, and count as many as the limit
-pub record AreFirst (g : Setting) (limit : ℕ) (ends : List Ending) : Type 0 where
+-- how many schedules the ends count
+abbrev pub counted : List Ending → ℕ
+counted ends = sum_by (λ e. e.count) ends
+
+-- the ends are those of all schedules before some further one, and count this many
+pub record AreFirst (g : Setting) (many : ℕ) (ends : List Ending) : Type 0 where
   pub place : List ℕ
   pub next : IsComplete g place
   pub walked : IsWalkedBefore g place ends
-  pub full : sum_by (λ e. e.count) ends ≡ limit
+  pub full : counted ends ≡ many
 
 -- the same for a part: the ends are those of its schedules before a further one of them
-pub record AreFirstInPart (g : Setting) (part : PartValue) (limit : ℕ) (ends : List Ending) : Type 0 where
+pub record AreFirstInPart (g : Setting) (part : PartValue) (many : ℕ) (ends : List Ending) : Type 0 where
   pub place : List ℕ
   pub next : IsCompleteInPart g part place
   pub walked : IsPartWalkedBefore g part place ends
-  pub full : sum_by (λ e. e.count) ends ≡ limit
+  pub full : counted ends ≡ many
 
 -- P holds of the ends if all schedules were counted; and if only the first ones were
 abbrev pub IfWhole : Exploration → (List Ending → Type 0) → Type 0

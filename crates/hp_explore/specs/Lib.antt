@@ -9,4 +9,5 @@ pub mod Reaching
 pub mod Searches
 pub mod Settings
 pub mod Sums
+pub mod Visited
 pub mod Walks

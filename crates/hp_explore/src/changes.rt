@@ -1,6 +1,7 @@
 //! Changes of processor in a schedule.
-ghost use Rattle.std.specs.Prelude.{◌≡◌, ◌≤◌, ◌++◌, ◌∷◌, []};
+ghost use Rattle.std.specs.Prelude.{◌≡◌, ◌≤◌, ◌++◌, ◌∷◌, [], IsTrue, false};
 ghost use Rattle.hp_explore.specs.Changes.{change, changes};
+ghost use Rattle.hp_explore.specs.Reaching.{Exceeds, IsWithin};
 
 use hp_units::Cpu;
 
@@ -16,9 +17,20 @@ pub fn changes_of(schedule: &[Cpu]) -> usize
     count
 }
 
-/// Returns the same for the schedule with one more call.
+/// Returns whether the schedule with one more call has more changes than the budget, if there is one.
+pub(crate) fn exceeds(budget: Option<u64>, schedule: &[Cpu], next: Cpu) -> bool
+    ensures more { IsTrue result → Exceeds budget (schedule.now ++ next ∷ []) }
+    ensures within { result ≡ false → IsWithin budget (schedule.now ++ next ∷ []) }
+{
+    match budget {
+        Some(budget) => changes_with(schedule, next) > u128::from(budget),
+        None => false,
+    }
+}
+
+/// Returns the changes of the schedule with one more call.
 #[tactic(auto, using(crate::proofs::Growing::changes_none, crate::proofs::Growing::changes_last))]
-pub(crate) fn changes_with(schedule: &[Cpu], next: Cpu) -> u128
+fn changes_with(schedule: &[Cpu], next: Cpu) -> u128
     ensures { result ≡ changes (schedule.now ++ next ∷ []) }
 {
     let count = schedule.len();

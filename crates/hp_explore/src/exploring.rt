@@ -1,10 +1,10 @@
 //! The exploration of all schedules of scripts on a machine.
-ghost use Rattle.std.specs.Prelude.{◌^◌, ◌<◌, ◌≤◌, IfErr, IfOk, length, sum_by};
+ghost use Rattle.std.specs.Prelude.{◌≡◌, ◌^◌, ◌<◌, ◌≤◌, ◌⊎◌, IfErr, IfOk, length, sum_by};
 ghost use Rattle.hp_schedules.specs.Ends.{AreCounted, AreEnds, AreInOrder};
 ghost use Rattle.hp_explore.specs.Faults.{FillsHistory, FillsPart, IsCause, IsCausePart, IsCausePartWithin, IsCauseWithin};
 ghost use Rattle.hp_schedules.specs.Interleavings.{IsRoomNeeded};
 ghost use Rattle.hp_schedules.specs.Orders.{HasMoreThan};
-ghost use Rattle.hp_explore.specs.Fronts.{AreFirst, AreFirstInPart, IfFirst, IfWhole};
+ghost use Rattle.hp_explore.specs.Fronts.{AreFirst, AreFirstInPart, IfFirst, IfWhole, counted};
 ghost use Rattle.hp_schedules.specs.Parts.{EndsInPart, IsCompleteInPart};
 ghost use Rattle.hp_schedules.specs.Schedules.{IsComplete};
 ghost use Rattle.hp_explore.specs.Settings.{setting};
@@ -23,8 +23,8 @@ use thiserror::Error;
 pub struct Exploration {
     /// The ends.
     pub ends: Vec<Ending>,
-    /// True if all complete schedules are counted. Otherwise only the first ones are, as many as
-    /// the limit.
+    /// True if all complete schedules are counted. Otherwise only the first ones are, up to the limit
+    /// or to where the watch ended the search.
     pub is_whole: bool,
 }
 
@@ -70,13 +70,16 @@ impl From<CallFault> for ExploreFault {
 /// An end holds the replies to each processor, the number of schedules that end so, and the first
 /// of them in the order of the walk, which tries processor 0 first. If there are more schedules
 /// than `limit`, exactly the first `limit` schedules in that order are counted. The machine is not
-/// changed. `watch` is called with the progress, and bounds the memory for states that were walked;
-/// a state that is not kept is walked each time that it is reached.
+/// changed.
+///
+/// `watch` is called with the progress, and at each place asked whether the search goes on. Once it
+/// says no, the search stops before the next schedule that it would count. The schedules counted are
+/// then the first ones too, all of them, and there are more.
 ///
 /// # Errors
 ///
 /// `HistoryFull` if the walk reaches a call for which the layout's history has no room, before it
-/// finds more schedules than `limit`. `OutOfMemory` if memory allocation fails.
+/// finds more schedules than `limit` or is ended. `OutOfMemory` if memory allocation fails.
 pub fn explore<W: Watch>(
     alloc: Global,
     machine: &Machine,
@@ -93,9 +96,12 @@ pub fn explore<W: Watch>(
     ensures room { IfOk result
         (λ x. IfWhole x (λ _. FillsHistory (setting machine.now scripts.now) → ⊥)) }
     // If only the first ones were:
-    ensures first { IfOk result (λ x. IfFirst x (AreFirst (setting machine.now scripts.now) limit)) }
-    ensures many { IfOk result
-        (λ x. IfFirst x (λ _. HasMoreThan (IsComplete (setting machine.now scripts.now)) limit)) }
+    ensures first { IfOk result
+        (λ x. IfFirst x (λ ends. AreFirst (setting machine.now scripts.now) (counted ends) ends)) }
+    ensures many { IfOk result (λ x. IfFirst x
+        (λ ends. HasMoreThan (IsComplete (setting machine.now scripts.now)) (counted ends))) }
+    ensures stopped { IfOk result
+        (λ x. IfFirst x (λ ends. (counted ends ≡ limit) ⊎ W.has_ended watch.new)) }
     // In both cases:
     ensures within { IfOk result (λ x. sum_by (λ e. e.count) x.ends.items ≤ limit) }
     ensures ordered { IfOk result (λ x. AreInOrder x.ends.items) }
@@ -108,8 +114,8 @@ pub fn explore<W: Watch>(
 /// Explores one part of the complete schedules, like `explore`. The parts can be searched side by
 /// side, and the counts of their ends add up to those of the whole search.
 ///
-/// If more schedules belong to the part than `limit`, exactly the first `limit` of
-/// these are counted.
+/// If more schedules belong to the part than `limit`, exactly the first `limit` of these are
+/// counted. If `watch` ends the search before, the first ones up to there are.
 ///
 /// # Errors
 ///
@@ -134,21 +140,20 @@ pub fn explore_part<W: Watch>(
     ensures room { IfOk result
         (λ x. IfWhole x (λ _. FillsPart (setting machine.now scripts.now) part → ⊥)) }
     // If only the first ones were:
-    ensures first { IfOk result
-        (λ x. IfFirst x (AreFirstInPart (setting machine.now scripts.now) part limit)) }
+    ensures first { IfOk result (λ x. IfFirst x
+        (λ ends. AreFirstInPart (setting machine.now scripts.now) part (counted ends) ends)) }
     ensures many { IfOk result (λ x. IfFirst x
-        (λ _. HasMoreThan (IsCompleteInPart (setting machine.now scripts.now) part) limit)) }
+        (λ ends. HasMoreThan (IsCompleteInPart (setting machine.now scripts.now) part) (counted ends))) }
+    ensures stopped { IfOk result
+        (λ x. IfFirst x (λ ends. (counted ends ≡ limit) ⊎ W.has_ended watch.new)) }
     // In both cases:
     ensures within { IfOk result (λ x. sum_by (λ e. e.count) x.ends.items ≤ limit) }
     ensures ordered { IfOk result (λ x. AreInOrder x.ends.items) }
     ensures err { IfErr result (IsCausePart (setting machine.now scripts.now) part) }
     ensures full { IfErr result (IsCausePartWithin (setting machine.now scripts.now) part limit) }
 {
-    let mut walk = Walk::start(alloc, machine, scripts, part, limit, watch.memory())?;
+    let mut walk = Walk::start(alloc, machine, scripts, part, limit)?;
     let is_whole = walk.run(alloc, watch)?;
-    if walk.is_filled() {
-        watch.filled();
-    }
     Ok(Exploration {
         ends: walk.into_ends(),
         is_whole,

@@ -6,13 +6,12 @@ use std::alloc::AllocError;
 /// Why a search has no result.
 #[derive(Clone, Copy, Debug, PartialEq, Eq, Drop)]
 pub enum FindFault {
-    /// There are more schedules than the limit, and none that was searched ends as wanted: neither
-    /// one with few changes of processor nor one of the first ones, up to the limit.
-    TooMany,
     /// The layout's history has no room for a call of some schedule.
     HistoryFull,
     /// Memory allocation failed.
     OutOfMemory,
+    /// The watch ended the search.
+    Stopped,
 }
 
 impl From<AllocError> for FindFault {

@@ -1,21 +1,22 @@
 //! The search for a schedule with few changes of processor.
-ghost use Rattle.std.specs.Prelude.{◌≡◌, ◌<◌, ◌≤◌, ◌^◌, IfErr, IfOk, length, option_map};
+ghost use Rattle.std.specs.Prelude.{◌≡◌, ◌<◌, ◌≤◌, ◌^◌, IfErr, IfOk, None, length, option_map};
 ghost use Rattle.hp_explore.specs.Settings.{setting};
 ghost use Rattle.hp_explore.specs.Changes.{changes};
-ghost use Rattle.hp_explore.specs.FindFaults.{IsFindCause, IsNearCause, IsRecorded, IsWithin, SparesHistory};
+ghost use Rattle.hp_explore.specs.FindFaults.{IsFindCause, IsNearCause, IsRecorded, SparesHistory};
 ghost use Rattle.hp_explore.specs.Reaching.{HasRoomAlong, IsFound, IsNearest, IsNearestBelow, NeedsChanges, ReachesFirst};
+ghost use Rattle.hp_explore.specs.declared.fault.FindFault.TheVariants.{Stopped};
 
+use crate::Watch;
 use crate::changes::changes_of;
 use crate::fault::FindFault;
 use crate::searching::first_within;
-use crate::{ExploreFault, Watch, explore};
 use hp_machine::Machine;
-use hp_questions::{Wanted, end_with};
-use hp_schedules::{CallScript, total_of};
+use hp_questions::Wanted;
+use hp_schedules::CallScript;
 use hp_units::Cpu;
 use std::alloc::Global;
 
-/// Schedules with fewer changes than this are searched before all schedules are counted.
+/// Schedules with fewer changes than this are searched before all are.
 const FEW: u64 = 3;
 
 /// What a search found.
@@ -24,111 +25,124 @@ pub enum Found {
     /// The first schedule that ends as wanted with the fewest changes of processor, as the
     /// processors in the order of their calls.
     Nearest(Vec<Cpu>),
-    /// No schedule ends so. The number is that of all complete schedules.
-    Absent(u128),
+    /// No schedule ends so.
+    Absent,
 }
 
 /// Finds a complete schedule whose end has all wanted lines, with the fewest changes of processor.
 /// Script k is that of processor k.
 ///
-/// Of several such schedules, returns the first in the order of `explore`. If there is none,
-/// returns how many complete schedules there are. The machine is not changed. `watch` is called
-/// with the progress of the count of all schedules.
+/// Of several such schedules, returns the first in the order of `explore`. The machine is not
+/// changed. `watch` is called for each place that the search comes to, and may end it.
 ///
-/// The search has three steps. It tries the schedules with fewer than three changes. If none of
-/// these ends as wanted, it counts all schedules, up to `limit`. If one of these does, it tries the
-/// schedules with fewer changes than that one.
+/// The search has three steps. It tries the schedules with fewer than three changes, by rising number
+/// of changes. If none of these ends as wanted, it tries all, up to the first that does. Then it
+/// tries the schedules with fewer changes than that one. Each of these passes tries a place once,
+/// and none of those that continue as it does, unless a script undoes steps by their serials.
 ///
 /// # Errors
 ///
 /// `HistoryFull` if the search reaches a call for which the layout's history has no room. The first
-/// and the third step reach such a call only before any schedule that ends as wanted, and the third
-/// only if the count stopped at `limit`.
+/// and the third step reach such a call only before any schedule that ends as wanted with as few
+/// changes, and the second only before any that ends as wanted.
 ///
-/// `TooMany` if there are more schedules than `limit`, and neither a schedule with fewer than three
-/// changes ends as wanted nor one of the first `limit` schedules in the order of `explore`.
-///
-/// `OutOfMemory` if memory allocation fails.
+/// `Stopped` if the watch ended the search, `OutOfMemory` if memory allocation fails.
 pub fn find<W: Watch>(
     alloc: Global,
     machine: &Machine,
     scripts: &[CallScript],
     wanted: &[Wanted],
-    limit: u64,
     watch: &mut W,
 ) -> Result<Found, FindFault>
     requires { length scripts.now < 2 ^ 32 }
     ensures ok { IfOk result (IsFound (setting machine.now scripts.now) wanted.now) }
-    ensures few { IfOk result (IsWithin (setting machine.now scripts.now) wanted.now limit) }
-    ensures room { IfOk result (SparesHistory (setting machine.now scripts.now) limit) }
+    ensures room { IfOk result (SparesHistory (setting machine.now scripts.now)) }
     ensures along { IfOk result (IsRecorded (setting machine.now scripts.now)) }
-    ensures err { IfErr result (IsFindCause (setting machine.now scripts.now) wanted.now limit) }
+    ensures err { IfErr result (IsFindCause (setting machine.now scripts.now) wanted.now) }
+    ensures stopped { IfErr result (λ fault. fault ≡ Stopped → W.has_ended watch.new) }
 {
-    if let Some(schedule) = nearest_below(alloc, machine, scripts, wanted, 0, FEW)? {
+    let mut places = 0;
+    if let Some(schedule) = nearest_below(
+        alloc,
+        machine,
+        scripts,
+        wanted,
+        0,
+        FEW,
+        watch,
+        &mut places,
+    )? {
         return Ok(Found::Nearest(schedule));
     }
-    let explored = explore(alloc, machine, scripts, limit, watch)?;
-    match end_with(&explored.ends, wanted) {
-        Some(end) => {
-            let schedule = nearest_to(alloc, machine, scripts, wanted, end.first.as_slice())?;
+    match first_within(alloc, machine, scripts, wanted, None, watch, &mut places)? {
+        Some(known) => {
+            let schedule = nearest_to(alloc, machine, scripts, wanted, known, watch, &mut places)?;
             Ok(Found::Nearest(schedule))
         }
-        None => {
-            if explored.is_whole {
-                Ok(Found::Absent(total_of(&explored.ends)))
-            } else {
-                Err(FindFault::TooMany)
-            }
-        }
+        None => Ok(Found::Absent),
     }
 }
 
 /// Returns the first schedule with the fewest changes, given the first of all that end so. No such
 /// schedule has fewer than `FEW` changes.
 #[tactic(auto, using(crate::proofs::Levels::known_nearest))]
-fn nearest_to(
+fn nearest_to<W: Watch>(
     alloc: Global,
     machine: &Machine,
     scripts: &[CallScript],
     wanted: &[Wanted],
-    known: &[Cpu],
-) -> Result<Vec<Cpu>, ExploreFault>
+    known: Vec<Cpu>,
+    watch: &mut W,
+    places: &mut u64,
+) -> Result<Vec<Cpu>, FindFault>
     requires few { length scripts.now < 2 ^ 32 }
-    requires known { ReachesFirst (setting machine.now scripts.now) wanted.now known.now }
-    requires along { HasRoomAlong (setting machine.now scripts.now) known.now }
+    requires known { ReachesFirst (setting machine.now scripts.now) wanted.now known.items }
+    requires along { HasRoomAlong (setting machine.now scripts.now) known.items }
     requires from { NeedsChanges (setting machine.now scripts.now) wanted.now FEW }
     ensures ok { IfOk result (λ s. IsNearest (setting machine.now scripts.now) wanted.now s.items) }
     ensures along { IfOk result (λ s. HasRoomAlong (setting machine.now scripts.now) s.items) }
     ensures err { IfErr result
-        (IsNearCause (setting machine.now scripts.now) wanted.now (changes known.now)) }
+        (IsNearCause (setting machine.now scripts.now) wanted.now (changes known.items)) }
+    ensures stopped { IfErr result (λ fault. fault ≡ Stopped → W.has_ended watch.new) }
 {
-    let below = changes_of(known) as u64;
-    match nearest_below(alloc, machine, scripts, wanted, FEW, below)? {
+    let below = changes_of(known.as_slice()) as u64;
+    match nearest_below(alloc, machine, scripts, wanted, FEW, below, watch, places)? {
         Some(schedule) => Ok(schedule),
-        None => Ok(known.iter().copied().collect(alloc)?),
+        None => Ok(known),
     }
 }
 
 /// Returns the first schedule with the fewest changes, if any has fewer than `below`. None has
 /// fewer than `from`.
 #[tactic(auto, using(crate::proofs::Levels::nearest_found))]
-fn nearest_below(
+fn nearest_below<W: Watch>(
     alloc: Global,
     machine: &Machine,
     scripts: &[CallScript],
     wanted: &[Wanted],
     from: u64,
     below: u64,
-) -> Result<Option<Vec<Cpu>>, ExploreFault>
+    watch: &mut W,
+    places: &mut u64,
+) -> Result<Option<Vec<Cpu>>, FindFault>
     requires few { length scripts.now < 2 ^ 32 }
     requires from { NeedsChanges (setting machine.now scripts.now) wanted.now from }
     requires order { from ≤ below }
     ensures ok { IfOk result (λ found. IsNearestBelow (setting machine.now scripts.now) wanted.now below
         (option_map (λ s. s.items) found)) }
     ensures err { IfErr result (IsNearCause (setting machine.now scripts.now) wanted.now below) }
+    ensures stopped { IfErr result (λ fault. fault ≡ Stopped → W.has_ended watch.new) }
 {
     for budget in from..below {
-        if let Some(schedule) = first_within(alloc, machine, scripts, wanted, budget)? {
+        if let Some(schedule) = first_within(
+            alloc,
+            machine,
+            scripts,
+            wanted,
+            Some(budget),
+            watch,
+            places,
+        )? {
             return Ok(Some(schedule));
         }
     }

@@ -1,9 +1,9 @@
 //! Exploration in several threads.
-ghost use Rattle.std.specs.Prelude.{◌≡◌, ◌^◌, ◌<◌, ◌≤◌, IfErr, IfOk, IfSome, Some, length, map, sum_by};
+ghost use Rattle.std.specs.Prelude.{◌≡◌, ◌^◌, ◌<◌, ◌≤◌, ◌⊎◌, IfErr, IfOk, IfSome, Some, length, map, sum_by};
 ghost use Rattle.hp_schedules.specs.Ends.{AreCounted, AreEnds, AreInOrder};
 ghost use Rattle.hp_explore.specs.Faults.{FillsHistory, FillsPart, IsCause, IsCauseWithin};
 ghost use Rattle.hp_schedules.specs.Orders.{HasMoreThan};
-ghost use Rattle.hp_explore.specs.Fronts.{AreFirst, IfFirst, IfWhole};
+ghost use Rattle.hp_explore.specs.Fronts.{AreFirst, IfFirst, IfWhole, counted};
 ghost use Rattle.hp_schedules.specs.Parts.{EndsInPart};
 ghost use Rattle.hp_schedules.specs.Schedules.{IsComplete};
 ghost use Rattle.hp_explore.specs.Settings.{setting};
@@ -22,27 +22,31 @@ use std::thread::Threads;
 /// The largest number of threads.
 const MOST_JOBS: u32 = 256;
 
-/// Watches the search of one part, which has a share of the memory.
+/// Watches the search of one part, and ends it once it has kept its share of the memory.
 #[derive(Drop)]
 struct PartWatch {
     memory: u64,
 }
 
 impl Watch for PartWatch {
+    ghost has_ended = { λ _. Unit {0} };
+
     fn counted(&mut self, _schedules: u64) {}
 
     fn memory(&self) -> u64 {
         self.memory
     }
 
-    fn filled(&mut self) {}
+    fn goes_on(&mut self, _places: u64, bytes: u64) -> bool {
+        bytes <= self.memory
+    }
 }
 
 /// Explores all schedules like `explore`, in `jobs` threads, at most 256.
 ///
 /// Each thread searches a part with its share of the memory, and the ends of all parts are merged.
-/// `watch` is then called once, with the total. If a part fails or stops at the limit, or the
-/// merged ends exceed the limit, one thread searches all schedules anew.
+/// `watch` is then called once, with the total. If a part fails, stops at the limit or takes more
+/// than its share, or the merged ends exceed the limit, one thread searches all schedules anew.
 ///
 /// A part may take nearly as long as the whole search if many schedules of different parts continue
 /// alike, because each part explores them for itself.
@@ -68,9 +72,12 @@ pub fn explore_with_jobs<R: Threads + Sync, W: Watch>(
     ensures room { IfOk result
         (λ x. IfWhole x (λ _. FillsHistory (setting machine.now scripts.now) → ⊥)) }
     // If only the first ones were:
-    ensures first { IfOk result (λ x. IfFirst x (AreFirst (setting machine.now scripts.now) limit)) }
-    ensures many { IfOk result
-        (λ x. IfFirst x (λ _. HasMoreThan (IsComplete (setting machine.now scripts.now)) limit)) }
+    ensures first { IfOk result
+        (λ x. IfFirst x (λ ends. AreFirst (setting machine.now scripts.now) (counted ends) ends)) }
+    ensures many { IfOk result (λ x. IfFirst x
+        (λ ends. HasMoreThan (IsComplete (setting machine.now scripts.now)) (counted ends))) }
+    ensures stopped { IfOk result
+        (λ x. IfFirst x (λ ends. (counted ends ≡ limit) ⊎ W.has_ended watch.new)) }
     // In both cases:
     ensures within { IfOk result (λ x. sum_by (λ e. e.count) x.ends.items ≤ limit) }
     ensures ordered { IfOk result (λ x. AreInOrder x.ends.items) }

@@ -3,9 +3,10 @@
 //!
 //! hp_schedules defines scripts, schedules and ends; hp_states decides which places are alike and
 //! keeps their counts. This crate owns the walk over all schedules (`exploring`), the search by rising
-//! number of changes of processor, as in CHESS (Musuvathi and Qadeer, PLDI 2007; `finding`), and the
-//! merging of parts (`summing`, `jobs`). It makes its calls on a memory of its own and takes each
-//! back, so that the caller's machine never changes. It knows nothing of scenarios or texts.
+//! number of changes of processor, as in CHESS (Musuvathi and Qadeer, PLDI 2007; `finding`), which
+//! tries a place once (`visited`), and the merging of parts (`summing`, `jobs`). It makes its calls on a
+//! memory of its own and takes each back, so that the caller's machine never changes. It knows nothing
+//! of scenarios or texts.
 //!
 //! Read specs/Settings, specs/Faults and specs/Walks first, then specs/Reaching and specs/Sums.
 #![tactic(auto)]
@@ -25,6 +26,7 @@ mod searching;
 mod summing;
 mod sums;
 mod turns;
+mod visited;
 mod walk;
 mod ways;
 

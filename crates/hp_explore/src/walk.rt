@@ -1,8 +1,7 @@
 //! The walk over all schedules: depth first, processor 0 first, on an explicit stack.
 ghost use Rattle.std.specs.Prelude.{◌≡◌, ◌∷◌, ◌++◌, [], ◌<◌, ◌≤◌, ◌^◌, ℕ, List, Option, true, false, IfErr, IfOk, IsTrue, OnOk, length, sum_by};
 ghost use Rattle.hp_schedules.specs.Alike.{UndoNothing};
-ghost use Rattle.hp_explore.specs.Frames.{IsComing, IsDone, IsSameWalk, IsTurnedTo, IsWalking, frames_of, left, left_before};
-ghost use Rattle.hp_explore.specs.Fronts.{AreFirstInPart};
+ghost use Rattle.hp_explore.specs.Frames.{IsComing, IsDone, IsEndedBy, IsHalted, IsSameWalk, IsTurnedTo, IsWalking, frames_of, left, left_before};
 ghost use Rattle.hp_schedules.specs.Notes.{HasRoom};
 ghost use Rattle.hp_explore.specs.Faults.{IsCausePartWithin};
 ghost use Rattle.hp_explore.specs.Paths.{IsBack};
@@ -18,7 +17,7 @@ use crate::path::Path;
 use crate::turns::latest;
 use hp_machine::Machine;
 use hp_schedules::{CallScript, Ending, Shard, Tally, is_closed, undo_nothing};
-use hp_states::{Entry, Level, Memo, Watch, arrive, leave, note};
+use hp_states::{Entry, Level, Memo, Reach, Watch, arrive, leave, note};
 use std::alloc::{AllocError, Global};
 
 /// The result of one turn of a walk.
@@ -28,7 +27,7 @@ pub(crate) enum Turned {
     On,
     /// All schedules are counted.
     Over,
-    /// The limit is reached, and there is another schedule.
+    /// There is another schedule, and the limit is reached or the watch has ended the search.
     Full,
 }
 
@@ -40,6 +39,7 @@ pub(crate) struct Walk<'a> {
     tally: Tally,
     memo: Memo,
     frames: Vec<Level>,
+    reach: Reach,
 }
 
 /// Keeps callers from proving again how each field is dropped.
@@ -52,27 +52,28 @@ impl<'a> Drop for Walk<'a> {
             tally: _tally,
             memo: _memo,
             frames: _frames,
+            reach: _,
         } = self;
     }
 }
 
 impl<'a> Walk<'a> {
-    /// Creates a walk before any call, which keeps at most `memory` bytes of states.
+    /// Creates a walk before any call.
     pub(crate) fn start(
         alloc: Global,
         machine: &'a Machine,
         scripts: &'a [CallScript],
         part: Shard,
         limit: u64,
-        memory: u64,
     ) -> Result<Walk<'a>, AllocError>
         requires { length scripts.now < 2 ^ 32 }
         ensures coming { IfOk result (λ walk. IsComing walk (frames_of walk)) }
         ensures setting { IfOk result (λ walk. walk.path.setting ≡ setting machine.now scripts.now) }
         ensures part { IfOk result (λ walk. walk.part ≡ part) }
         ensures limit { IfOk result (λ walk. walk.tally.limit ≡ limit) }
+        ensures going { IfOk result (λ walk. walk.reach.is_stopped ≡ false) }
     {
-        let memo = memo_at(alloc, machine, scripts, memory)?;
+        let memo = memo_at(alloc, machine, scripts)?;
         let path = Path::start(alloc, machine, scripts)?;
         let tally = Tally::new(alloc, limit);
         Ok(Walk {
@@ -82,19 +83,25 @@ impl<'a> Walk<'a> {
             tally,
             memo,
             frames: Vec::new(alloc),
+            reach: Reach {
+                places: 0,
+                is_stopped: false,
+            },
         })
     }
 
     /// Walks to the end and returns true if all schedules are counted. Returns false if it stopped
-    /// at the limit.
+    /// before: at the limit, or because the watch ended it.
     pub(crate) fn run<W: Watch>(
         &mut self,
         alloc: Global,
         watch: &mut W,
     ) -> Result<bool, ExploreFault>
-        requires { IsComing self.old (frames_of self.old) }
+        requires coming { IsComing self.old (frames_of self.old) }
+        requires ended { IsEndedBy (W.has_ended watch.old) self.old }
         ensures same { OnOk result (IsSameWalk self.old self.new) }
         ensures done { IfOk result (IsDone self.new) }
+        ensures ended { OnOk result (IsEndedBy (W.has_ended watch.new) self.new) }
         ensures err { IfErr result
             (IsCausePartWithin self.old.path.setting self.old.part self.old.tally.limit) }
     {
@@ -110,9 +117,11 @@ impl<'a> Walk<'a> {
 
     /// Makes one turn of the walk.
     fn step<W: Watch>(&mut self, alloc: Global, watch: &mut W) -> Result<Turned, ExploreFault>
-        requires { IsWalking self.old (frames_of self.old) }
+        requires walking { IsWalking self.old (frames_of self.old) }
+        requires ended { IsEndedBy (W.has_ended watch.old) self.old }
         ensures same { OnOk result (IsSameWalk self.old self.new) }
         ensures ok { IfOk result (IsTurnedTo self.old self.new) }
+        ensures ended { OnOk result (IsEndedBy (W.has_ended watch.new) self.new) }
         ensures err { IfErr result
             (IsCausePartWithin self.old.path.setting self.old.part self.old.tally.limit) }
     {
@@ -143,20 +152,23 @@ impl<'a> Walk<'a> {
         self.part.is_of(self.processors, self.path.records())
     }
 
-    /// Returns whether a schedule ends here that the limit leaves no room to count.
+    /// Returns whether a schedule ends here that is not to be counted: the limit leaves no room for
+    /// it, or the watch has ended the search.
     fn is_full(&self, is_end: bool) -> bool
         requires walked { IsPartWalkedBefore self.now.path.setting self.now.part
             (schedule_of self.now.path.news ++ self.now.processors ∷ []) self.now.tally.ends }
         requires processors { self.now.processors ≡ length self.now.path.setting.scripts }
         requires end { IsEndHere self.now.path.setting self.now.part self.now.path.news is_end }
-        ensures full { IsTrue result
-            → AreFirstInPart self.now.path.setting self.now.part self.now.tally.limit self.now.tally.ends }
+        ensures full { IsTrue result → IsHalted self.now }
         ensures room { result ≡ false → is_end ≡ true → HasRoom self.now.tally }
     {
         if !is_end {
             return false;
         }
         self.path.is_played();
+        if self.reach.is_stopped {
+            return true;
+        }
         self.tally.room() == 0
     }
 
@@ -169,7 +181,9 @@ impl<'a> Walk<'a> {
     ) -> Result<(), ExploreFault>
         requires kept { IsWalking self.old (frame ∷ frames_of self.old) }
         requires some { frame.next < self.old.processors }
+        requires ended { IsEndedBy (W.has_ended watch.old) self.old }
         ensures kept { OnOk result (IsWalking self.new (frames_of self.new)) }
+        ensures ended { OnOk result (IsEndedBy (W.has_ended watch.new) self.new) }
         ensures same { OnOk result (IsSameWalk self.old self.new) }
         ensures less { OnOk result
             (left self.new (frames_of self.new) < left self.old (frame ∷ frames_of self.old)) }
@@ -193,14 +207,18 @@ impl<'a> Walk<'a> {
     /// Treats the place just reached: gives it a frame, or goes back at once if its counts are
     /// known or it belongs to another part.
     fn come_to<W: Watch>(&mut self, alloc: Global, watch: &mut W) -> Result<(), AllocError>
-        requires { IsComing self.old (frames_of self.old) }
+        requires coming { IsComing self.old (frames_of self.old) }
+        requires ended { IsEndedBy (W.has_ended watch.old) self.old }
         ensures kept { OnOk result (IsWalking self.new (frames_of self.new)) }
+        ensures ended { OnOk result (IsEndedBy (W.has_ended watch.new) self.new) }
         ensures same { OnOk result (IsSameWalk self.old self.new) }
         ensures less { OnOk result
             (left self.new (frames_of self.new) < left_before self.old (frames_of self.old)) }
     {
         self.frames.reserve(1)?;
         self.path.is_played();
+        let bytes = self.memo.bytes();
+        self.reach.ask(bytes, watch);
         let entry = arrive(
             alloc,
             self.path.records(),
@@ -208,6 +226,7 @@ impl<'a> Walk<'a> {
             self.path.positions(),
             self.part,
             self.processors,
+            self.reach.is_stopped,
             &mut self.tally,
             &mut self.memo,
             watch,
@@ -234,7 +253,9 @@ impl<'a> Walk<'a> {
         requires all { self.old.processors ≤ frame.next }
         requires end { IsEndHere self.old.path.setting self.old.part self.old.path.news is_end }
         requires room { is_end ≡ true → HasRoom self.old.tally }
+        requires ended { IsEndedBy (W.has_ended watch.old) self.old }
         ensures kept { OnOk result (IsWalking self.new (frames_of self.new)) }
+        ensures ended { OnOk result (IsEndedBy (W.has_ended watch.new) self.new) }
         ensures same { OnOk result (IsSameWalk self.old self.new) }
         ensures less { OnOk result
             (left self.new (frames_of self.new) < left self.old (frame ∷ frames_of self.old)) }
@@ -262,11 +283,6 @@ impl<'a> Walk<'a> {
         Ok(())
     }
 
-    /// Returns whether the states that were kept take all the memory that they may.
-    pub(crate) fn is_filled(&self) -> bool {
-        self.memo.is_full()
-    }
-
     /// Returns the ends with their counts.
     pub(crate) fn into_ends(self) -> Vec<Ending>
         ensures is { result.items ≡ self.entry.tally.ends }
@@ -279,36 +295,26 @@ impl<'a> Walk<'a> {
             tally,
             memo: _memo,
             frames: _frames,
+            reach: _,
         } = self;
         tally.into_ends()
     }
 }
 
 /// Returns an empty memo for the beginning of the scripts.
-fn memo_at(
-    alloc: Global,
-    machine: &Machine,
-    scripts: &[CallScript],
-    memory: u64,
-) -> Result<Memo, AllocError>
+fn memo_at(alloc: Global, machine: &Machine, scripts: &[CallScript]) -> Result<Memo, AllocError>
     ensures memo { IfOk result
         (λ memo. (ends : List Ending) → IsMemo (setting machine.now scripts.now) ends memo) }
     ensures way { IfOk result (IsOnWay (setting machine.now scripts.now) []) }
 {
     let is_on = keeps_places(scripts);
-    let memo = Memo::start(
-        alloc,
-        is_on,
-        scripts.len(),
-        is_closed(machine.history()),
-        memory,
-    )?;
+    let memo = Memo::start(alloc, is_on, scripts.len(), is_closed(machine.history()))?;
     Ok(memo)
 }
 
 /// Returns whether walked places are worth keeping: there are several scripts, and none of them
 /// undoes steps by their serials.
-fn keeps_places(scripts: &[CallScript]) -> bool
+pub(crate) fn keeps_places(scripts: &[CallScript]) -> bool
     ensures { result ≡ true → UndoNothing scripts.now }
 {
     if scripts.len() < 2 {

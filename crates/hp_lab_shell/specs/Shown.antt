@@ -4,7 +4,7 @@ use Rattle.hp_judge.specs.declared.events.LogEvent.{LogEvent}
 use Rattle.hp_map.specs.Rows.{RowValue}
 use Rattle.hp_lab_shell.specs.declared.words.JsonForm.{JsonForm}
 use Rattle.hp_lab_shell.specs.declared.words.JsonForm.TheVariants.{Lines, Page}
-use Rattle.hp_page.specs.Pages.{viewer_after, viewer_before}
+use Rattle.hp_svg.specs.Pages.{viewer_after, viewer_before}
 use Rattle.hp_search.specs.Holding.{InScenario}
 use Rattle.hp_trace.specs.Logs.{IsLogOfScenario}
 use Rattle.hp_trace.specs.Traces.{AreRowsOf, IsJsonOf, IsTraceOf}

@@ -5,10 +5,9 @@ ghost use Rattle.hp_lab_shell.specs.Shown.{HasJson, HasRows, HasTrace, IsJsonTex
 
 use crate::text_and_status::TextAndStatus;
 use crate::words::{Drawing, JsonForm};
-use hp_page::page_of;
 use hp_scenario::Scenario;
 use hp_search::LabProgramFault;
-use hp_svg::picture_of;
+use hp_svg::{page_of, picture_of};
 use hp_trace::{View, trace, trace_json, trace_rows};
 use std::alloc::{AllocError, Global};
 

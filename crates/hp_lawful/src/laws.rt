@@ -23,8 +23,8 @@ pub fn machines_write_lawful_logs()
         → IsSizeOf l m → IsLawful m (log_of_all l (boot_memory l) hs) }
 {}
 
-/// The log shows which frames are in use, and the phase of each memory block: read over those of
-/// the base state, it gives those of the state that the history leads to.
+/// The log shows which frames are in use, and the phase of each memory block: its events lead from
+/// those of the base state to those of the state after the history.
 pub fn logs_show_their_state()
     ensures history { (l : LayoutParts) (m : MachineSize) (base : Memory) (h : List Record) → IsLayout l
         → IsSizeOf l m → IsWellPlaced l base

@@ -1,5 +1,5 @@
 -- Taking and giving free blocks keeps the areas in order.
-use Rattle.std.proofs.Common.{◌≡◌, ◌≢◌, ℕ, zero, suc, ◌+◌, ◌*◌, ◌%◌, ◌^◌, ◌<◌, ◌≤◌, List, [], ◌∷◌, true, false, Option, refl, sym, ◌∙◌, ap, subst, arith, inl, inr}
+use Rattle.std.proofs.Common.{◌≡◌, ◌≢◌, ℕ, zero, suc, ◌+◌, ◌*◌, ◌%◌, ◌^◌, ◌<◌, ◌≤◌, List, [], ◌∷◌, true, false, Option, refl, ◌∙◌, ap, subst, arith, inl, inr}
 use Rattle.std.proofs.lemmas.Bool.{cases_lt, false_from_ne_true, both_ways}
 use Rattle.std.proofs.lemmas.List.{get_or_past}
 use Rattle.hp_units.specs.declared.rows.Class.{Class}
@@ -69,8 +69,7 @@ more-joined order first frame frames old more aligned off even rest on = elim (m
       (more-off order first frames old more (buddy first order) (buddy-other first order aligned) off)
   | inr there ↦ more-off order first frames old more (buddy frame order)
       (λ same.
-      let back : buddy first order ≡ frame =
-      ap (λ (f : ℕ). buddy f order) same ∙ buddy-buddy frame order (even there) in
+      let back : buddy first order ≡ frame = rw same (buddy-buddy frame order (even there)) in
       both_ways (is_on frame old) (subst (λ (f : ℕ). is_on f old ≡ false) back off) there)
       (rest there)
 ]
@@ -170,8 +169,7 @@ pub halves-ordered : (l : LayoutParts) (class_at : ℕ → Option Class) (a : Fr
 halves-ordered l class_at a class first last zero low block room h = h
 halves-ordered l class_at a class first last (suc count) low block room h =
     let sum : last + suc count ≡ suc last + count = omega arith in
-    let block' : IsBlockOf l class_at class (suc last + count) first =
-    subst (λ (n : ℕ). IsBlockOf l class_at class n first) sum block in
+    let block' : IsBlockOf l class_at class (suc last + count) first = rw (← sum) block in
     let room' : (frame : ℕ) → free_places a frame + covered frame (suc last + count) first ≤ 1 =
     subst (λ (n : ℕ). (frame : ℕ) → free_places a frame + covered frame n first ≤ 1) sum room in
     let rest : FreeAreas = with_halves a class first (suc last) count in
@@ -190,7 +188,6 @@ halves-ordered l class_at a class first last (suc count) low block room h =
     front-ordered l class_at rest class last (first + 2 ^ last) (omega arith)
     (record { aligned = half.aligned; class_agrees = ap class_at half.above ∙ block.class_agrees })
     (λ frame. omega (arith, left frame))
-    (λ below. subst (λ (f : ℕ). is_on f (free_list rest class last) ≡ false) (sym half.buddy_is)
-    (off-free rest class last first (has_order l class_at rest last ordered (omega arith))
-    (omega (arith, left first, covered-self last first))))
+    (λ below. rw half.buddy_is (off-free rest class last first (has_order l class_at rest last ordered
+    (omega arith)) (omega (arith, left first, covered-self last first))))
     ordered

@@ -18,10 +18,10 @@ use Rattle.hp_units.specs.LayoutParts.{LayoutParts, IsLayout}
 use Rattle.hp_units.specs.Arithmetic.{block_of, block_of_pageblock, frame_count, pageblock_count}
 use Rattle.hp_units.specs.Memory.{Memory, class_index, offline_row, plain_kind, pool_index, row_of}
 use Rattle.hp_units.specs.FreeAreas.{is_on}
-use Rattle.hp_units.specs.Pages.{holds, words_at}
+use Rattle.hp_units.specs.Pages.{holds}
 use Rattle.hp_units.specs.Rows.{is_going, online_block}
 use Rattle.hp_units.specs.Boot.{boot_block, boot_memory, empty_memory}
-use Rattle.hp_units.specs.Placement.{IsKernelAt, IsPage, IsRow, IsWellPlaced, cached_places, free_places, is_unplugged, kernel_places, mapped_places, offline_places, places_from}
+use Rattle.hp_units.specs.Placement.{IsKernelAt, IsRow, IsWellPlaced, cached_places, free_places, is_unplugged, kernel_places, mapped_places, offline_places, places_from}
 use Rattle.hp_lemmas.proofs.KernelBlocks.{kernel_covered}
 use Rattle.hp_laws.proofs.Rows.{unplugged-placed}
 use Rattle.hp_laws.proofs.Onlines.{online_block-placed}
@@ -58,12 +58,10 @@ no_entry : (A : Type 0) (none : Option A) (owners pages owner page : ℕ) → no
     → get_or (get_or (replicate owners (replicate pages none)) owner []) page none ≡ None
 no_entry A none owners pages owner page e = elim (cases_lt owner owners) [
   | inl low ↦
-      subst (λ (row : List (Option A)). get_or row page none ≡ None) (sym
-      (get_or-replicate owners owner (replicate pages none) [] low)) (same_everywhere pages page none ∙ e)
+      rw (get_or-replicate owners owner (replicate pages none) [] low) (same_everywhere pages page none ∙ e)
   | inr high ↦
-      subst (λ (row : List (Option A)). get_or row page none ≡ None) (sym (get_or_past
-      (replicate owners (replicate pages none)) owner []
-      (omega (arith, length-replicate owners (replicate pages none))))) e
+      rw (get_or_past (replicate owners (replicate pages none)) owner []
+      (omega (arith, length-replicate owners (replicate pages none)))) e
 ]
 
 off_none : (frame : ℕ) (frames : List ℕ) → frames ≡ [] → is_on frame frames ≡ true → ⊥
@@ -111,15 +109,12 @@ empty-placed l = record {
     rows =
         λ block. subst (λ (r : Row). IsRow r) (sym (same_everywhere l.blocks block offline_row)) (refl, refl);
     words =
-        λ owner page. subst (λ (f : Option ℕ). IsPage l f (words_at (empty_memory l).pages owner page))
-        (sym (no_entry ℕ None l.owners l.pages owner page refl))
-        (subst (λ (w : Option (List ℕ)). IsPage l None w)
-        (sym (no_entry (List ℕ) None l.owners l.pages owner page refl)) tt);
+        λ owner page. rw (no_entry ℕ None l.owners l.pages owner page refl)
+        (rw (no_entry (List ℕ) None l.owners l.pages owner page refl) tt);
   };
   once = λ frame.
       let offline : offline_places l (empty_memory l) frame ≡ 1 =
-      ap (λ (r : Row). cond (is_unplugged r) 1 0)
-      (same_everywhere l.blocks (block_of l frame) offline_row) in
+      rw (same_everywhere l.blocks (block_of l frame) offline_row) in
       let free : free_places (empty_memory l).free.areas frame ≡ 0 = no_free frame 0 (5 * (l.order + 1)) in
       let cached : cached_places (empty_memory l).free frame ≡ 0 = cached_none frame (3 * l.cpus) in
       let mapped : mapped_places (empty_memory l).pages frame ≡ 0 = mapped_none frame l.owners l.pages in

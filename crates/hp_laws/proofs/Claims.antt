@@ -9,7 +9,7 @@ use Rattle.hp_units.specs.declared.plans.Item.{Item}
 use Rattle.hp_units.specs.declared.rows.Claim.{Claim}
 use Rattle.hp_units.specs.declared.rows.Row.{Row}
 use Rattle.hp_units.specs.declared.rows.State.{State}
-use Rattle.hp_units.specs.declared.rows.State.TheVariants.{Offline as OfflineState, Online as OnlineState, Going as GoingState, Absent as AbsentState}
+use Rattle.hp_units.specs.declared.rows.State.TheVariants.{Offline as OfflineState, Online as OnlineState, Going as GoingState}
 use Rattle.hp_units.specs.declared.rows.Wish.{Wish}
 use Rattle.hp_units.specs.declared.rows.Wish.TheVariants.{Off as OffWish, Normal as NormalWish, Movable as MovableWish}
 use Rattle.hp_units.specs.declared.rows.Zone.{Zone}
@@ -76,25 +76,19 @@ some_zone (Some zone) h = refl
 online_zone : (state : State) (zone : Option Zone) (claim : Option Claim) → is_online_state state ≡ true
     → IsRowOf state zone claim → IsSome zone
 online_zone OnlineState zone claim e h = h.0
-online_zone OfflineState zone claim e h = cc
-online_zone GoingState zone claim e h = cc
-online_zone AbsentState zone claim e h = cc
+online_zone _ zone claim e h = cc
 
 pub going_zone : (state : State) (zone : Option Zone) (claim : Option Claim) → is_going_state state ≡ true
     → IsRowOf state zone claim → IsSome zone
 going_zone GoingState zone claim e h = h.0
-going_zone OfflineState zone claim e h = cc
-going_zone OnlineState zone claim e h = cc
-going_zone AbsentState zone claim e h = cc
+going_zone _ zone claim e h = cc
 
 -- an offline row may carry any claim that isn't of wish Off, or none
 offline_claim : (state : State) (zone : Option Zone) (claim other : Option Claim)
     → is_offline_state state ≡ true → wishes_off other ≡ false → IsRowOf state zone claim
     → IsRowOf state zone other
 offline_claim OfflineState zone claim other e still h = (h.0, still)
-offline_claim OnlineState zone claim other e still h = cc
-offline_claim GoingState zone claim other e still h = cc
-offline_claim AbsentState zone claim other e still h = cc
+offline_claim _ zone claim other e still h = cc
 
 -- another claim on an offline row
 reclaimed : (l : LayoutParts) (s : Memory) (block : ℕ) (claim : Option Claim) → IsWellPlaced l s
@@ -164,8 +158,7 @@ begin_all l s op plan t from (suc count) layout low may h =
 may_claim : (row : Row) (wish : Wish) → (is_off wish && not (is_online row)) ≡ false
     → (not (is_off wish) && not (is_offline row)) ≡ false → MayClaim row wish
 may_claim row OffWish e f = not-false (is_online row) e
-may_claim row NormalWish e f = not-false (is_offline row) f
-may_claim row MovableWish e f = not-false (is_offline row) f
+may_claim row _ e f = not-false (is_offline row) f
 
 -- what a plan that isn't refused wishes may be claimed
 pub plan_claims : (l : LayoutParts) (s : Memory) (plan : List Item)
@@ -184,14 +177,10 @@ plan_claims l s plan e block =
         → IfSome (option_map (λ item. item.wish) o) (MayClaim (row_of s.blocks block))
     by_item None is f g = tt
     by_item (Some item) is f g =
-        let same : item.block ≡ block =
-        eqb-true item.block block (found_passes (λ i. i.block == block) plan item is) in
-        subst (λ (b : ℕ). MayClaim (row_of s.blocks b) item.wish) same
-        (may_claim (row_of s.blocks item.block) item.wish
-        (found_fails (λ i. is_off i.wish && not (is_online (row_of s.blocks i.block))) (λ i. i.block == block)
-        plan item f is)
-        (found_fails (λ i. not (is_off i.wish) && not (is_offline (row_of s.blocks i.block)))
-        (λ i. i.block == block) plan item g is))
+        rw (← (eqb-true item.block block (found_passes (λ i. i.block == block) plan item is)))
+        (may_claim (row_of s.blocks item.block) item.wish (found_fails (λ i. is_off i.wish && not (is_online
+        (row_of s.blocks i.block))) (λ i. i.block == block) plan item f is) (found_fails (λ i. not (is_off
+        i.wish) && not (is_offline (row_of s.blocks i.block))) (λ i. i.block == block) plan item g is))
 
 pub begin-placed : (l : LayoutParts) (s : Memory) (op : ℕ) (plan : List Item) → IsLayout l → IsWellPlaced l s
     → first_some (plan_refusals l s plan) ≡ None → IsWellPlaced l (begin_plan l s op plan)
@@ -208,11 +197,8 @@ pub claimed_offline : (op : ℕ) (state : State) (zone : Option Zone) (claim : O
     → IsRowOf state zone claim
     → is_offline_state state ≡ true
 claimed_offline op OfflineState zone claim e f h = refl
-claimed_offline op GoingState zone claim e f h = cc
-claimed_offline op OnlineState zone None e f h = cc
-claimed_offline op OnlineState zone (Some claim) e f h = absurd (cc h.1)
-claimed_offline op AbsentState zone None e f h = cc
-claimed_offline op AbsentState zone (Some claim) e f h = absurd (cc h.1)
+claimed_offline op _ zone (Some claim) e f h = absurd (cc h.1)
+claimed_offline op _ zone _ e f h = cc
 
 release_block-placed : (l : LayoutParts) (op : ℕ) (s : Memory) (block : ℕ) → IsLayout l → IsWellPlaced l s
     → block < l.blocks → is_claimed_by op (row_of s.blocks block) ≡ true

@@ -1,6 +1,6 @@
 -- An operation commits: its going blocks leave the areas, and its other ones go online.
 use Rattle.std.proofs.Common.{◌≡◌, ℕ, zero, suc, ◌+◌, ◌*◌, ◌^◌, ◌<◌, ◌≤◌, List, [], ◌∷◌, ◌++◌, length, Bool, true, false, cond, Option, Some, None, refl, sym, ◌∙◌, ap, subst, arith, inl, inr, eqb-true, eq-eqb, ◌==◌, ◌||◌}
-use Rattle.std.specs.Prelude.{filter, fold, unwrap_or}
+use Rattle.std.specs.Prelude.{filter, fold}
 use Rattle.std.specs.List.{range_with_len, list_all}
 use Rattle.std.specs.Option.{option_map_or}
 use Rattle.std.proofs.lemmas.Bool.{and_parts, cases_eq, or_cases, or_left}
@@ -11,7 +11,7 @@ use Rattle.hp_units.specs.declared.rows.Class.{Class}
 use Rattle.hp_units.specs.declared.rows.Mobility.TheVariants.{Movable}
 use Rattle.hp_units.specs.declared.rows.Row.{Row}
 use Rattle.hp_units.specs.declared.rows.State.{State}
-use Rattle.hp_units.specs.declared.rows.State.TheVariants.{Offline as OfflineState, Online as OnlineState, Going as GoingState, Absent as AbsentState}
+use Rattle.hp_units.specs.declared.rows.State.TheVariants.{Offline as OfflineState, Going as GoingState}
 use Rattle.hp_units.specs.declared.rows.Wish.{Wish}
 use Rattle.hp_units.specs.declared.rows.Wish.TheVariants.{Off as OffWish, Normal as NormalWish, Movable as MovableWish}
 use Rattle.hp_units.specs.declared.rows.Zone.{Zone}
@@ -20,17 +20,17 @@ use Rattle.hp_units.specs.LayoutParts.{LayoutParts, IsLayout}
 use Rattle.hp_units.specs.Arithmetic.{all_blocks, block_of_pageblock, pageblocks_of}
 use Rattle.hp_units.specs.Memory.{FreeAreas, Memory, free_list, with_free_list, offline_row, row_of, isolated_class, usable_class}
 use Rattle.hp_units.specs.FreeAreas.{is_on}
-use Rattle.hp_units.specs.Isolation.{add_pageblock, remove_block}
+use Rattle.hp_units.specs.Isolation.{add_pageblock}
 use Rattle.hp_units.specs.Refusals.{is_all_free}
 use Rattle.hp_units.specs.Rows.{blocks_of, commit_block, is_absent_state, commit_blocks, going_blocks, grant, is_claimed_by, is_going, is_going_state, is_off, is_offline_state, offline_block, online_block, zone_of_block}
 use Rattle.hp_units.specs.Placement.{IsRowOf, IsWellPlaced, is_unplugged, wishes_off}
 use Rattle.hp_lemmas.proofs.Sizes.{with_free_list-size}
 use Rattle.hp_lemmas.proofs.Lists.{free_list-cases, on_tail}
 use Rattle.hp_laws.proofs.Onlines.{online_block-placed, quotient}
-use Rattle.hp_laws.proofs.Isolations.{pageblock_elsewhere, some_pageblocks}
+use Rattle.hp_laws.proofs.Isolations.{pageblock_elsewhere}
 use Rattle.hp_laws.proofs.Claims.{fold_blocks, later_rows}
 use Rattle.hp_laws.specs.Commits.{IsAllFree, IsGrantable}
-use Rattle.hp_laws.proofs.Offlined.{IsOutside, remove_block-range, offlined-placed}
+use Rattle.hp_laws.proofs.Offlined.{remove_block-range, offlined-placed}
 
 -- ---- what the blocks that come later need
 
@@ -75,24 +75,19 @@ pub claim_going : (state : State) (zone : Option Zone) (claim : Option Claim) �
     → IsRowOf state zone claim → is_going_state state ≡ true
 claim_going GoingState zone claim e h = refl
 claim_going OfflineState zone claim e h = absurd (cc (e, h.1))
-claim_going OnlineState zone None e h = cc
-claim_going OnlineState zone (Some claim) e h = absurd (cc h.1)
-claim_going AbsentState zone None e h = cc
-claim_going AbsentState zone (Some claim) e h = absurd (cc h.1)
+claim_going _ zone None e h = cc
+claim_going _ zone (Some claim) e h = absurd (cc h.1)
 
 pub claim_offline : (state : State) (zone : Option Zone) (claim : Option Claim) (c : Claim) → claim ≡ Some c
     → wishes_off claim ≡ false → IsRowOf state zone claim → is_offline_state state ≡ true
 claim_offline OfflineState zone claim c is e h = refl
 claim_offline GoingState zone claim c is e h = absurd (cc (e, h.1))
-claim_offline OnlineState zone claim c is e h = absurd (cc (is, h.1))
-claim_offline AbsentState zone claim c is e h = absurd (cc (is, h.1))
+claim_offline _ zone claim c is e h = absurd (cc (is, h.1))
 
 pub going_plugged : (state : State) → is_going_state state ≡ true
     → (is_offline_state state || is_absent_state state) ≡ false
 going_plugged GoingState e = refl
-going_plugged OfflineState e = cc
-going_plugged OnlineState e = cc
-going_plugged AbsentState e = cc
+going_plugged _ e = cc
 
 online-next : (l : LayoutParts) (s t : Memory) (block : ℕ) (zone : Zone) → IsLayout l → block < l.blocks
     → is_unplugged (row_of t.blocks block) ≡ true → CommitsFrom l s block t
@@ -112,17 +107,14 @@ offline-next : (l : LayoutParts) (s t : Memory) (block : ℕ) → IsLayout l →
     → CommitsFrom l s block t
     → CommitsFrom l s (block + 1) (offline_block l t block)
 offline-next l s t block layout low going all h =
-    let row : Row = row_of t.blocks block in
-    let some : 0 < l.pageblocks = some_pageblocks l layout in
     let range = remove_block-range l t block (zone_of_block t.blocks block) h.placed low all in
     record {
       placed =
           offlined-placed l t block (zone_of_block t.blocks block) layout h.placed low
-          (going_plugged row.state going) all;
+          (going_plugged (row_of t.blocks block).state going) all;
       later = later_rows t.blocks.rows s.blocks.rows block offline_row h.later;
       stays = λ class pageblock above on. range.stays class l.order (pageblock * 2 ^ l.order)
-          (subst (λ (n : ℕ). IsOutside (block * l.pageblocks) l.pageblocks n)
-          (sym (shl-shr pageblock l.order))
+          (rw (shl-shr pageblock l.order)
           (pageblock_elsewhere l block pageblock (λ same. absurd (omega arith))))
           (h.stays class pageblock (omega arith) on);
     }
@@ -135,9 +127,7 @@ grantable_later l s t block ready h going pageblock among =
     let here : block_of_pageblock l pageblock ≡ block =
     quotient pageblock l.pageblocks block among.low among.high in
     h.stays (isolated_class (zone_of_block t.blocks block)) pageblock (omega arith)
-    (subst (λ (row : Row). is_on (pageblock * 2 ^ l.order)
-    (free_list s.free.areas (isolated_class (unwrap_or row.zone NormalZone)) l.order) ≡ true) (sym same)
-    (ready (ap is_going (sym same) ∙ going) pageblock among))
+    (rw same (ready (ap is_going (sym same) ∙ going) pageblock among))
 
 pub commit_block-next : (l : LayoutParts) (s : Memory) (t : Memory) (block : ℕ) → IsLayout l
     → block < l.blocks → IsGrantable l s block → CommitsFrom l s block t

@@ -165,7 +165,6 @@ two_lists a class order c o frame has has_o ne =
 pub in_number : (frame order first : ℕ) → first % 2 ^ order ≡ 0 → IsFrameOf frame order first
     → frame / 2 ^ order ≡ first / 2 ^ order
 in_number frame order first aligned h =
-    let is : first ≡ first / 2 ^ order * 2 ^ order = multiple first order aligned in
     quotient frame (2 ^ order) (first / 2 ^ order) (omega (arith, h.low)) (omega (arith, h.high))
 
 -- and the frames of one number are in the block
@@ -173,11 +172,9 @@ pub number_in : (frame order first : ℕ) → first % 2 ^ order ≡ 0 → frame 
     → IsFrameOf frame order first
 number_in frame order first aligned same =
     let is : first ≡ first / 2 ^ order * 2 ^ order = multiple first order aligned in
-    let some : 0 < 2 ^ order = pow_pos order in
-    let high : frame < frame / 2 ^ order * 2 ^ order + 2 ^ order = lt-div-mul-add some in
+    let high : frame < frame / 2 ^ order * 2 ^ order + 2 ^ order = lt-div-mul-add (pow_pos order) in
     let low : frame / 2 ^ order * 2 ^ order ≤ frame = omega (arith, div-add-mod' frame (2 ^ order)) in
-    let both : frame / 2 ^ order * 2 ^ order ≡ first / 2 ^ order * 2 ^ order =
-    ap (λ (n : ℕ). n * 2 ^ order) same in
+    let both : frame / 2 ^ order * 2 ^ order ≡ first / 2 ^ order * 2 ^ order = rw same in
     record { low = omega arith; high = omega arith }
 
 -- two aligned blocks of one order, of which one has the other's first frame, are one
@@ -196,8 +193,7 @@ buddy_aligned first order aligned = elim (cases_eq (first / 2 ^ order % 2) 0) [
       let next : first / 2 ^ order / 2 * 2 * 2 ^ order + 2 ^ order
       ≡ (first / 2 ^ order / 2 * 2 + 1) * 2 ^ order =
       grind arith in
-      subst (λ (n : ℕ). buddy n order % 2 ^ order ≡ 0) (sym is)
-      (rw (buddy_even, next) (multiple_aligned (first / 2 ^ order / 2 * 2 + 1) order))
+      rw is (rw (buddy_even, next) (multiple_aligned (first / 2 ^ order / 2 * 2 + 1) order))
   | inr odd ↦
       let next : (first / 2 ^ order / 2 * 2 + 1) * 2 ^ order
       ≡ first / 2 ^ order / 2 * 2 * 2 ^ order + 2 ^ order =
@@ -205,8 +201,7 @@ buddy_aligned first order aligned = elim (cases_eq (first / 2 ^ order % 2) 0) [
       let is : first ≡ first / 2 ^ order / 2 * 2 * 2 ^ order + 2 ^ order =
       multiple first order aligned ∙ ap (λ (n : ℕ). n * 2 ^ order) (half_odd (first / 2 ^ order) odd)
       ∙ next in
-      subst (λ (n : ℕ). buddy n order % 2 ^ order ≡ 0) (sym is)
-      (rw buddy_odd (multiple_aligned (first / 2 ^ order / 2 * 2) order))
+      rw is (rw buddy_odd (multiple_aligned (first / 2 ^ order / 2 * 2) order))
 ]
   where
     half_even : (q : ℕ) → q % 2 ≡ 0 → q ≡ q / 2 * 2
@@ -236,9 +231,7 @@ unjoined l class_at a class order first h below on other same above =
           same_Some class other.class
           (sym block.class_agrees ∙ ap class_at (sym same) ∙ its.class_agrees) in
           let joined : is_on (buddy first order) (free_list a class order) ≡ true =
-          subst (λ (f : ℕ). is_on f (free_list a class order) ≡ true) that
-          (subst (λ (c : Class). is_on other.first (free_list a c order) ≡ true) (sym one)
-          (subst (λ (n : ℕ). is_on other.first (free_list a other.class n) ≡ true) (sym is) other.on)) in
+          rw (← that, one, is) other.on in
           both_ways (is_on (buddy first order) (free_list a class order))
           (h.joined class order first below on) joined
       | inr ne ↦
@@ -268,11 +261,9 @@ orders_from : (l : LayoutParts) (class_at : ℕ → Option Class) (a : FreeAreas
 orders_from l class_at a pageblock zero h free low class o first on here = omega arith
 orders_from l class_at a pageblock (suc order) h free low class o first on here = elim (cases_eq o order) [
   | inl same ↦
-      let there : is_on first (free_list a class order) ≡ true =
-      subst (λ (n : ℕ). is_on first (free_list a class n) ≡ true) same on in
-      let aligned = (h.blocks class order first there).aligned in
+      let there : is_on first (free_list a class order) ≡ true = rw (← same) on in
       let beside : pageblock_of l (buddy first order) ≡ pageblock =
-      buddy_above first order l.order aligned low ∙ here in
+      buddy_above first order l.order (h.blocks class order first there).aligned low ∙ here in
       let other = free_block a (buddy first order) (free (buddy first order) beside) in
       let its = h.blocks other.class other.order other.first other.on in
       let small = (on_free l class_at a other.class other.order other.first h other.on).low in
@@ -310,6 +301,5 @@ whole_pageblock l class_at a pageblock class h is free =
     (subst (λ (n : ℕ). IsFrameOf start n block.first) whole block.within) in
     let one : block.class ≡ class =
     same_Some block.class class (sym its.class_agrees ∙ ap class_at close ∙ is) in
-    subst (λ (f : ℕ). is_on f (free_list a class l.order) ≡ true) that
-    (subst (λ (c : Class). is_on block.first (free_list a c l.order) ≡ true) one
+    rw (← that) (subst (λ (c : Class). is_on block.first (free_list a c l.order) ≡ true) one
     (subst (λ (n : ℕ). is_on block.first (free_list a block.class n) ≡ true) whole block.on))

@@ -1,9 +1,8 @@
 -- A going block is all free where each of its frames is in a free block, and the search for a frame
 -- that is in none.
-use Rattle.std.proofs.Common.{◌≡◌, ℕ, zero, suc, ◌+◌, ◌*◌, ◌/◌, ◌^◌, ◌<◌, ◌≤◌, List, [], ◌∷◌, ◌++◌, length, get_or, Bool, true, false, not, cond, Option, Some, None, refl, sym, ◌∙◌, ap, subst, arith, ◌⊎◌, inl, inr, ◌==◌}
+use Rattle.std.proofs.Common.{◌≡◌, ℕ, zero, suc, ◌+◌, ◌*◌, ◌/◌, ◌^◌, ◌<◌, ◌≤◌, List, [], ◌∷◌, length, get_or, Bool, true, false, not, cond, Option, Some, None, refl, sym, ◌∙◌, ap, subst, arith, inl, inr, ◌==◌}
 use Rattle.std.specs.Prelude.{find, flat_map, is_none}
 use Rattle.std.specs.List.{list_all, list_any, range_with_len}
-use Rattle.std.specs.Option.{option_map}
 use Rattle.std.proofs.lemmas.Bool.{and_from, both_ways, cases_lt, false_from_ne_true, not-false, or_cases, or_left, or_right}
 use Rattle.std.proofs.lemmas.List.{get_or_past}
 use Rattle.std.proofs.lemmas.List.Folds.{list_any-append}
@@ -11,14 +10,13 @@ use Rattle.std.proofs.lemmas.Nat.{div-add-mod', mul-le, pow_pos, shl-shr}
 use Rattle.std.proofs.Math.Nat.{lt-div-mul-add}
 use Rattle.hp_units.specs.declared.rows.Class.{Class}
 use Rattle.hp_units.specs.declared.rows.Class.TheVariants.{Nu, Nm, Mm, IsoN, IsoM}
-use Rattle.hp_units.specs.declared.rows.Kind.{Kind}
 use Rattle.hp_units.specs.declared.rows.Row.{Row}
 use Rattle.hp_units.specs.declared.rows.Zone.{Zone}
 use Rattle.hp_units.specs.LayoutParts.{LayoutParts, IsLayout}
 use Rattle.hp_numbers.specs.Numbers.{ancestor}
 use Rattle.hp_units.specs.Arithmetic.{all_blocks, block_of, block_of_pageblock, block_size, frames_of_block, pageblock_of, pageblocks_of}
 use Rattle.hp_units.specs.Memory.{FreeAreas, Memory, free_list, isolated_class, offline_row, row_of}
-use Rattle.hp_units.specs.FreeAreas.{class_of_kind, is_on}
+use Rattle.hp_units.specs.FreeAreas.{is_on}
 use Rattle.hp_units.specs.Refusals.{frame_in_use, is_all_free, is_free_start, is_in_free_block}
 use Rattle.hp_units.specs.Rows.{blocks_of, going_blocks, is_claimed_by, is_going, zone_of_block}
 use Rattle.hp_units.specs.Placement.{IsWellPlaced, class_at, kind_at, row_at}
@@ -85,19 +83,15 @@ not_found p (y ∷ ys) x e on = by_test (p y) refl e (not_found p ys x)
       | inr there ↦ later e there
     ]
 
--- a number on one of two lists
-on_append : (x : ℕ) (xs ys : List ℕ) → is_on x (xs ++ ys) ≡ true → (is_on x xs ≡ true) ⊎ (is_on x ys ≡ true)
-on_append x xs ys on =
-    or_cases (is_on x xs) (is_on x ys) (sym (list_any-append (λ other. other == x) xs ys) ∙ on)
-
 -- a number on one of several lists
 pub flat_on : (f : ℕ → List ℕ) (blocks : List ℕ) (x : ℕ) → is_on x (flat_map f blocks) ≡ true
     → (block : ℕ) × (is_on block blocks ≡ true) × (is_on x (f block) ≡ true)
 flat_on f [] x on = cc
-flat_on f (b ∷ bs) x on = elim (on_append x (f b) (flat_map f bs) on) [
-  | inl here ↦ (b, on_head b bs, here)
-  | inr there ↦ (let rest = flat_on f bs x there in (rest.0, on_tail rest.0 b bs rest.1, rest.2))
-]
+flat_on f (b ∷ bs) x on = elim (or_cases (is_on x (f b)) (is_on x (flat_map f bs))
+    (sym (list_any-append (λ other. other == x) (f b) (flat_map f bs)) ∙ on)) [
+      | inl here ↦ (b, on_head b bs, here)
+      | inr there ↦ (let rest = flat_on f bs x there in (rest.0, on_tail rest.0 b bs rest.1, rest.2))
+    ]
 
 -- and each number of each list is on all of them
 pub on_flat : (f : ℕ → List ℕ) (blocks : List ℕ) (block x : ℕ) → is_on block blocks ≡ true
@@ -117,12 +111,11 @@ on_flat f (b ∷ bs) block x on there = elim (on_cases block b bs on) [
 -- the block of an order that a frame lies in has it
 ancestor_has : (frame order : ℕ) → IsFrameOf frame order (ancestor frame order)
 ancestor_has frame order =
-    let some : 0 < 2 ^ order = pow_pos order in
-    let high : frame < frame / 2 ^ order * 2 ^ order + 2 ^ order = lt-div-mul-add some in
+    let high : frame < frame / 2 ^ order * 2 ^ order + 2 ^ order = lt-div-mul-add (pow_pos order) in
     record { low = omega (arith, div-add-mod' frame (2 ^ order)); high = omega arith }
 
 -- a test of the five classes
-on_class : (p : Class → Bool) (class : Class) → p class ≡ true
+pub on_class : (p : Class → Bool) (class : Class) → p class ≡ true
     → list_any p (Nu ∷ Nm ∷ Mm ∷ IsoN ∷ IsoM ∷ []) ≡ true
 on_class p Nu e = or_left (p Nu) _ e
 on_class p Nm e = or_right (p Nu) _ (or_left (p Nm) _ e)
@@ -155,19 +148,13 @@ block_tested l class_at a frame h b =
     let aligned = (h.blocks b.class b.order b.first b.on).aligned in
     let low = (on_free l class_at a b.class b.order b.first h b.on).low in
     let is : b.first ≡ ancestor frame b.order =
-    multiple b.first b.order aligned
-    ∙ ap (λ (n : ℕ). n * 2 ^ b.order) (sym (in_number frame b.order b.first aligned b.within)) in
+    rw (multiple b.first b.order aligned, ← in_number frame b.order b.first aligned b.within) in
     on_any (λ (o : ℕ). is_free_start a o (ancestor frame o)) (range_with_len 0 (l.order + 1)) b.order
     (range_on 0 (l.order + 1) b.order (omega arith) (omega arith))
     (on_class (λ (c : Class). is_on (ancestor frame b.order) (free_list a c b.order)) b.class
     (subst (λ (f : ℕ). is_on f (free_list a b.class b.order) ≡ true) is b.on))
 
 -- ---- the test of a block
-
--- the class of a pageblock that is isolated
-isolated_at : (zone : Option Zone) (kind : Kind) (z : Zone) → zone ≡ Some z → kind.isolated ≡ true
-    → option_map (λ (y : Zone). class_of_kind y kind) zone ≡ Some (isolated_class z)
-isolated_at zone kind z e f = rw (e, f) refl
 
 -- a going block of whose frames each is free is all free
 pub frames_all_free : (l : LayoutParts) (s : Memory) (block : ℕ) → IsWellPlaced l s
@@ -184,15 +171,13 @@ frames_all_free l s block p going free =
     let among = on_range pageblock (block * l.pageblocks) l.pageblocks on in
     let here : block_of_pageblock l pageblock ≡ block =
     quotient pageblock l.pageblocks block among.low among.high in
-    let zone_is : (row_at l s.blocks.rows pageblock).zone ≡ Some zone =
-    subst (λ (b : ℕ). (row_of s.blocks b).zone ≡ Some zone) (sym here) zoned in
+    let zone_is : (row_at l s.blocks.rows pageblock).zone ≡ Some zone = rw here zoned in
     let isolated : (kind_at s.free.areas.kinds pageblock).isolated ≡ true =
     p.in_order.isolated pageblock
     ∙ subst (λ (b : ℕ). is_going (row_of s.blocks b) ≡ true) (sym here) going in
     whole_pageblock l (class_at l s.free.areas.kinds s.blocks.rows) s.free.areas pageblock
     (isolated_class zone) (areas_of l s p)
-    (isolated_at (row_at l s.blocks.rows pageblock).zone (kind_at s.free.areas.kinds pageblock) zone zone_is
-    isolated)
+    (rw (zone_is, isolated) refl)
     (λ frame inside.
     block_free l (class_at l s.free.areas.kinds s.blocks.rows) s.free.areas frame (areas_of l s p)
     (free frame (block_of-pageblock l frame ∙ ap (λ (n : ℕ). block_of_pageblock l n) inside ∙ here))))
@@ -221,22 +206,16 @@ all_free_frames l s block frame layout all here =
 
 -- ---- the frames of an operation's going blocks
 
--- a block has frames
-some_frames : (l : LayoutParts) → IsLayout l → 0 < block_size l
-some_frames l layout =
-    let some : 0 < 2 ^ l.order = pow_pos l.order in
-    omega (arith, mul-le 1 1 l.pageblocks (2 ^ l.order) (some_pageblocks l layout) some)
-
 -- they are the frames that lie in it
 pub block_has : (l : LayoutParts) (block frame : ℕ) → IsLayout l → block_of l frame ≡ block
     → is_on frame (frames_of_block l block) ≡ true
 block_has l block frame layout e =
     let high : frame < frame / block_size l * block_size l + block_size l =
-    lt-div-mul-add (some_frames l layout) in
+    lt-div-mul-add
+    (omega (arith, mul-le 1 1 l.pageblocks (2 ^ l.order) (some_pageblocks l layout) (pow_pos l.order))) in
     let low : frame / block_size l * block_size l ≤ frame =
     omega (arith, div-add-mod' frame (block_size l)) in
-    subst (λ (b : ℕ). is_on frame (frames_of_block l b) ≡ true) e
-    (range_on (frame / block_size l * block_size l) (block_size l) frame low high)
+    rw (← e) (range_on (frame / block_size l * block_size l) (block_size l) frame low high)
 
 -- a row that is claimed is one of the layout's
 claimed_low : (rows : List Row) (op block : ℕ) → is_claimed_by op (get_or rows block offline_row) ≡ true
@@ -244,9 +223,8 @@ claimed_low : (rows : List Row) (op block : ℕ) → is_claimed_by op (get_or ro
 claimed_low rows op block e = elim (cases_lt block (length rows)) [
   | inl low ↦ low
   | inr high ↦
-      let past : get_or rows block offline_row ≡ offline_row = get_or_past rows block offline_row high in
       absurd (both_ways (is_claimed_by op offline_row) refl
-      (subst (λ (r : Row). is_claimed_by op r ≡ true) past e))
+      (subst (λ (r : Row). is_claimed_by op r ≡ true) (get_or_past rows block offline_row high) e))
 ]
 
 -- an operation is live where a row carries its number

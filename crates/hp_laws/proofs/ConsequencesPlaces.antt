@@ -1,6 +1,6 @@
 -- Frames of processors' lists, kernel's blocks and pages lie in blocks with a zone, and no list is
 -- longer than there are frames.
-use Rattle.std.proofs.Common.{◌≡◌, ℕ, zero, suc, ◌+◌, ◌*◌, ◌<◌, ◌≤◌, List, [], ◌∷◌, length, get_or, Bool, true, false, cond, Option, Some, None, refl, sym, ◌∙◌, subst, arith, inl, inr, IfSome, ◌==◌, ◌||◌}
+use Rattle.std.proofs.Common.{◌≡◌, ℕ, zero, suc, ◌+◌, ◌*◌, ◌<◌, ◌≤◌, List, [], ◌∷◌, length, get_or, Bool, true, false, Option, Some, None, refl, sym, ◌∙◌, subst, arith, inl, inr, IfSome, ◌==◌, ◌||◌}
 use Rattle.std.specs.List.{count_by}
 use Rattle.std.specs.Option.{option_map}
 use Rattle.std.proofs.lemmas.Bool.{cases_lt}
@@ -12,7 +12,7 @@ use Rattle.hp_units.specs.declared.rows.Claim.{Claim}
 use Rattle.hp_units.specs.declared.rows.Pool.{Pool}
 use Rattle.hp_units.specs.declared.rows.Row.{Row}
 use Rattle.hp_units.specs.declared.rows.State.{State}
-use Rattle.hp_units.specs.declared.rows.State.TheVariants.{Offline as OfflineState, Online as OnlineState, Going as GoingState, Absent as AbsentState}
+use Rattle.hp_units.specs.declared.rows.State.TheVariants.{Offline as OfflineState, Absent as AbsentState}
 use Rattle.hp_units.specs.declared.rows.Zone.{Zone}
 use Rattle.hp_units.specs.declared.rows.Zone.TheVariants.{Normal as NormalZone}
 use Rattle.hp_units.specs.LayoutParts.{LayoutParts, IsLayout}
@@ -32,6 +32,7 @@ use Rattle.hp_laws.proofs.Drains.{pool_zone, times, times-cons}
 use Rattle.hp_laws.proofs.Tables.{live_row}
 use Rattle.hp_lemmas.proofs.Tables.{mapped_some, table_of}
 use Rattle.hp_laws.proofs.ConsequencesBlocks.{in_number, on_head}
+use Rattle.hp_laws.proofs.Lists.{one_if}
 
 -- ---- the zone of a frame's block
 
@@ -39,8 +40,7 @@ use Rattle.hp_laws.proofs.ConsequencesBlocks.{in_number, on_head}
 pub row_zone : (l : LayoutParts) (rows : List Row) (frame : ℕ) (zone : Zone)
     → (row_at l rows (pageblock_of l frame)).zone ≡ Some zone
     → (get_or rows (block_of l frame) offline_row).zone ≡ Some zone
-row_zone l rows frame zone e =
-    subst (λ (b : ℕ). (get_or rows b offline_row).zone ≡ Some zone) (sym (block_of-pageblock l frame)) e
+row_zone l rows frame zone e = rw (block_of-pageblock l frame) e
 
 -- a frame on a processor's list
 pub cached_zone : (l : LayoutParts) (s : Memory) (cpu : ℕ) (pool : Pool) (frame : ℕ) → IsWellPlaced l s
@@ -71,8 +71,7 @@ pub kernel_zone : (l : LayoutParts) (s : Memory) (first order frame : ℕ) → I
     → (row_of s.blocks (block_of l frame)).zone ≡ Some NormalZone
 kernel_zone l s first order frame p e within =
     let k = kernel_at l s first order p (kernel_order s first) refl e in
-    row_zone l s.blocks.rows frame NormalZone (subst (λ (n : ℕ). (row_at l s.blocks.rows n).zone
-    ≡ Some NormalZone) (sym (kernel_inside l s first order frame p e within)) k.normal)
+    row_zone l s.blocks.rows frame NormalZone (rw (kernel_inside l s first order frame p e within) k.normal)
 
 -- a page's frame is in no offline or absent block
 pub page_plugged : (l : LayoutParts) (s : Memory) (owner page frame : ℕ) → IsWellPlaced l s
@@ -85,14 +84,9 @@ page_plugged l s owner page frame p e =
 -- a block that is neither offline nor absent is online or going
 plugged_state : (state : State) → (is_offline_state state || is_absent_state state) ≡ false
     → (is_online_state state || is_going_state state) ≡ true
-plugged_state OnlineState e = refl
-plugged_state GoingState e = refl
 plugged_state OfflineState e = cc
 plugged_state AbsentState e = cc
-
--- 1 for true and 0 for false
-abbrev one_if : Bool → ℕ
-one_if b = cond b 1 0
+plugged_state _ e = refl
 
 -- the block of a frame that is in no such place
 not_unplugged : (l : LayoutParts) (s : Memory) (frame : ℕ) → offline_places l s frame ≡ 0
@@ -116,8 +110,6 @@ plugged l s frame p e =
 -- a block with a zone is online or going
 zoned_state : (state : State) (zone : Option Zone) (claim : Option Claim) (z : Zone) → zone ≡ Some z
     → IsRowOf state zone claim → (is_online_state state || is_going_state state) ≡ true
-zoned_state OnlineState zone claim z e h = refl
-zoned_state GoingState zone claim z e h = refl
 zoned_state OfflineState zone claim z e h = absurd (no_zone (sym h.0 ∙ e))
   where
     no_zone : None ≡ Some z → ⊥
@@ -126,6 +118,7 @@ zoned_state AbsentState zone claim z e h = absurd (no_zone (sym h.0 ∙ e))
   where
     no_zone : None ≡ Some z → ⊥
     no_zone e = cc
+zoned_state _ zone claim z e h = refl
 
 -- a frame whose block has a zone is plugged in
 pub zone_plugged : (l : LayoutParts) (s : Memory) (frame : ℕ) (zone : Zone) → IsWellPlaced l s
@@ -170,10 +163,6 @@ sum_one (suc n) x low = elim (cases_lt x n) [
   | inr above ↦ (let same : x ≡ n = omega arith in omega (arith, times_one x n same))
 ]
 
--- the first of a list, and the rest
-times_split : (k x : ℕ) (xs : List ℕ) → times k (x ∷ xs) ≡ times k (x ∷ []) + times k xs
-times_split k x xs = omega (arith, times-cons k x xs, times-cons k x [])
-
 -- a list of numbers below one has a place for each
 length_sum : (n : ℕ) (xs : List ℕ) → ((x : ℕ) → is_on x xs ≡ true → x < n)
     → length xs ≤ sum_below n (λ k. times k xs)
@@ -183,7 +172,8 @@ length_sum n (x ∷ xs) low =
       arith,
       length_sum n xs (λ y on. low y (on_tail y x xs on)),
       sum_one n x (low x (on_head x xs)),
-      sum_both n (λ k. times k (x ∷ xs)) (λ k. times k (x ∷ [])) (λ k. times k xs) (λ k. times_split k x xs),
+      sum_both n (λ k. times k (x ∷ xs)) (λ k. times k (x ∷ [])) (λ k. times k xs)
+          (λ k. omega (arith, times-cons k x xs, times-cons k x [])),
     )
 
 -- numbers below one, each at most once, are no more than that one
@@ -202,8 +192,7 @@ times_covered k order (x ∷ xs) =
       | inl none ↦ omega arith
       | inr some ↦
           (let same = in_single k x some in
-          subst (λ (n : ℕ). covered k 0 n ≤ covered k order n) same
-          (omega (arith, covered-self order k, covered-self 0 k)))
+          rw (← same) (omega (arith, covered-self order k, covered-self 0 k)))
     ]
       where
         in_single : (k x : ℕ) → 1 ≤ covered k 0 x → k ≡ x

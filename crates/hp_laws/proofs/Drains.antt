@@ -118,9 +118,7 @@ take_frames-ordered l class_at pool (suc count) a h =
               λ frame. omega
               (arith, rest.places frame, t.places frame, times-cons frame taken.frame (f taken.areas).frames);
           classes = λ frame on. elim (on_cases frame taken.frame (f taken.areas).frames on) [
-            | inl same ↦
-                subst (λ (n : ℕ). class_at (pageblock_of l n) ≡ Some (class_of_pool pool)) same
-                t.block.class_agrees
+            | inl same ↦ rw (← same) t.block.class_agrees
             | inr there ↦ rest.classes frame there
           ];
           kinds = rest.kinds ∙ t.kinds;
@@ -173,8 +171,7 @@ cached-in_order l s cpu pool frames h low agrees =
         | inl same ↦ λ on.
             let is : get_or (set s.free.cached (3 * cpu + pool_index pool) frames) (3 * other + pool_index p)
             [] ≡ frames =
-            ap (λ (i : ℕ). get_or (set s.free.cached (3 * cpu + pool_index pool) frames) i []) same
-            ∙ get_or-set_same s.free.cached (3 * cpu + pool_index pool) frames [] short in
+            rw same (get_or-set_same s.free.cached (3 * cpu + pool_index pool) frames [] short) in
             agrees frame (subst (λ (xs : List ℕ). is_on frame xs ≡ true) is on)
             ∙ ap (λ (q : Pool). Some q) (sym (same_pool cpu other pool p same))
         | inr ne ↦ λ on. h.cached other p frame
@@ -190,16 +187,10 @@ cached-in_order l s cpu pool frames h low agrees =
 
 pub pool_zone : (zone : Option Zone) (mobility : Mobility) (pool : Pool)
     → option_map (λ z. pool_of z mobility) zone ≡ Some pool → zone ≡ Some (zone_of_pool pool)
-pool_zone None mobility pool e = cc
 pool_zone (Some NormalZone) Unmovable NuPool e = refl
-pool_zone (Some NormalZone) Unmovable NmPool e = cc
-pool_zone (Some NormalZone) Unmovable MmPool e = cc
-pool_zone (Some NormalZone) Movable NuPool e = cc
 pool_zone (Some NormalZone) Movable NmPool e = refl
-pool_zone (Some NormalZone) Movable MmPool e = cc
-pool_zone (Some MovableZone) mobility NuPool e = cc
-pool_zone (Some MovableZone) mobility NmPool e = cc
 pool_zone (Some MovableZone) mobility MmPool e = refl
+pool_zone _ _ _ e = cc
 
 -- ---- Drain
 
@@ -219,9 +210,8 @@ drain_pool-placed l s cpu pool low p =
     let given =
     give_all-ordered l (class_at l s.free.areas.kinds s.blocks.rows) s.free.areas (zone_of_pool pool) frames
     (areas_of l s p)
-    (λ frame on. ap (option_map (λ z. class_of_kind z (kind_at s.free.areas.kinds (pageblock_of l frame))))
-    (pool_zone (row_at l s.blocks.rows (pageblock_of l frame)).zone (kind_at s.free.areas.kinds
-    (pageblock_of l frame)).mobility pool (p.in_order.cached cpu pool frame on)))
+    (λ frame on. rw (pool_zone (row_at l s.blocks.rows (pageblock_of l frame)).zone
+    (kind_at s.free.areas.kinds (pageblock_of l frame)).mobility pool (p.in_order.cached cpu pool frame on)))
     (λ frame. omega (arith, left frame, p.once frame)) in
     record {
       in_order =
@@ -236,6 +226,5 @@ pub drain_lists-placed : (l : LayoutParts) (s : Memory) (cpu : ℕ) → cpu < l.
 unfolding drain_lists
 drain_lists-placed l s cpu low p =
     let a = drain_pool-placed l s cpu NuPool low p in
-    let b = drain_pool-placed l (with_free s (drain_pool l cpu s.free NuPool)) cpu NmPool low a in
     drain_pool-placed l (with_free s (drain_pool l cpu (drain_pool l cpu s.free NuPool) NmPool)) cpu MmPool
-    low b
+    low (drain_pool-placed l (with_free s (drain_pool l cpu s.free NuPool)) cpu NmPool low a)

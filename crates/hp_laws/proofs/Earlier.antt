@@ -97,18 +97,16 @@ rooted_push before h r is ok = record {
     come : (i : ℕ) (x : Record) → ((slice_get (net_of h) i ≡ Some x) ⊎ ((i ≡ length (net_of h)) × (r ≡ x)))
         → take i (net_of h ++ r ∷ []) ≡ net_of (take (x.serial - before - 1) (h ++ r ∷ []))
     come i x (inl at) =
-        let here = slice_get_within (net_of h) i x at in
         let within = slice_get_within h (x.serial - before - 1) x (ok.stands i x at) in
-        let le : i ≤ length (net_of h) = omega (arith, here) in
+        let le : i ≤ length (net_of h) = omega (arith, slice_get_within (net_of h) i x at) in
         let le' : x.serial - before - 1 ≤ length h = omega (arith, within) in
         take-append-le i (net_of h) (r ∷ []) le
         ∙ (ok.comes i x at ∙ ap net_of (sym (take-append-le (x.serial - before - 1) h (r ∷ []) le')))
     come i x (inr at) =
         let le : i ≤ length (net_of h) = omega (arith, at.0) in
         rw (last x at.1)
-        ((take-append-le i (net_of h) (r ∷ []) le ∙ take_all i (net_of h) (omega (arith, at.0)))
-        ∙ ap net_of
-        (sym (take-append-le (length h) h (r ∷ []) (omega arith) ∙ take_all (length h) h (omega arith))))
+        (rw (take-append-le i (net_of h) (r ∷ []) le, take_all i (net_of h) (omega (arith, at.0))) (ap net_of
+        (sym (take-append-le (length h) h (r ∷ []) (omega arith) ∙ take_all (length h) h (omega arith)))))
 
 -- the net of a legal history is rooted in it
 pub rooted_net : (l : LayoutParts) (base : Memory) (before : ℕ) (h : List Record) → IsLegal l base before h

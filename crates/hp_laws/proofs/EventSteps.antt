@@ -5,12 +5,12 @@ use Rattle.std.specs.Bool.{then_some}
 use Rattle.std.proofs.lemmas.Bool.{leb-false, not-false, or_left}
 use Rattle.std.proofs.lemmas.List.{get_or-set_same}
 use Rattle.hp_units.specs.declared.rows.Auto.{Auto}
-use Rattle.hp_units.specs.declared.rows.Auto.TheVariants.{Offline as OfflineAuto, Online as OnlineAuto, OnlineKernel as KernelAuto, OnlineMovable as MovableAuto}
+use Rattle.hp_units.specs.declared.rows.Auto.TheVariants.{Offline as OfflineAuto, OnlineMovable as MovableAuto}
 use Rattle.hp_units.specs.declared.rows.State.TheVariants.{Absent as AbsentState}
 use Rattle.hp_units.specs.declared.rows.Zone.TheVariants.{Normal as NormalZone, Movable as MovableZone}
 use Rattle.hp_units.specs.declared.rows.Row.{Row}
 use Rattle.hp_units.specs.declared.events.Event.{Event}
-use Rattle.hp_laws.proofs.Names.{Record, Refusal, NoCpu, KernelAlloc, KernelFree, Map, Unmap, Write, Read, Drain, Online, Begin, DrainFor, Migrate, Commit, Cancel, UndoAfter, Probe, Remove, SetAuto}
+use Rattle.hp_laws.proofs.Names.{Record, Refusal, NoCpu, KernelAlloc, KernelFree, Map, Unmap, Write, Drain, Online, Begin, DrainFor, Migrate, Commit, Cancel, Probe, Remove, SetAuto}
 use Rattle.hp_laws.proofs.Claims.{begin-placed, release-placed}
 use Rattle.hp_laws.proofs.Commits.{commit-placed}
 use Rattle.hp_laws.proofs.Migrations.{migrate-placed}
@@ -50,10 +50,9 @@ auto-placed : (l : LayoutParts) (auto : Auto) (s : Memory) (block : ℕ) → IsL
     → is_unplugged (row_of s.blocks block) ≡ true → block < l.blocks
     → IsWellPlaced l (auto_online l auto s block)
 auto-placed l OfflineAuto s block layout p off low = p
-auto-placed l OnlineAuto s block layout p off low = online_block-placed l NormalZone s block layout p off low
-auto-placed l KernelAuto s block layout p off low = online_block-placed l NormalZone s block layout p off low
 auto-placed l MovableAuto s block layout p off low =
     online_block-placed l MovableZone s block layout p off low
+auto-placed l _ s block layout p off low = online_block-placed l NormalZone s block layout p off low
 
 pub probe-placed : (l : LayoutParts) (s : Memory) (block : ℕ) → IsLayout l → IsWellPlaced l s
     → is_unplugged (row_of s.blocks block) ≡ true → block < l.blocks
@@ -91,7 +90,6 @@ perform-placed l s serial cpu (Unmap owner page) layout p low e = unmap-placed l
 perform-placed l s serial cpu (Write owner page index value) layout p low e =
     let none = all_none (event_refusals l s cpu (Write owner page index value)) e in
     write-placed l s owner page index value p (below l.owners owner _ none.0) (below l.pages page _ none.1.0)
-perform-placed l s serial cpu (Read owner page index) layout p low e = p
 perform-placed l s serial cpu (Drain drained) layout p low e =
     drain_lists-placed l s drained
     (below l.cpus drained _ (all_none (event_refusals l s cpu (Drain drained)) e).0) p
@@ -108,7 +106,6 @@ perform-placed l s serial cpu (Commit op) layout p low e =
     commit-placed l s op layout p
     (not-false _ (then_none _ _ (all_none (event_refusals l s cpu (Commit op)) e).1.0))
 perform-placed l s serial cpu (Cancel op) layout p low e = release-placed l s op layout p
-perform-placed l s serial cpu (UndoAfter after) layout p low e = p
 perform-placed l s serial cpu (Probe address) layout p low e =
     let none = all_none (event_refusals l s cpu (Probe address)) e in
     probe-placed l s (address / block_bytes l) layout p
@@ -120,6 +117,7 @@ perform-placed l s serial cpu (Remove block) layout p low e =
     (or_left (is_offline (row_of s.blocks block)) (is_absent (row_of s.blocks block))
     (not-false _ (then_none _ _ none.1.1.0))) (below l.blocks block _ none.0) (refl, refl) refl refl
 perform-placed l s serial cpu (SetAuto auto) layout p low e = set_auto-placed l s auto p
+perform-placed l s serial cpu _ layout p low e = p
 
 answer-placed : (l : LayoutParts) (s : Memory) (serial cpu : ℕ) (event : Event) (o : Option Refusal)
     → IsLayout l → IsWellPlaced l s → refusal_of l s cpu event ≡ o

@@ -1,5 +1,5 @@
 -- Giving a block back keeps the areas in order.
-use Rattle.std.proofs.Common.{◌≡◌, ℕ, zero, suc, ◌+◌, ◌-◌, ◌/◌, ◌%◌, ◌^◌, ◌<◌, ◌≤◌, List, Bool, true, false, cond, Option, Some, refl, sym, ◌∙◌, ap, subst, arith}
+use Rattle.std.proofs.Common.{◌≡◌, ℕ, zero, suc, ◌+◌, ◌-◌, ◌/◌, ◌%◌, ◌^◌, ◌<◌, ◌≤◌, Bool, true, false, cond, Option, Some, refl, ◌∙◌, ap, arith}
 use Rattle.hp_units.specs.declared.rows.Class.{Class}
 use Rattle.hp_units.specs.declared.rows.Zone.{Zone}
 use Rattle.hp_units.specs.LayoutParts.{LayoutParts}
@@ -84,7 +84,6 @@ give_block-ordered l class_at a zone first order low aligned agrees room h =
       class_agrees = ap class_at (ancestor_above first joined l.order (omega (arith, joins.high))) ∙ agrees;
     })
     (λ frame. omega (arith, places frame, room frame))
-    (λ below. subst (λ (xs : List ℕ). is_on (buddy (ancestor first joined) joined) xs ≡ false) (sym same)
-    (join_order-stops a class first order (l.order - order) l.order (omega arith) below))
+    (λ below. rw same (join_order-stops a class first order (l.order - order) l.order (omega arith) below))
     (without_buddies-ordered l class_at a class first order (joined - order)
     (omega (arith, joins.low, joins.high)) h)

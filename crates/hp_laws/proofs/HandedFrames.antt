@@ -23,7 +23,7 @@ use Rattle.hp_units.specs.Refusals.{event_refusals, refusal_of}
 use Rattle.hp_units.specs.Rows.{is_going, with_areas, zone_of}
 use Rattle.hp_units.specs.Step.{Answered, answer, done, give_back, kernel_gives, kernel_takes, map_step, migrate_step, perform, step, unmap_step, with_free, with_pages}
 use Rattle.hp_units.specs.Placement.{IsInOrder, IsWellPlaced, is_unplugged, row_at}
-use Rattle.hp_laws.proofs.Names.{Event, Reply, Refusal, NoCpu, GivesFrame, Moved, KernelAlloc, KernelFree, Map, Unmap, Write, Read, Drain, Online, Begin, DrainFor, Migrate, Commit, Cancel, UndoAfter, Probe, Remove, SetAuto}
+use Rattle.hp_laws.proofs.Names.{Event, Reply, Refusal, NoCpu, GivesFrame, Moved, KernelAlloc, KernelFree, Map, Unmap, Migrate}
 use Rattle.hp_laws.proofs.Options.{some_weaker}
 use Rattle.hp_laws.proofs.OwnedContents.{all_none, none_rest}
 use Rattle.hp_laws.proofs.States.{block_of-pageblock}
@@ -43,8 +43,7 @@ zone_plugged : (l : LayoutParts) (s : Memory) (frame : ℕ) (zone : Zone) → Is
     → (row_at l s.blocks.rows (pageblock_of l frame)).zone ≡ Some zone → IsPlugged l s frame
 zone_plugged l s frame zone h e =
     let row : Row = row_of s.blocks (block_of l frame) in
-    let is : row.zone ≡ Some zone =
-    subst (λ (b : ℕ). (row_of s.blocks b).zone ≡ Some zone) (sym (block_of-pageblock l frame)) e in
+    let is : row.zone ≡ Some zone = rw (block_of-pageblock l frame) e in
     false_from_ne_true (is_unplugged row) (λ off.
     no_zone (sym (unplugged_zone row.state row.zone row.claim off (h.rows (block_of l frame))) ∙ is))
   where
@@ -110,9 +109,8 @@ map-plugged l s cpu owner page low layout p some_owner some_page none =
         (with_pages (with_free s h.free) (map_page s.pages owner page h.frame (fresh_words l)))) o (done s))
     handed None h = subst (λ (o : Option ℕ). IfSome o (IsPlugged l s)) (sym none) tt
     handed (Some given) h =
-        subst (λ (o : Option ℕ). IfSome o (IsPlugged l s)) (sym (entry-same l.owners l.pages s.pages.table
-        owner page (Some given.frame) some_owner some_page (table_of l s p.in_order)))
-        (zone_plugged l s given.frame h.0 p.in_order h.1.zone_is)
+        rw (entry-same l.owners l.pages s.pages.table owner page (Some given.frame) some_owner some_page
+        (table_of l s p.in_order)) (zone_plugged l s given.frame h.0 p.in_order h.1.zone_is)
 
 unmap-plugged : (l : LayoutParts) (s : Memory) (cpu owner page : ℕ)
     → HandsPlugged l s (Unmap owner page) (unmap_step l s cpu owner page)
@@ -208,19 +206,8 @@ perform-plugged l s serial cpu (Map owner page) layout p low e =
     map-plugged l s cpu owner page low layout p (below l.owners owner _ none.0)
     (below l.pages page _ none.1.0) (not_there (frame_at s.pages owner page) (then_none _ _ none.1.1.0))
 perform-plugged l s serial cpu (Unmap owner page) layout p low e = unmap-plugged l s cpu owner page
-perform-plugged l s serial cpu (Write owner page index value) layout p low e = tt
-perform-plugged l s serial cpu (Read owner page index) layout p low e = tt
-perform-plugged l s serial cpu (Drain drained) layout p low e = tt
-perform-plugged l s serial cpu (Online block zone) layout p low e = tt
-perform-plugged l s serial cpu (Begin plan) layout p low e = tt
-perform-plugged l s serial cpu (DrainFor op drained) layout p low e = tt
 perform-plugged l s serial cpu (Migrate op) layout p low e = migrate-plugged l s op layout p
-perform-plugged l s serial cpu (Commit op) layout p low e = tt
-perform-plugged l s serial cpu (Cancel op) layout p low e = tt
-perform-plugged l s serial cpu (UndoAfter after) layout p low e = tt
-perform-plugged l s serial cpu (Probe address) layout p low e = tt
-perform-plugged l s serial cpu (Remove block) layout p low e = tt
-perform-plugged l s serial cpu (SetAuto auto) layout p low e = tt
+perform-plugged l s serial cpu _ layout p low e = tt
 
 answer-plugged : (l : LayoutParts) (s : Memory) (serial cpu : ℕ) (event : Event) (o : Option Refusal)
     → IsLayout l → IsWellPlaced l s → refusal_of l s cpu event ≡ o
@@ -285,19 +272,8 @@ perform-staying l s serial cpu (KernelAlloc order) layout p = alloc-staying l s 
 perform-staying l s serial cpu (KernelFree frame) layout p = free-staying l s cpu frame
 perform-staying l s serial cpu (Map owner page) layout p = map-staying l s cpu owner page
 perform-staying l s serial cpu (Unmap owner page) layout p = unmap-staying l s cpu owner page
-perform-staying l s serial cpu (Write owner page index value) layout p = tt
-perform-staying l s serial cpu (Read owner page index) layout p = tt
-perform-staying l s serial cpu (Drain drained) layout p = tt
-perform-staying l s serial cpu (Online block zone) layout p = tt
-perform-staying l s serial cpu (Begin plan) layout p = tt
-perform-staying l s serial cpu (DrainFor op drained) layout p = tt
 perform-staying l s serial cpu (Migrate op) layout p = migrate-staying l s op layout p
-perform-staying l s serial cpu (Commit op) layout p = tt
-perform-staying l s serial cpu (Cancel op) layout p = tt
-perform-staying l s serial cpu (UndoAfter after) layout p = tt
-perform-staying l s serial cpu (Probe address) layout p = tt
-perform-staying l s serial cpu (Remove block) layout p = tt
-perform-staying l s serial cpu (SetAuto auto) layout p = tt
+perform-staying l s serial cpu _ layout p = tt
 
 answer-staying : (l : LayoutParts) (s : Memory) (serial cpu : ℕ) (event : Event) (o : Option Refusal)
     → IsLayout l → IsWellPlaced l s → IfSome (to_of (answer l s serial cpu event o).reply) (IsStaying l s)

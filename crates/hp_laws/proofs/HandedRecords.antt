@@ -46,9 +46,7 @@ step_handed : (l : LayoutParts) (s after : Memory) (event : Event) (reply : Repl
     → IsPlugged l s frame
 step_handed l s after event reply serial cpu frame layout p same ends e =
     let is : handed_by_reply (step l s serial cpu event).memory event (step l s serial cpu event).reply
-    ≡ Some frame =
-    ap (λ (m : Memory). handed_by_reply m event (step l s serial cpu event).reply) (sym ends)
-    ∙ ap (λ (x : Reply). handed_by_reply after event x) (sym same) ∙ e in
+    ≡ Some frame = rw (← ends, ← same) e in
     subst (λ (o : Option ℕ). IfSome o (IsPlugged l s)) is (step-plugged l s serial cpu event layout p)
 
 -- a frame that a record hands out lies in no block that was offline or absent

@@ -1,5 +1,5 @@
 -- One frame handed out by a processor's list.
-use Rattle.std.proofs.Common.{◌≡◌, ℕ, ◌+◌, ◌*◌, ◌<◌, List, [], ◌∷◌, length, Bool, true, false, cond, Option, Some, None, refl, sym, subst, arith, IfSome, eq-eqb, ◌==◌}
+use Rattle.std.proofs.Common.{◌≡◌, ℕ, ◌+◌, ◌*◌, ◌<◌, List, [], ◌∷◌, length, Bool, true, false, cond, Option, Some, None, refl, subst, arith, IfSome, eq-eqb, ◌==◌}
 use Rattle.std.specs.Option.{option_map}
 use Rattle.std.proofs.lemmas.Bool.{or_left}
 use Rattle.std.proofs.lemmas.List.Sums.{sum_by-set}
@@ -98,9 +98,7 @@ refilled-placed l s cpu pool [] e low p =
     let areas = areas-in_order l s refill.areas p.in_order taken.ordered taken.kinds in
     record {
       in_order = cached-in_order l (with_areas s refill.areas) cpu pool refill.frames areas low (λ frame on.
-          subst (λ (ks : List Kind). pool_at l ks s.blocks.rows (pageblock_of l frame) ≡ Some pool)
-          (sym taken.kinds)
-          (class_pool (row_at l s.blocks.rows (pageblock_of l frame)).zone
+          rw taken.kinds (class_pool (row_at l s.blocks.rows (pageblock_of l frame)).zone
           (kind_at s.free.areas.kinds (pageblock_of l frame)) pool (taken.classes frame on)));
       once =
           λ frame. omega (

@@ -1,5 +1,5 @@
 -- A block's pageblocks become isolated, or are so no more, and its row changes with them.
-use Rattle.std.proofs.Common.{◌≡◌, ◌≢◌, ℕ, zero, suc, ◌+◌, ◌*◌, ◌/◌, ◌^◌, ◌<◌, ◌≤◌, List, length, get_or, set, Bool, false, cond, Option, Some, None, refl, sym, ◌∙◌, ap, subst, arith, ◌⊎◌, inl, inr, length-set}
+use Rattle.std.proofs.Common.{◌≡◌, ◌≢◌, ℕ, zero, suc, ◌+◌, ◌*◌, ◌/◌, ◌^◌, ◌<◌, ◌≤◌, List, length, get_or, set, Bool, false, Option, Some, None, refl, sym, ◌∙◌, ap, subst, arith, ◌⊎◌, inl, inr, length-set}
 use Rattle.std.specs.Prelude.{fold}
 use Rattle.std.specs.List.{range_with_len}
 use Rattle.std.specs.Option.{option_map}
@@ -14,7 +14,7 @@ use Rattle.hp_units.specs.declared.rows.Row.{Row}
 use Rattle.hp_units.specs.declared.rows.Zone.{Zone}
 use Rattle.hp_units.specs.LayoutParts.{LayoutParts, IsLayout}
 use Rattle.hp_units.specs.Arithmetic.{block_of, block_of_pageblock, buddy, pageblock_of}
-use Rattle.hp_units.specs.Memory.{FreeAreas, Memory, free_list, kernel_order, offline_row, plain_kind, pool_of, row_of}
+use Rattle.hp_units.specs.Memory.{FreeAreas, Memory, free_list, kernel_order, offline_row, plain_kind, row_of}
 use Rattle.hp_units.specs.FreeAreas.{is_on, class_of_kind}
 use Rattle.hp_units.specs.Isolation.{move_block, move_free_below, move_pageblock}
 use Rattle.hp_units.specs.Rows.{is_going, with_areas, with_block_row}
@@ -28,6 +28,7 @@ use Rattle.hp_laws.proofs.Rows.{unplugged_zone}
 use Rattle.hp_laws.proofs.Onlines.{quotient}
 use Rattle.hp_laws.specs.Commits.{IsInRange}
 use Rattle.hp_laws.proofs.Pageblocks.{IsKeptBlock, MovesBelow, WasBlock, moves_below}
+use Rattle.hp_laws.proofs.Lists.{one_if}
 
 -- ---- one pageblock's free blocks
 
@@ -42,10 +43,9 @@ kept_away : (l : LayoutParts) (at : ℕ → Option Class) (a : FreeAreas) (from 
     → at pageblock ≡ Some from → AreOrdered l at a
     → IsKeptBlock l a from pageblock (l.order + 1) class order first → pageblock_of l first ≢ pageblock
 kept_away l at a from pageblock class order first is h kept here =
-    let free = on_free l at a class order first h kept.was in
     let same : class ≡ from =
     same_Some class from (sym (h.blocks class order first kept.was).class_agrees ∙ ap at here ∙ is) in
-    kept.away (omega (arith, free.low)) same here
+    kept.away (omega (arith, (on_free l at a class order first h kept.was).low)) same here
 
 moves-block : (l : LayoutParts) (at now : ℕ → Option Class) (a : FreeAreas) (from to : Class) (pageblock : ℕ)
     (class : Class) (order first : ℕ)
@@ -145,10 +145,8 @@ move_pageblock-range l rows zone isolated a pageblock short zone_is h =
     let moves : MovesOrdered l (class_at l (set ks pageblock moved) rows) a b =
     moves-ordered l (class_at l ks rows) (class_at l (set ks pageblock moved) rows) a from to pageblock
     (ap (option_map (λ z. class_of_kind z kind)) zone_is)
-    (ap (λ (k : Kind). option_map (λ z. class_of_kind z k) (row_at l rows pageblock).zone) now
-    ∙ ap (option_map (λ z. class_of_kind z moved)) zone_is)
-    (λ other ne. ap (λ (k : Kind). option_map (λ z. class_of_kind z k) (row_at l rows other).zone)
-    (others other ne)) h in
+    (rw (now, zone_is))
+    (λ other ne. rw (others other ne)) h in
     let whole : MovesRange l rows isolated pageblock 1 a (record b { kinds = set ks pageblock moved }) =
     record {
       ordered =
@@ -161,18 +159,14 @@ move_pageblock-range l rows zone isolated a pageblock short zone_is h =
       places = moves.places;
       size = length-set ks pageblock moved;
       mobility = λ other. elim (cases_eq other pageblock) [
-        | inl same ↦
-            subst (λ (n : ℕ). (kind_at (set ks pageblock moved) n).mobility ≡ (kind_at ks n).mobility)
-            (sym same) (ap (λ (k : Kind). k.mobility) now)
+        | inl same ↦ rw same (ap (λ (k : Kind). k.mobility) now)
         | inr ne ↦ ap (λ (k : Kind). k.mobility) (others other ne)
       ];
       inside = λ other among. (let same : other ≡ pageblock = omega (arith, among.low, among.high) in
-          subst (λ (n : ℕ). (kind_at (set ks pageblock moved) n).isolated ≡ isolated) (sym same)
-          (ap (λ (k : Kind). k.isolated) now));
+          rw same (ap (λ (k : Kind). k.isolated) now));
       outside = λ other away. ap (λ (k : Kind). k.isolated) (others other (λ same. apart other same away));
     } in
-    subst (λ (k : List Kind). MovesRange l rows isolated pageblock 1 a
-    (record b { kinds = set k pageblock moved })) (sym moves.kinds) whole
+    rw moves.kinds whole
   where
     apart : (other : ℕ) → other ≡ pageblock → (other < pageblock) ⊎ (pageblock + 1 ≤ other) → ⊥
     apart other same (inl low) = absurd (omega arith)
@@ -194,12 +188,11 @@ move_all-range l rows zone isolated a from zero short zones h = record {
   outside = λ pageblock away. refl;
 }
 move_all-range l rows zone isolated a from (suc count) short zones h =
-    let b : FreeAreas = move_pageblock l zone isolated a from in
     let first =
     move_pageblock-range l rows zone isolated a from (omega arith)
     (zones from (record { low = omega arith; high = omega arith })) h in
     let rest =
-    move_all-range l rows zone isolated b (from + 1) count (omega
+    move_all-range l rows zone isolated (move_pageblock l zone isolated a from) (from + 1) count (omega
     (arith, first.size)) (λ pageblock among. zones pageblock
     (record { low = omega (arith, among.low); high = omega (arith, among.high) })) first.ordered in
     record {
@@ -231,8 +224,7 @@ pageblock_range l block pageblock some e =
     let high : pageblock < pageblock / l.pageblocks * l.pageblocks + l.pageblocks = lt-div-mul-add some in
     let low : pageblock / l.pageblocks * l.pageblocks ≤ pageblock =
     omega (arith, div-add-mod' pageblock l.pageblocks) in
-    subst (λ (b : ℕ). IsInRange (b * l.pageblocks) l.pageblocks pageblock) e
-    (record { low = low; high = high })
+    rw (← e) (record { low = low; high = high })
 
 pub pageblock_elsewhere : (l : LayoutParts) (block pageblock : ℕ) → block_of_pageblock l pageblock ≢ block
     → (pageblock < block * l.pageblocks) ⊎ (block * l.pageblocks + l.pageblocks ≤ pageblock)
@@ -248,10 +240,6 @@ pub some_pageblocks : (l : LayoutParts) → IsLayout l → 0 < l.pageblocks
 some_pageblocks l layout =
     let some : 0 < 2 ^ layout.pageblocks.0 = pow_pos layout.pageblocks.0 in
     omega (arith, layout.pageblocks.2)
-
--- 1 for true and 0 for false
-abbrev one_if : Bool → ℕ
-one_if b = cond b 1 0
 
 pub moved_block-placed : (l : LayoutParts) (s : Memory) (block : ℕ) (zone : Zone) (isolated : Bool)
     (row : Row)
@@ -277,17 +265,12 @@ moved_block-placed l s block zone isolated row layout p low was is is_row going 
     get_or-set_same s.blocks.rows block row offline_row short in
     let zones : (pageblock : ℕ) → (row_at l rows pageblock).zone ≡ (row_at l s.blocks.rows pageblock).zone =
     λ pageblock. elim (cases_eq (block_of_pageblock l pageblock) block) [
-      | inl same ↦
-          subst (λ (n : ℕ). (get_or rows n offline_row).zone ≡ (get_or s.blocks.rows n offline_row).zone)
-          (sym same) (ap (λ (r : Row). r.zone) now ∙ is ∙ sym was)
-      | inr ne ↦
-          ap (λ (r : Row). r.zone)
-          (get_or-set_other s.blocks.rows block (block_of_pageblock l pageblock) row offline_row ne)
+      | inl same ↦ rw same (ap (λ (r : Row). r.zone) now ∙ is ∙ sym was)
+      | inr ne ↦ rw (get_or-set_other s.blocks.rows block (block_of_pageblock l pageblock) row offline_row ne)
     ] in
     let ordered : AreOrdered l (class_at l b.kinds rows) b =
     other-ordered l (class_at l b.kinds s.blocks.rows) (class_at l b.kinds rows) b
-    (λ first there. ap (option_map (λ z. class_of_kind z (kind_at b.kinds (pageblock_of l first))))
-    (zones (pageblock_of l first))) range.ordered in
+    (λ first there. rw (zones (pageblock_of l first))) range.ordered in
     record {
       in_order = record {
         shape =
@@ -305,11 +288,8 @@ moved_block-placed l s block zone isolated row layout p low was is is_row going 
         blocks = ordered.blocks;
         joined = ordered.joined;
         cached = λ cpu pool frame on.
-            ap (option_map (λ z. pool_of z (kind_at b.kinds (pageblock_of l frame)).mobility))
-            (zones (pageblock_of l frame))
-            ∙ ap (λ m. option_map (λ z. pool_of z m) (row_at l s.blocks.rows (pageblock_of l frame)).zone)
-            (range.mobility (pageblock_of l frame))
-            ∙ h.cached cpu pool frame on;
+            rw (zones (pageblock_of l frame), range.mobility (pageblock_of l frame))
+            (h.cached cpu pool frame on);
         kernel = λ first. some_weaker (IsKernelAt l s.blocks.rows first) (IsKernelAt l rows first)
             (λ order k. record {
               in_order = k.in_order;
@@ -321,8 +301,7 @@ moved_block-placed l s block zone isolated row layout p low was is is_row going 
             zones pageblock ∙ h.mobility pageblock (sym (range.mobility pageblock) ∙ unmovable);
         isolated = λ pageblock. elim (cases_eq (block_of_pageblock l pageblock) block) [
           | inl same ↦ range.inside pageblock (pageblock_range l block pageblock some same)
-              ∙ sym (subst (λ (n : ℕ). is_going (get_or rows n offline_row) ≡ isolated) (sym same)
-              (ap is_going now ∙ going))
+              ∙ sym (rw same (ap is_going now ∙ going))
           | inr ne ↦ range.outside pageblock (pageblock_elsewhere l block pageblock ne) ∙ h.isolated pageblock
               ∙ sym (ap is_going
               (get_or-set_other s.blocks.rows block (block_of_pageblock l pageblock) row offline_row ne))
@@ -353,11 +332,6 @@ moved_block-placed l s block zone isolated row layout p low was is is_row going 
         → get_or (set s.blocks.rows block row) block offline_row ≡ row → block < length s.blocks.rows
         → offline_places l (with_block_row s block row) frame ≡ offline_places l s frame
     same_offline frame old now short = elim (cases_eq (block_of l frame) block) [
-      | inl same ↦
-          subst (λ (n : ℕ). one_if (is_unplugged (get_or (set s.blocks.rows block row) n offline_row))
-          ≡ one_if (is_unplugged (get_or s.blocks.rows n offline_row))) (sym same)
-          (ap (λ (r : Row). one_if (is_unplugged r)) now ∙ ap one_if (plugged ∙ sym old))
-      | inr ne ↦
-          ap (λ (r : Row). one_if (is_unplugged r))
-          (get_or-set_other s.blocks.rows block (block_of l frame) row offline_row ne)
+      | inl same ↦ rw same (ap (λ (r : Row). one_if (is_unplugged r)) now ∙ ap one_if (plugged ∙ sym old))
+      | inr ne ↦ rw (get_or-set_other s.blocks.rows block (block_of l frame) row offline_row ne)
     ]

@@ -7,7 +7,7 @@ use Rattle.std.proofs.lemmas.Bool.{and_parts, eqb-true, false≢true}
 use Rattle.std.specs.Option.{option_map}
 use Rattle.hp_units.specs.Memory.{Memory}
 use Rattle.hp_units.specs.Marks.{sole_at, is_opening, begins, mark_of, tag_of}
-use Rattle.hp_laws.proofs.Names.{Tag, Record, Item, Event, KernelAlloc, KernelFree, Map, Unmap, Write, Read, Drain, Online, Begin, DrainFor, Migrate, Commit, Cancel, UndoAfter, Probe, Remove, SetAuto, Restored}
+use Rattle.hp_laws.proofs.Names.{Tag, Record, Item, Event, Begin, Cancel, UndoAfter, Restored}
 use Rattle.hp_units.specs.History.{is_refused, goes_back, steps_until, net_with, net_of, run, value_of, Follows, IsLegal, reply_of}
 use Rattle.hp_units.specs.LayoutParts.{LayoutParts}
 use Rattle.hp_laws.proofs.Lists.{get_end}
@@ -44,23 +44,8 @@ net_restored op k n r event good place = rw (good, event, place) refl
 
 -- an event with the mark of a Begin
 pub opening_is_begin : (e : Event) → is_opening (mark_of e) ≡ true → (plan : List Item) × (e ≡ Begin plan)
-opening_is_begin (KernelAlloc order) h = absurd cc
-opening_is_begin (KernelFree frame) h = absurd cc
-opening_is_begin (Map owner page) h = absurd cc
-opening_is_begin (Unmap owner page) h = absurd cc
-opening_is_begin (Write owner page index value) h = absurd cc
-opening_is_begin (Read owner page index) h = absurd cc
-opening_is_begin (Drain cpu) h = absurd cc
-opening_is_begin (Online block zone) h = absurd cc
 opening_is_begin (Begin plan) h = (plan, refl)
-opening_is_begin (DrainFor op cpu) h = absurd cc
-opening_is_begin (Migrate op) h = absurd cc
-opening_is_begin (Commit op) h = absurd cc
-opening_is_begin (Cancel op) h = absurd cc
-opening_is_begin (UndoAfter serial) h = absurd cc
-opening_is_begin (Probe address) h = absurd cc
-opening_is_begin (Remove block) h = absurd cc
-opening_is_begin (SetAuto auto) h = absurd cc
+opening_is_begin _ h = absurd cc
 
 -- the record at a place that is sole
 pub sole_record : (op : ℕ) (n : List Record) (k : ℕ) → IsSole op (map tag_of n) k
@@ -121,9 +106,7 @@ restored_cut l base before op h r legal event is =
       here = sole.1;
       serial = sole.2;
       opens = sole.3;
-      value =
-          ap (run l base) (net-push h r ∙ net_restored op place.0 (net_of h) r event (ap is_refused is)
-          place.1);
+      value = rw (net-push h r, net_restored op place.0 (net_of h) r event (ap is_refused is) place.1);
     }
 
 -- the state after a Cancel that restores
@@ -143,6 +126,5 @@ restored l base before op h r legal event is =
       rw (← serial) (roots.stands cut.place cut.begin cut.here),
       cut.serial,
       opens.1,
-      cut.value ∙ ap (run l base)
-          (roots.comes cut.place cut.begin cut.here ∙ ap (λ (m : ℕ). net_of (take m h)) serial),
+      rw (cut.value, roots.comes cut.place cut.begin cut.here, serial),
     )

@@ -1,5 +1,5 @@
 -- Places in lists, by slice_get.
-use Rattle.std.proofs.Common.{◌≡◌, ℕ, zero, suc, ◌<◌, List, [], ◌∷◌, ◌++◌, length, take, Some, slice_get, refl, ap, arith, inl, inr}
+use Rattle.std.proofs.Common.{◌≡◌, ℕ, zero, suc, ◌<◌, List, [], ◌∷◌, ◌++◌, length, take, Some, slice_get, refl, ap, arith, inl, inr, Bool, cond}
 use Rattle.std.specs.Prelude.{◌⊎◌}
 
 -- a place in the first of two lists
@@ -25,10 +25,9 @@ get_push_cases (z ∷ xs) y x (suc k) h =
 -- a place in the beginning of a list
 pub get_take : {A : Type 0} (n : ℕ) (xs : List A) (x : A) (k : ℕ) → slice_get (take n xs) k ≡ Some x
     → (k < n) × (slice_get xs k ≡ Some x)
-get_take zero xs x k h = absurd cc
-get_take (suc n) [] x k h = absurd cc
 get_take (suc n) (z ∷ xs) x zero h = (omega arith, h)
 get_take (suc n) (z ∷ xs) x (suc k) h = let r = get_take n xs x k h in (omega arith, r.1)
+get_take _ _ x k h = absurd cc
 
 -- each place of a list holds an item
 pub get_some : {A : Type 0} (xs : List A) (k : ℕ) → k < length xs → (x : A) × (slice_get xs k ≡ Some x)
@@ -42,3 +41,6 @@ pub take_next : {A : Type 0} (xs : List A) (k : ℕ) (x : A) → slice_get xs k 
 take_next [] k x h = absurd cc
 take_next (y ∷ xs) zero x h = cc
 take_next (y ∷ xs) (suc k) x h = ap (λ ys. y ∷ ys) (take_next xs k x h)
+
+abbrev pub one_if : Bool → ℕ
+one_if b = cond b 1 0

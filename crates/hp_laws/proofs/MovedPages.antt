@@ -160,5 +160,4 @@ pub migrate-frames : (l : LayoutParts) (s : Memory) (serial cpu op from to o p :
     ≡ option_map (λ frame. cond (frame == from) to frame) (frame_at s.pages o p)
 unfolding step
 migrate-frames l s serial cpu op from to o p placed replied =
-    answer-frames l s serial cpu op o p (refusal_of l s cpu (Migrate op)) placed
-    ∙ ap (λ (r : Reply). option_map (frame_after r) (frame_at s.pages o p)) replied
+    rw (answer-frames l s serial cpu op o p (refusal_of l s cpu (Migrate op)) placed, replied)

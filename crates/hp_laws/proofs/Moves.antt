@@ -39,17 +39,15 @@ total-more : (w : ℕ → ℕ) (p : ℕ → Bool) (x from count : ℕ) → p x �
     ≡ cond (nat_le from x && nat_lt x (from + count)) (w x) 0 + total w p from count
 unfolding total
 total-more w p x from zero e =
-    let no : (nat_le from x && nat_lt x (from + 0)) ≡ false = within_none x from in
-    let gone : cond (nat_le from x && nat_lt x (from + 0)) (w x) 0 ≡ 0 = rw no refl in
+    let gone : cond (nat_le from x && nat_lt x (from + 0)) (w x) 0 ≡ 0 = rw (within_none x from) refl in
     omega arith
   where
     within_none : (x from : ℕ) → (nat_le from x && nat_lt x (from + 0)) ≡ false
     within_none x from = grind (arith, nat_tests)
 total-more w p x from (suc count) e = elim (cases_eq x from) [
   | inl same ↦
-      let on : (x == from) ≡ true = eq-eqb x from same in
       let off : p from ≡ false = subst (λ (n : ℕ). p n ≡ false) same e in
-      let here : cond ((x == from) || p from) (w from) 0 ≡ w x = rw (on, same) refl in
+      let here : cond ((x == from) || p from) (w from) 0 ≡ w x = rw (eq-eqb x from same, same) refl in
       let gone : cond (p from) (w from) 0 ≡ 0 = rw off refl in
       let yes : (nat_le from x && nat_lt x (from + suc count)) ≡ true = grind (arith, nat_tests) in
       let no : (nat_le (from + 1) x && nat_lt x (from + 1 + count)) ≡ false = grind (arith, nat_tests) in

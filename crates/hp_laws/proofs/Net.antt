@@ -34,13 +34,9 @@ legal_push l base before h r legal next n x e =
     elim (get_push_cases h r x n e) [
       | inl at ↦ (let lt : n < length h = slice_get_within h n x at in
           let le : n ≤ length h = omega arith in
-          subst (λ (g : List Record). Follows l base before g x) (sym (take-append-le n h (r ∷ []) le))
-          (legal n x at))
+          rw (take-append-le n h (r ∷ []) le) (legal n x at))
       | inr at ↦ (let le : n ≤ length h = omega arith in
-          let whole : take n (h ++ r ∷ []) ≡ h =
-          take-append-le n h (r ∷ []) le ∙ take_all n h (omega arith) in
-          subst (λ (g : List Record). Follows l base before g x) (sym whole)
-          (subst (λ (y : Record). Follows l base before h y) at.1 next))
+          rw (take-append-le n h (r ∷ []) le ∙ take_all n h (omega arith), ← at.1) next)
     ]
 
 -- a beginning of a legal history is legal

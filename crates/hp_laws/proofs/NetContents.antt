@@ -26,10 +26,9 @@ record IsTaken (k : ℕ) (n : List Record) : Type 0 where
   pub few : length (take k n) ≤ k
 
 taken : (k : ℕ) (n : List Record) → IsTaken k n
-taken zero n = record { shorter = omega arith; few = omega arith }
-taken (suc k) [] = record { shorter = omega arith; few = omega arith }
 taken (suc k) (r ∷ n) =
     (let rest = taken k n in record { shorter = omega (arith, rest.shorter); few = omega (arith, rest.few) })
+taken _ _ = record { shorter = omega arith; few = omega arith }
 
 until_shorter : (serial : ℕ) (n : List Record) → length (steps_until serial n) ≤ length n
 unfolding steps_until
@@ -77,8 +76,7 @@ added_good l base before g r follows adds = by_refusal (is_refused r.reply) refl
         → is_refused (step l (value_of l base g) r.serial r.cpu r.event).reply ≡ false
     by_refusal true e f = absurd (shorter (net_of g) (net_of g) r f (omega arith))
     by_refusal false e f = same_effect l base before g r e
-        (follows.reply ∙ ap (λ (serial : ℕ). effect_reply l before (before + length g) (net_of g)
-        (value_of l base g) serial r.cpu r.event (effect_of r.event)) (sym follows.serial)) f
+        (rw (follows.reply, ← follows.serial)) f
 
 -- ---- each beginning of the net makes the contents that its steps alone make
 
@@ -93,28 +91,21 @@ owned_push : (l : LayoutParts) (base : Memory) (n : List Record) (r : Record) �
     → is_refused (step l (run l base n) r.serial r.cpu r.event).reply ≡ false
     → ContentsOf l base (n ++ r ∷ [])
 owned_push l base n r h good =
-    ap (λ (s : Memory). s.pages.contents) (run-push l base n r)
-    ∙ step-contents l (run l base n) r.serial r.cpu r.event good
-    ∙ ap (λ (c : Contents). contents_after l c r.event) h
-    ∙ sym (fold_push (λ (c : Contents) (x : Record). contents_after l c x.event) base.pages.contents n r)
+    rw (run-push l base n r, step-contents l (run l base n) r.serial r.cpu r.event good, h)
+    (rw (← (fold_push (λ (c : Contents) (x : Record). contents_after l c x.event) base.pages.contents n r)))
 
 prefix_push : (l : LayoutParts) (base : Memory) (n : List Record) (r : Record)
     → ((k : ℕ) → ContentsOf l base (take k n)) → ContentsOf l base (n ++ r ∷ []) → (k : ℕ)
     → ContentsOf l base (take k (n ++ r ∷ []))
 prefix_push l base n r h whole k = elim (cases_lt (length n) k) [
-  | inl past ↦
-      subst (λ (m : List Record). ContentsOf l base m)
-      (sym (take_all k (n ++ r ∷ []) (omega (arith, length_push n r)))) whole
-  | inr within ↦
-      subst (λ (m : List Record). ContentsOf l base m) (sym (take-append-le k n (r ∷ []) within)) (h k)
+  | inl past ↦ rw (take_all k (n ++ r ∷ []) (omega (arith, length_push n r))) whole
+  | inr within ↦ rw (take-append-le k n (r ∷ []) within) (h k)
 ]
 
 prefix_take : (l : LayoutParts) (base : Memory) (n : List Record) (j : ℕ)
     → ((k : ℕ) → ContentsOf l base (take k n)) → (k : ℕ) → ContentsOf l base (take k (take j n))
 prefix_take l base n j h k = elim (cases_lt j k) [
-  | inl past ↦
-      subst (λ (m : List Record). ContentsOf l base m)
-      (sym (take_all k (take j n) (omega (arith, (taken j n).few)))) (h j)
+  | inl past ↦ rw (take_all k (take j n) (omega (arith, (taken j n).few))) (h j)
   | inr within ↦ subst (λ (m : List Record). ContentsOf l base m) (sym (take-take k j n within)) (h k)
 ]
 
@@ -125,14 +116,10 @@ owned_more l base before g r follows h = record {
   legal = legal_push l base before g r h.legal follows;
   prefixes = subst (λ (n : List Record). (k : ℕ) → ContentsOf l base (take k n)) (sym (net-push g r))
       (elim (net_cases before (before + length g) (net_of g) r (numbered_net l base before g h.legal)) [
-        | inl cut ↦
-            subst (λ (n : List Record). (k : ℕ) → ContentsOf l base (take k n)) (sym cut.2)
-            (prefix_take l base (net_of g) cut.0 h.prefixes)
-        | inr adds ↦ subst (λ (n : List Record). (k : ℕ) → ContentsOf l base (take k n)) (sym adds)
-            (prefix_push l base (net_of g) r h.prefixes
-            (owned_push l base (net_of g) r (subst (λ (n : List Record). ContentsOf l base n)
-            (take_all (length (net_of g)) (net_of g) (omega arith)) (h.prefixes (length (net_of g))))
-            (added_good l base before g r follows adds)))
+        | inl cut ↦ rw cut.2 (prefix_take l base (net_of g) cut.0 h.prefixes)
+        | inr adds ↦ rw adds (prefix_push l base (net_of g) r h.prefixes (owned_push l base (net_of g) r
+            (subst (λ (n : List Record). ContentsOf l base n) (take_all (length (net_of g)) (net_of g)
+            (omega arith)) (h.prefixes (length (net_of g)))) (added_good l base before g r follows adds)))
       ]);
 }
 
@@ -153,5 +140,4 @@ value-contents l base before h legal =
     let owned : IsOwned l base before h =
     legal_all l base before (IsOwned l base before) (none_owned l base before)
     (λ g r follows is. owned_more l base before g r follows is) h legal in
-    subst (λ (n : List Record). ContentsOf l base n) (take_all (length (net_of h)) (net_of h) (omega arith))
-    (owned.prefixes (length (net_of h)))
+    rw (← take_all (length (net_of h)) (net_of h) (omega arith)) (owned.prefixes (length (net_of h)))

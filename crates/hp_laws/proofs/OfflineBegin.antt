@@ -8,7 +8,7 @@ use Rattle.hp_units.specs.declared.plans.Item.{Item}
 use Rattle.hp_units.specs.declared.rows.Claim.{Claim}
 use Rattle.hp_units.specs.declared.rows.Row.{Row}
 use Rattle.hp_units.specs.declared.rows.State.{State}
-use Rattle.hp_units.specs.declared.rows.State.TheVariants.{Offline as OfflineState, Online as OnlineState, Going as GoingState, Absent as AbsentState}
+use Rattle.hp_units.specs.declared.rows.State.TheVariants.{Going as GoingState}
 use Rattle.hp_units.specs.declared.rows.Wish.{Wish}
 use Rattle.hp_units.specs.declared.rows.Wish.TheVariants.{Off as OffWish, Normal as NormalWish, Movable as MovableWish}
 use Rattle.hp_units.specs.declared.rows.Zone.{Zone}
@@ -44,12 +44,10 @@ ClaimsFrom op plan s t =
 set_cases : (rows : List Row) (i : ℕ) (row : Row) (k : ℕ)
     → (get_or (set rows i row) k offline_row ≡ get_or rows k offline_row)
     ⊎ ((k ≡ i) × (get_or (set rows i row) k offline_row ≡ row))
-set_cases [] i row k = inl refl
 set_cases (x ∷ xs) zero row zero = inr (refl, refl)
-set_cases (x ∷ xs) zero row (suc k) = inl refl
-set_cases (x ∷ xs) (suc i) row zero = inl refl
 set_cases (x ∷ xs) (suc i) row (suc k) =
     elim (set_cases xs i row k) [ inl e ↦ inl e | inr e ↦ inr (ap suc e.0, e.1) ]
+set_cases _ _ row _ = inl refl
 
 -- of a row that carries the plan's wish
 set-from : (op : ℕ) (plan : List Item) (s t : Memory) (block : ℕ) (row : Row) (wish : Wish)
@@ -67,8 +65,7 @@ set-from op plan s t block row wish is carries h other claim e =
           (sym carries ∙ (ap (λ (r : Row). r.claim) (sym new.1) ∙ e)) in
           inr (
             ap (λ (c : Claim). c.op) (sym same),
-            ap (λ (n : ℕ). wish_of plan n) new.0 ∙ is
-                ∙ ap (λ (c : Claim). Some c.wish) same,
+            rw (new.0, is) (ap (λ (c : Claim). Some c.wish) same),
           )
     ]
 
@@ -169,8 +166,7 @@ kernel_none l s plan block wish e is off = by_item (find (λ item. item.block ==
         let wishes : item.wish ≡ wish = cc in
         let its : kernel_frame_in l s item ≡ None =
         found_none (kernel_frame_in l s) (λ i. i.block == block) plan item none found in
-        subst (λ (n : ℕ). find (λ frame. is_some (kernel_order s frame)) (frames_of_block l n) ≡ None) same
-        (when_off (is_off item.wish) (ap is_off wishes ∙ off) its)
+        rw (← same) (when_off (is_off item.wish) (ap is_off wishes ∙ off) its)
       where
         when_off : (b : Bool) → b ≡ true
             → cond b (find (λ frame. is_some (kernel_order s frame)) (frames_of_block l item.block)) None
@@ -193,10 +189,7 @@ off_claim : (op : ℕ) (row : Row) (state : State) (zone : Option Zone) (claim :
     → HasOffClaim op row
 off_claim op row GoingState zone (Some claim) e going mine h =
     record { claim = claim; is = e; op_is = eqb-true claim.op op mine; off = h.1 }
-off_claim op row GoingState zone None e going mine h = cc
-off_claim op row OfflineState zone claim e going mine h = cc
-off_claim op row OnlineState zone claim e going mine h = cc
-off_claim op row AbsentState zone claim e going mine h = cc
+off_claim op row _ zone _ e going mine h = cc
 
 -- after a Begin with a number that no row carries, none starts in a block that goes offline for it
 pub begun_movable : (l : LayoutParts) (s : Memory) (op : ℕ) (plan : List Item) (first : ℕ) → IsLayout l

@@ -6,7 +6,7 @@ use Rattle.std.specs.Option.{option_map_or}
 use Rattle.std.proofs.lemmas.Bool.{both_ways, or_from}
 use Rattle.hp_units.specs.declared.plans.Item.{Item}
 use Rattle.hp_units.specs.declared.rows.Auto.{Auto}
-use Rattle.hp_units.specs.declared.rows.Auto.TheVariants.{Offline as OfflineAuto, Online as OnlineAuto, OnlineKernel as KernelAuto, OnlineMovable as MovableAuto}
+use Rattle.hp_units.specs.declared.rows.Auto.TheVariants.{Offline as OfflineAuto, OnlineMovable as MovableAuto}
 use Rattle.hp_units.specs.declared.rows.Boot.{Boot}
 use Rattle.hp_units.specs.declared.rows.Boot.TheVariants.{Offline as OfflineBoot, Normal as NormalBoot, Movable as MovableBoot, Absent as AbsentBoot}
 use Rattle.hp_units.specs.declared.rows.Claim.{Claim}
@@ -20,14 +20,14 @@ use Rattle.hp_units.specs.Arithmetic.{all_blocks, block_bytes}
 use Rattle.hp_units.specs.Boot.{boot_block, boot_memory, empty_memory}
 use Rattle.hp_units.specs.Memory.{Blocks, Memory, offline_row, row_of}
 use Rattle.hp_units.specs.History.{IsLegal, net_of, run, value_of}
-use Rattle.hp_units.specs.Migrations.{migration_source, migration_target}
 use Rattle.hp_units.specs.Refusals.{refusal_of}
 use Rattle.hp_units.specs.Rows.{is_claimed_by, begin_block, begin_plan, blocks_of, claim_block, commit_block, commit_blocks, grant, is_going, online_again, online_block, release_block, release_blocks, wish_of, with_block_row}
-use Rattle.hp_units.specs.Step.{answer, auto_online, migrate_step, perform, step}
+use Rattle.hp_units.specs.Step.{answer, auto_online, perform, step}
 use Rattle.hp_laws.specs.Offline.{AreClaimedUpTo, AreHeldBy, IsHeldBy}
-use Rattle.hp_laws.proofs.Names.{Event, KernelAlloc, KernelFree, Map, Unmap, Write, Read, Drain, Online, Begin, DrainFor, Migrate, Commit, Cancel, UndoAfter, Probe, Remove, SetAuto, Record, Refusal}
+use Rattle.hp_laws.proofs.Names.{Event, KernelAlloc, KernelFree, Map, Unmap, Online, Begin, Migrate, Commit, Cancel, Probe, Remove, Record, Refusal}
 use Rattle.hp_laws.proofs.Earlier.{numbered_net}
-use Rattle.hp_laws.proofs.StepBlocks.{answered-blocks, kernel_takes-blocks, kernel_gives-blocks, map_step-blocks, unmap_step-blocks}
+use Rattle.hp_laws.proofs.StepBlocks.{kernel_takes-blocks, kernel_gives-blocks, map_step-blocks, unmap_step-blocks}
+use Rattle.hp_laws.proofs.OperationEvents.{migrate_step-blocks}
 
 -- ---- rows written one after another
 
@@ -154,16 +154,8 @@ release-claims l P op s h =
 auto-claims : (l : LayoutParts) (P : ℕ → Type 0) (auto : Auto) (s : Memory) (block : ℕ) → AreHeldBy P s.blocks
     → AreHeldBy P (auto_online l auto s block).blocks
 auto-claims l P OfflineAuto s block h = h
-auto-claims l P OnlineAuto s block h = online-claims l P NormalZone s block h
-auto-claims l P KernelAuto s block h = online-claims l P NormalZone s block h
 auto-claims l P MovableAuto s block h = online-claims l P MovableZone s block h
-
--- a page moves
-migrate_step-blocks : (l : LayoutParts) (s : Memory) (op : ℕ) → (migrate_step l s op).memory.blocks ≡ s.blocks
-unfolding migrate_step
-migrate_step-blocks l s op =
-    answered-blocks _ s (migration_source l s op)
-    (λ from. answered-blocks _ s (migration_target l s.free.areas) (λ taken. refl))
+auto-claims l P _ s block h = online-claims l P NormalZone s block h
 
 -- ---- each step
 
@@ -183,21 +175,16 @@ perform-claims l P s serial cpu (Map owner page) le h =
     same-claims P s _ (map_step-blocks l s cpu owner page) h
 perform-claims l P s serial cpu (Unmap owner page) le h =
     same-claims P s _ (unmap_step-blocks l s cpu owner page) h
-perform-claims l P s serial cpu (Write owner page index value) le h = h
-perform-claims l P s serial cpu (Read owner page index) le h = h
-perform-claims l P s serial cpu (Drain drained) le h = h
 perform-claims l P s serial cpu (Online block zone) le h = online-claims l P zone s block h
 perform-claims l P s serial cpu (Begin plan) le h = begin-claims l P serial s plan le h
-perform-claims l P s serial cpu (DrainFor op drained) le h = h
 perform-claims l P s serial cpu (Migrate op) le h = same-claims P s _ (migrate_step-blocks l s op) h
 perform-claims l P s serial cpu (Commit op) le h = commit-claims l P op s h
 perform-claims l P s serial cpu (Cancel op) le h = release-claims l P op s h
-perform-claims l P s serial cpu (UndoAfter after) le h = h
 perform-claims l P s serial cpu (Probe address) le h =
     auto-claims l P s.blocks.auto _ (address / block_bytes l)
     (claimed_set P s.blocks.rows (address / block_bytes l) offline_row h tt)
 perform-claims l P s serial cpu (Remove block) le h = claimed_set P s.blocks.rows block _ h tt
-perform-claims l P s serial cpu (SetAuto auto) le h = h
+perform-claims l P s serial cpu _ le h = h
 
 -- an event, by its refusal
 answer-claims : (l : LayoutParts) (P : ℕ → Type 0) (s : Memory) (serial cpu : ℕ) (event : Event)

@@ -1,6 +1,6 @@
 -- An operation that nothing disturbed commits: each frame of its going blocks is in a free block,
 -- as it is nowhere else.
-use Rattle.std.proofs.Common.{◌≡◌, ◌≢◌, ℕ, zero, suc, ◌+◌, ◌-◌, ◌*◌, ◌/◌, ◌%◌, ◌<◌, List, [], ◌∷◌, ◌++◌, length, get_or, Bool, true, false, cond, Option, Some, None, map, slice_get, refl, ap, sym, subst, ◌∙◌, arith, inl, inr, ◌==◌}
+use Rattle.std.proofs.Common.{◌≡◌, ◌≢◌, ℕ, zero, suc, ◌+◌, ◌*◌, ◌/◌, ◌%◌, ◌<◌, List, [], ◌∷◌, ◌++◌, length, get_or, Bool, true, false, cond, Option, Some, None, map, slice_get, refl, ap, sym, subst, ◌∙◌, arith, inl, inr, ◌==◌}
 use Rattle.std.specs.Prelude.{position}
 use Rattle.std.specs.List.{count_by, enumerate_from, list_any, position_from, sum_by}
 use Rattle.std.specs.Option.{option_map, option_map_or, option_or}
@@ -21,12 +21,12 @@ use Rattle.hp_units.specs.Pages.{holds, page_at, page_from}
 use Rattle.hp_units.specs.Refusals.{frame_in_use}
 use Rattle.hp_units.specs.Rows.{is_claimed_by, is_going, is_live}
 use Rattle.hp_units.specs.Step.{step}
-use Rattle.hp_units.specs.Placement.{IsWellPlaced, cached_places, covers, kernel_places, mapped_places, offline_places}
+use Rattle.hp_units.specs.Placement.{IsWellPlaced, cached_places, covers, kernel_places, mapped_places}
 use Rattle.hp_laws.specs.Consequences.{IsFrameOf, IsGoingFor, IsFrameInUse, IsInFreeBlock}
 use Rattle.hp_laws.specs.Offline.{AreHeldBy, IsUndisturbed, drains_for}
-use Rattle.hp_laws.proofs.Names.{Begin, Commit, Done, Event, Record}
+use Rattle.hp_laws.proofs.Names.{Begin, Commit, Done, Record}
 use Rattle.hp_laws.proofs.LawProofs.{last_follows, front_legal, opening_is_begin}
-use Rattle.hp_laws.proofs.Lists.{get_left}
+use Rattle.hp_laws.proofs.Lists.{get_left, one_if}
 use Rattle.hp_laws.proofs.Net.{Numbered, run-append}
 use Rattle.hp_laws.proofs.Earlier.{numbered_net}
 use Rattle.hp_laws.proofs.OwnedContents.{AllSucceed}
@@ -79,10 +79,6 @@ none_cached l s frame p drained = empty_lists frame s.free.cached each
       | inr high ↦ get_or_past s.free.cached i [] high
     ]
 
--- 1 for true and 0 for false
-abbrev one_if : Bool → ℕ
-one_if b = cond b 1 0
-
 -- a frame that has no page is in no entry of the table
 no_entry_from : (frame n : ℕ) (row : List (Option ℕ)) → position_from (holds frame) n row ≡ None
     → count_by (holds frame) row ≡ 0
@@ -99,11 +95,6 @@ no_entry_from frame n (entry ∷ row) e =
     by_test true is e rest sum = cc
     by_test false is e rest sum = (let none = rest e in omega (arith, sum, ap one_if is))
 
--- and so of the first entry that has it
-no_entry : (frame : ℕ) (row : List (Option ℕ)) → position (holds frame) row ≡ None
-    → count_by (holds frame) row ≡ 0
-no_entry frame row e = no_entry_from frame 0 row (sym (position_from-zero (holds frame) row) ∙ e)
-
 -- of the whole table
 no_page : (owner frame : ℕ) (table : List (List (Option ℕ))) → page_from owner table frame ≡ None
     → sum_by (λ row. count_by (holds frame) row) table ≡ 0
@@ -118,7 +109,8 @@ no_page owner frame (row ∷ rows) e =
         → sum_by (λ r. count_by (holds frame) r) (row ∷ rows)
         ≡ count_by (holds frame) row + sum_by (λ r. count_by (holds frame) r) rows
         → sum_by (λ r. count_by (holds frame) r) (row ∷ rows) ≡ 0
-    by_position None is e rest sum = (let none = no_entry frame row is in let later = rest e in omega arith)
+    by_position None is e rest sum = (let none = no_entry_from frame 0 row
+        (sym (position_from-zero (holds frame) row) ∙ is) in let later = rest e in omega arith)
     by_position (Some page) is e rest sum = cc
 
 -- a frame without a page is in no place of one
@@ -133,8 +125,7 @@ kernel_sum : (frame n : ℕ) (entries : List (Option ℕ))
 kernel_sum frame n [] none = refl
 kernel_sum frame n (entry ∷ entries) none =
     let start : n + 0 ≡ n = omega arith in
-    let here : kernel_covered frame n entry ≡ 0 =
-    subst (λ (k : ℕ). kernel_covered frame k entry ≡ 0) start (none 0) in
+    let here : kernel_covered frame n entry ≡ 0 = rw (← start) (none 0) in
     let rest =
     kernel_sum frame (n + 1) entries (λ i. (let next : n + suc i ≡ n + 1 + i = omega arith in
     subst (λ (k : ℕ). kernel_covered frame k (get_or entries i None) ≡ 0) next (none (suc i)))) in
@@ -151,8 +142,7 @@ pub none_kernel : (l : LayoutParts) (s : Memory) (op frame : ℕ) → IsWellPlac
     → ((first : ℕ) → IsGoingFor l s op first → kernel_order s first ≡ None) → IsGoingFor l s op frame
     → kernel_places s frame ≡ 0
 none_kernel l s op frame p movable h =
-    kernel_sum frame 0 s.kernel (λ i. subst (λ (k : ℕ). kernel_covered frame k (get_or s.kernel i None) ≡ 0)
-    (start i) (each i (kernel_order s i) refl))
+    kernel_sum frame 0 s.kernel (λ i. rw (← start i) (each i (kernel_order s i) refl))
   where
     start : (i : ℕ) → i ≡ 0 + i
     start i = omega arith
@@ -185,15 +175,13 @@ pub frame_free : (l : LayoutParts) (s : Memory) (op frame : ℕ) → IsWellPlace
     → ((first : ℕ) → IsGoingFor l s op first → kernel_order s first ≡ None)
     → page_at s.pages frame ≡ None → IsGoingFor l s op frame → IsInFreeBlock s.free.areas frame
 frame_free l s op frame p drained movable unmapped h =
-    let plugged : offline_places l s frame ≡ 0 =
-    ap one_if (going_plugged (row_of s.blocks (block_of l frame)).state h.going) in
     free_block s.free.areas frame (omega (
       arith,
       p.once frame,
       none_cached l s frame p drained,
       none_mapped s frame unmapped,
       none_kernel l s op frame p movable h,
-      plugged,
+      ap one_if (going_plugged (row_of s.blocks (block_of l frame)).state h.going),
     ))
 
 -- ---- the state that the operation's own steps lead to
@@ -228,19 +216,14 @@ ready l s op cpu plan work layout p claims good own succeeds drained =
     let done = own_run l op begun work own succeeds in
     let end : Memory = run l begun work in
     let still : (first : ℕ) → IsGoingFor l begun op first → kernel_order begun first ≡ None =
-    subst (λ (t : Memory). (first : ℕ) → IsGoingFor l t op first → kernel_order t first ≡ None)
-    (sym performed.memory)
-    (λ first h. begun_movable l s op plan first layout claims performed.free
+    rw performed.memory (λ first h. begun_movable l s op plan first layout claims performed.free
     (subst (λ (t : Memory). IsWellPlaced l t) performed.memory placed) h) in
     record {
       placed = run-placed l begun work layout placed;
       drained = λ c low. done.drained c (drained c low);
       movable =
-          λ first h. ap (λ (ks : List (Option ℕ)). get_or ks first None) done.work.kernel
-          ∙ still first (going_same l begun end op first done.work.blocks h);
-      live =
-          subst (λ (bs : Blocks). is_live bs op ≡ true) (sym done.work.blocks)
-          (done.live 0 (drained 0 (omega (arith, layout.some_cpus))));
+          λ first h. rw done.work.kernel (still first (going_same l begun end op first done.work.blocks h));
+      live = rw done.work.blocks (done.live 0 (drained 0 (omega (arith, layout.some_cpus))));
     }
 
 -- then its Commit is done
@@ -284,9 +267,7 @@ pub undisturbed_new : (l : LayoutParts) (base : Memory) (before op : ℕ) (h : L
     → IsLegal l base before h → IsUndisturbed l s op (net_of h) → before < op
 undisturbed_new l base before op h s legal u =
     let opens = and_parts (is_opening (mark_of u.begin.event)) (u.begin.serial == op) u.opens in
-    let numbered =
-    subst (λ (n : List Record). Numbered before (before + length h) n) u.steps
-    (numbered_net l base before h legal) in
+    let numbered = rw u.steps at (numbered_net l base before h legal) in
     subst (λ (n : ℕ). before < n) (eqb-true u.begin.serial op opens.1)
     (numbered.over (length u.earlier) u.begin (get_middle u.earlier u.work u.begin))
 
@@ -300,9 +281,7 @@ undisturbed_ready l base before op h layout p claims legal u =
     let opens = and_parts (is_opening (mark_of u.begin.event)) (u.begin.serial == op) u.opens in
     let event = opening_is_begin u.begin.event opens.0 in
     let serial : u.begin.serial ≡ op = eqb-true u.begin.serial op opens.1 in
-    let numbered =
-    subst (λ (n : List Record). Numbered before (before + length h) n) u.steps
-    (numbered_net l base before h legal) in
+    let numbered = rw u.steps at (numbered_net l base before h legal) in
     let start : Memory = run l base u.earlier in
     let succeeds : AllSucceed l start (u.begin ∷ u.work) =
     succeed_behind l base u.earlier (u.begin ∷ u.work)
@@ -312,9 +291,8 @@ undisturbed_ready l base before op h layout p claims legal u =
     (earlier_other before (before + length h) u.earlier u.work u.begin numbered i r e)) claims in
     let whole : run l base (net_of h) ≡ run l start (u.begin ∷ u.work) =
     ap (run l base) u.steps ∙ run-append l base u.earlier (u.begin ∷ u.work) in
-    subst (λ (t : Memory). IsReady l t op) (sym whole)
-    (at_begin start u.begin u.work event.0 event.1 serial (run-placed l base u.earlier layout p) new succeeds
-    u.own u.drained)
+    rw whole (at_begin start u.begin u.work event.0 event.1 serial (run-placed l base u.earlier layout p) new
+    succeeds u.own u.drained)
   where
     at_begin : (start : Memory) (begin : Record) (work : List Record) (plan : List Item)
         → begin.event ≡ Begin plan → begin.serial ≡ op → IsWellPlaced l start
@@ -323,25 +301,16 @@ undisturbed_ready l base before op h layout p claims legal u =
         → ((c : ℕ) → c < l.cpus → list_any (λ (r : Record). drains_for op c r.event) work ≡ true)
         → IsReady l (run l (step l start begin.serial begin.cpu begin.event).memory work) op
     at_begin start begin work plan event serial placed new succeeds own drained =
-        subst (λ (e : Event). IsReady l (run l (step l start begin.serial begin.cpu e).memory work) op)
-        (sym event)
-        (subst (λ (n : ℕ). IsReady l (run l (step l start n begin.cpu (Begin plan)).memory work) op)
-        (sym serial)
-        (ready l start op begin.cpu plan work layout placed new
-        (subst (λ (n : ℕ). is_refused (step l start n begin.cpu (Begin plan)).reply ≡ false) serial (subst
-        (λ (e : Event). is_refused (step l start begin.serial begin.cpu e).reply ≡ false) event succeeds.0))
-        own
-        (subst (λ (n : ℕ). AllSucceed l (step l start n begin.cpu (Begin plan)).memory work) serial (subst
-        (λ (e : Event). AllSucceed l (step l start begin.serial begin.cpu e).memory work) event succeeds.1))
-        drained))
+        rw (event, serial)
+        (ready l start op begin.cpu plan work layout placed new (rw (← serial, ← event) succeeds.0) own
+        (rw (← serial, ← event) succeeds.1) drained)
 
 -- the reply to a recorded Commit is that of the step
 pub commit_step : (l : LayoutParts) (base : Memory) (before op : ℕ) (h : List Record) (r : Record)
     → IsLegal l base before (h ++ r ∷ []) → r.event ≡ Commit op
     → r.reply ≡ (step l (value_of l base h) (before + length h + 1) r.cpu (Commit op)).reply
 unfolding reply_of
-commit_step l base before op h r legal event =
-    (last_follows l base before h r legal).reply ∙ ap (λ (e : Event). reply_of l base before h r.cpu e) event
+commit_step l base before op h r legal event = rw ((last_follows l base before h r legal).reply, event)
 
 -- an operation that nothing disturbed commits
 pub undisturbed_done : (l : LayoutParts) (base : Memory) (before op : ℕ) (h : List Record) (r : Record)

@@ -1,5 +1,5 @@
 -- No step of the net of a legal history was refused, and each was performed.
-use Rattle.std.proofs.Common.{◌≡◌, ℕ, zero, suc, ◌+◌, List, [], ◌∷◌, ◌++◌, length, take, false, Option, Some, None, refl, ap, sym, subst, inl, inr}
+use Rattle.std.proofs.Common.{◌≡◌, ℕ, suc, ◌+◌, List, [], ◌∷◌, ◌++◌, length, take, false, Option, Some, None, refl, ap, sym, subst, inl, inr}
 use Rattle.std.specs.Prelude.{nat_le}
 use Rattle.std.specs.Bool.{then_some}
 use Rattle.hp_units.specs.LayoutParts.{LayoutParts}
@@ -34,9 +34,8 @@ succeed_behind l s (r ∷ a) b h = succeed_behind l (step l s r.serial r.cpu r.e
 -- a beginning
 succeed_take : (l : LayoutParts) (s : Memory) (k : ℕ) (n : List Record) → AllSucceed l s n
     → AllSucceed l s (take k n)
-succeed_take l s zero n h = tt
-succeed_take l s (suc k) [] h = tt
 succeed_take l s (suc k) (r ∷ n) h = (h.0, succeed_take l (step l s r.serial r.cpu r.event).memory k n h.1)
+succeed_take l s _ _ h = tt
 
 -- a legal history of whose net no step is refused
 record IsGood (l : LayoutParts) (base : Memory) (before : ℕ) (g : List Record) : Type 0 where
@@ -51,9 +50,7 @@ good_more l base before g r follows h = record {
   legal = legal_push l base before g r h.legal follows;
   good = subst (λ (n : List Record). AllSucceed l base n) (sym (net-push g r))
       (elim (net_cases before (before + length g) (net_of g) r (numbered_net l base before g h.legal)) [
-        | inl cut ↦
-            subst (λ (n : List Record). AllSucceed l base n) (sym cut.2)
-            (succeed_take l base cut.0 (net_of g) h.good)
+        | inl cut ↦ rw cut.2 (succeed_take l base cut.0 (net_of g) h.good)
         | inr adds ↦ subst (λ (n : List Record). AllSucceed l base n) (sym adds)
             (succeed_both l base (net_of g) (r ∷ []) h.good (added_good l base before g r follows adds, tt))
       ]);

@@ -1,5 +1,5 @@
 -- What an operation's own drains and migrations keep, and which processors' lists they leave empty.
-use Rattle.std.proofs.Common.{◌≡◌, ℕ, zero, suc, ◌+◌, ◌*◌, List, [], ◌∷◌, get_or, set, true, false, Option, Some, None, map, refl, sym, subst, ◌∙◌, inl, inr, ◌==◌, eqb-true}
+use Rattle.std.proofs.Common.{◌≡◌, ℕ, zero, suc, ◌+◌, ◌*◌, List, [], ◌∷◌, get_or, set, true, false, Option, Some, None, map, refl, subst, ◌∙◌, inl, inr, ◌==◌, eqb-true}
 use Rattle.std.specs.List.{list_any}
 use Rattle.std.specs.Option.{option_map_or}
 use Rattle.std.proofs.lemmas.Bool.{and_parts, not-false, or_cases}
@@ -15,7 +15,7 @@ use Rattle.hp_units.specs.Refusals.{event_refusals}
 use Rattle.hp_units.specs.Rows.{is_live}
 use Rattle.hp_units.specs.Step.{Answered, done, migrate_step, perform, step, with_free}
 use Rattle.hp_laws.specs.Offline.{drains_for}
-use Rattle.hp_laws.proofs.Names.{Event, KernelAlloc, KernelFree, Map, Unmap, Write, Read, Drain, Online, Begin, DrainFor, Migrate, Commit, Cancel, UndoAfter, Probe, Remove, SetAuto, Record}
+use Rattle.hp_laws.proofs.Names.{Event, DrainFor, Migrate, Record}
 use Rattle.hp_laws.proofs.OwnedContents.{AllSucceed, all_none}
 use Rattle.hp_laws.proofs.EventSteps.{then_none}
 use Rattle.hp_laws.proofs.OfflineNet.{IsPerformed, step_performed}
@@ -24,17 +24,15 @@ use Rattle.hp_laws.proofs.OfflineNet.{IsPerformed, step_performed}
 
 -- a list that becomes empty, and one that is so
 emptied : (lists : List (List ℕ)) (i : ℕ) → get_or (set lists i []) i [] ≡ []
-emptied [] i = refl
-emptied (frames ∷ lists) zero = refl
 emptied (frames ∷ lists) (suc i) = emptied lists i
+emptied _ _ = refl
 
 -- and one that is so stays so
 still_empty : (lists : List (List ℕ)) (i k : ℕ) → get_or lists k [] ≡ [] → get_or (set lists i []) k [] ≡ []
-still_empty [] i k e = refl
-still_empty (frames ∷ lists) zero zero e = refl
 still_empty (frames ∷ lists) zero (suc k) e = e
 still_empty (frames ∷ lists) (suc i) zero e = e
 still_empty (frames ∷ lists) (suc i) (suc k) e = still_empty lists i k e
+still_empty _ _ _ e = refl
 
 -- the lists of the processor are empty
 abbrev pub IsDrained : FreeFrames → ℕ → Type 0
@@ -131,21 +129,7 @@ own_perform l op s serial cpu (Migrate other) own h =
           subst (λ (n : ℕ). is_live s.blocks n ≡ true) same (not-false (is_live s.blocks other)
           (then_none _ _ (all_none (event_refusals l s cpu (Migrate other)) h.free).0));
     }
-own_perform l op s serial cpu (KernelAlloc order) own h = absurd cc
-own_perform l op s serial cpu (KernelFree frame) own h = absurd cc
-own_perform l op s serial cpu (Map owner page) own h = absurd cc
-own_perform l op s serial cpu (Unmap owner page) own h = absurd cc
-own_perform l op s serial cpu (Write owner page index value) own h = absurd cc
-own_perform l op s serial cpu (Read owner page index) own h = absurd cc
-own_perform l op s serial cpu (Drain drained) own h = absurd cc
-own_perform l op s serial cpu (Online block zone) own h = absurd cc
-own_perform l op s serial cpu (Begin plan) own h = absurd cc
-own_perform l op s serial cpu (Commit other) own h = absurd cc
-own_perform l op s serial cpu (Cancel other) own h = absurd cc
-own_perform l op s serial cpu (UndoAfter after) own h = absurd cc
-own_perform l op s serial cpu (Probe address) own h = absurd cc
-own_perform l op s serial cpu (Remove block) own h = absurd cc
-own_perform l op s serial cpu (SetAuto auto) own h = absurd cc
+own_perform l op s serial cpu _ own h = absurd cc
 
 -- each of its own steps
 own_step : (l : LayoutParts) (op : ℕ) (s : Memory) (serial cpu : ℕ) (event : Event)
@@ -153,8 +137,7 @@ own_step : (l : LayoutParts) (op : ℕ) (s : Memory) (serial cpu : ℕ) (event :
     → OwnStep l op s event (step l s serial cpu event).memory
 own_step l op s serial cpu event own good =
     let performed = step_performed l s serial cpu event good in
-    subst (λ (t : Memory). OwnStep l op s event t) (sym performed.memory)
-    (own_perform l op s serial cpu event own performed)
+    rw performed.memory (own_perform l op s serial cpu event own performed)
 
 -- ---- one of its own steps after another
 

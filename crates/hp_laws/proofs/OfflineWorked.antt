@@ -1,6 +1,6 @@
 -- Worked operations, computed: one that nothing disturbed and that commits, and one for each
 -- condition that is missing.
-use Rattle.std.proofs.Common.{◌≡◌, ℕ, zero, suc, ◌<◌, List, [], ◌∷◌, ◌++◌, map, Some, true, refl, arith, ◌==◌}
+use Rattle.std.proofs.Common.{◌≡◌, ℕ, suc, ◌<◌, List, [], ◌∷◌, ◌++◌, map, Some, true, refl, arith, ◌==◌}
 use Rattle.std.specs.List.{list_all, list_any}
 use Rattle.hp_units.specs.declared.rows.Class.TheVariants.{Nm}
 use Rattle.hp_units.specs.declared.rows.Mobility.TheVariants.{Unmovable}
@@ -65,9 +65,8 @@ after_drains = run small (boot_memory small) (used ++ opening ∷ drains)
 
 -- each processor is among them
 each_drained : (cpu : ℕ) → cpu < 2 → list_any (λ (r : Record). drains_for 3 cpu r.event) drains ≡ true
-each_drained zero low = refl
-each_drained (suc zero) low = refl
 each_drained (suc (suc n)) low = absurd (omega arith)
+each_drained _ low = refl
 
 -- the conditions hold
 undisturbed : IsUndisturbed small after_drains 3 (used ++ opening ∷ drains)

@@ -2,7 +2,6 @@
 use Rattle.std.proofs.Common.{◌≡◌, ◌≢◌, ℕ, zero, suc, ◌+◌, ◌*◌, ◌/◌, ◌^◌, ◌<◌, ◌≤◌, List, [], ◌∷◌, length, get_or, set, Bool, true, false, not, cond, Option, Some, None, refl, sym, ◌∙◌, ap, subst, arith, ◌⊎◌, inl, inr, IfSome, length-set, eqb-true, ne_eqb, ◌==◌, ◌||◌}
 use Rattle.std.specs.Prelude.{fold}
 use Rattle.std.specs.List.{range_with_len}
-use Rattle.std.specs.Option.{option_map}
 use Rattle.std.proofs.lemmas.Bool.Decides.{nat_tests}
 use Rattle.std.proofs.lemmas.Bool.{cases_eq, cases_lt, or_cases, or_left}
 use Rattle.std.proofs.lemmas.List.{get_or-set_other, get_or-set_same}
@@ -14,8 +13,8 @@ use Rattle.hp_units.specs.declared.rows.Row.{Row}
 use Rattle.hp_units.specs.declared.rows.Zone.{Zone}
 use Rattle.hp_units.specs.LayoutParts.{LayoutParts, IsLayout}
 use Rattle.hp_units.specs.Arithmetic.{block_of, block_of_pageblock, pageblock_of}
-use Rattle.hp_units.specs.Memory.{FreeAreas, Memory, free_list, kernel_order, offline_row, plain_kind, pool_of, row_of, isolated_class}
-use Rattle.hp_units.specs.FreeAreas.{class_of_kind, is_on, without, without_free}
+use Rattle.hp_units.specs.Memory.{FreeAreas, Memory, free_list, kernel_order, offline_row, plain_kind, row_of, isolated_class}
+use Rattle.hp_units.specs.FreeAreas.{is_on, without, without_free}
 use Rattle.hp_units.specs.Isolation.{remove_block, remove_pageblock}
 use Rattle.hp_units.specs.Rows.{is_going, with_areas, with_block_row}
 use Rattle.hp_units.specs.Placement.{IsInOrder, IsKernelAt, IsRow, IsWellPlaced, cached_places, class_at, free_places, is_unplugged, kernel_places, kind_at, offline_places, row_at}
@@ -29,6 +28,7 @@ use Rattle.hp_laws.proofs.States.{areas_of, block_of-pageblock, get_or-cases}
 use Rattle.hp_laws.proofs.Rows.{kernel_some, on_cached, row_at-other}
 use Rattle.hp_laws.proofs.Onlines.{inside, outside, within, within-split}
 use Rattle.hp_laws.proofs.Isolations.{pageblock_elsewhere, pageblock_range, some_pageblocks}
+use Rattle.hp_laws.proofs.Lists.{one_if}
 
 -- ---- what stays on a list
 
@@ -37,8 +37,7 @@ pub on_without-other : (first block : ℕ) (frames : List ℕ) → first ≢ blo
 on_without-other first block [] ne on = cc
 on_without-other first block (x ∷ xs) ne on = elim (or_cases (x == first) (is_on first xs) on) [
   | inl same ↦
-      let is : x ≡ first = eqb-true x first same in
-      kept_first (x == block) (ne_eqb x block (λ e. ne (sym is ∙ e))) same
+      kept_first (x == block) (ne_eqb x block (λ e. ne (sym (eqb-true x first same) ∙ e))) same
   | inr there ↦ kept_later (x == block) (on_without-other first block xs ne there)
 ]
   where
@@ -97,8 +96,7 @@ remove_one l class_at zone a pageblock short h on =
       places = λ frame. rw next (without_free-places a class l.order first frame has (h.few first) on);
       size = length-set a.kinds pageblock plain_kind;
       inside = λ other among. (let same : other ≡ pageblock = omega (arith, among.low, among.high) in
-          subst (λ (n : ℕ). kind_at (set a.kinds pageblock plain_kind) n ≡ plain_kind) (sym same)
-          (get_or-set_same a.kinds pageblock plain_kind plain_kind short));
+          rw same (get_or-set_same a.kinds pageblock plain_kind plain_kind short));
       outside =
           λ other away. get_or-set_other a.kinds pageblock other plain_kind plain_kind (apart other away);
       stays =
@@ -190,10 +188,6 @@ remove_block-range l s block zone p low all =
     remove_all l (class_at l s.free.areas.kinds s.blocks.rows) zone s.free.areas (block * l.pageblocks)
     l.pageblocks (omega (arith, p.in_order.shape.kinds)) (areas_of l s p) all
 
--- 1 for true and 0 for false
-abbrev one_if : Bool → ℕ
-one_if b = cond b 1 0
-
 pub offlined-placed : (l : LayoutParts) (s : Memory) (block : ℕ) (zone : Zone) → IsLayout l → IsWellPlaced l s
     → block < l.blocks → is_unplugged (row_of s.blocks block) ≡ false → IsAllFree l s.free.areas zone block
     → IsWellPlaced l
@@ -235,11 +229,7 @@ offlined-placed l s block zone layout p low plugged all =
     let ordered : AreOrdered l (class_at l b.kinds rows) b =
     other-ordered l (class_at l s.free.areas.kinds s.blocks.rows) (class_at l b.kinds rows) b
     (λ first there.
-    ap (λ (r : Row). option_map (λ z. class_of_kind z (kind_at b.kinds (pageblock_of l first))) r.zone)
-    (row_same first (away_free first there))
-    ∙ ap
-    (λ (k : Kind). option_map (λ z. class_of_kind z k) (row_at l s.blocks.rows (pageblock_of l first)).zone)
-    (kind_same first (away_free first there))) range.ordered in
+    rw (row_same first (away_free first there), kind_same first (away_free first there))) range.ordered in
     record {
       in_order = record {
         shape =
@@ -259,11 +249,7 @@ offlined-placed l s block zone layout p low plugged all =
         cached = λ cpu pool frame on.
             let some : 1 ≤ cached_places s.free frame = on_cached s.free cpu pool frame on in
             let ne : block_of l frame ≢ block = away frame (omega arith) in
-            ap (λ (r : Row). option_map (λ z. pool_of z (kind_at b.kinds (pageblock_of l frame)).mobility)
-            r.zone) (row_same frame ne)
-            ∙ ap (λ (k : Kind). option_map (λ z. pool_of z k.mobility)
-            (row_at l s.blocks.rows (pageblock_of l frame)).zone) (kind_same frame ne)
-            ∙ h.cached cpu pool frame on;
+            rw (row_same frame ne, kind_same frame ne) (h.cached cpu pool frame on);
         kernel =
             λ first.
             kernel_at first (kernel_order s first) refl (h.kernel first) (away first) (row_same first);
@@ -272,22 +258,18 @@ offlined-placed l s block zone layout p low plugged all =
               absurd (apart (kind_at b.kinds pageblock)
               (range.inside pageblock (pageblock_range l block pageblock some same)) unmovable)
           | inr ne ↦
-              ap (λ (r : Row). r.zone) (get_or-set_other s.blocks.rows block (block_of_pageblock l pageblock)
-              offline_row offline_row ne)
-              ∙ h.mobility pageblock (ap (λ (k : Kind). k.mobility)
-              (sym (range.outside pageblock (pageblock_elsewhere l block pageblock ne))) ∙ unmovable)
+              rw (get_or-set_other s.blocks.rows block (block_of_pageblock l pageblock) offline_row
+              offline_row ne) (h.mobility pageblock (ap (λ (k : Kind). k.mobility)
+              (sym (range.outside pageblock (pageblock_elsewhere l block pageblock ne))) ∙ unmovable))
         ];
         isolated = λ pageblock. elim (cases_eq (block_of_pageblock l pageblock) block) [
           | inl same ↦
-              ap (λ (k : Kind). k.isolated)
-              (range.inside pageblock (pageblock_range l block pageblock some same))
-              ∙ sym
-              (subst (λ (n : ℕ). is_going (get_or rows n offline_row) ≡ false) (sym same) (ap is_going now))
+              rw (range.inside pageblock (pageblock_range l block pageblock some same)) (rw (←
+              (subst (λ (n : ℕ). is_going (get_or rows n offline_row) ≡ false) (sym same) (ap is_going now))))
           | inr ne ↦
-              ap (λ (k : Kind). k.isolated)
-              (range.outside pageblock (pageblock_elsewhere l block pageblock ne)) ∙ h.isolated pageblock
-              ∙ sym (ap is_going (get_or-set_other s.blocks.rows block (block_of_pageblock l pageblock)
-              offline_row offline_row ne))
+              rw (range.outside pageblock (pageblock_elsewhere l block pageblock ne), h.isolated pageblock)
+              (rw (← get_or-set_other s.blocks.rows block (block_of_pageblock l pageblock) offline_row
+              offline_row ne))
         ];
         rows =
             get_or-cases (λ (n : ℕ) (r : Row). IsRow r) s.blocks.rows block offline_row offline_row short
@@ -296,18 +278,14 @@ offlined-placed l s block zone layout p low plugged all =
       };
       once = λ frame. elim (cases_eq (block_of l frame) block) [
         | inl same ↦
-            let old : offline_places l s frame ≡ 0 =
-            subst (λ (n : ℕ). one_if (is_unplugged (row_of s.blocks n)) ≡ 0) (sym same)
-            (ap one_if plugged) in
+            let old : offline_places l s frame ≡ 0 = rw same (ap one_if plugged) in
             let new : offline_places l (with_block_row s block offline_row) frame ≡ 1 =
-            subst (λ (n : ℕ). one_if (is_unplugged (get_or rows n offline_row)) ≡ 1) (sym same)
-            (ap (λ (r : Row). one_if (is_unplugged r)) now) in
+            rw same (ap (λ (r : Row). one_if (is_unplugged r)) now) in
             omega
             (arith, p.once frame, places frame, inside frame (l.pageblocks * 2 ^ l.order) block size same)
         | inr ne ↦
             let new : offline_places l (with_block_row s block offline_row) frame ≡ offline_places l s frame =
-            ap (λ (r : Row). one_if (is_unplugged r))
-            (get_or-set_other s.blocks.rows block (block_of l frame) offline_row offline_row ne) in
+            rw (get_or-set_other s.blocks.rows block (block_of l frame) offline_row offline_row ne) in
             omega (arith, p.once frame, places frame, outside frame (l.pageblocks * 2 ^ l.order) block ne)
       ];
     }

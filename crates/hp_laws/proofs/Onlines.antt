@@ -1,13 +1,11 @@
 -- A block goes online.
-use Rattle.std.proofs.Common.{◌≡◌, ◌≢◌, ℕ, zero, suc, ◌+◌, ◌-◌, ◌*◌, ◌/◌, ◌^◌, ◌<◌, ◌≤◌, List, [], ◌∷◌, ◌++◌, length, get_or, set, Bool, true, false, cond, Option, Some, None, refl, sym, ◌∙◌, ap, subst, arith, inl, inr, add-zero, ◌&&◌}
+use Rattle.std.proofs.Common.{◌≡◌, ◌≢◌, ℕ, zero, suc, ◌+◌, ◌-◌, ◌*◌, ◌/◌, ◌^◌, ◌<◌, ◌≤◌, List, [], ◌∷◌, ◌++◌, length, get_or, set, true, false, cond, Option, Some, None, refl, sym, subst, arith, inl, inr, add-zero, ◌&&◌}
 use Rattle.std.specs.Prelude.{fold, nat_le, nat_lt}
 use Rattle.std.specs.List.{range_with_len}
-use Rattle.std.specs.Option.{option_map}
 use Rattle.std.proofs.lemmas.Bool.{cases_eq, cases_lt}
 use Rattle.std.proofs.lemmas.Bool.Decides.{nat_tests}
 use Rattle.std.proofs.lemmas.List.{get_or-set_other, get_or-set_same}
 use Rattle.std.proofs.lemmas.Nat.{mul-le, pow_pos, shl-shr, div-mul-add, div-add-mod'}
-use Rattle.std.proofs.Math.Nat.{lt-div-mul-add}
 use Rattle.hp_units.specs.declared.rows.Class.{Class}
 use Rattle.hp_units.specs.declared.rows.Row.{Row}
 use Rattle.hp_units.specs.declared.rows.Kind.{Kind}
@@ -17,7 +15,6 @@ use Rattle.hp_units.specs.declared.rows.State.TheVariants.{Online as OnlineState
 use Rattle.hp_units.specs.LayoutParts.{LayoutParts, IsLayout}
 use Rattle.hp_units.specs.Arithmetic.{block_of, block_of_pageblock}
 use Rattle.hp_units.specs.Memory.{FreeAreas, Memory, free_list, with_free_list, row_of, offline_row, usable_class, isolated_class}
-use Rattle.hp_units.specs.FreeAreas.{class_of_kind}
 use Rattle.hp_units.specs.Isolation.{add_pageblock, add_block}
 use Rattle.hp_units.specs.Rows.{with_block_row, online_block}
 use Rattle.hp_units.specs.Placement.{is_unplugged, free_places, offline_places, IsInOrder, IsWellPlaced, class_at, kind_at, covered}
@@ -40,36 +37,24 @@ pub within-split : (frame low middle high : ℕ) → low ≤ middle → middle �
     → within frame low high ≡ within frame low middle + within frame middle high
 within-split frame low middle high h k = grind (arith, nat_tests)
 
-within-yes : (frame low high : ℕ) → low ≤ frame → frame < high → within frame low high ≡ 1
-within-yes frame low high h k = grind (arith, nat_tests)
-
-within-below : (frame low high : ℕ) → frame < low → within frame low high ≡ 0
-within-below frame low high h = grind (arith, nat_tests)
-
-within-above : (frame low high : ℕ) → high ≤ frame → within frame low high ≡ 0
-within-above frame low high h = grind (arith, nat_tests)
-
 pub inside : (frame size block : ℕ) → 0 < size → frame / size ≡ block
     → within frame (block * size) (block * size + size) ≡ 1
 inside frame size block some e =
-    let high : frame < frame / size * size + size = lt-div-mul-add some in
     let low : frame / size * size ≤ frame = omega (arith, div-add-mod' frame size) in
-    subst (λ (b : ℕ). within frame (b * size) (b * size + size) ≡ 1) e
-    (within-yes frame (frame / size * size) (frame / size * size + size) low high)
+    rw (← e) (grind (arith, nat_tests))
 
 pub quotient : (n size q : ℕ) → q * size ≤ n → n < q * size + size → n / size ≡ q
 quotient n size q low high =
     let is : n ≡ q * size + (n - q * size) = omega arith in
-    let e : (q * size + (n - q * size)) / size ≡ q = div-mul-add q size (n - q * size) (omega arith) in
-    subst (λ (m : ℕ). m / size ≡ q) (sym is) e
+    subst (λ (m : ℕ). m / size ≡ q) (sym is) (div-mul-add q size (n - q * size) (omega arith))
 
 pub outside : (frame size block : ℕ) → frame / size ≢ block
     → within frame (block * size) (block * size + size) ≡ 0
 outside frame size block ne = elim (cases_lt frame (block * size)) [
-  | inl below ↦ within-below frame (block * size) (block * size + size) below
+  | inl below ↦ grind (arith, nat_tests)
   | inr low ↦ elim (cases_lt frame (block * size + size)) [
     | inl high ↦ absurd (ne (quotient frame size block low high))
-    | inr above ↦ within-above frame (block * size) (block * size + size) above
+    | inr above ↦ grind (arith, nat_tests)
   ]
 ]
 
@@ -102,8 +87,6 @@ add_all-ordered l class_at zone a from (suc count) h classes room =
     let frames : List ℕ = free_list a class l.order ++ first ∷ [] in
     let next : (from + 1) * 2 ^ l.order ≡ first + 2 ^ l.order = grind arith in
     let sum : from + 1 + count ≡ from + suc count = omega arith in
-    let far : (from + 1) * 2 ^ l.order ≤ (from + suc count) * 2 ^ l.order =
-    mul-le (from + 1) (2 ^ l.order) (from + suc count) (2 ^ l.order) (omega arith) (omega arith) in
     let split : (frame : ℕ)
     → within frame first ((from + suc count) * 2 ^ l.order) ≡ covered frame l.order first
     + within frame ((from + 1) * 2 ^ l.order) ((from + suc count) * 2 ^ l.order) =
@@ -181,28 +164,22 @@ online_block-placed l zone s block layout p off low =
     λ pageblock from to.
     let here : block_of_pageblock l pageblock ≡ block = quotient pageblock l.pageblocks block from to in
     let now : get_or rows (block_of_pageblock l pageblock) offline_row ≡ row =
-    ap (λ (b : ℕ). get_or rows b offline_row) here
-    ∙ get_or-set_same s.blocks.rows block row offline_row short in
-    ap (λ (r : Row). option_map (λ z. class_of_kind z (kind_at s.free.areas.kinds pageblock)) r.zone) now
-    ∙ ap (λ (c : Class). Some c) (online_class s.free.areas.kinds zone (kind_at s.free.areas.kinds pageblock)
-    (plain.isolated pageblock here) (plain.mobility pageblock here)) in
+    rw here (get_or-set_same s.blocks.rows block row offline_row short) in
+    rw now (rw (online_class s.free.areas.kinds zone (kind_at s.free.areas.kinds pageblock)
+    (plain.isolated pageblock here) (plain.mobility pageblock here))) in
     let offline : (frame : ℕ)
     → offline_places l (with_block_row s block row) frame + within frame
     (block * (l.pageblocks * 2 ^ l.order))
     (block * (l.pageblocks * 2 ^ l.order) + l.pageblocks * 2 ^ l.order) ≡ offline_places l s frame =
     λ frame. elim (cases_eq (block_of l frame) block) [
       | inl same ↦
-          let old : offline_places l s frame ≡ 1 =
-          ap (λ (b : ℕ). cond (is_unplugged (get_or s.blocks.rows b offline_row)) 1 0) same
-          ∙ ap (λ (t : Bool). cond t 1 0) off in
+          let old : offline_places l s frame ≡ 1 = rw (same, off) in
           let new : offline_places l (with_block_row s block row) frame ≡ 0 =
-          ap (λ (b : ℕ). cond (is_unplugged (get_or rows b offline_row)) 1 0) same ∙ ap (λ (r : Row). cond
-          (is_unplugged r) 1 0) (get_or-set_same s.blocks.rows block row offline_row short) in
+          rw (same, get_or-set_same s.blocks.rows block row offline_row short) in
           omega (arith, inside frame (l.pageblocks * 2 ^ l.order) block size same)
       | inr ne ↦
           let new : offline_places l (with_block_row s block row) frame ≡ offline_places l s frame =
-          ap (λ (r : Row). cond (is_unplugged r) 1 0)
-          (get_or-set_other s.blocks.rows block (block_of l frame) row offline_row ne) in
+          rw (get_or-set_other s.blocks.rows block (block_of l frame) row offline_row ne) in
           omega (arith, outside frame (l.pageblocks * 2 ^ l.order) block ne)
     ] in
     let added =

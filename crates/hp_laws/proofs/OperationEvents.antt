@@ -6,11 +6,11 @@ use Rattle.std.proofs.lemmas.Bool.{both_ways, cases_eq}
 use Rattle.std.proofs.lemmas.List.{get_or-set_other, get_or-set_same}
 use Rattle.hp_units.specs.declared.plans.Item.{Item}
 use Rattle.hp_units.specs.declared.rows.Auto.{Auto}
-use Rattle.hp_units.specs.declared.rows.Auto.TheVariants.{Offline as OfflineAuto, Online as OnlineAuto, OnlineKernel as KernelAuto, OnlineMovable as MovableAuto}
+use Rattle.hp_units.specs.declared.rows.Auto.TheVariants.{Offline as OfflineAuto, OnlineMovable as MovableAuto}
 use Rattle.hp_units.specs.declared.rows.Claim.{Claim}
 use Rattle.hp_units.specs.declared.rows.Row.{Row}
 use Rattle.hp_units.specs.declared.rows.State.{State}
-use Rattle.hp_units.specs.declared.rows.State.TheVariants.{Offline as OfflineState, Online as OnlineState, Going as GoingState, Absent as AbsentState}
+use Rattle.hp_units.specs.declared.rows.State.TheVariants.{Online as OnlineState, Absent as AbsentState}
 use Rattle.hp_units.specs.declared.rows.Wish.{Wish}
 use Rattle.hp_units.specs.declared.rows.Wish.TheVariants.{Off as OffWish, Normal as NormalWish, Movable as MovableWish}
 use Rattle.hp_units.specs.declared.rows.Zone.{Zone}
@@ -78,8 +78,7 @@ pub set_free : (op serial : ℕ) (event : Event) (rows : List Row) (at block : �
 set_free op serial event rows at block row short was is = elim (cases_eq block at) [
   | inl same ↦
       let here : get_or (set rows at row) block offline_row ≡ row =
-      subst (λ (b : ℕ). get_or (set rows b row) block offline_row ≡ row) same
-      (get_or-set_same rows block row offline_row short) in
+      rw (← same) (get_or-set_same rows block row offline_row short) in
       row_free op serial event (get_or rows block offline_row) (get_or (set rows at row) block offline_row)
       (ap (λ (b : ℕ). (get_or rows b offline_row).claim) same ∙ was) (ap (λ (r : Row). r.claim) here ∙ is)
   | inr ne ↦
@@ -119,19 +118,15 @@ auto-row : (l : LayoutParts) (op serial : ℕ) (event : Event) (auto : Auto) (s 
     → IsRowStep op serial event (row_of s.blocks block) (row_of (auto_online l auto s at).blocks block)
 auto-row l op serial event OfflineAuto s at block short was =
     row_stays op serial event (row_of s.blocks block) (row_of s.blocks block) refl
-auto-row l op serial event OnlineAuto s at block short was =
-    online_block-row l op serial event NormalZone s at block short was
-auto-row l op serial event KernelAuto s at block short was =
-    online_block-row l op serial event NormalZone s at block short was
 auto-row l op serial event MovableAuto s at block short was =
     online_block-row l op serial event MovableZone s at block short was
+auto-row l op serial event _ s at block short was = online_block-row l op serial event NormalZone s at block
+    short was
 
 absent_claim : (state : State) (zone : Option Zone) (claim : Option Claim) → is_absent_state state ≡ true
     → IsRowOf state zone claim → claim ≡ None
 absent_claim AbsentState _ claim e h = h.1
-absent_claim OfflineState _ claim e h = cc
-absent_claim OnlineState _ claim e h = cc
-absent_claim GoingState _ claim e h = cc
+absent_claim _ _ claim e h = cc
 
 pub probe-row : (l : LayoutParts) (op serial : ℕ) (event : Event) (s : Memory) (at block : ℕ)
     → IsWellPlaced l s
@@ -180,8 +175,7 @@ pub begin_step-row : (l : LayoutParts) (op serial : ℕ) (s : Memory) (plan : Li
     → IsRowStep op serial (Begin plan) (row_of s.blocks block)
     (row_of (begin_plan l s serial plan).blocks block)
 begin_step-row l op serial s plan block low shape e =
-    subst (λ (row : Row). IsRowStep op serial (Begin plan) (row_of s.blocks block) row)
-    (sym (begin-row l s serial plan block low shape)) (by_wish (wish_of plan block) refl)
+    rw (begin-row l s serial plan block low shape) (by_wish (wish_of plan block) refl)
   where
     by_wish : (o : Option Wish) → wish_of plan block ≡ o
         → IsRowStep op serial (Begin plan) (row_of s.blocks block)
@@ -236,8 +230,7 @@ claimed_some op (Some c) e = (c, refl)
 pub committed_claim : (op : ℕ) (row : Row) → is_claimed_by op row ≡ true → (committed_row row).claim ≡ None
 committed_claim op row mine =
     let c = claimed_some op row.claim mine in
-    subst (λ (o : Option Claim). (option_map_or (λ claim. wished_row claim.wish) o row).claim ≡ None)
-    (sym c.1) (wished_claim c.0.wish)
+    rw c.1 (wished_claim c.0.wish)
 
 ended_committed : (op other serial : ℕ) (old : Row) (b : Bool) → is_claimed_by other old ≡ b
     → IsRowStep op serial (Commit other) old (cond b (committed_row old) old)
@@ -250,17 +243,14 @@ pub commit_step-row : (l : LayoutParts) (op serial other : ℕ) (s : Memory) (bl
     → IsRowStep op serial (Commit other) (row_of s.blocks block)
     (row_of (commit_blocks l s other).blocks block)
 commit_step-row l op serial other s block low shape =
-    subst (λ (row : Row). IsRowStep op serial (Commit other) (row_of s.blocks block) row)
-    (sym (commit-row l s other block low shape))
-    (ended_committed op other serial (row_of s.blocks block) (is_claimed_by other (row_of s.blocks block))
-    refl)
+    rw (commit-row l s other block low shape) (ended_committed op other serial (row_of s.blocks block)
+    (is_claimed_by other (row_of s.blocks block)) refl)
 
 pub cancel_step-row : (l : LayoutParts) (op serial other : ℕ) (s : Memory) (block : ℕ) → block < l.blocks
     → length s.blocks.rows ≡ l.blocks
     → IsRowStep op serial (Cancel other) (row_of s.blocks block)
     (row_of (release_blocks l s other).blocks block)
 cancel_step-row l op serial other s block low shape =
-    subst (λ (row : Row). IsRowStep op serial (Cancel other) (row_of s.blocks block) row)
-    (sym (release-row l s other block low shape))
+    rw (release-row l s other block low shape)
     (ended_row op other serial (Cancel other) (row_of s.blocks block) (released_row (row_of s.blocks block))
     refl (released_claim (row_of s.blocks block)) (is_claimed_by other (row_of s.blocks block)) refl)

@@ -1,5 +1,5 @@
 -- The laws of operations, over whole histories.
-use Rattle.std.proofs.Common.{◌≡◌, ℕ, suc, ◌+◌, ◌-◌, ◌<◌, List, [], ◌∷◌, ◌++◌, length, take, map, Bool, true, false, cond, Option, Some, None, slice_get, refl, ap, sym, subst, ◌∙◌, arith, ◌⊎◌, inl, inr}
+use Rattle.std.proofs.Common.{◌≡◌, ℕ, suc, ◌+◌, ◌-◌, List, [], ◌∷◌, ◌++◌, length, take, map, Bool, true, false, cond, Option, Some, None, slice_get, refl, ap, sym, subst, ◌∙◌, arith, ◌⊎◌, inl, inr}
 use Rattle.std.proofs.lemmas.Bool.{both_ways}
 use Rattle.hp_units.specs.declared.plans.Item.{Item}
 use Rattle.hp_units.specs.LayoutParts.{LayoutParts, IsLayout}
@@ -52,8 +52,7 @@ begin_reply : (l : LayoutParts) (base : Memory) (before : ℕ) (g : List Record)
 begin_reply l base before g b plan follows opens good =
     let acts : effect_of b.event ≡ Acts = ap effect_of opens in
     let same : b.reply ≡ (step l (value_of l base g) b.serial b.cpu b.event).reply =
-    reply_at l base before g b follows ∙ ap (effect_reply l before (before + length g) (net_of g)
-    (value_of l base g) b.serial b.cpu b.event) acts in
+    rw (reply_at l base before g b follows, acts) in
     with_good (net_of g) b (ap is_refused same ∙ good) ∙ ap (net_with_effect (net_of g) b) acts
 
 pub is_begin : (l : LayoutParts) (base : Memory) (before : ℕ) (h : List Record) (place : ℕ) (b : Record)
@@ -66,20 +65,16 @@ is_begin l base before h place b plan legal at =
     let m : ℕ = b.serial - before - 1 in
     let stands : slice_get h m ≡ Some b = roots.stands place b at.here in
     let comes : take place (net_of h) ≡ net_of (take m h) = roots.comes place b at.here in
-    let over : before < b.serial = roots.over place b at.here in
-    let next : b.serial - before ≡ suc m = omega (arith, over) in
+    let next : b.serial - before ≡ suc m = omega (arith, roots.over place b at.here) in
     let good : is_refused (step l (value_of l base (take m h)) b.serial b.cpu b.event).reply ≡ false =
-    subst (λ (n : List Record). is_refused (step l (run l base n) b.serial b.cpu b.event).reply ≡ false) comes
-    (net_good l base before h legal place b at.here) in
+    rw (← comes) (net_good l base before h legal place b at.here) in
     record {
       opens = begin_opens l base before h place b plan legal at;
       was = ap (run l base) (sym comes);
       is =
-          ap (λ (n : ℕ). value_of l base (take n h)) next
-          ∙ ap (value_of l base) (take_next h m b stands)
-          ∙ ap (run l base) (net-push (take m h) b
-          ∙ begin_reply l base before (take m h) b plan (legal m b stands) at.opens good
-          ∙ ap (λ (n : List Record). n ++ b ∷ []) (sym comes) ∙ sym (take_next (net_of h) place b at.here));
+          rw (next, take_next h m b stands, net-push (take m h) b)
+          (rw (begin_reply l base before (take m h) b plan (legal m b stands) at.opens good, ← comes)
+          (rw (← take_next (net_of h) place b at.here)));
     }
 
 -- it claimed the blocks of its plan
@@ -99,14 +94,10 @@ pub claimed : (l : LayoutParts) (base : Memory) (before : ℕ) (h : List Record)
     (λ item. claimed_row (row_of (state_before l base before h b).blocks item.block) b.serial item.wish)
 claimed l base before h place b plan layout p legal at =
     let begin : IsBegin l base before h place b plan = is_begin l base before h place b plan legal at in
-    subst (λ (t : Memory). RowsAre t plan (λ item. claimed_row
-    (row_of (state_before l base before h b).blocks item.block) b.serial item.wish)) (sym begin.is)
-    (subst (λ (s : Memory). RowsAre (new_at l base h place) plan
-    (λ item. claimed_row (row_of s.blocks item.block) b.serial item.wish)) (sym begin.was)
+    rw (begin.is, begin.was)
     (each_map (IsBegun b.serial (old_at l base h place) (new_at l base h place)) (λ item. row_of
-    (new_at l base h place).blocks item.block ≡ claimed_row
-    (row_of (old_at l base h place).blocks item.block) b.serial item.wish)
-    (λ item is. is.held) plan (new_begun l base before h place b plan layout p legal at)))
+    (new_at l base h place).blocks item.block ≡ claimed_row (row_of (old_at l base h place).blocks item.block)
+    b.serial item.wish) (λ item is. is.held) plan (new_begun l base before h place b plan layout p legal at))
 
 -- rows that are held now are those that the Begin left
 as_left : (l : LayoutParts) (base : Memory) (before : ℕ) (h : List Record) (place : ℕ) (b : Record)
@@ -115,13 +106,10 @@ as_left : (l : LayoutParts) (base : Memory) (before : ℕ) (h : List Record) (pl
     → AreBegun b.serial (old_at l base h place) s plan
     → RowsAre s plan (λ item. row_of (state_behind l base before h b).blocks item.block)
 as_left l base before h place b plan s layout p legal at begun =
-    subst (λ (t : Memory). RowsAre s plan (λ item. row_of t.blocks item.block))
-    (sym (is_begin l base before h place b plan legal at).is)
-    (each_both (IsBegun b.serial (old_at l base h place) s)
-    (IsBegun b.serial (old_at l base h place) (new_at l base h place))
-    (λ item. row_of s.blocks item.block ≡ row_of (new_at l base h place).blocks item.block)
-    (λ item now left. now.held ∙ sym left.held) plan begun
-    (new_begun l base before h place b plan layout p legal at))
+    rw ((is_begin l base before h place b plan legal at).is) (each_both
+    (IsBegun b.serial (old_at l base h place) s) (IsBegun b.serial (old_at l base h place) (new_at l base h
+    place)) (λ item. row_of s.blocks item.block ≡ row_of (new_at l base h place).blocks item.block) (λ item
+    now left. now.held ∙ sym left.held) plan begun (new_begun l base before h place b plan layout p legal at))
 
 pub held : (l : LayoutParts) (base : Memory) (before : ℕ) (h : List Record) (place : ℕ) (b : Record)
     (plan : List Item)
@@ -149,10 +137,8 @@ pub commit_ends : (l : LayoutParts) (base : Memory) (before : ℕ) (h : List Rec
     → IsEndOf (value_of l base h) (value_of l base (h ++ r ∷ [])) (commit_blocks l (value_of l base h) op) op
 commit_ends l base before h r op legal is good =
     let follows : Follows l base before h r = last_follows l base before h r legal in
-    let acts : effect_of r.event ≡ Acts = ap effect_of is in
     let same : r.reply ≡ (step l (value_of l base h) r.serial r.cpu r.event).reply =
-    reply_at l base before h r follows ∙ ap (effect_reply l before (before + length h) (net_of h)
-    (value_of l base h) r.serial r.cpu r.event) acts in
+    rw (reply_at l base before h r follows, ap effect_of is) in
     elim (record_cases l base before h r follows good) [
       | inl back ↦
           absurd (both_ways (goes_back r.reply)
@@ -160,13 +146,9 @@ commit_ends l base before h r op legal is good =
       | inr stepped ↦ (
           let closes : IsEndOf (value_of l base h) (step l (value_of l base h) r.serial r.cpu
           (Commit op)).memory (commit_blocks l (value_of l base h) op) op =
-          commit-good l (value_of l base h) r.serial r.cpu op (ap
-          (λ (e : Event). is_refused (step l (value_of l base h) r.serial r.cpu e).reply) (sym is) ∙ ap
-          is_refused (sym same) ∙ good) in
+          commit-good l (value_of l base h) r.serial r.cpu op (rw (← is, ← same) good) in
           record {
-            memory =
-                stepped.memory ∙ ap (λ (e : Event). (step l (value_of l base h) r.serial r.cpu e).memory) is
-                ∙ closes.memory;
+            memory = rw (stepped.memory, is) closes.memory;
             live = closes.live;
           })
     ]
@@ -197,11 +179,9 @@ pub commit_granted : (l : LayoutParts) (base : Memory) (before : ℕ) (h : List 
     → BeginsAt (net_of h) place b plan → r.event ≡ Commit b.serial → is_refused r.reply ≡ false
     → RowsAre (value_of l base (h ++ r ∷ [])) plan (λ item. wished_row item.wish)
 commit_granted l base before h r place b plan layout p legal at is good =
-    subst (λ (t : Memory). RowsAre t plan (λ item. wished_row item.wish))
-    (sym (commit_ends l base before h r b.serial legal is good).memory)
+    rw ((commit_ends l base before h r b.serial legal is good).memory)
     (commit-grants l (value_of l base h) b.serial (old_at l base h place) plan
-    (value-placed l base h layout p)
-    (commit_begun l base before h r place b plan layout p legal at is good))
+    (value-placed l base h layout p) (commit_begun l base before h r place b plan layout p legal at is good))
 
 -- a Cancel that goes back was answered Restored
 back_restored : (reply answer : Reply) (o : Option ℕ) → reply ≡ cancel_reply answer o
@@ -243,11 +223,9 @@ cancel_ends l base before h r op legal is good =
     by_release stepped =
         let s : Memory = value_of l base h in
         let closes : IsEndOf s (step l s r.serial r.cpu (Cancel op)).memory (release_blocks l s op) op =
-        cancel-good l s r.serial r.cpu op (ap (λ (e : Event). is_refused (step l s r.serial r.cpu e).reply)
-        (sym is) ∙ ap is_refused (sym stepped.reply) ∙ good) in
+        cancel-good l s r.serial r.cpu op (rw (← is, ← stepped.reply) good) in
         record {
-          memory =
-              stepped.memory ∙ ap (λ (e : Event). (step l s r.serial r.cpu e).memory) is ∙ closes.memory;
+          memory = rw (stepped.memory, is) closes.memory;
           live = closes.live;
         }
 
@@ -281,10 +259,6 @@ given_back l base before h r place b plan layout p legal at is good =
     by_release ends =
         let s : Memory = value_of l base h in
         let front : IsLegal l base before h = front_legal l base before h r legal in
-        subst (λ (t : Memory).
-        RowsAre t plan (λ item. row_of (state_before l base before h b).blocks item.block)) (sym ends.memory)
-        (subst (λ (o : Memory). RowsAre (release_blocks l s b.serial) plan
-        (λ item. row_of o.blocks item.block)) (sym (is_begin l base before h place b plan front at).was)
-        (cancel-gives_back l s b.serial (old_at l base h place) plan (value-placed l base h layout p)
-        (live_holds b.serial (old_at l base h place) s plan ends.live
-        (phase l base before h place b plan layout p front at))))
+        rw (ends.memory, (is_begin l base before h place b plan front at).was) (cancel-gives_back l s b.serial
+        (old_at l base h place) plan (value-placed l base h layout p) (live_holds b.serial
+        (old_at l base h place) s plan ends.live (phase l base before h place b plan layout p front at)))

@@ -1,14 +1,13 @@
 -- An operation among steps of which none was refused, with serials that rise: what its Begin made,
 -- and that it holds its rows or is over.
-use Rattle.std.proofs.Common.{◌≡◌, ◌≢◌, ℕ, suc, List, drop, take, ap, sym, subst, ◌∙◌, arith, inl}
+use Rattle.std.proofs.Common.{◌≡◌, ◌≢◌, ℕ, suc, List, drop, take, ap, sym, ◌∙◌, arith, inl}
 use Rattle.std.proofs.lemmas.List.{take-append-drop}
 use Rattle.hp_units.specs.LayoutParts.{LayoutParts, IsLayout}
 use Rattle.hp_units.specs.Memory.{Memory}
-use Rattle.hp_units.specs.Step.{step}
-use Rattle.hp_units.specs.History.{is_refused, run}
+use Rattle.hp_units.specs.History.{run}
 use Rattle.hp_units.specs.Placement.{IsWellPlaced}
 use Rattle.hp_laws.specs.Operations.{BeginsAt, IsOpenBehind}
-use Rattle.hp_laws.proofs.Names.{Record, Event, Item}
+use Rattle.hp_laws.proofs.Names.{Record, Item}
 use Rattle.hp_laws.proofs.Lists.{take_next}
 use Rattle.hp_laws.proofs.Net.{Numbered, run-append, run-push}
 use Rattle.hp_laws.proofs.EventSteps.{run-placed}
@@ -27,13 +26,8 @@ pub begin_in : (l : LayoutParts) (base : Memory) (n : List Record) (place : ℕ)
     → AllGood l base n → BeginsAt n place b plan
     → IsBeginOf l (old_in l base n place) (new_in l base n place) b.serial plan
 begin_in l base n place b plan good at =
-    subst (λ (t : Memory). IsBeginOf l (old_in l base n place) t b.serial plan)
-    (sym (ap (λ (e : Event). (step l (old_in l base n place) b.serial b.cpu e).memory) at.opens)
-    ∙ sym (run-push l base (take place n) b)
-    ∙ ap (run l base) (sym (take_next n place b at.here)))
-    (begin-good l (old_in l base n place) b.serial b.cpu plan
-    (ap (λ (e : Event). is_refused (step l (old_in l base n place) b.serial b.cpu e).reply) (sym at.opens)
-    ∙ good place b at.here))
+    rw (take_next n place b at.here, run-push l base (take place n) b, at.opens)
+    (begin-good l (old_in l base n place) b.serial b.cpu plan (rw (← at.opens) (good place b at.here)))
 
 -- and claimed the blocks of its plan
 pub begun_in : (l : LayoutParts) (base : Memory) (n : List Record) (place : ℕ) (b : Record) (plan : List Item)
@@ -42,9 +36,8 @@ pub begun_in : (l : LayoutParts) (base : Memory) (n : List Record) (place : ℕ)
 begun_in l base n place b plan layout p good at =
     let opens : IsBeginOf l (old_in l base n place) (new_in l base n place) b.serial plan =
     begin_in l base n place b plan good at in
-    subst (λ (t : Memory). AreBegun b.serial (old_in l base n place) t plan) (sym opens.memory)
-    (plan-begun l (old_in l base n place) b.serial plan (run-placed l base (take place n) layout p)
-    opens.fine)
+    rw opens.memory (plan-begun l (old_in l base n place) b.serial plan
+    (run-placed l base (take place n) layout p) opens.fine)
 
 -- the state after all steps, from the one after the step at a place
 rest_in : (l : LayoutParts) (base : Memory) (n : List Record) (place : ℕ)
@@ -59,10 +52,9 @@ pub held_in : (l : LayoutParts) (base : Memory) (n : List Record) (place : ℕ) 
     → IsOpenBehind b.serial place n
     → AreBegun b.serial (old_in l base n place) (run l base n) plan
 held_in l base n place b plan layout p good at stays =
-    subst (λ (s : Memory). AreBegun b.serial (old_in l base n place) s plan) (sym (rest_in l base n place))
+    rw (rest_in l base n place)
     (run-held l (new_in l base n place) b.serial (old_in l base n place) plan (drop (suc place) n) layout
-    (run-placed l base (take (suc place) n) layout p) stays
-    (begun_in l base n place b plan layout p good at))
+    (run-placed l base (take (suc place) n) layout p) stays (begun_in l base n place b plan layout p good at))
 
 -- and each holds its rows or is over, after all steps
 pub phase_in : (l : LayoutParts) (base : Memory) (before last : ℕ) (n : List Record) (place : ℕ) (b : Record)
@@ -70,10 +62,8 @@ pub phase_in : (l : LayoutParts) (base : Memory) (before last : ℕ) (n : List R
     → IsLayout l → IsWellPlaced l base → Numbered before last n → AllGood l base n → BeginsAt n place b plan
     → HoldsOrIsOver b.serial (old_in l base n place) (run l base n) plan
 phase_in l base before last n place b plan layout p numbered good at =
-    subst (λ (s : Memory). HoldsOrIsOver b.serial (old_in l base n place) s plan)
-    (sym (rest_in l base n place))
-    (run-phase l (new_in l base n place) b.serial (old_in l base n place) plan (drop (suc place) n)
-    layout (run-placed l base (take (suc place) n) layout p)
+    rw (rest_in l base n place) (run-phase l (new_in l base n place) b.serial (old_in l base n place) plan
+    (drop (suc place) n) layout (run-placed l base (take (suc place) n) layout p)
     (each_from (λ (r : Record). r.serial ≢ b.serial) n (suc place)
     (λ j r le e. λ same. absurd (omega (arith, same, numbered.rising place j b r (omega arith) at.here e))))
     (inl (begun_in l base n place b plan layout p good at)))

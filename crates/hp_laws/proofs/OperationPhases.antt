@@ -1,5 +1,5 @@
 -- The rows of an operation's blocks, from its Begin to its end.
-use Rattle.std.proofs.Common.{◌≡◌, ◌≢◌, ℕ, zero, suc, ◌-◌, ◌<◌, ◌≤◌, List, [], ◌∷◌, drop, get_or, Bool, true, false, cond, Option, Some, None, slice_get, refl, ap, sym, subst, ◌∙◌, arith, ◌⊎◌, inl, inr, IfSome, eq-eqb, ◌==◌, ◌||◌}
+use Rattle.std.proofs.Common.{◌≡◌, ◌≢◌, ℕ, zero, suc, ◌<◌, ◌≤◌, List, [], ◌∷◌, drop, get_or, Bool, true, false, cond, Option, Some, None, slice_get, refl, ap, sym, subst, ◌∙◌, arith, ◌⊎◌, inl, inr, IfSome, eq-eqb, ◌==◌, ◌||◌}
 use Rattle.std.specs.Prelude.{find, nat_le}
 use Rattle.std.specs.Bool.{then_some}
 use Rattle.std.specs.List.{AllByRecursion, list_any}
@@ -9,7 +9,7 @@ use Rattle.hp_units.specs.declared.plans.Item.{Item}
 use Rattle.hp_units.specs.declared.rows.Claim.{Claim}
 use Rattle.hp_units.specs.declared.rows.Row.{Row}
 use Rattle.hp_units.specs.declared.rows.State.{State}
-use Rattle.hp_units.specs.declared.rows.State.TheVariants.{Offline as OfflineState, Online as OnlineState, Going as GoingState, Absent as AbsentState}
+use Rattle.hp_units.specs.declared.rows.State.TheVariants.{Offline as OfflineState, Online as OnlineState}
 use Rattle.hp_units.specs.declared.rows.Wish.{Wish}
 use Rattle.hp_units.specs.declared.rows.Wish.TheVariants.{Off as OffWish, Normal as NormalWish, Movable as MovableWish}
 use Rattle.hp_units.specs.LayoutParts.{LayoutParts, IsLayout}
@@ -17,7 +17,7 @@ use Rattle.hp_units.specs.Choices.{first_some}
 use Rattle.hp_units.specs.Memory.{Memory, offline_row, row_of}
 use Rattle.hp_units.specs.FreeAreas.{is_on}
 use Rattle.hp_units.specs.Refusals.{event_refusals, first_repeated, plan_refusals, refusal_of}
-use Rattle.hp_units.specs.Rows.{begin_plan, claimed_row, commit_blocks, is_claimed, is_claimed_by, is_going_state, is_live, is_offline, is_offline_state, is_online, is_online_state, release_blocks, wish_of}
+use Rattle.hp_units.specs.Rows.{begin_plan, claimed_row, commit_blocks, is_claimed, is_claimed_by, is_going_state, is_live, is_offline, is_offline_state, is_online_state, release_blocks, wish_of}
 use Rattle.hp_units.specs.Step.{answer, step}
 use Rattle.hp_units.specs.History.{is_refused, run}
 use Rattle.hp_units.specs.Placement.{IsWellPlaced}
@@ -27,7 +27,7 @@ use Rattle.hp_laws.proofs.Claims.{MayClaim, plan_claims}
 use Rattle.hp_laws.proofs.Options.{map_none}
 use Rattle.hp_laws.proofs.EventSteps.{not_there, step-placed, then_none}
 use Rattle.hp_laws.proofs.OwnedContents.{all_none, none_rest}
-use Rattle.hp_laws.proofs.OperationRows.{begin-row, begun_row, commit-row, committed_row, release-row, released_row, row_with}
+use Rattle.hp_laws.proofs.OperationRows.{begin-row, commit-row, committed_row, release-row, released_row, row_with}
 use Rattle.hp_laws.proofs.OperationSteps.{IsOver, claimed_low, step-ends, step-over, step-row}
 use Rattle.hp_laws.proofs.OperationEvents.{plan_free}
 
@@ -152,9 +152,7 @@ plan-begun l s op plan p e =
       may =
           subst (λ (o : Option Wish). IfSome o (MayClaim (row_of s.blocks item.block))) is
           (plan_claims l s plan e item.block);
-      held =
-          begin-row l s op plan item.block low p.in_order.shape.rows
-          ∙ ap (λ (o : Option Wish). begun_row op o (row_of s.blocks item.block)) is;
+      held = rw (begin-row l s op plan item.block low p.in_order.shape.rows, is);
     }
 
 claims : (op : ℕ) (row : Row) (wish : Wish) → is_claimed_by op (claimed_row row op wish) ≡ true
@@ -164,8 +162,7 @@ claims op row MovableWish = eq-eqb op op refl
 
 begun_claimed : (op : ℕ) (old s : Memory) (item : Item) → IsBegun op old s item
     → is_claimed_by op (row_of s.blocks item.block) ≡ true
-begun_claimed op old s item h =
-    ap (is_claimed_by op) h.held ∙ claims op (row_of old.blocks item.block) item.wish
+begun_claimed op old s item h = rw h.held (claims op (row_of old.blocks item.block) item.wish)
 
 -- a step that doesn't end the operation leaves its rows
 item-held : (l : LayoutParts) (s : Memory) (serial cpu : ℕ) (event : Event) (op : ℕ) (old : Memory)
@@ -315,12 +312,9 @@ live_holds op old s plan live (inr over) =
 granted : (op : ℕ) (old : Row) (wish : Wish)
     → cond (is_claimed_by op (claimed_row old op wish)) (committed_row (claimed_row old op wish))
     (claimed_row old op wish) ≡ wished_row wish
-granted op old OffWish =
-    ap (λ (b : Bool). cond b (wished_row OffWish) (claimed_row old op OffWish)) (eq-eqb op op refl)
-granted op old NormalWish =
-    ap (λ (b : Bool). cond b (wished_row NormalWish) (claimed_row old op NormalWish)) (eq-eqb op op refl)
-granted op old MovableWish =
-    ap (λ (b : Bool). cond b (wished_row MovableWish) (claimed_row old op MovableWish)) (eq-eqb op op refl)
+granted op old OffWish = rw (eq-eqb op op refl)
+granted op old NormalWish = rw (eq-eqb op op refl)
+granted op old MovableWish = rw (eq-eqb op op refl)
 
 -- a Commit gives each block its wish
 pub commit-grants : (l : LayoutParts) (s : Memory) (op : ℕ) (old : Memory) (plan : List Item)
@@ -333,39 +327,24 @@ commit-grants l s op old plan p begun =
     one : (item : Item) → IsBegun op old s item
         → row_of (commit_blocks l s op).blocks item.block ≡ wished_row item.wish
     one item h =
-        commit-row l s op item.block (claimed_low l s op item.block p (begun_claimed op old s item h))
-        p.in_order.shape.rows
-        ∙ ap (λ (row : Row). cond (is_claimed_by op row) (committed_row row) row) h.held
-        ∙ granted op (row_of old.blocks item.block) item.wish
+        rw (commit-row l s op item.block (claimed_low l s op item.block p (begun_claimed op old s item h))
+        p.in_order.shape.rows) (rw h.held (granted op (row_of old.blocks item.block) item.wish))
 
 online_only : (state : State) → is_online_state state ≡ true → OnlineState ≡ state
 online_only OnlineState e = refl
-online_only OfflineState e = cc
-online_only GoingState e = cc
-online_only AbsentState e = cc
+online_only _ e = cc
 
 offline_still : (state : State) → is_offline_state state ≡ true → is_going_state state ≡ false
 offline_still OfflineState e = refl
-offline_still OnlineState e = cc
-offline_still GoingState e = cc
-offline_still AbsentState e = cc
-
--- a row without a claim is the same row after a claim was put on it and taken off
-back_online : (row : Row) → is_online row ≡ true → row.claim ≡ None → row_with OnlineState row.zone None ≡ row
-back_online row on none =
-    ap (λ (s : State). row_with s row.zone None) (online_only row.state on)
-    ∙ ap (λ (c : Option Claim). row_with row.state row.zone c) (sym none)
+offline_still _ e = cc
 
 back_offline : (row : Row) (c : Option Claim) → is_offline row ≡ true → row.claim ≡ None
     → released_row (row_with row.state row.zone c) ≡ row
-back_offline row c off none =
-    ap (λ (b : Bool). cond b (row_with OnlineState row.zone None) (row_with row.state row.zone None))
-    (offline_still row.state off)
-    ∙ ap (λ (d : Option Claim). row_with row.state row.zone d) (sym none)
+back_offline row c off none = rw (offline_still row.state off, ← none)
 
 given_back : (op : ℕ) (old : Row) (wish : Wish) → MayClaim old wish → old.claim ≡ None
     → released_row (claimed_row old op wish) ≡ old
-given_back op old OffWish may none = back_online old may none
+given_back op old OffWish may none = rw (online_only old.state may, ← none)
 given_back op old NormalWish may none =
     back_offline old (Some (record { op = op; wish = NormalWish })) may none
 given_back op old MovableWish may none =
@@ -383,10 +362,6 @@ cancel-gives_back l s op old plan p begun =
     one : (item : Item) → IsBegun op old s item
         → row_of (release_blocks l s op).blocks item.block ≡ row_of old.blocks item.block
     one item h =
-        release-row l s op item.block (claimed_low l s op item.block p (begun_claimed op old s item h))
-        p.in_order.shape.rows
-        ∙ ap (λ (b : Bool). cond b (released_row (row_of s.blocks item.block)) (row_of s.blocks item.block))
-        (begun_claimed op old s item h)
-        ∙ ap released_row h.held
-        ∙ given_back op (row_of old.blocks item.block) item.wish h.may
-        (not_there (row_of old.blocks item.block).claim h.free)
+        rw (release-row l s op item.block (claimed_low l s op item.block p (begun_claimed op old s item h))
+        p.in_order.shape.rows) (rw (begun_claimed op old s item h, h.held) (given_back op (row_of old.blocks
+        item.block) item.wish h.may (not_there (row_of old.blocks item.block).claim h.free)))

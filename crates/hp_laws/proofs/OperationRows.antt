@@ -1,5 +1,5 @@
 -- The rows after an operation begins, commits or is released, block by block.
-use Rattle.std.proofs.Common.{◌≡◌, ◌≢◌, ℕ, zero, suc, ◌+◌, ◌<◌, ◌≤◌, List, [], ◌∷◌, length, Bool, true, false, cond, Option, Some, None, refl, ap, sym, subst, ◌∙◌, arith, inl, inr, length-set}
+use Rattle.std.proofs.Common.{◌≡◌, ◌≢◌, ℕ, zero, suc, ◌+◌, ◌<◌, ◌≤◌, List, [], ◌∷◌, length, Bool, true, false, cond, Option, Some, None, refl, ap, subst, ◌∙◌, arith, inl, inr, length-set}
 use Rattle.std.specs.Prelude.{filter, fold}
 use Rattle.std.specs.List.{range_with_len}
 use Rattle.std.specs.Option.{option_map_or}
@@ -53,9 +53,7 @@ pub fold_row : (f : Memory → ℕ → Memory) (g : ℕ → Row → Row) (p : �
 fold_row f g p from zero t block w low high short = absurd (omega arith)
 fold_row f g p from (suc count) t block w low high short = elim (cases_eq block from) [
   | inl same ↦
-      let at_first : from < length t.blocks.rows = subst (λ (b : ℕ). b < length t.blocks.rows) same short in
-      subst (λ (b : ℕ). row_of (fold f t (filter p (range_with_len from (suc count)))).blocks b
-      ≡ cond (p b) (g b (row_of t.blocks b)) (row_of t.blocks b)) (sym same) (first at_first (p from))
+      rw same (first (subst (λ (b : ℕ). b < length t.blocks.rows) same short) (p from))
   | inr ne ↦
       later ne (λ u within.
       fold_row f g p (from + 1) count u block w (omega (arith, ne)) (omega arith) within) (p from)
@@ -142,8 +140,7 @@ pub begin-row : (l : LayoutParts) (s : Memory) (op : ℕ) (plan : List Item) (bl
     → row_of (begin_plan l s op plan).blocks block ≡ begun_row op (wish_of plan block) (row_of s.blocks block)
 unfolding begin_plan
 begin-row l s op plan block low shape =
-    subst (λ (xs : List ℕ). row_of (fold (begin_block l op plan) s xs).blocks block
-    ≡ begun_row op (wish_of plan block) (row_of s.blocks block)) (filter_every (range_with_len 0 l.blocks))
+    rw (← filter_every (range_with_len 0 l.blocks))
     (fold_row (begin_block l op plan) (λ b row. begun_row op (wish_of plan b) row) (λ b. true) 0 l.blocks s
     block (begin-rowwise l op plan) (omega arith) (omega arith) (omega (arith, shape)))
 

@@ -1,18 +1,17 @@
 -- What one step does to the rows of memory blocks: a claimed row changes only where its operation
 -- ends.
-use Rattle.std.proofs.Common.{◌≡◌, ◌≢◌, ℕ, ◌/◌, ◌<◌, ◌≤◌, Bool, true, false, cond, Option, Some, None, refl, ap, sym, subst, arith, ◌⊎◌, inl, inr, eqb-true}
+use Rattle.std.proofs.Common.{◌≡◌, ◌≢◌, ℕ, ◌/◌, ◌<◌, ◌≤◌, Bool, true, false, cond, Option, Some, None, refl, ap, arith, ◌⊎◌, inl, inr, eqb-true}
 use Rattle.std.specs.Prelude.{nat_le}
 use Rattle.std.specs.Bool.{then_some}
 use Rattle.std.proofs.lemmas.Bool.{both_ways, cases_lt, not-false}
 use Rattle.std.proofs.lemmas.List.{get_or_past}
-use Rattle.hp_units.specs.declared.rows.Row.{Row}
 use Rattle.hp_units.specs.declared.rows.State.TheVariants.{Absent as AbsentState}
 use Rattle.hp_units.specs.LayoutParts.{LayoutParts, IsLayout}
 use Rattle.hp_units.specs.Arithmetic.{block_bytes}
 use Rattle.hp_units.specs.Choices.{first_some}
 use Rattle.hp_units.specs.Memory.{Memory, offline_row, row_of}
 use Rattle.hp_units.specs.Refusals.{event_refusals, refusal_of}
-use Rattle.hp_units.specs.Rows.{is_claimed_by, commit_blocks, online_block, release_blocks}
+use Rattle.hp_units.specs.Rows.{is_claimed_by, commit_blocks, release_blocks}
 use Rattle.hp_units.specs.Step.{answer, kernel_gives, kernel_takes, map_step, migrate_step, perform, step, unmap_step}
 use Rattle.hp_units.specs.Placement.{IsWellPlaced}
 use Rattle.hp_laws.specs.Operations.{ends}
@@ -108,8 +107,7 @@ end_event op event e = absurd cc
 commit_frees : (l : LayoutParts) (s : Memory) (op block : ℕ) → IsWellPlaced l s → block < l.blocks
     → is_claimed_by op (row_of (commit_blocks l s op).blocks block) ≡ false
 commit_frees l s op block p low =
-    subst (λ (row : Row). is_claimed_by op row ≡ false)
-    (sym (commit-row l s op block low p.in_order.shape.rows))
+    rw (commit-row l s op block low p.in_order.shape.rows)
     (by_claim (is_claimed_by op (row_of s.blocks block)) refl)
   where
     by_claim : (b : Bool) → is_claimed_by op (row_of s.blocks block) ≡ b
@@ -122,8 +120,7 @@ commit_frees l s op block p low =
 cancel_frees : (l : LayoutParts) (s : Memory) (op block : ℕ) → IsWellPlaced l s → block < l.blocks
     → is_claimed_by op (row_of (release_blocks l s op).blocks block) ≡ false
 cancel_frees l s op block p low =
-    subst (λ (row : Row). is_claimed_by op row ≡ false)
-    (sym (release-row l s op block low p.in_order.shape.rows))
+    rw (release-row l s op block low p.in_order.shape.rows)
     (by_claim (is_claimed_by op (row_of s.blocks block)) refl)
   where
     by_claim : (b : Bool) → is_claimed_by op (row_of s.blocks block) ≡ b
@@ -136,12 +133,8 @@ perform_frees : (l : LayoutParts) (s : Memory) (serial cpu : ℕ) (event : Event
     → IsWellPlaced l s → ends op event ≡ true → block < l.blocks
     → is_claimed_by op (row_of (perform l s serial cpu event).memory.blocks block) ≡ false
 perform_frees l s serial cpu event op block p e low = elim (end_event op event e) [
-  | inl is ↦
-      subst (λ (x : Event). is_claimed_by op (row_of (perform l s serial cpu x).memory.blocks block) ≡ false)
-      (sym is) (commit_frees l s op block p low)
-  | inr is ↦
-      subst (λ (x : Event). is_claimed_by op (row_of (perform l s serial cpu x).memory.blocks block) ≡ false)
-      (sym is) (cancel_frees l s op block p low)
+  | inl is ↦ rw is (commit_frees l s op block p low)
+  | inr is ↦ rw is (cancel_frees l s op block p low)
 ]
 
 -- no row carries the operation's claim

@@ -11,7 +11,7 @@ use Rattle.hp_units.specs.declared.rows.Auto.TheVariants.{Offline as OfflineAuto
 use Rattle.hp_units.specs.declared.rows.Claim.{Claim}
 use Rattle.hp_units.specs.declared.plans.Item.{Item}
 use Rattle.hp_units.specs.declared.events.Event.{Event}
-use Rattle.hp_units.specs.declared.events.Event.TheVariants.{KernelAlloc, KernelFree, Map, Unmap, Write, Read, Drain, Online, Begin, DrainFor, Migrate, Commit, Cancel, UndoAfter, Probe, Remove, SetAuto}
+use Rattle.hp_units.specs.declared.events.Event.TheVariants.{KernelAlloc, KernelFree, Map, Unmap, Online, Begin, Migrate, Commit, Cancel, Probe}
 use Rattle.hp_units.specs.declared.replies.Refusal.{Refusal}
 use Rattle.hp_units.specs.declared.replies.Refusal.TheVariants.{NoCpu, NoFrame, NotMapped}
 use Rattle.hp_units.specs.declared.replies.Record.{Record}
@@ -27,7 +27,7 @@ use Rattle.hp_units.specs.Migrations.{migration_source, migration_target}
 use Rattle.hp_units.specs.Refusals.{event_refusals, refusal_of}
 use Rattle.hp_units.specs.Step.{Answered, done, kernel_takes, kernel_gives, give_back, map_step, unmap_step, migrate_step, auto_online, perform, answer, step}
 use Rattle.hp_units.specs.Contents.{contents_after}
-use Rattle.hp_units.specs.History.{is_refused, run}
+use Rattle.hp_units.specs.History.{is_refused}
 
 abbrev pub Contents : Type 0
 Contents = List (List (Option (List ℕ)))
@@ -183,22 +183,14 @@ perform-contents l s serial cpu (Map owner page) e =
     map_step-contents l s cpu owner page (all_none (event_refusals l s cpu (Map owner page)) e).1.1.1.0
 perform-contents l s serial cpu (Unmap owner page) e =
     unmap_step-contents l s cpu owner page (all_none (event_refusals l s cpu (Unmap owner page)) e).1.1.0
-perform-contents l s serial cpu (Write owner page index value) e = refl
-perform-contents l s serial cpu (Read owner page index) e = refl
-perform-contents l s serial cpu (Drain drained) e = refl
-perform-contents l s serial cpu (Online block zone) e =
-    ap (λ (p : Pages). p.contents) (online_block-pages l zone s block)
-perform-contents l s serial cpu (Begin plan) e =
-    ap (λ (p : Pages). p.contents) (begin_plan-pages l s serial plan)
-perform-contents l s serial cpu (DrainFor op drained) e = refl
+perform-contents l s serial cpu (Online block zone) e = rw (online_block-pages l zone s block)
+perform-contents l s serial cpu (Begin plan) e = rw (begin_plan-pages l s serial plan)
 perform-contents l s serial cpu (Migrate op) e = migrate_step-contents l s op
 perform-contents l s serial cpu (Commit op) e = ap (λ (p : Pages). p.contents) (commit_blocks-pages l s op)
 perform-contents l s serial cpu (Cancel op) e = ap (λ (p : Pages). p.contents) (release_blocks-pages l s op)
-perform-contents l s serial cpu (UndoAfter after) e = refl
 perform-contents l s serial cpu (Probe address) e =
     ap (λ (p : Pages). p.contents) (auto_online-pages l s.blocks.auto _ (address / block_bytes l))
-perform-contents l s serial cpu (Remove block) e = refl
-perform-contents l s serial cpu (SetAuto auto) e = refl
+perform-contents l s serial cpu _ e = refl
 
 answer-contents : (l : LayoutParts) (s : Memory) (serial cpu : ℕ) (event : Event) (o : Option Refusal)
     → refusal_of l s cpu event ≡ o

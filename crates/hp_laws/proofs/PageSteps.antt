@@ -201,9 +201,8 @@ unmap-placed l s cpu owner page low p = by_frame (frame_at s.pages owner page) r
 page_written : (l : LayoutParts) (f : Option ℕ) (w : Option (List ℕ)) (index value : ℕ) → IsPage l f w
     → IsPage l f (option_map (λ words. set words index value) w)
 page_written l None None index value h = tt
-page_written l None (Some words) index value h = absurd h
-page_written l (Some frame) None index value h = absurd h
 page_written l (Some frame) (Some words) index value h = length-set words index value ∙ h
+page_written l _ _ index value h = absurd h
 
 pub write-placed : (l : LayoutParts) (s : Memory) (owner page index value : ℕ) → IsWellPlaced l s
     → owner < l.owners → page < l.pages

@@ -104,14 +104,8 @@ other_cases P a class order frames h new old c o =
     elim (cases_eq (5 * o + class_index c) (5 * order + class_index class)) [
       | inl same ↦
           let that = that_list class order c o same in
-          subst (λ (k : Class). P k o (free_list (with_free_list a class order frames) k o))
-          (sym that.class_is)
-          (subst (λ (n : ℕ). P class n (free_list (with_free_list a class order frames) class n))
-          (sym that.order_is)
-          (subst (λ (xs : List ℕ). P class order xs) (sym (free_list-same a class order frames h)) new))
-      | inr apart ↦
-          subst (λ (xs : List ℕ). P c o xs) (sym (free_list-apart a class order frames c o apart))
-          (old c o apart)
+          rw (that.class_is, that.order_is, free_list-same a class order frames h) new
+      | inr apart ↦ rw (free_list-apart a class order frames c o apart) (old c o apart)
     ]
 
 -- ---- where a block of the lists was before so many orders were moved
@@ -165,9 +159,7 @@ move_free-below l a b from to pageblock order has few h =
     (λ x. ap not (sym (among_block size pageblock x (pow_pos l.order)))) frames in
     let sums : (frame : ℕ)
     → list_places frame order gone + list_places frame order kept ≡ list_places frame order frames =
-    λ frame. subst (λ (xs : List ℕ).
-    list_places frame order gone + list_places frame order xs ≡ list_places frame order frames) (sym same)
-    (moved-sum (λ x. covered frame order x) (pageblock * size) size frames apart) in
+    λ frame. rw same (moved-sum (λ x. covered frame order x) (pageblock * size) size frames apart) in
     let put : List ℕ = free_list left to order ++ gone in
     let still : (c : Class) (o : ℕ) → 5 * o + class_index c ≢ 5 * order + class_index from → (first : ℕ)
     → is_on first (free_list b c o) ≡ true → WasBlock l a from to pageblock (suc order) c o first =

@@ -1,11 +1,10 @@
 -- One frame put back by a processor's list, and one handed out.
-use Rattle.std.proofs.Common.{◌≡◌, ℕ, ◌+◌, ◌-◌, ◌*◌, ◌<◌, ◌≤◌, List, [], ◌∷◌, length, take, drop, reverse, Bool, true, false, cond, Option, Some, None, refl, sym, ap, subst, arith, inl, inr, IfSome, ◌==◌, ◌||◌}
+use Rattle.std.proofs.Common.{◌≡◌, ℕ, ◌+◌, ◌-◌, ◌*◌, ◌<◌, ◌≤◌, List, [], ◌∷◌, length, take, drop, reverse, Bool, true, false, cond, Option, Some, None, refl, ap, arith, inl, inr, IfSome, ◌==◌, ◌||◌}
 use Rattle.std.specs.Prelude.{nat_le}
 use Rattle.std.specs.Option.{option_map}
 use Rattle.std.proofs.lemmas.List.Sums.{sum_by-cons, sum_by-take-drop}
 use Rattle.std.proofs.lemmas.List.Sorted.{sum_by-IsPermutation, IsPermutation-reverse}
 use Rattle.hp_units.specs.declared.rows.Pool.{Pool}
-use Rattle.hp_units.specs.declared.rows.Kind.{Kind}
 use Rattle.hp_units.specs.declared.rows.Zone.{Zone}
 use Rattle.hp_units.specs.LayoutParts.{LayoutParts}
 use Rattle.hp_units.specs.Arithmetic.{pageblock_of}
@@ -14,7 +13,7 @@ use Rattle.hp_units.specs.FreeAreas.{Taken, is_on, class_of_kind, give_block}
 use Rattle.hp_units.specs.ProcessorLists.{give_all, handed_from, pop_cached, put_one, refilled, spilled, take_one}
 use Rattle.hp_units.specs.Rows.{with_areas}
 use Rattle.hp_units.specs.Step.{with_free}
-use Rattle.hp_units.specs.Placement.{IsInOrder, IsWellPlaced, cached_places, class_at, kind_at, places_of, pool_at, row_at, covered}
+use Rattle.hp_units.specs.Placement.{IsInOrder, IsWellPlaced, cached_places, class_at, kind_at, places_of, row_at, covered}
 use Rattle.hp_lemmas.proofs.Joins.{give_block-places}
 use Rattle.hp_laws.proofs.Ordered.{AreOrdered}
 use Rattle.hp_lemmas.proofs.Geometry.{aligned_ancestor}
@@ -55,16 +54,13 @@ times_on frame (x ∷ xs) some =
     step true other h e some = refl
     step false other h e some = h (omega arith)
 
-times-reverse : (frame : ℕ) (frames : List ℕ) → times frame (reverse frames) ≡ times frame frames
-times-reverse frame frames =
-    sum_by-IsPermutation (λ y. cond (y == frame) 1 0) frames (reverse frames) (IsPermutation-reverse frames)
-
 parted : (frame kept : ℕ) (frames : List ℕ)
     → times frame (take kept frames) + times frame (reverse (drop kept frames)) ≡ times frame frames
 parted frame kept frames =
     omega (
       arith,
-      times-reverse frame (drop kept frames),
+      sum_by-IsPermutation (λ y. cond (y == frame) 1 0) (drop kept frames) (reverse (drop kept frames))
+          (IsPermutation-reverse (drop kept frames)),
       sum_by-take-drop (λ y. cond (y == frame) 1 0) frames kept,
     )
 
@@ -106,8 +102,7 @@ spill-placed l s cpu kept pool low p =
           (take kept frames)
           (areas-in_order l s (give_all l s.free.areas (zone_of_pool pool) gone) p.in_order given.ordered
           given.kinds) low
-          (λ frame on. subst (λ (ks : List Kind). pool_at l ks s.blocks.rows (pageblock_of l frame)
-          ≡ Some pool) (sym given.kinds) (p.in_order.cached cpu pool frame (stays frame on)));
+          (λ frame on. rw given.kinds (p.in_order.cached cpu pool frame (stays frame on)));
       once = λ frame. omega (arith, p.once frame, given.places frame, left frame);
     }
 
@@ -173,12 +168,7 @@ put_one-placed l s cpu zone frame low h zone_is room =
               cached-in_order l s cpu pool (frame ∷ cached_list s.free cpu pool) h low
               (λ other on. elim (on_cases other frame (cached_list s.free cpu pool) on) [
                 | inl same ↦
-                    subst (λ (f : ℕ).
-                    pool_at l s.free.areas.kinds s.blocks.rows (pageblock_of l f) ≡ Some pool)
-                    same
-                    (ap (option_map
-                    (λ z. pool_of z (kind_at s.free.areas.kinds (pageblock_of l frame)).mobility))
-                    zone_is)
+                    rw (← same) (rw zone_is)
                 | inr there ↦ h.cached cpu pool other there
               ]);
           once =

@@ -72,8 +72,7 @@ unfolding value_of
 by_effect l base before h r Looks good is reply nets = inr (record {
   reply = reply;
   memory =
-      value-push l base h r ∙ ap (run l base) nets
-      ∙ sym ((steps l (value_of l base h) r.serial r.cpu r.event).looks is);
+      rw (value-push l base h r, nets) (sym ((steps l (value_of l base h) r.serial r.cpu r.event).looks is));
 })
 by_effect l base before h r (Undoes kept) good is reply nets =
     inl (undo_back l before (before + length h) kept r.cpu (net_of h) r.reply good reply)
@@ -102,9 +101,7 @@ pub reply_at : (l : LayoutParts) (base : Memory) (before : ℕ) (h : List Record
     → r.reply ≡ effect_reply l before (before + length h) (net_of h) (value_of l base h) r.serial r.cpu
     r.event (effect_of r.event)
 unfolding reply_of
-reply_at l base before h r follows =
-    follows.reply ∙ ap (λ (serial : ℕ). effect_reply l before (before + length h) (net_of h)
-    (value_of l base h) serial r.cpu r.event (effect_of r.event)) (sym follows.serial)
+reply_at l base before h r follows = rw (follows.reply, ← follows.serial)
 
 -- a record that isn't refused goes back to an earlier state, or is a step
 pub record_cases : (l : LayoutParts) (base : Memory) (before : ℕ) (h : List Record) (r : Record)
@@ -127,25 +124,17 @@ good_take : (l : LayoutParts) (base : Memory) (k : ℕ) (n : List Record) → Al
 good_take l base k n h i r e =
     let at = get_take k n r i e in
     let le : i ≤ k = omega (arith, at.0) in
-    subst (λ (m : List Record). is_refused (step l (run l base m) r.serial r.cpu r.event).reply ≡ false)
-    (sym (take-take i k n le)) (h i r at.1)
+    rw (take-take i k n le) (h i r at.1)
 
 good_push : (l : LayoutParts) (base : Memory) (n : List Record) (r : Record) → AllGood l base n
     → is_refused (step l (run l base n) r.serial r.cpu r.event).reply ≡ false → AllGood l base (n ++ r ∷ [])
 good_push l base n r h good i x e = elim (get_push_cases n r x i e) [
   | inl at ↦
-      let within = slice_get_within n i x at in
-      let le : i ≤ length n = omega (arith, within) in
-      subst (λ (m : List Record). is_refused (step l (run l base m) x.serial x.cpu x.event).reply ≡ false)
-      (sym (take-append-le i n (r ∷ []) le)) (h i x at)
+      let le : i ≤ length n = omega (arith, slice_get_within n i x at) in
+      rw (take-append-le i n (r ∷ []) le) (h i x at)
   | inr at ↦
       let le : i ≤ length n = omega (arith, at.0) in
-      let whole : take i (n ++ r ∷ []) ≡ n =
-      take-append-le i n (r ∷ []) le ∙ take_all i n (omega (arith, at.0)) in
-      subst (λ (m : List Record). is_refused (step l (run l base m) x.serial x.cpu x.event).reply ≡ false)
-      (sym whole)
-      (subst (λ (y : Record). is_refused (step l (run l base n) y.serial y.cpu y.event).reply ≡ false) at.1
-      good)
+      rw (take-append-le i n (r ∷ []) le ∙ take_all i n (omega (arith, at.0)), ← at.1) good
 ]
 
 record IsSound (l : LayoutParts) (base : Memory) (before : ℕ) (g : List Record) : Type 0 where
@@ -161,8 +150,7 @@ sound_more l base before g r follows h = record {
       (elim (net_cases before (before + length g) (net_of g) r (numbered_net l base before g h.legal)) [
         | inl cut ↦ subst (AllGood l base) (sym cut.2) (good_take l base cut.0 (net_of g) h.good)
         | inr adds ↦
-            subst (AllGood l base) (sym adds)
-            (good_push l base (net_of g) r h.good (added_good l base before g r follows adds))
+            rw adds (good_push l base (net_of g) r h.good (added_good l base before g r follows adds))
       ]);
 }
 

@@ -1,7 +1,6 @@
 -- Rows of blocks that are offline or absent change, and a block goes online.
 use Rattle.std.proofs.Common.{◌≡◌, ◌≢◌, ℕ, ◌+◌, ◌*◌, ◌<◌, ◌≤◌, List, [], ◌∷◌, length, get_or, set, Bool, true, false, cond, Option, Some, None, refl, sym, ◌∙◌, ap, subst, arith, inl, inr, IfSome, length-set, ◌==◌, ◌||◌}
 use Rattle.std.specs.List.{count_by}
-use Rattle.std.specs.Option.{option_map}
 use Rattle.std.proofs.lemmas.Bool.{cases_eq, cases_lt, both_ways}
 use Rattle.std.proofs.lemmas.List.{get_or-set_other, get_or-set_same, get_or_past}
 use Rattle.std.proofs.lemmas.List.Sums.{sum_by-cons, get_or-le-sum_by}
@@ -10,15 +9,15 @@ use Rattle.hp_units.specs.declared.rows.Row.{Row}
 use Rattle.hp_units.specs.declared.rows.Kind.{Kind}
 use Rattle.hp_units.specs.declared.rows.Claim.{Claim}
 use Rattle.hp_units.specs.declared.rows.State.{State}
-use Rattle.hp_units.specs.declared.rows.State.TheVariants.{Offline as OfflineState, Online as OnlineState, Going as GoingState, Absent as AbsentState}
+use Rattle.hp_units.specs.declared.rows.State.TheVariants.{Online as OnlineState, Going as GoingState}
 use Rattle.hp_units.specs.declared.rows.Zone.{Zone}
 use Rattle.hp_units.specs.declared.rows.Zone.TheVariants.{Normal as NormalZone}
 use Rattle.hp_units.specs.declared.rows.Mobility.{Mobility}
 use Rattle.hp_units.specs.declared.rows.Mobility.TheVariants.{Unmovable, Movable}
 use Rattle.hp_units.specs.LayoutParts.{LayoutParts}
 use Rattle.hp_units.specs.Arithmetic.{pageblock_of, block_of, block_of_pageblock}
-use Rattle.hp_units.specs.Memory.{FreeFrames, Memory, cached_list, kernel_order, row_of, offline_row, pool_index, pool_of}
-use Rattle.hp_units.specs.FreeAreas.{is_on, class_of_kind}
+use Rattle.hp_units.specs.Memory.{FreeFrames, Memory, cached_list, kernel_order, row_of, offline_row, pool_index}
+use Rattle.hp_units.specs.FreeAreas.{is_on}
 use Rattle.hp_units.specs.Rows.{with_block_row, is_going, is_offline_state, is_absent_state, is_going_state}
 use Rattle.hp_units.specs.Placement.{is_unplugged, IsRow, IsRowOf, free_places, cached_places, kernel_places, mapped_places, offline_places, IsInOrder, IsWellPlaced, IsKernelAt, class_at, pool_at, row_at, kind_at}
 use Rattle.hp_lemmas.proofs.Lists.{covered-self}
@@ -71,8 +70,7 @@ pub away : (l : LayoutParts) (s : Memory) (block frame : ℕ) → IsWellPlaced l
     + kernel_places s frame
     → block_of l frame ≢ block
 away l s block frame p off some same =
-    let here : is_unplugged (row_of s.blocks (block_of l frame)) ≡ true =
-    subst (λ (b : ℕ). is_unplugged (row_of s.blocks b) ≡ true) (sym same) off in
+    let here : is_unplugged (row_of s.blocks (block_of l frame)) ≡ true = rw same off in
     let one : offline_places l s frame ≡ 1 = ap (λ (t : Bool). cond t 1 0) here in
     omega (arith, p.once frame)
 
@@ -85,36 +83,23 @@ row_at-other l rows block frame row ne =
     get_or-set_other rows block (block_of_pageblock l (pageblock_of l frame)) row offline_row
     (λ same. ne (block_of-pageblock l frame ∙ same))
 
-pub class_at-other : (l : LayoutParts) (kinds : List Kind) (rows : List Row) (block frame : ℕ) (row : Row)
-    → block_of l frame ≢ block
-    → class_at l kinds (set rows block row) (pageblock_of l frame)
-    ≡ class_at l kinds rows (pageblock_of l frame)
-class_at-other l kinds rows block frame row ne =
-    ap (λ (r : Row). option_map (λ zone. class_of_kind zone (kind_at kinds (pageblock_of l frame))) r.zone)
-    (row_at-other l rows block frame row ne)
-
 pool_at-other : (l : LayoutParts) (kinds : List Kind) (rows : List Row) (block frame : ℕ) (row : Row)
     → block_of l frame ≢ block
     → pool_at l kinds (set rows block row) (pageblock_of l frame)
     ≡ pool_at l kinds rows (pageblock_of l frame)
-pool_at-other l kinds rows block frame row ne =
-    ap (λ (r : Row). option_map (λ zone. pool_of zone (kind_at kinds (pageblock_of l frame)).mobility) r.zone)
-    (row_at-other l rows block frame row ne)
+pool_at-other l kinds rows block frame row ne = rw (row_at-other l rows block frame row ne)
 
 -- an unplugged row has no zone and isn't going
 pub unplugged_zone : (state : State) (zone : Option Zone) (claim : Option Claim)
     → (is_offline_state state || is_absent_state state) ≡ true → IsRowOf state zone claim → zone ≡ None
-unplugged_zone OfflineState zone claim e h = h.0
-unplugged_zone AbsentState zone claim e h = h.0
 unplugged_zone OnlineState zone claim e h = cc
 unplugged_zone GoingState zone claim e h = cc
+unplugged_zone _ zone claim e h = h.0
 
 pub unplugged_stays : (state : State) → (is_offline_state state || is_absent_state state) ≡ true
     → is_going_state state ≡ false
-unplugged_stays OfflineState e = refl
-unplugged_stays AbsentState e = refl
-unplugged_stays OnlineState e = refl
 unplugged_stays GoingState e = cc
+unplugged_stays _ e = refl
 
 pub record HasPlainKinds (l : LayoutParts) (s : Memory) (block : ℕ) : Type 0 where
   pub mobility : (pageblock : ℕ) → block_of_pageblock l pageblock ≡ block
@@ -140,8 +125,7 @@ plain_kinds l s block p off =
           (row_at l s.blocks.rows pageblock).zone (p.in_order.mobility pageblock)
           (subst (λ (b : ℕ). (row_of s.blocks b).zone ≡ None) (sym e) none);
       isolated =
-          λ pageblock e. p.in_order.isolated pageblock ∙ ap (λ (b : ℕ). is_going (row_of s.blocks b)) e
-          ∙ unplugged_stays row.state off;
+          λ pageblock e. rw (p.in_order.isolated pageblock, e) (unplugged_stays row.state off);
     }
 
 -- the row of an unplugged block changes to any other that isn't going
@@ -155,8 +139,8 @@ row-in_order l s block row p off low is still =
     let ordered =
     other-ordered l (class_at l s.free.areas.kinds s.blocks.rows)
     (class_at l s.free.areas.kinds (set s.blocks.rows block row)) s.free.areas
-    (λ first some. class_at-other l s.free.areas.kinds s.blocks.rows block first row
-    (away l s block first p off (omega arith))) (areas_of l s p) in
+    (λ first some. rw (row_at-other l s.blocks.rows block first row
+    (away l s block first p off (omega arith)))) (areas_of l s p) in
     record {
       shape =
           record {
@@ -187,9 +171,8 @@ row-in_order l s block row p off low is still =
       ];
       isolated = λ pageblock. elim (cases_eq (block_of_pageblock l pageblock) block) [
         | inl same ↦
-            plain.isolated pageblock same ∙ sym (ap
-            (λ (b : ℕ). is_going (get_or (set s.blocks.rows block row) b offline_row)) same ∙ ap is_going
-            (get_or-set_same s.blocks.rows block row offline_row short) ∙ still)
+            plain.isolated pageblock same ∙ sym
+            (rw (same, get_or-set_same s.blocks.rows block row offline_row short) still)
         | inr ne ↦
             h.isolated pageblock ∙ sym (ap is_going
             (get_or-set_other s.blocks.rows block (block_of_pageblock l pageblock) row offline_row ne))
@@ -223,9 +206,7 @@ pub unplugged-placed : (l : LayoutParts) (s : Memory) (block : ℕ) (row : Row) 
 unplugged-placed l s block row p off low is still gone = record {
   in_order = row-in_order l s block row p off low is still;
   once =
-      λ frame. subst (λ (n : ℕ). free_places s.free.areas frame + cached_places s.free frame
-      + mapped_places s.pages frame + kernel_places s frame + n ≡ 1)
-      (sym (same_places frame)) (p.once frame);
+      λ frame. rw (same_places frame) (p.once frame);
 }
   where
     same_places : (frame : ℕ) → offline_places l (with_block_row s block row) frame ≡ offline_places l s frame
@@ -236,7 +217,5 @@ unplugged-placed l s block row p off low is still gone = record {
           (get_or-set_same s.blocks.rows block row offline_row (omega (arith, p.in_order.shape.rows)))
           ∙ ap (λ (t : Bool). cond t 1 0) (gone ∙ sym off)
           ∙ sym (ap (λ (b : ℕ). cond (is_unplugged (get_or s.blocks.rows b offline_row)) 1 0) same)
-      | inr ne ↦
-          ap (λ (r : Row). cond (is_unplugged r) 1 0)
-          (get_or-set_other s.blocks.rows block (block_of l frame) row offline_row ne)
+      | inr ne ↦ rw (get_or-set_other s.blocks.rows block (block_of l frame) row offline_row ne)
     ]

@@ -1,10 +1,10 @@
 -- The laws of operations over histories that follow one another.
-use Rattle.std.proofs.Common.{◌≡◌, ℕ, ◌+◌, List, [], ◌∷◌, ◌++◌, length, take, true, false, Some, slice_get, ap, sym, subst, ◌∙◌, arith, inl, inr}
+use Rattle.std.proofs.Common.{◌≡◌, ℕ, ◌+◌, List, [], ◌∷◌, ◌++◌, length, true, false, Some, slice_get, sym, subst, ◌∙◌, arith, inl, inr}
 use Rattle.std.proofs.lemmas.Bool.{cases_lt}
 use Rattle.hp_units.specs.LayoutParts.{LayoutParts, IsLayout}
 use Rattle.hp_units.specs.Memory.{Memory, row_of}
 use Rattle.hp_units.specs.Rows.{claimed_row, commit_blocks, is_live, release_blocks}
-use Rattle.hp_units.specs.History.{is_refused, net_of, run, value_of}
+use Rattle.hp_units.specs.History.{is_refused, net_of, value_of}
 use Rattle.hp_units.specs.Placement.{IsWellPlaced}
 use Rattle.hp_laws.specs.Operations.{BeginsAt, IsOpenBehind, RowsAre, wished_row}
 use Rattle.hp_laws.specs.Seals.{AreLegal, net_of_all, state_just_after, state_just_before, value_of_all}
@@ -14,7 +14,7 @@ use Rattle.hp_laws.proofs.EventSteps.{value-placed}
 use Rattle.hp_laws.proofs.LawProofs.{IsCutAt, restored_cut}
 use Rattle.hp_laws.proofs.OperationLaws.{cancel_ends, commit_ends, each_same}
 use Rattle.hp_laws.proofs.OperationNets.{begun_in, held_in, new_in, old_in, phase_in}
-use Rattle.hp_laws.proofs.OperationPhases.{AreBegun, HoldsOrIsOver, IsBegun, IsEndOf, cancel-gives_back, commit-grants, each_both, each_map, live_holds}
+use Rattle.hp_laws.proofs.OperationPhases.{AreBegun, IsBegun, IsEndOf, cancel-gives_back, commit-grants, each_both, each_map, live_holds}
 use Rattle.hp_laws.proofs.SealedNets.{IsLast, begin_of_all, count_of_all, front_of_all, get_right, last_legal, net-last, others_legal, placed_of_all, run_past, steps_of_all, value-last}
 
 -- the states around the step at a place of all steps
@@ -39,14 +39,10 @@ pub claimed_in_all : (l : LayoutParts) (base : Memory) (before : ℕ) (hs : List
     (row_of (state_just_before l base before hs b).blocks item.block) b.serial item.wish)
 claimed_in_all l base before hs place b plan layout p legal at =
     let begin = begin_of_all l base before hs place b plan legal at in
-    subst (λ (t : Memory). RowsAre t plan (λ item. claimed_row
-    (row_of (state_just_before l base before hs b).blocks item.block) b.serial item.wish)) (sym begin.is)
-    (subst (λ (s : Memory). RowsAre (new_of l base hs place) plan
-    (λ item. claimed_row (row_of s.blocks item.block) b.serial item.wish)) (sym begin.was)
-    (each_map (IsBegun b.serial (old_of l base hs place) (new_of l base hs place)) (λ item. row_of
-    (new_of l base hs place).blocks item.block ≡ claimed_row
-    (row_of (old_of l base hs place).blocks item.block) b.serial item.wish)
-    (λ item is. is.held) plan (new_begun l base before hs place b plan layout p legal at)))
+    rw (begin.is, begin.was)
+    (each_map (IsBegun b.serial (old_of l base hs place) (new_of l base hs place)) (λ item. row_of (new_of l
+    base hs place).blocks item.block ≡ claimed_row (row_of (old_of l base hs place).blocks item.block)
+    b.serial item.wish) (λ item is. is.held) plan (new_begun l base before hs place b plan layout p legal at))
 
 -- rows that are held now are those that the Begin left
 as_left : (l : LayoutParts) (base : Memory) (before : ℕ) (hs : List (List Record)) (place : ℕ) (b : Record)
@@ -55,13 +51,10 @@ as_left : (l : LayoutParts) (base : Memory) (before : ℕ) (hs : List (List Reco
     → AreBegun b.serial (old_of l base hs place) s plan
     → RowsAre s plan (λ item. row_of (state_just_after l base before hs b).blocks item.block)
 as_left l base before hs place b plan s layout p legal at begun =
-    subst (λ (t : Memory). RowsAre s plan (λ item. row_of t.blocks item.block))
-    (sym (begin_of_all l base before hs place b plan legal at).is)
-    (each_both (IsBegun b.serial (old_of l base hs place) s)
-    (IsBegun b.serial (old_of l base hs place) (new_of l base hs place))
-    (λ item. row_of s.blocks item.block ≡ row_of (new_of l base hs place).blocks item.block)
-    (λ item now left. now.held ∙ sym left.held) plan begun
-    (new_begun l base before hs place b plan layout p legal at))
+    rw ((begin_of_all l base before hs place b plan legal at).is) (each_both (IsBegun b.serial
+    (old_of l base hs place) s) (IsBegun b.serial (old_of l base hs place) (new_of l base hs place))
+    (λ item. row_of s.blocks item.block ≡ row_of (new_of l base hs place).blocks item.block) (λ item now
+    left. now.held ∙ sym left.held) plan begun (new_begun l base before hs place b plan layout p legal at))
 
 pub held_in_all : (l : LayoutParts) (base : Memory) (before : ℕ) (hs : List (List Record)) (place : ℕ)
     (b : Record) (plan : List Item)
@@ -72,8 +65,7 @@ pub held_in_all : (l : LayoutParts) (base : Memory) (before : ℕ) (hs : List (L
 held_in_all l base before hs place b plan layout p legal at stays =
     let steps = steps_of_all l base before hs legal in
     as_left l base before hs place b plan (value_of_all l base hs) layout p legal at
-    (subst (λ (s : Memory). AreBegun b.serial (old_of l base hs place) s plan) (sym steps.value)
-    (held_in l base (net_of_all hs) place b plan layout p steps.good at stays))
+    (rw steps.value (held_in l base (net_of_all hs) place b plan layout p steps.good at stays))
 
 -- ---- the end of an operation, in the last of them
 
@@ -88,10 +80,8 @@ live_begun l base before hs h place b plan layout p legal at live =
     let all : List (List Record) = hs ++ h ∷ [] in
     let steps = steps_of_all l base before all legal in
     live_holds b.serial (old_of l base all place) (value_of l (value_of_all l base hs) h) plan live
-    (subst (λ (s : Memory). HoldsOrIsOver b.serial (old_of l base all place) s plan)
-    (sym steps.value ∙ value-last l base hs h)
-    (phase_in l base before (before + count_of_all all) (net_of_all all) place b plan layout p steps.numbered
-    steps.good at))
+    (rw (← value-last l base hs h, steps.value) (phase_in l base before (before + count_of_all all)
+    (net_of_all all) place b plan layout p steps.numbered steps.good at))
 
 -- a Commit
 record IsCommitOfAll (l : LayoutParts) (base : Memory) (hs : List (List Record)) (h : List Record)
@@ -124,11 +114,8 @@ pub commit_held_in_all : (l : LayoutParts) (base : Memory) (before : ℕ) (hs : 
     → RowsAre (value_of_all l base (hs ++ h ∷ [])) plan
     (λ item. row_of (state_just_after l base before (hs ++ h ∷ []) b).blocks item.block)
 commit_held_in_all l base before hs h r place b plan layout p legal at is good =
-    subst (λ (s : Memory). RowsAre s plan
-    (λ item. row_of (state_just_after l base before (hs ++ h ∷ []) b).blocks item.block))
-    (sym (value-last l base hs h))
-    (as_left l base before (hs ++ h ∷ []) place b plan (value_of l (value_of_all l base hs) h) layout p
-    (front_of_all l base before hs h r legal) at
+    rw (value-last l base hs h) (as_left l base before (hs ++ h ∷ []) place b plan
+    (value_of l (value_of_all l base hs) h) layout p (front_of_all l base before hs h r legal) at
     (is_commit l base before hs h r place b plan layout p legal at is good).begun)
 
 pub commit_granted_in_all : (l : LayoutParts) (base : Memory) (before : ℕ) (hs : List (List Record))
@@ -140,8 +127,7 @@ pub commit_granted_in_all : (l : LayoutParts) (base : Memory) (before : ℕ) (hs
 commit_granted_in_all l base before hs h r place b plan layout p legal at is good =
     let s : Memory = value_of_all l base hs in
     let commit = is_commit l base before hs h r place b plan layout p legal at is good in
-    subst (λ (t : Memory). RowsAre t plan (λ item. wished_row item.wish))
-    (sym (value-last l base hs (h ++ r ∷ []) ∙ commit.ends.memory))
+    rw (value-last l base hs (h ++ r ∷ []), commit.ends.memory)
     (commit-grants l (value_of l s h) b.serial (old_of l base (hs ++ h ∷ []) place) plan
     (value-placed l s h layout (placed_of_all l base hs layout p)) commit.begun)
 
@@ -166,16 +152,12 @@ cut_of_all l base before hs h r place b plan legal at cut =
     let all : List (List Record) = hs ++ h ∷ [] in
     let first : List Record = net_of_all hs in
     let there : slice_get (net_of_all all) (length first + cut.place) ≡ Some cut.begin =
-    ap (λ (n : List Record). slice_get n (length first + cut.place)) (net-last hs h)
-    ∙ get_right first (net_of h) cut.place ∙ cut.here in
+    rw (net-last hs h, get_right first (net_of h) cut.place) cut.here in
     let same : place ≡ length first + cut.place =
     one_place before (before + count_of_all all) (net_of_all all) place (length first + cut.place) b cut.begin
     (steps_of_all l base before all legal).numbered at.here there (sym cut.serial) in
-    cut.value
-    ∙ ap (λ (s : Memory). run l s (take cut.place (net_of h)))
-    (steps_of_all l base before hs (others_legal l base before hs h legal)).value
-    ∙ sym (run_past l base first (net_of h) place cut.place same)
-    ∙ ap (λ (n : List Record). run l base (take place n)) (sym (net-last hs h))
+    rw (cut.value, (steps_of_all l base before hs (others_legal l base before hs h legal)).value)
+    (rw (← run_past l base first (net_of h) place cut.place same, ← net-last hs h))
 
 pub given_back_in_all : (l : LayoutParts) (base : Memory) (before : ℕ) (hs : List (List Record))
     (h : List Record) (r : Record) (place : ℕ) (b : Record) (plan : List Item)
@@ -185,12 +167,8 @@ pub given_back_in_all : (l : LayoutParts) (base : Memory) (before : ℕ) (hs : L
     → RowsAre (value_of_all l base (hs ++ (h ++ r ∷ []) ∷ [])) plan
     (λ item. row_of (state_just_before l base before (hs ++ h ∷ []) b).blocks item.block)
 given_back_in_all l base before hs h r place b plan layout p legal at is good =
-    subst (λ (t : Memory). RowsAre t plan
-    (λ item. row_of (state_just_before l base before (hs ++ h ∷ []) b).blocks item.block))
-    (sym (value-last l base hs (h ++ r ∷ [])))
-    (subst (λ (o : Memory). RowsAre (value_of l s (h ++ r ∷ [])) plan (λ item. row_of o.blocks item.block))
-    (sym (begin_of_all l base before (hs ++ h ∷ []) place b plan front at).was)
-    (elim (cancel_ends l s last.earlier h r b.serial last.legal is good)
+    rw (value-last l base hs (h ++ r ∷ [])) (rw ((begin_of_all l base before (hs ++ h ∷ []) place b plan front
+    at).was) (elim (cancel_ends l s last.earlier h r b.serial last.legal is good)
     [ inl back ↦ by_restore back | inr ends ↦ by_release ends ]))
   where
     s : Memory
@@ -216,7 +194,6 @@ given_back_in_all l base before hs h r place b plan layout p legal at is good =
         b.serial) b.serial
         → RowsAre (value_of l s (h ++ r ∷ [])) plan (λ item. row_of old.blocks item.block)
     by_release ends =
-        subst (λ (t : Memory). RowsAre t plan (λ item. row_of old.blocks item.block)) (sym ends.memory)
-        (cancel-gives_back l (value_of l s h) b.serial old plan
-        (value-placed l s h layout (placed_of_all l base hs layout p))
-        (live_begun l base before hs h place b plan layout p front at ends.live))
+        rw ends.memory
+        (cancel-gives_back l (value_of l s h) b.serial old plan (value-placed l s h layout (placed_of_all l
+        base hs layout p)) (live_begun l base before hs h place b plan layout p front at ends.live))

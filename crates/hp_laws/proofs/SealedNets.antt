@@ -1,5 +1,5 @@
 -- The steps of histories that follow one another are the steps of one run.
-use Rattle.std.proofs.Common.{◌≡◌, ℕ, zero, suc, ◌+◌, ◌-◌, ◌<◌, ◌≤◌, List, [], ◌∷◌, ◌++◌, length, take, Bool, false, cond, Some, slice_get, refl, ap, sym, subst, ◌∙◌, arith, ◌⊎◌, inl, inr}
+use Rattle.std.proofs.Common.{◌≡◌, ℕ, zero, suc, ◌+◌, ◌-◌, ◌<◌, ◌≤◌, List, [], ◌∷◌, ◌++◌, length, take, Some, slice_get, refl, ap, sym, subst, ◌∙◌, arith, ◌⊎◌, inl, inr}
 use Rattle.std.proofs.Math.Seq.{take-append-add}
 use Rattle.std.proofs.lemmas.Bool.{cases_lt, le-ltb, lt-ltb}
 use Rattle.std.proofs.lemmas.List.{append-nil, append_assoc, take-append-le, take_all}
@@ -7,8 +7,7 @@ use Rattle.std.proofs.lemmas.List.Sums.{fold_push}
 use Rattle.std.proofs.lemmas.Option.{slice_get_within}
 use Rattle.hp_units.specs.LayoutParts.{LayoutParts, IsLayout}
 use Rattle.hp_units.specs.Memory.{Memory}
-use Rattle.hp_units.specs.Step.{step}
-use Rattle.hp_units.specs.History.{IsLegal, is_refused, net_of, run, value_of}
+use Rattle.hp_units.specs.History.{IsLegal, net_of, run, value_of}
 use Rattle.hp_units.specs.Placement.{IsWellPlaced}
 use Rattle.hp_laws.specs.Operations.{BeginsAt}
 use Rattle.hp_laws.specs.Seals.{AreLegal, net_of_all, state_at, state_just_after, state_just_before, value_of_all}
@@ -70,23 +69,16 @@ numbered_both before mid last a b low high first second = record {
 -- the state before a step of the second list
 pub run_past : (l : LayoutParts) (base : Memory) (a b : List Record) (place k : ℕ) → place ≡ length a + k
     → run l base (take place (a ++ b)) ≡ run l (run l base a) (take k b)
-run_past l base a b place k is =
-    ap (λ (n : ℕ). run l base (take n (a ++ b))) is
-    ∙ ap (run l base) (take-append-add a b k)
-    ∙ run-append l base a (take k b)
+run_past l base a b place k is = rw (is, take-append-add a b k) (run-append l base a (take k b))
 
 -- steps that succeed, and then more that do
 good_both : (l : LayoutParts) (base : Memory) (a b : List Record) → AllGood l base a
     → AllGood l (run l base a) b → AllGood l base (a ++ b)
 good_both l base a b first second i r e = elim (get_append_cases a b i r e) [
   | inl at ↦
-      let within = slice_get_within a i r at in
-      let le : i ≤ length a = omega (arith, within) in
-      subst (λ (m : List Record). is_refused (step l (run l base m) r.serial r.cpu r.event).reply ≡ false)
-      (sym (take-append-le i a b le)) (first i r at)
-  | inr past ↦
-      subst (λ (s : Memory). is_refused (step l s r.serial r.cpu r.event).reply ≡ false)
-      (sym (run_past l base a b i past.place past.sum)) (second past.place r past.here)
+      let le : i ≤ length a = omega (arith, slice_get_within a i r at) in
+      rw (take-append-le i a b le) (first i r at)
+  | inr past ↦ rw (run_past l base a b i past.place past.sum) (second past.place r past.here)
 ]
 
 -- ---- histories one after another
@@ -177,14 +169,12 @@ all_more l base before (h ∷ hs) g legal last =
 pub legal_up_to : (l : LayoutParts) (base : Memory) (before : ℕ) (h rest : List Record) (r : Record)
     → IsLegal l base before (h ++ r ∷ rest) → IsLegal l base before (h ++ r ∷ [])
 legal_up_to l base before h rest r legal =
-    subst (λ (g : List Record). IsLegal l base before g) first
-    (legal_take l base before (h ++ r ∷ rest) (length (h ++ r ∷ [])) legal)
+    rw (← first) (legal_take l base before (h ++ r ∷ rest) (length (h ++ r ∷ [])) legal)
   where
     first : take (length (h ++ r ∷ [])) (h ++ r ∷ rest) ≡ h ++ r ∷ []
     first =
-        ap (take (length (h ++ r ∷ []))) (sym (append_assoc h (r ∷ []) rest))
-        ∙ (take-append-le (length (h ++ r ∷ [])) (h ++ r ∷ []) rest (omega arith)
-        ∙ take_all (length (h ++ r ∷ [])) (h ++ r ∷ []) (omega arith))
+        rw (← append_assoc h (r ∷ []) rest) (rw (take-append-le (length (h ++ r ∷ [])) (h ++ r ∷ []) rest
+        (omega arith)) (take_all (length (h ++ r ∷ [])) (h ++ r ∷ []) (omega arith)))
 
 pub all_up_to : (l : LayoutParts) (base : Memory) (before : ℕ) (hs later : List (List Record))
     (h rest : List Record) (r : Record)
@@ -201,25 +191,19 @@ value-last l base hs g = fold_push (λ (s : Memory) (h : List Record). value_of 
 pub net-last : (hs : List (List Record)) (g : List Record)
     → net_of_all (hs ++ g ∷ []) ≡ net_of_all hs ++ net_of g
 net-last [] g = append-nil (net_of g)
-net-last (h ∷ hs) g =
-    ap (λ (n : List Record). net_of h ++ n) (net-last hs g)
-    ∙ sym (append_assoc (net_of h) (net_of_all hs) (net_of g))
+net-last (h ∷ hs) g = rw (net-last hs g, ← append_assoc (net_of h) (net_of_all hs) (net_of g))
 
 -- ---- the states around a record
 
 -- after so many records of the first history, and past it
 at_inside : (l : LayoutParts) (base : Memory) (h : List Record) (later : List (List Record)) (count : ℕ)
     → count < length h → state_at l base (h ∷ later) count ≡ value_of l base (take count h)
-at_inside l base h later count lt =
-    ap (λ (b : Bool). cond b (value_of l base (take count h))
-    (state_at l (value_of l base h) later (count - length h))) (lt-ltb count (length h) lt)
+at_inside l base h later count lt = rw (lt-ltb count (length h) lt)
 
 at_past : (l : LayoutParts) (base : Memory) (h : List Record) (later : List (List Record)) (count : ℕ)
     → length h ≤ count
     → state_at l base (h ∷ later) count ≡ state_at l (value_of l base h) later (count - length h)
-at_past l base h later count ge =
-    ap (λ (b : Bool). cond b (value_of l base (take count h))
-    (state_at l (value_of l base h) later (count - length h))) (le-ltb count (length h) ge)
+at_past l base h later count ge = rw (le-ltb count (length h) ge)
 
 -- without records the state is the base
 pub no_records : (l : LayoutParts) (base : Memory) (h : List Record) → length h ≡ 0 → value_of l base h ≡ base
@@ -238,10 +222,7 @@ at_none l base (h ∷ hs) = elim (cases_lt 0 (length h)) [
   | inr none ↦
       let empty : length h ≡ 0 = omega (arith, none) in
       let nothing : 0 - length h ≡ 0 = omega arith in
-      at_past l base h hs 0 none
-      ∙ ap (λ (n : ℕ). state_at l (value_of l base h) hs n) nothing
-      ∙ at_none l (value_of l base h) hs
-      ∙ no_records l base h empty
+      rw (at_past l base h hs 0 none, nothing, at_none l (value_of l base h) hs) (no_records l base h empty)
 ]
 
 -- after up to all records of the first
@@ -251,10 +232,8 @@ at_within l base h later count le = elim (cases_lt count (length h)) [
   | inl less ↦ at_inside l base h later count less
   | inr ge ↦
       let nothing : count - length h ≡ 0 = omega (arith, le) in
-      at_past l base h later count ge
-      ∙ ap (λ (n : ℕ). state_at l (value_of l base h) later n) nothing
-      ∙ at_none l (value_of l base h) later
-      ∙ ap (value_of l base) (sym (take_all count h ge))
+      rw (at_past l base h later count ge, nothing, at_none l (value_of l base h) later)
+      (ap (value_of l base) (sym (take_all count h ge)))
 ]
 
 -- the states around a Begin are those around its place among all steps
@@ -306,15 +285,11 @@ begin_past l base before h later place k b sum rest =
     record {
       over = omega (arith, over);
       was =
-          at_past l base h later (b.serial - before - 1) past
-          ∙ ap (λ (n : ℕ). state_at l (value_of l base h) later n) left
-          ∙ rest.was
-          ∙ sym (run_past l base (net_of h) (net_of_all later) place k sum);
+          rw (at_past l base h later (b.serial - before - 1) past, left, rest.was)
+          (rw (← run_past l base (net_of h) (net_of_all later) place k sum));
       is =
-          at_past l base h later (b.serial - before) past_it
-          ∙ ap (λ (n : ℕ). state_at l (value_of l base h) later n) left_it
-          ∙ rest.is
-          ∙ sym (run_past l base (net_of h) (net_of_all later) (suc place) (suc k) next);
+          rw (at_past l base h later (b.serial - before) past_it, left_it, rest.is)
+          (rw (← run_past l base (net_of h) (net_of_all later) (suc place) (suc k) next));
     }
 
 pub begin_of_all : (l : LayoutParts) (base : Memory) (before : ℕ) (hs : List (List Record)) (place : ℕ)

@@ -1,25 +1,21 @@
 -- Events on whole states.
-use Rattle.std.proofs.Common.{◌≡◌, ℕ, ◌+◌, ◌*◌, ◌/◌, ◌^◌, ◌<◌, ◌≤◌, List, length, get_or, set, true, Option, Some, None, refl, sym, ◌∙◌, ap, subst, arith, inl, inr, IfSome, length-set}
+use Rattle.std.proofs.Common.{◌≡◌, ℕ, ◌+◌, ◌*◌, ◌/◌, ◌^◌, ◌<◌, ◌≤◌, List, length, get_or, set, Option, Some, None, refl, sym, ◌∙◌, ap, subst, arith, inl, inr, IfSome, length-set}
 use Rattle.std.specs.Option.{option_map}
 use Rattle.std.proofs.lemmas.Bool.{cases_eq, cases_lt}
 use Rattle.std.proofs.lemmas.List.{get_or-set_other, get_or-set_same, get_or_past}
 use Rattle.std.specs.Prelude.{unwrap_or}
-use Rattle.std.proofs.lemmas.Nat.{pow_pos, mul-le}
-use Rattle.std.proofs.Math.Nat.{div-div-eq-div-mul, lt-div-mul-add}
-use Rattle.hp_units.specs.declared.rows.Class.{Class}
+use Rattle.std.proofs.lemmas.Nat.{pow_pos}
+use Rattle.std.proofs.Math.Nat.{div-div-eq-div-mul}
 use Rattle.hp_units.specs.declared.rows.Auto.{Auto}
 use Rattle.hp_units.specs.declared.rows.Zone.{Zone}
 use Rattle.hp_units.specs.declared.rows.Zone.TheVariants.{Normal as NormalZone}
-use Rattle.hp_units.specs.declared.rows.Kind.{Kind}
 use Rattle.hp_units.specs.declared.rows.Row.{Row}
-use Rattle.hp_units.specs.declared.rows.Pool.{Pool}
-use Rattle.hp_units.specs.declared.rows.Mobility.TheVariants.{Unmovable}
-use Rattle.hp_units.specs.Rows.{is_going, with_areas, zone_of}
+use Rattle.hp_units.specs.Rows.{with_areas, zone_of}
 use Rattle.hp_units.specs.LayoutParts.{LayoutParts, IsLayout}
 use Rattle.hp_units.specs.Arithmetic.{pageblock_of, block_of, block_of_pageblock, frame_count}
-use Rattle.hp_units.specs.Memory.{FreeAreas, Memory, free_list, cached_list, kernel_order, with_kernel_order, offline_row}
-use Rattle.hp_units.specs.FreeAreas.{is_on, give_block, class_of, class_of_kind}
-use Rattle.hp_units.specs.Placement.{free_places, kernel_places, IsBlockOf, IsInOrder, IsWellPlaced, IsKernelAt, class_at, pool_at, row_at, kind_at, covered}
+use Rattle.hp_units.specs.Memory.{FreeAreas, Memory, kernel_order, with_kernel_order, offline_row}
+use Rattle.hp_units.specs.FreeAreas.{give_block, class_of, class_of_kind}
+use Rattle.hp_units.specs.Placement.{free_places, kernel_places, IsInOrder, IsWellPlaced, IsKernelAt, class_at, row_at, kind_at, covered}
 use Rattle.hp_lemmas.proofs.Lists.{covered-self}
 use Rattle.hp_lemmas.proofs.Joins.{give_block-places}
 use Rattle.hp_laws.proofs.Ordered.{AreOrdered}
@@ -32,9 +28,7 @@ use Rattle.hp_lemmas.proofs.KernelBlocks.{kernel-places}
 pub get_or-cases : {X : Type 0} (P : ℕ → X → Type 0) (xs : List X) (i : ℕ) (x d : X) → i < length xs → P i x
     → ((k : ℕ) → P k (get_or xs k d)) → (k : ℕ) → P k (get_or (set xs i x) k d)
 get_or-cases P xs i x d h new old k = elim (cases_eq k i) [
-  | inl same ↦
-      subst (λ (n : ℕ). P n (get_or (set xs i x) n d)) (sym same)
-      (subst (λ y. P i y) (sym (get_or-set_same xs i x d h)) new)
+  | inl same ↦ rw (same, get_or-set_same xs i x d h) new
   | inr apart ↦ subst (λ y. P k y) (sym (get_or-set_other xs i k x d apart)) (old k)
 ]
 
@@ -67,21 +61,12 @@ areas-in_order l s b h ordered same = record {
         kernel = h.shape.kernel;
         rows = h.shape.rows;
       };
-  blocks =
-      subst (λ (ks : List Kind). (class : Class) (order first : ℕ) → is_on first (free_list b class order)
-      ≡ true → IsBlockOf l (class_at l ks s.blocks.rows) class order first) (sym same) ordered.blocks;
+  blocks = rw same ordered.blocks;
   joined = ordered.joined;
-  cached =
-      subst (λ (ks : List Kind). (cpu : ℕ) (pool : Pool) (frame : ℕ)
-      → is_on frame (cached_list s.free cpu pool)
-      ≡ true → pool_at l ks s.blocks.rows (pageblock_of l frame) ≡ Some pool) (sym same) h.cached;
+  cached = rw same h.cached;
   kernel = h.kernel;
-  mobility =
-      subst (λ (ks : List Kind). (pageblock : ℕ) → (kind_at ks pageblock).mobility ≡ Unmovable
-      → (row_at l s.blocks.rows pageblock).zone ≡ Some NormalZone) (sym same) h.mobility;
-  isolated =
-      subst (λ (ks : List Kind). (pageblock : ℕ)
-      → (kind_at ks pageblock).isolated ≡ is_going (row_at l s.blocks.rows pageblock)) (sym same) h.isolated;
+  mobility = rw same h.mobility;
+  isolated = rw same h.isolated;
   rows = h.rows;
   words = h.words;
 }
@@ -158,8 +143,6 @@ block_of-pageblock l frame =
 
 div_lt : (n k m : ℕ) → 0 < k → n / k < m → n < m * k
 div_lt n k m some low =
-    let above : n < n / k * k + k = lt-div-mul-add some in
-    let more : (n / k + 1) * k ≤ m * k = mul-le (n / k + 1) k m k (omega arith) (omega arith) in
     grind arith
 
 in_rows : (rows : List Row) (block : ℕ) (zone : Zone) → (get_or rows block offline_row).zone ≡ Some zone
@@ -168,7 +151,6 @@ in_rows rows block zone e = elim (cases_lt block (length rows)) [
   | inl low ↦ low
   | inr high ↦
       let past : get_or rows block offline_row ≡ offline_row = get_or_past rows block offline_row high in
-      let none : None ≡ Some zone = subst (λ (r : Row). r.zone ≡ Some zone) past e in
       cc
 ]
 
@@ -178,7 +160,6 @@ pub in_layout : (l : LayoutParts) (s : Memory) (frame : ℕ) (zone : Zone) → I
 in_layout l s frame zone layout size e =
     let k : ℕ = layout.pageblocks.0 in
     let some : 0 < 2 ^ k = pow_pos k in
-    let more : 0 < 2 ^ l.order = pow_pos l.order in
     let is : l.pageblocks ≡ 2 ^ k = layout.pageblocks.2 in
     let some' : 0 < l.pageblocks = omega arith in
     let low : pageblock_of l frame / l.pageblocks < l.blocks =
@@ -186,9 +167,7 @@ in_layout l s frame zone layout size e =
     let middle : pageblock_of l frame < l.blocks * l.pageblocks =
     div_lt (pageblock_of l frame) l.pageblocks l.blocks some' low in
     let all : frame < l.blocks * l.pageblocks * 2 ^ l.order =
-    div_lt frame (2 ^ l.order) (l.blocks * l.pageblocks) more middle in
-    let turned : l.blocks * l.pageblocks * 2 ^ l.order ≡ l.blocks * (l.pageblocks * 2 ^ l.order) =
-    omega arith in
+    div_lt frame (2 ^ l.order) (l.blocks * l.pageblocks) (pow_pos l.order) middle in
     omega arith
 
 -- a frame in a free block has no kernel's block at it
@@ -204,22 +183,15 @@ kernel_free l s first (Some order) e low none =
 pub zone_known : (l : LayoutParts) (s : Memory) (frame : ℕ) (zone : Zone)
     → (row_at l s.blocks.rows (pageblock_of l frame)).zone ≡ Some zone → zone_of l s frame ≡ zone
 zone_known l s frame zone e =
-    subst (λ (b : ℕ). unwrap_or (get_or s.blocks.rows b offline_row).zone NormalZone ≡ zone)
-    (sym (block_of-pageblock l frame)) (ap (λ (o : Option Zone). unwrap_or o NormalZone) e)
+    rw (block_of-pageblock l frame) (ap (λ (o : Option Zone). unwrap_or o NormalZone) e)
 
 pub class_known : (l : LayoutParts) (s : Memory) (frame : ℕ) (zone : Zone)
     → (row_at l s.blocks.rows (pageblock_of l frame)).zone ≡ Some zone
     → class_at l s.free.areas.kinds s.blocks.rows (pageblock_of l frame)
     ≡ Some (class_of l s.free.areas (zone_of l s frame) frame)
 class_known l s frame zone e =
-    subst (λ (z : Zone). class_at l s.free.areas.kinds s.blocks.rows (pageblock_of l frame)
-    ≡ Some (class_of l s.free.areas z frame)) (sym (zone_known l s frame zone e))
+    rw (zone_known l s frame zone e)
     (ap (option_map (λ z. class_of_kind z (kind_at s.free.areas.kinds (pageblock_of l frame)))) e)
-
-kernel_there : (l : LayoutParts) (s : Memory) (first order : ℕ) → (entry : Option ℕ) → entry ≡ Some order
-    → IfSome entry (IsKernelAt l s.blocks.rows first) → IsKernelAt l s.blocks.rows first order
-kernel_there l s first order entry e h =
-    subst (λ (o : Option ℕ). IfSome o (IsKernelAt l s.blocks.rows first)) e h
 
 pub kernel_give-placed : (l : LayoutParts) (s : Memory) (first order : ℕ) → IsLayout l → IsWellPlaced l s
     → kernel_order s first ≡ Some order
@@ -227,7 +199,7 @@ pub kernel_give-placed : (l : LayoutParts) (s : Memory) (first order : ℕ) → 
     (give_block l s.free.areas (zone_of l s first) first order))
 kernel_give-placed l s first order layout p e =
     let block : IsKernelAt l s.blocks.rows first order =
-    kernel_there l s first order (kernel_order s first) e (p.in_order.kernel first) in
+    subst (λ (o : Option ℕ). IfSome o (IsKernelAt l s.blocks.rows first)) e (p.in_order.kernel first) in
     let within : first < frame_count l =
     in_layout l s first NormalZone layout p.in_order.shape.rows block.normal in
     let short : first < length s.kernel = omega (arith, p.in_order.shape.kernel) in

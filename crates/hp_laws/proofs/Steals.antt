@@ -1,6 +1,6 @@
 -- Taking and stealing blocks from the areas of a state, and the kernel's larger blocks.
 use Rattle.std.proofs.Common.{◌≡◌, ◌≢◌, ℕ, suc, ◌+◌, ◌-◌, ◌/◌, ◌%◌, ◌^◌, ◌<◌, ◌≤◌, List, [], ◌∷◌, length, get_or, set, Bool, true, false, cond, Option, Some, None, refl, sym, ◌∙◌, ap, subst, arith, inl, inr, IfSome, length-set, eq-eqb, eqb-true, ◌==◌}
-use Rattle.std.specs.Option.{option_map, option_map_or, option_and_then, option_or}
+use Rattle.std.specs.Option.{option_map, option_map_or, option_or}
 use Rattle.std.proofs.lemmas.Bool.{cases_eq, or_left}
 use Rattle.std.proofs.lemmas.List.{get_or-set_other, get_or-set_same}
 use Rattle.std.proofs.lemmas.Nat.{pow_pos}
@@ -13,21 +13,21 @@ use Rattle.hp_units.specs.declared.rows.Mobility.{Mobility}
 use Rattle.hp_units.specs.declared.rows.Mobility.TheVariants.{Unmovable, Movable}
 use Rattle.hp_units.specs.LayoutParts.{LayoutParts, IsLayout}
 use Rattle.hp_units.specs.Arithmetic.{pageblock_of, frame_count}
-use Rattle.hp_units.specs.Memory.{FreeAreas, Memory, free_list, with_free_list, usable_class, isolated_class, pool_of, plain_kind, kernel_order, with_kernel_order}
-use Rattle.hp_units.specs.FreeAreas.{Taken, is_on, with_halves, take_first, take_front, take_block, greatest_order, steal_front, steal_block, with_mobility, other_mobility, class_of_kind}
-use Rattle.hp_units.specs.Rows.{with_areas, is_going}
+use Rattle.hp_units.specs.Memory.{FreeAreas, Memory, free_list, with_free_list, usable_class, isolated_class, plain_kind, kernel_order, with_kernel_order}
+use Rattle.hp_units.specs.FreeAreas.{Taken, is_on, with_halves, take_first, take_front, take_block, greatest_order, steal_front, steal_block, with_mobility, other_mobility}
+use Rattle.hp_units.specs.Rows.{with_areas}
 use Rattle.hp_units.specs.Step.{kernel_takes, with_free, done}
 use Rattle.hp_units.specs.ProcessorLists.{handed_from}
 use Rattle.hp_units.specs.declared.replies.Reply.TheVariants.{Frame as GivesFrame}
 use Rattle.hp_units.specs.Placement.{free_places, cached_places, kernel_places, IsBlockOf, IsInOrder, IsWellPlaced, class_at, row_at, kind_at, covered}
-use Rattle.hp_lemmas.proofs.Places.{list_places-cons, HasOrder, with_free_list-places, with_halves-places, IsOrderAmong, greatest_order-among}
+use Rattle.hp_lemmas.proofs.Places.{list_places-cons, HasOrder, with_free_list-places, with_halves-places, greatest_order-among}
 use Rattle.hp_lemmas.proofs.Geometry.{multiple, below_aligned, pageblock_in}
 use Rattle.hp_lemmas.proofs.Lists.{covered-self}
 use Rattle.hp_lemmas.proofs.Parts.{IsPart, tail-part}
 use Rattle.hp_lemmas.proofs.Sizes.{halves-kinds}
 use Rattle.hp_laws.proofs.Ordered.{AreOrdered}
 use Rattle.hp_laws.proofs.Areas.{has_order, part-ordered, halves-ordered, other-ordered}
-use Rattle.hp_laws.proofs.Takes.{TakesOrdered, take_first-ordered, take_block-ordered}
+use Rattle.hp_laws.proofs.Takes.{TakesOrdered, take_first-ordered, take_block-ordered, and_then-ordered}
 use Rattle.hp_laws.proofs.States.{areas_of, areas-in_order, kernel-in_order, in_layout, kernel_free}
 use Rattle.hp_lemmas.proofs.KernelBlocks.{kernel-places}
 use Rattle.hp_laws.proofs.Rows.{on_cached}
@@ -85,8 +85,7 @@ taken-placed l s m order taken p t =
 in_pageblock : (l : LayoutParts) (frame first : ℕ) → first % 2 ^ l.order ≡ 0
     → pageblock_of l frame ≡ pageblock_of l first → covered frame l.order first ≡ 1
 in_pageblock l frame first aligned e =
-    subst (λ (f : ℕ). covered frame l.order f ≡ 1) (sym (multiple first l.order aligned))
-    (inside frame (2 ^ l.order) (first / 2 ^ l.order) (pow_pos l.order) e)
+    rw (multiple first l.order aligned) (inside frame (2 ^ l.order) (first / 2 ^ l.order) (pow_pos l.order) e)
 
 -- a whole pageblock is stolen: what is written of its kind is written at once
 steal_whole : (l : LayoutParts) (s : Memory) (m from : Mobility) (wanted first : ℕ) (frames : List ℕ)
@@ -112,8 +111,7 @@ steal_whole l s m from wanted first frames layout p w e =
     let has : HasOrder a l.order =
     has_order l (class_at l a.kinds s.blocks.rows) a l.order ordered (omega arith) in
     let on : is_on first (free_list a class l.order) ≡ true =
-    subst (λ (xs : List ℕ). is_on first xs ≡ true) (sym e)
-    (or_left (first == first) (is_on first frames) (eq-eqb first first refl)) in
+    rw e (or_left (first == first) (is_on first frames) (eq-eqb first first refl)) in
     let block : IsBlockOf l (class_at l a.kinds s.blocks.rows) class l.order first =
     h.blocks class l.order first on in
     let normal =
@@ -140,15 +138,11 @@ steal_whole l s m from wanted first frames layout p w e =
     λ frame ne. get_or-set_other a.kinds at (pageblock_of l frame) kind plain_kind ne in
     let cleared : AreOrdered l (class_at l (set a.kinds at kind) s.blocks.rows) left =
     other-ordered l (class_at l a.kinds s.blocks.rows) (class_at l (set a.kinds at kind) s.blocks.rows) left
-    (λ frame some. ap
-    (λ (k : Kind). option_map (λ z. class_of_kind z k) (row_at l s.blocks.rows (pageblock_of l frame)).zone)
-    (other frame (λ here. absurd
+    (λ frame some. rw (other frame (λ here. absurd
     (omega (arith, in_pageblock l frame first block.aligned here, without frame, ordered.few frame)))))
     (part-ordered l (class_at l a.kinds s.blocks.rows) a class l.order frames (omega arith) part ordered) in
     let agrees : class_at l (set a.kinds at kind) s.blocks.rows at ≡ Some to =
-    ap (λ (k : Kind). option_map (λ z. class_of_kind z k) (row_at l s.blocks.rows at).zone) now
-    ∙ ap (λ (o : Option Zone). option_map (λ z. class_of_kind z kind) o) normal.zone_is
-    ∙ ap (λ (b : Bool). Some (cond b (isolated_class NormalZone) to)) normal.shown in
+    rw (now, normal.zone_is, normal.shown) in
     let sum : wanted + (l.order - wanted) ≡ l.order = omega arith in
     let new : IsBlockOf l (class_at l (set a.kinds at kind) s.blocks.rows) to l.order first =
     record { aligned = block.aligned; class_agrees = agrees } in
@@ -173,34 +167,24 @@ steal_whole l s m from wanted first frames layout p w e =
       joined = put.joined;
       cached = λ cpu pool frame there.
           let some : 1 ≤ cached_places s.free frame = on_cached s.free cpu pool frame there in
-          ap (λ (k : Kind).
-          option_map (λ z. pool_of z k.mobility) (row_at l s.blocks.rows (pageblock_of l frame)).zone)
-          (other frame (λ here. absurd
+          rw (other frame (λ here. absurd
           (omega (arith, in_pageblock l frame first block.aligned here, without frame, p.once frame))))
-          ∙ h.cached cpu pool frame there;
+          (h.cached cpu pool frame there);
       kernel = h.kernel;
       mobility = λ pageblock unmovable. elim (cases_eq pageblock at) [
-        | inl here ↦
-            subst (λ (n : ℕ). (row_at l s.blocks.rows n).zone ≡ Some NormalZone) (sym here) normal.zone_is
+        | inl here ↦ rw here normal.zone_is
         | inr ne ↦
-            h.mobility pageblock (ap (λ (k : Kind). k.mobility)
-            (sym (get_or-set_other a.kinds at pageblock kind plain_kind ne)) ∙ unmovable)
+            h.mobility pageblock (rw (← get_or-set_other a.kinds at pageblock kind plain_kind ne) unmovable)
       ];
       isolated = λ pageblock. elim (cases_eq pageblock at) [
-        | inl here ↦
-            subst (λ (n : ℕ). (kind_at (set a.kinds at kind) n).isolated ≡ is_going
-            (row_at l s.blocks.rows n)) (sym here) (ap (λ (k : Kind). k.isolated) now ∙ h.isolated at)
-        | inr ne ↦
-            ap (λ (k : Kind). k.isolated) (get_or-set_other a.kinds at pageblock kind plain_kind ne)
-            ∙ h.isolated pageblock
+        | inl here ↦ rw here (ap (λ (k : Kind). k.isolated) now ∙ h.isolated at)
+        | inr ne ↦ rw (get_or-set_other a.kinds at pageblock kind plain_kind ne) (h.isolated pageblock)
       ];
       rows = h.rows;
       words = h.words;
     } in
     record {
-      in_order =
-          subst (λ (ks : List Kind). IsInOrder l (with_areas s
-          (record halves { kinds = set ks at (record (kind_at ks at) { mobility = m }) }))) (sym same) stolen;
+      in_order = rw same stolen;
       places =
           λ frame. omega (
             arith,
@@ -234,11 +218,8 @@ steal_front-placed : (l : LayoutParts) (s : Memory) (m : Mobility) (order wanted
 steal_front-placed l s m order wanted layout p low w =
     let from : Class = usable_class NormalZone (other_mobility m) in
     cond_some (TakesPlaced l s NormalZone wanted) (order == l.order) _ _
-    (λ e. subst (λ (n : ℕ). IfSome
-    (option_map (with_mobility l m) (take_front s.free.areas from (usable_class NormalZone m) n wanted))
-    (TakesPlaced l s NormalZone wanted)) (sym (eqb-true order l.order e))
-    (steal_top l s m (other_mobility m) wanted (free_list s.free.areas from l.order) layout p (omega arith)
-    refl))
+    (λ e. rw (eqb-true order l.order e) (steal_top l s m (other_mobility m) wanted
+    (free_list s.free.areas from l.order) layout p (omega arith) refl))
     (λ e. some_weaker (TakesOrdered l (class_at l s.free.areas.kinds s.blocks.rows) s.free.areas from wanted)
     (TakesPlaced l s NormalZone wanted)
     (λ taken t. taken-placed l s (other_mobility m) wanted taken p t)
@@ -246,18 +227,12 @@ steal_front-placed l s m order wanted layout p low w =
     (take_first-ordered l (class_at l s.free.areas.kinds s.blocks.rows) s.free.areas from order wanted
     (free_list s.free.areas from order) refl low w (areas_of l s p)))
 
-and_then-placed : (P : Taken → Type 0) (first count : ℕ) (f : ℕ → Option Taken) (o : Option ℕ)
-    → IfSome o (IsOrderAmong first count)
-    → ((order : ℕ) → IsOrderAmong first count order → IfSome (f order) P) → IfSome (option_and_then f o) P
-and_then-placed P first count f None h k = tt
-and_then-placed P first count f (Some order) h k = k order h
-
 pub steal_block-placed : (l : LayoutParts) (s : Memory) (m : Mobility) (wanted : ℕ) → IsLayout l
     → IsWellPlaced l s
     → IfSome (steal_block l s.free.areas m wanted) (TakesPlaced l s NormalZone wanted)
 unfolding steal_block
 steal_block-placed l s m wanted layout p =
-    and_then-placed (TakesPlaced l s NormalZone wanted) wanted (l.order + 1 - wanted)
+    and_then-ordered (TakesPlaced l s NormalZone wanted) wanted (l.order + 1 - wanted)
     (λ order. steal_front l s.free.areas m order wanted)
     (greatest_order s.free.areas (usable_class NormalZone (other_mobility m)) wanted (l.order + 1 - wanted))
     (greatest_order-among s.free.areas (usable_class NormalZone (other_mobility m)) wanted

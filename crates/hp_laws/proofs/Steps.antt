@@ -2,7 +2,7 @@
 -- step goes back to an earlier state, and a step that begins an operation names it by its serial.
 use Rattle.std.proofs.Common.{◌≡◌, ℕ, true, false, Option, Some, None, refl}
 use Rattle.std.specs.Option.{option_map_or}
-use Rattle.hp_laws.proofs.Names.{Event, KernelAlloc, KernelFree, Map, Unmap, Write, Read, Drain, Online, Begin, DrainFor, Migrate, Commit, Cancel, UndoAfter, Probe, Remove, SetAuto, Refusal, Done, Opened}
+use Rattle.hp_laws.proofs.Names.{Event, KernelAlloc, KernelFree, Map, Unmap, Read, Begin, Migrate, Cancel, Refusal, Done, Opened}
 use Rattle.hp_units.specs.LayoutParts.{LayoutParts}
 use Rattle.hp_units.specs.Memory.{Memory, kernel_order}
 use Rattle.hp_units.specs.ProcessorLists.{page_frame}
@@ -91,19 +91,11 @@ performed l s serial cpu (KernelAlloc order) = kernel_taken l s serial cpu order
 performed l s serial cpu (KernelFree frame) = kernel_given l s serial cpu frame
 performed l s serial cpu (Map owner page) = mapped l s serial cpu owner page
 performed l s serial cpu (Unmap owner page) = unmapped l s serial cpu owner page
-performed l s serial cpu (Write owner page index value) = finished _ (λ e. cc)
 performed l s serial cpu (Read owner page index) = left _ refl refl (λ op e. absurd cc)
-performed l s serial cpu (Drain drained) = finished _ (λ e. cc)
-performed l s serial cpu (Online block zone) = finished _ (λ e. cc)
 performed l s serial cpu (Begin plan) = made _ refl refl (λ e. cc) (λ op e. cc)
-performed l s serial cpu (DrainFor op drained) = finished _ (λ e. cc)
 performed l s serial cpu (Migrate op) = migrated l s serial op
-performed l s serial cpu (Commit op) = finished _ (λ e. cc)
 performed l s serial cpu (Cancel op) = made _ refl refl (λ e. cc) (λ op e. absurd cc)
-performed l s serial cpu (UndoAfter kept) = finished _ (λ e. cc)
-performed l s serial cpu (Probe address) = finished _ (λ e. cc)
-performed l s serial cpu (Remove block) = finished _ (λ e. cc)
-performed l s serial cpu (SetAuto auto) = finished _ (λ e. cc)
+performed l s serial cpu _ = finished _ (λ e. cc)
 
 -- an event, by its refusal
 answered : (l : LayoutParts) (s : Memory) (serial cpu : ℕ) (event : Event) (o : Option Refusal)
@@ -119,20 +111,5 @@ steps l s serial cpu event = answered l s serial cpu event (refusal_of l s cpu e
 
 -- an event that only reads
 pub is_look_effect : (event : Event) → is_look event ≡ true → effect_of event ≡ Looks
-is_look_effect (KernelAlloc order) e = absurd cc
-is_look_effect (KernelFree frame) e = absurd cc
-is_look_effect (Map owner page) e = absurd cc
-is_look_effect (Unmap owner page) e = absurd cc
-is_look_effect (Write owner page index value) e = absurd cc
 is_look_effect (Read owner page index) e = refl
-is_look_effect (Drain cpu) e = absurd cc
-is_look_effect (Online block zone) e = absurd cc
-is_look_effect (Begin plan) e = absurd cc
-is_look_effect (DrainFor op cpu) e = absurd cc
-is_look_effect (Migrate op) e = absurd cc
-is_look_effect (Commit op) e = absurd cc
-is_look_effect (Cancel op) e = absurd cc
-is_look_effect (UndoAfter serial) e = absurd cc
-is_look_effect (Probe address) e = absurd cc
-is_look_effect (Remove block) e = absurd cc
-is_look_effect (SetAuto auto) e = absurd cc
+is_look_effect _ e = absurd cc

@@ -1,13 +1,13 @@
 -- The owners' pages: one entry of the tables written.
-use Rattle.std.proofs.Common.{◌≡◌, ℕ, ◌<◌, List, get_or, Bool, true, false, cond, Option, Some, None, refl, sym, subst, arith, ◌||◌}
+use Rattle.std.proofs.Common.{◌≡◌, ℕ, ◌<◌, List, Bool, true, false, cond, Option, Some, None, refl, arith, ◌||◌}
 use Rattle.hp_units.specs.declared.rows.Claim.{Claim}
 use Rattle.hp_units.specs.declared.rows.Row.{Row}
 use Rattle.hp_units.specs.declared.rows.State.{State}
-use Rattle.hp_units.specs.declared.rows.State.TheVariants.{Offline as OfflineState, Online as OnlineState, Going as GoingState, Absent as AbsentState}
+use Rattle.hp_units.specs.declared.rows.State.TheVariants.{Online as OnlineState, Going as GoingState}
 use Rattle.hp_units.specs.declared.rows.Zone.{Zone}
 use Rattle.hp_units.specs.LayoutParts.{LayoutParts}
 use Rattle.hp_units.specs.Arithmetic.{block_of, pageblock_of}
-use Rattle.hp_units.specs.Memory.{Memory, Pages, entry_of, with_entry, offline_row, row_of}
+use Rattle.hp_units.specs.Memory.{Memory, Pages, entry_of, with_entry, row_of}
 use Rattle.hp_units.specs.Pages.{frame_at, words_at}
 use Rattle.hp_units.specs.Rows.{is_absent_state, is_offline_state}
 use Rattle.hp_units.specs.Step.{with_pages}
@@ -61,10 +61,8 @@ both-in_order l s owner page f w low short h is =
     (entry-cases
     (λ (o p : ℕ) (e : Option ℕ). IsPage l e (entry_of (with_entry s.pages.contents owner page w) o p))
     l.owners l.pages s.pages.table owner page f low short table
-    (subst (λ (x : Option (List ℕ)). IsPage l f x)
-    (sym (entry-same l.owners l.pages s.pages.contents owner page w low short contents)) is)
-    (λ o p elsewhere. subst (λ (x : Option (List ℕ)). IsPage l (entry_of s.pages.table o p) x)
-    (sym (entry-apart s.pages.contents owner page w o p elsewhere)) (h.words o p)))
+    (rw (entry-same l.owners l.pages s.pages.contents owner page w low short contents) is)
+    (λ o p elsewhere. rw (entry-apart s.pages.contents owner page w o p elsewhere) (h.words o p)))
 
 -- a frame that is mapped has a zone
 pub record HasZone (l : LayoutParts) (rows : List Row) (frame : ℕ) : Type 0 where
@@ -74,12 +72,11 @@ pub record HasZone (l : LayoutParts) (rows : List Row) (frame : ℕ) : Type 0 wh
 live_zone : (state : State) (zone : Option Zone) (claim : Option Claim)
     → (is_offline_state state || is_absent_state state) ≡ false → IsRowOf state zone claim
     → (z : Zone) × (zone ≡ Some z)
-live_zone OfflineState zone claim e h = cc
-live_zone AbsentState zone claim e h = cc
 live_zone OnlineState (Some z) claim e h = (z, refl)
 live_zone OnlineState None claim e h = absurd (cc h.0)
 live_zone GoingState (Some z) claim e h = (z, refl)
 live_zone GoingState None claim e h = absurd (cc h.0)
+live_zone _ zone claim e h = cc
 
 pub live_row : (l : LayoutParts) (s : Memory) (frame : ℕ) → IsInOrder l s → offline_places l s frame ≡ 0
     → HasZone l s.blocks.rows frame
@@ -90,9 +87,7 @@ live_row l s frame h e =
     (h.rows (block_of l frame)) in
     record {
       zone = found.0;
-      zone_is =
-          subst (λ (b : ℕ). (get_or s.blocks.rows b offline_row).zone ≡ Some found.0)
-          (block_of-pageblock l frame) found.1;
+      zone_is = rw (← block_of-pageblock l frame) found.1;
     }
   where
     plugged : (b : Bool) (n : ℕ) → n ≡ cond b 1 0 → n ≡ 0 → b ≡ false

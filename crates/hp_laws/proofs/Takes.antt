@@ -7,7 +7,7 @@ use Rattle.hp_units.specs.LayoutParts.{LayoutParts}
 use Rattle.hp_units.specs.Memory.{FreeAreas, free_list, with_free_list}
 use Rattle.hp_units.specs.FreeAreas.{Taken, is_on, least_order, take_first, take_front, take_block}
 use Rattle.hp_units.specs.Placement.{free_places, IsBlockOf, covered}
-use Rattle.hp_lemmas.proofs.Places.{list_places-cons, HasOrder, with_free_list-places, with_halves-places, least_order-among, IsOrderAmong}
+use Rattle.hp_lemmas.proofs.Places.{list_places-cons, with_free_list-places, with_halves-places, least_order-among, IsOrderAmong}
 use Rattle.hp_lemmas.proofs.Geometry.{below_aligned}
 use Rattle.hp_lemmas.proofs.Parts.{IsPart, tail-part}
 use Rattle.hp_lemmas.proofs.Sizes.{halves-kinds}
@@ -31,11 +31,9 @@ pub take_first-ordered : (l : LayoutParts) (class_at : ℕ → Option Class) (a 
     → IfSome (take_first a class class order wanted frames) (TakesOrdered l class_at a class wanted)
 take_first-ordered l class_at a class order wanted [] e low w h = tt
 take_first-ordered l class_at a class order wanted (first ∷ frames) e low w h =
-    let has : HasOrder a order = has_order l class_at a order h low in
     let left : FreeAreas = with_free_list a class order frames in
     let on : is_on first (free_list a class order) ≡ true =
-    subst (λ (xs : List ℕ). is_on first xs ≡ true) (sym e)
-    (or_left (first == first) (is_on first frames) (eq-eqb first first refl)) in
+    rw e (or_left (first == first) (is_on first frames) (eq-eqb first first refl)) in
     let block : IsBlockOf l class_at class order first = h.blocks class order first on in
     let part = subst (λ (xs : List ℕ). IsPart order frames xs) (sym e) (tail-part order first frames) in
     let ordered : AreOrdered l class_at left = part-ordered l class_at a class order frames low part h in
@@ -43,7 +41,7 @@ take_first-ordered l class_at a class order wanted (first ∷ frames) e low w h 
     let without : (frame : ℕ) → free_places left frame + covered frame order first ≡ free_places a frame =
     λ frame. omega (
       arith,
-      rw e at (with_free_list-places a class order frame frames has),
+      rw e at (with_free_list-places a class order frame frames (has_order l class_at a order h low)),
       list_places-cons frame order first frames,
     ) in
     let room : (frame : ℕ) → free_places left frame + covered frame (wanted + (order - wanted)) first ≤ 1 =
@@ -66,7 +64,7 @@ take_first-ordered l class_at a class order wanted (first ∷ frames) e low w h 
       kinds = halves-kinds left class first wanted (order - wanted);
     }
 
-and_then-ordered : (P : Taken → Type 0) (first count : ℕ) (f : ℕ → Option Taken) (o : Option ℕ)
+pub and_then-ordered : (P : Taken → Type 0) (first count : ℕ) (f : ℕ → Option Taken) (o : Option ℕ)
     → IfSome o (IsOrderAmong first count)
     → ((order : ℕ) → IsOrderAmong first count order → IfSome (f order) P) → IfSome (option_and_then f o) P
 and_then-ordered P first count f None h k = tt

@@ -105,8 +105,7 @@ only_each : (op : ℕ) (ts : List Tag) → holds_only_own_work op ts ≡ true �
 only_each op [] h i u e = absurd cc
 only_each op (t ∷ ts) h zero u e =
     let same : t ≡ u = cc in
-    subst (λ (x : Tag). is_work_of op x.mark ≡ true) same
-    (and_parts (is_work_of op t.mark) (holds_only_own_work op ts) h).0
+    rw (← same) (and_parts (is_work_of op t.mark) (holds_only_own_work op ts) h).0
 only_each op (t ∷ ts) h (suc i) u e =
     only_each op ts (and_parts (is_work_of op t.mark) (holds_only_own_work op ts) h).1 i u e
 
@@ -165,11 +164,9 @@ pub sole_complete : (op : ℕ) (ts : List Tag) (k : ℕ) → IsSole op ts k → 
 unfolding sole_at
 sole_complete op [] k is = absurd (none-some is.tag is.here)
 sole_complete op (t ∷ ts) zero is =
-    let same : t ≡ is.tag = same_Some t is.tag is.here in
-    let opens : begins op t ≡ true = subst (λ (x : Tag). begins op x ≡ true) (sym same) is.opens in
     let only : holds_only_own_work op ts ≡ true =
     only_from_each op ts (λ i u e. is.rest (suc i) u (omega arith) e) in
-    rw (opens, only) refl
+    rw (subst (λ (x : Tag). begins op x ≡ true) (sym (same_Some t is.tag is.here)) is.opens, only) refl
 sole_complete op (t ∷ ts) (suc k) is =
     by_test (λ i. sole_complete op ts k i) (begins op t && holds_only_own_work op ts) refl
   where
@@ -178,9 +175,8 @@ sole_complete op (t ∷ ts) (suc k) is =
         → cond b (Some 0) (option_map suc (sole_at op ts)) ≡ Some (suc k)
     by_test ih true test =
         let parts = and_parts (begins op t) (holds_only_own_work op ts) test in
-        let work = only_each op ts parts.1 k is.tag is.here in
         let opening = (and_parts (is_opening is.tag.mark) (is.tag.serial == op) is.opens).0 in
-        absurd (no_opening_works op is.tag.mark opening work)
+        absurd (no_opening_works op is.tag.mark opening (only_each op ts parts.1 k is.tag is.here))
     by_test ih false test =
         rw (ih (record {
           tag = is.tag;
@@ -202,8 +198,7 @@ sole_none op ts never = by_place (sole_at op ts) refl
 pub sole_within : (op : ℕ) (n : List Record) (k : ℕ) → sole_at op (map tag_of n) ≡ Some k → k < length n
 sole_within op n k e =
     let is = sole_sound op (map tag_of n) k e in
-    let within = slice_get_within (map tag_of n) k is.tag is.here in
-    omega (arith, within, length-map n tag_of)
+    omega (arith, slice_get_within (map tag_of n) k is.tag is.here, length-map n tag_of)
 
 -- what one more record makes of the net: a beginning of it, or one step more
 pub net_cases : (before last : ℕ) (n : List Record) (r : Record) → Numbered before last n

@@ -97,8 +97,7 @@ pub refused_none : (m : Layers) (f : Frames) (event : Event) (answered : Answere
     → answered ≡ record { memory = state_of m; reply = Refused reason }
     → IsAnswered m event answered (record m { frames = f }) before now.deltas (Refused reason)
 refused_none m f event answered before was now reason p none same is =
-    subst (λ (g : Frames).
-    IsAnswered m event answered (record m { frames = g }) before now.deltas (Refused reason)) (sym none.0)
+    rw none.0
     (refused m event answered before now.deltas reason p is (ap (λ (t : TapeValue). t.deltas) none.1 ∙ same))
 
 -- ---- blocks that are handed out
@@ -107,9 +106,7 @@ refused_none m f event answered before was now reason p none same is =
 pub hands-some : (wanted : Option Handed) (old new : FreeFrames) (frame : ℕ)
     → HandsOut wanted old new (Some frame) → wanted ≡ Some (record { free = new; frame = frame })
 hands-some None old new frame h = absurd (let e = h.0 in cc)
-hands-some (Some handed) old new frame h =
-    ap (λ (x : ℕ). Some (record { free = handed.free; frame = x })) (sym (same_Some frame handed.frame h.0))
-    ∙ ap (λ (g : FreeFrames). Some (record { free = g; frame = frame })) (sym h.1)
+hands-some (Some handed) old new frame h = rw (← same_Some frame handed.frame h.0, ← h.1)
 
 pub hands-none : (wanted : Option Handed) (old new : FreeFrames) → HandsOut wanted old new None
     → wanted ≡ None

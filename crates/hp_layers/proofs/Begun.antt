@@ -1,5 +1,5 @@
 -- Operations that begin.
-use Rattle.std.proofs.Common.{◌≡◌, ℕ, ◌*◌, ◌≤◌, List, length, None, sym, ap, subst, arith}
+use Rattle.std.proofs.Common.{◌≡◌, ℕ, ◌*◌, ◌≤◌, List, length, None, ap, arith}
 use Rattle.std.specs.Prelude.{min}
 use Rattle.std.proofs.Math.Nat.{le-min, mul-le-mul_right}
 use Rattle.hp_units.specs.declared.events.Event.TheVariants.{Begin}
@@ -10,7 +10,7 @@ use Rattle.hp_units.specs.Choices.{first_some}
 use Rattle.hp_units.specs.Memory.{Memory}
 use Rattle.hp_units.specs.Refusals.{plan_refusals}
 use Rattle.hp_units.specs.Rows.{begin_plan}
-use Rattle.hp_units.specs.Step.{Answered, answer}
+use Rattle.hp_units.specs.Step.{answer}
 use Rattle.hp_tape.specs.declared.deltas.Delta.{Delta}
 use Rattle.hp_tape.specs.Bounds.{moved_block_bound}
 use Rattle.hp_tape.specs.Tapes.{TapeValue}
@@ -26,8 +26,7 @@ use Rattle.hp_layers.proofs.Releases.{reworked-answered}
 pub plan-room : (plan : List Item) (blocks each items most size : ℕ) → items ≡ min most size
     → length plan ≤ most → blocks ≤ size → claimed_below plan blocks * each ≤ items * each
 plan-room plan blocks each items most size is few below =
-    mul-le-mul_right each (subst (λ (n : ℕ). claimed_below plan blocks ≤ n) (sym is)
-    (le-min (let a = claimed-few plan blocks in omega (arith, a, few))
+    mul-le-mul_right each (rw is (le-min (let a = claimed-few plan blocks in omega (arith, a, few))
     (let b = claimed-below plan blocks in omega (arith, b, below))))
 
 -- the answer to a Begin
@@ -43,8 +42,6 @@ pub begin-done : {before : List Delta} (m new : Layers) (op : ℕ) (plan : List 
     (claimed_below plan m.layout.blocks * moved_block_bound m.layout) new was now
     → IsAnswered m (Begin plan) (opened m.layout (state_of m) op plan) new before now.deltas (Opened op)
 begin-done {before} m new op plan was now p same none r =
-    subst (λ (a : Answered). IsAnswered m (Begin plan) a new before now.deltas (Opened op))
-    (sym (begun m.layout (state_of m) op plan none))
-    (reworked-answered m new (Begin plan) (begin_plan m.layout (state_of m) op plan) (Opened op)
-    (claimed_below plan m.layout.blocks * moved_block_bound m.layout) was now p same
-    (mul-le-mul_right (moved_block_bound m.layout) (claimed-few plan m.layout.blocks)) r)
+    rw (begun m.layout (state_of m) op plan none) (reworked-answered m new (Begin plan) (begin_plan m.layout
+    (state_of m) op plan) (Opened op) (claimed_below plan m.layout.blocks * moved_block_bound m.layout) was
+    now p same (mul-le-mul_right (moved_block_bound m.layout) (claimed-few plan m.layout.blocks)) r)

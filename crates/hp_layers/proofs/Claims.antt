@@ -1,5 +1,5 @@
 -- Memory blocks that operations claim and isolate.
-use Rattle.std.proofs.Common.{◌≡◌, ℕ, zero, suc, ◌+◌, ◌*◌, ◌<◌, ◌≤◌, List, length, add-one, refl, sym, ◌∙◌, ap, subst, arith, inl, inr, ◌++◌}
+use Rattle.std.proofs.Common.{◌≡◌, ℕ, zero, suc, ◌+◌, ◌*◌, ◌<◌, ◌≤◌, List, length, add-one, refl, ◌∙◌, ap, subst, arith, inl, inr, ◌++◌}
 use Rattle.std.specs.Prelude.{true}
 use Rattle.std.specs.List.{fold, range_with_len}
 use Rattle.std.proofs.Math.Nat.{mul-le-mul_right, add-mul}
@@ -12,7 +12,7 @@ use Rattle.hp_units.specs.declared.rows.Wish.TheVariants.{Off as OffWish, Normal
 use Rattle.hp_units.specs.declared.rows.Zone.{Zone}
 use Rattle.hp_units.specs.LayoutParts.{LayoutParts}
 use Rattle.hp_units.specs.Isolation.{move_block}
-use Rattle.hp_units.specs.Memory.{Blocks, FreeFrames, Memory, row_of, with_row}
+use Rattle.hp_units.specs.Memory.{Memory, row_of, with_row}
 use Rattle.hp_units.specs.Rows.{begin_block, claim_block, claimed_row, zone_of_block}
 use Rattle.hp_tape.specs.Bounds.{move_bound, moved_block_bound}
 use Rattle.hp_tape.specs.Tapes.{HasRoom, NotesBlocks, NotesFree, TapeValue}
@@ -22,7 +22,7 @@ use Rattle.hp_blocks.specs.Blocks.{BlocksValue}
 use Rattle.hp_layers.specs.declared.frames.Frames.{Frames}
 use Rattle.hp_layers.specs.declared.layers.Layers.{Layers}
 use Rattle.hp_layers.specs.Frames.{IsGiven, IsTidy, free_of}
-use Rattle.hp_layers.specs.Layers.{AreOfOneLayout, IsOfMemory, NotesView, state_of, view_of}
+use Rattle.hp_layers.specs.Layers.{AreOfOneLayout, IsOfMemory, state_of, view_of}
 use Rattle.hp_layers.specs.Operations.{IsReworked, claimed_at, claimed_below}
 use Rattle.hp_layers.proofs.Answers.{frames-one, notes-then}
 use Rattle.hp_layers.proofs.Lifts.{notes-blocks, notes-free}
@@ -50,9 +50,7 @@ pub reworked-then : (rule : LayoutParts → Memory → Memory) (bound : LayoutPa
     → IsReworked m (rule m.layout s) total o was now
 reworked-then rule bound m n o s done total was mid now le a b =
     let c = subst (λ (l : LayoutParts). IsReworked n (rule l (state_of n)) (bound l) o mid now) a.layout b in
-    let d =
-    subst (λ (l : LayoutParts). NotesView l (bound m.layout) mid now (view_of o) (view_of n)) a.layout
-    c.notes in
+    let d = rw a.layout at c.notes in
     record {
       one = c.one;
       layout = c.layout ∙ a.layout;
@@ -108,19 +106,7 @@ isolated m f bs op block zone was mid now one zone_is g set_is layout_is notes =
       pages = refl;
       kernel = refl;
       tidy = g.tidy;
-      state = ap (λ (fs : FreeFrames). record (state_of m) { free = fs; blocks = bs.blocks }) g.given
-          ∙ (ap (λ (z : Zone). record (state_of m) {
-            free = record (free_of m.frames)
-                { areas = move_block l z true m.frames.buddy.areas block };
-            blocks = bs.blocks;
-          }) zone_is
-          ∙ ap (λ (b : Blocks). record (state_of m) {
-            free = record (free_of m.frames) {
-              areas =
-                  move_block l (zone_of_block m.blocks.blocks block) true m.frames.buddy.areas block;
-            };
-            blocks = b;
-          }) set_is);
+      state = rw (g.given, zone_is, set_is);
       notes =
           notes-more IsOfMemory Fits undo l (l.pageblocks * move_bound l + 1) (moved_block_bound l) was now _
           _
@@ -150,12 +136,9 @@ claimed m bs op block wish was now one tidy other set_is layout_is notes =
       pages = refl;
       kernel = refl;
       tidy = tidy;
-      state =
-          ap (λ (b : Blocks). record (state_of m) { blocks = b }) set_is
-          ∙ sym (claim-other l (state_of m) op block wish other);
+      state = rw (set_is, ← claim-other l (state_of m) op block wish other);
       notes = notes-more IsOfMemory Fits undo l 1 (moved_block_bound l) was now _ _ (omega arith)
-          (notes-blocks v l 1 was now bs.blocks m.blocks.blocks (subst
-          (λ (k : LayoutParts). NotesBlocks k 1 was now bs.blocks m.blocks.blocks) one.blocks notes));
+          (notes-blocks v l 1 was now bs.blocks m.blocks.blocks (rw (← one.blocks) notes));
     }
 
 -- ---- the blocks of a plan
@@ -174,10 +157,8 @@ begun-further m n o op plan number was mid now a b =
     let sum : claimed_below plan number * each + claimed_at plan number * each
     ≤ claimed_below plan (number + 1) * each =
     let e = add-mul (claimed_below plan number) (claimed_at plan number) each in
-    subst (λ (k : ℕ). claimed_below plan number * each + claimed_at plan number * each
-    ≤ claimed_below plan k * each) (sym (add-one number)) (omega (arith, e)) in
-    subst (λ (s : Memory). IsReworked m s (claimed_below plan (number + 1) * each) o was now)
-    (sym (fold-below_more (begin_block l op plan) (state_of m) number))
+    rw (add-one number) (omega (arith, e)) in
+    rw (fold-below_more (begin_block l op plan) (state_of m) number)
     (reworked-then (λ k s. begin_block k op plan s number) (λ k. claimed_at plan number * moved_block_bound k)
     m n o (fold (begin_block l op plan) (state_of m) (range_with_len 0 number))
     (claimed_below plan number * each) (claimed_below plan (number + 1) * each) was mid now sum a b)
@@ -187,9 +168,7 @@ claimed-rises : (plan : List Item) (n m : ℕ) → n < m
     → claimed_below plan n + claimed_at plan n ≤ claimed_below plan m
 claimed-rises plan n zero low = absurd (omega arith)
 claimed-rises plan n (suc m) low = elim (cases_eq n m) [
-  | inl same ↦
-      subst (λ (k : ℕ). claimed_below plan n + claimed_at plan n ≤ claimed_below plan k + claimed_at plan k)
-      same (omega arith)
+  | inl same ↦ rw (← same) (omega arith)
   | inr other ↦ let h = claimed-rises plan n m (omega arith) in omega (arith, h)
 ]
 
@@ -203,8 +182,6 @@ begin-room m n s plan number was mid low a room =
     let each = moved_block_bound m.layout in
     let more = mul-le-mul_right each (claimed-rises plan number m.layout.blocks low) in
     let sum = add-mul (claimed_below plan number) (claimed_at plan number) each in
-    subst (λ (l : LayoutParts). HasRoom mid (claimed_at plan number * moved_block_bound l)) (sym a.layout)
-    (let size : length mid.deltas ≡ length (was.deltas ++ a.notes.deltas) =
-    ap (λ (t : TapeValue). length t.deltas) a.notes.tape in
+    rw a.layout (let size : length mid.deltas ≡ length (was.deltas ++ a.notes.deltas) = rw a.notes.tape in
     let same : mid.room ≡ was.room = ap (λ (t : TapeValue). t.room) a.notes.tape in
     omega (arith, room, more, sum, size, same, a.notes.few, length-append was.deltas a.notes.deltas))

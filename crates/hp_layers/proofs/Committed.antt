@@ -1,6 +1,6 @@
 -- Operations that commit.
 use Rattle.std.proofs.Common.{◌≡◌, ℕ, zero, suc, ◌+◌, ◌*◌, ◌<◌, ◌≤◌, Bool, true, false, ◌&&◌, List, [], ◌∷◌, ◌++◌, length, take, get_or, cond, Option, Some, None, refl, sym, ◌∙◌, ap, subst, arith}
-use Rattle.std.specs.Prelude.{filter, find, fold, unwrap_or}
+use Rattle.std.specs.Prelude.{filter, fold, unwrap_or}
 use Rattle.std.specs.List.{flat_map, list_all, range_with_len}
 use Rattle.std.specs.Option.{option_map, option_map_or}
 use Rattle.std.proofs.lemmas.Option.{same_Some}
@@ -18,7 +18,6 @@ use Rattle.hp_units.specs.Memory.{Blocks, Memory, row_of}
 use Rattle.hp_units.specs.Placement.{is_unplugged, wishes_off}
 use Rattle.hp_units.specs.Refusals.{frame_in_use, is_all_free}
 use Rattle.hp_units.specs.Rows.{blocks_of, commit_block, commit_blocks, going_blocks, grant, is_claimed_by, is_going, is_live, is_off, is_offline_state, zone_of_block}
-use Rattle.hp_units.specs.Step.{Answered}
 use Rattle.hp_tape.specs.declared.deltas.Delta.{Delta}
 use Rattle.hp_tape.specs.Bounds.{committed_block_bound}
 use Rattle.hp_tape.specs.Deltas.{Fits, undo}
@@ -28,7 +27,7 @@ use Rattle.hp_laws.specs.Commits.{IsAllFree, IsGrantable}
 use Rattle.hp_laws.proofs.Commits.{CommitsFrom, claim_going, claim_offline, commit_block-next, grantable, grantable_later}
 use Rattle.hp_plain.specs.Asked.{asked}
 use Rattle.hp_layers.specs.declared.layers.Layers.{Layers}
-use Rattle.hp_layers.specs.Commits.{IsHeldBy, is_in_use, is_ready, leaving_frames}
+use Rattle.hp_layers.specs.Commits.{IsHeldBy, is_ready, leaving_frames}
 use Rattle.hp_layers.specs.Layers.{ArePlaced, IsAnswered, IsOfMemory, state_of, view_of}
 use Rattle.hp_layers.specs.Operations.{IsReworked}
 use Rattle.hp_layers.proofs.Claims.{reworked-none}
@@ -84,9 +83,7 @@ granted m new block wish most was now e r = by_claim (row_of m.blocks.blocks blo
         → IsReworked m (option_map_or (λ c. grant m.layout (state_of m) block c.wish) o (state_of m)) most new
         was now
     by_claim None f = absurd (let g : None ≡ Some wish = f in cc)
-    by_claim (Some claim) f =
-        subst (λ (x : Wish). IsReworked m (grant m.layout (state_of m) block x) most new was now)
-        (sym (same_Some claim.wish wish f)) r
+    by_claim (Some claim) f = rw (same_Some claim.wish wish f) r
 
 pub ungranted : (m : Layers) (block : ℕ) (most : ℕ) (tape : TapeValue) → ArePlaced m
     → option_map (λ c. c.wish) (row_of m.blocks.blocks block).claim ≡ None
@@ -153,10 +150,8 @@ committing-next l s blocks number block layout low here inside ready rise h =
     record {
       from = block + 1;
       commits =
-          subst (λ (u : Memory). CommitsFrom l s (block + 1) u)
-          (sym (fold-further (commit_block l) s blocks number block low here))
-          (commit_block-next l s t block layout inside ready
-          (commits-at l s blocks number block t low here h));
+          rw (fold-further (commit_block l) s blocks number block low here) (commit_block-next l s t block
+          layout inside ready (commits-at l s blocks number block t low here h));
       left = λ k above short. (let more = rise number k (omega arith) short in omega (arith, more, here));
     }
 
@@ -172,9 +167,8 @@ pub middle-ready : (m n : Layers) (t : Memory) (blocks : List ℕ) (number block
     → IsCommitting m.layout (state_of m) blocks number t → IsGrantable m.layout (state_of m) block
     → IsGrantable n.layout (state_of n) block
 middle-ready m n t blocks number block most was mid r low here h ready =
-    subst (λ (l : LayoutParts). IsGrantable l (state_of n) block) (sym r.layout)
-    (subst (λ (u : Memory). IsGrantable m.layout u block) (sym r.state) (grantable_later m.layout (state_of m)
-    t block ready (commits-at m.layout (state_of m) blocks number block t low here h)))
+    rw r.layout (subst (λ (u : Memory). IsGrantable m.layout u block) (sym r.state) (grantable_later m.layout
+    (state_of m) t block ready (commits-at m.layout (state_of m) blocks number block t low here h)))
 
 -- ---- the tests, block by block
 
@@ -252,9 +246,7 @@ filter-holds p (x ∷ xs) k short = kept (p x) refl (filter-holds p xs) k short
 
 pub blocks-rise : (l : LayoutParts) (bs : Blocks) (op : ℕ) (blocks : List ℕ) → blocks ≡ blocks_of l bs op
     → (k j : ℕ) → k < j → j < length blocks → get_or blocks k 0 < get_or blocks j 0
-blocks-rise l bs op blocks is =
-    subst (λ (xs : List ℕ). (k j : ℕ) → k < j → j < length xs → get_or xs k 0 < get_or xs j 0) (sym is)
-    (filter-rises (λ block. is_claimed_by op (row_of bs block)) 0 l.blocks)
+blocks-rise l bs op blocks is = rw is (filter-rises (λ block. is_claimed_by op (row_of bs block)) 0 l.blocks)
 
 pub blocks-grantable : (l : LayoutParts) (s : Memory) (op : ℕ) (blocks : List ℕ)
     → blocks ≡ blocks_of l s.blocks op → ((k : ℕ) → k < length blocks → get_or blocks k 0 < l.blocks)
@@ -284,9 +276,7 @@ commit-refused m op blocks frame live is held =
     let l = m.layout in
     let s = state_of m in
     let all = blocks_of l s.blocks op in
-    let here : frame ≡ unwrap_or (frame_in_use l s op) 0 =
-    held.1 ∙ ap (λ (o : Option ℕ). unwrap_or o 0) (ap (λ (xs : List ℕ). find (is_in_use l s)
-    (flat_map (leaving_frames l s) xs)) is ∙ ap (find (is_in_use l s)) (leaving-all l s all)) in
+    let here : frame ≡ unwrap_or (frame_in_use l s op) 0 = rw (held.1, is, leaving-all l s all) in
     not-free l s op live (sym (ready-all l s all) ∙ (ap (list_all (is_ready l s)) (sym is) ∙ held.0))
     ∙ ap (λ (n : ℕ). record { memory = s; reply = Refused (NotFree n) }) (sym here)
 
@@ -308,9 +298,6 @@ commit-done {before} m new op blocks was now p same live is ready r =
     let s = state_of m in
     let all = blocks_of l m.blocks.blocks op in
     let free = sym (ready-all l s all) ∙ (ap (list_all (is_ready l s)) (sym is) ∙ ready) in
-    subst (λ (a : Answered). IsAnswered m (Commit op) a new before now.deltas Done)
-    (sym (committed l s op live free))
-    (reworked-answered m new (Commit op) (fold (commit_block l) s all) Done
-    (length all * committed_block_bound l) was now p same (omega arith)
-    (subst (λ (bs : List ℕ).
-    IsReworked m (fold (commit_block l) s bs) (length bs * committed_block_bound l) new was now) is r))
+    rw (committed l s op live free) (reworked-answered m new (Commit op) (fold (commit_block l) s all) Done
+    (length all * committed_block_bound l) was now p same (omega arith) (subst (λ (bs : List ℕ). IsReworked m
+    (fold (commit_block l) s bs) (length bs * committed_block_bound l) new was now) is r))

@@ -1,18 +1,17 @@
 -- Processors' lists that are given back.
-use Rattle.std.proofs.Common.{List, ◌≡◌, ℕ, ◌<◌, ◌≤◌, true, refl, sym, ◌∙◌, ap, subst, arith}
+use Rattle.std.proofs.Common.{List, ◌≡◌, ℕ, ◌<◌, ◌≤◌, true, refl, ap, arith}
 use Rattle.std.proofs.lemmas.Bool.{lt-leb}
-use Rattle.hp_units.specs.LayoutParts.{LayoutParts}
 use Rattle.hp_units.specs.Memory.{FreeFrames}
 use Rattle.hp_units.specs.ProcessorLists.{drain_lists}
 use Rattle.hp_units.specs.Rows.{is_live}
-use Rattle.hp_units.specs.Step.{Answered, done, with_free}
+use Rattle.hp_units.specs.Step.{done, with_free}
 use Rattle.hp_units.specs.declared.events.Event.{Event}
 use Rattle.hp_units.specs.declared.events.Event.TheVariants.{Drain, DrainFor}
 use Rattle.hp_units.specs.declared.replies.Reply.TheVariants.{Done}
 use Rattle.hp_tape.specs.declared.deltas.Delta.{Delta}
 use Rattle.hp_tape.specs.Bounds.{delta_bound, drain_bound}
 use Rattle.hp_tape.specs.Deltas.{FrameView}
-use Rattle.hp_tape.specs.Tapes.{NotesFree, TapeValue}
+use Rattle.hp_tape.specs.Tapes.{TapeValue}
 use Rattle.hp_plain.specs.Asked.{asked}
 use Rattle.hp_layers.specs.declared.frames.Frames.{Frames}
 use Rattle.hp_layers.specs.declared.layers.Layers.{Layers}
@@ -35,14 +34,11 @@ frames-answered m f event given most was now p none le g =
       led = record {
         one = frames-one m f p.one g.layout g.tidy.layout;
         layout = refl;
-        view =
-            ap (λ (fs : FreeFrames). record v { free = fs }) g.given
-            ∙ ap (λ (w : FrameView). record v { free = given; pages = w.pages }) p.view;
+        view = rw g.given (ap (λ (w : FrameView). record v { free = given; pages = w.pages }) p.view);
       };
       reply = refl;
       noted = noted l most _ was now _ v none le
-          (notes-free v l most was now (free_of f) (free_of m.frames) (subst (λ (k : LayoutParts).
-          NotesFree k most was now (free_of f) (free_of m.frames)) p.one.cpus g.notes));
+          (notes-free v l most was now (free_of f) (free_of m.frames) (rw (← p.one.cpus) g.notes));
     }
 
 -- the same by the layers' own layout
@@ -51,9 +47,7 @@ at_layout : (m : Layers) (f : Frames) (cpu : ℕ) (was now : TapeValue) → AreP
     (drain_bound m.frames.cpus.layout (free_of m.frames) cpu) m.frames f was now
     → IsGiven (drain_lists m.layout (free_of m.frames) cpu) (drain_bound m.layout (free_of m.frames) cpu)
     m.frames f was now
-at_layout m f cpu was now p g =
-    subst (λ (k : LayoutParts). IsGiven (drain_lists k (free_of m.frames) cpu)
-    (drain_bound k (free_of m.frames) cpu) m.frames f was now) p.one.cpus g
+at_layout m f cpu was now p g = rw (← p.one.cpus) g
 
 pub drain-done : {before : List Delta} (m : Layers) (f : Frames) (cpu : ℕ) (was now : TapeValue) → ArePlaced m
     → was.deltas ≡ before → cpu < m.layout.cpus
@@ -65,10 +59,8 @@ drain-done {before} m f cpu was now p none low g =
     let s = state_of m in
     let answers : asked m.layout s 0 (Drain cpu) ≡ done (with_free s (drain_lists m.layout s.free cpu)) =
     rw (lt-leb m.layout.cpus cpu low) refl in
-    subst (λ (a : Answered). IsAnswered m (Drain cpu) a (record m { frames = f }) before now.deltas Done)
-    (sym answers)
-    (frames-answered m f (Drain cpu) (drain_lists m.layout (free_of m.frames) cpu) (drain_bound m.layout
-    (free_of m.frames) cpu) was now p none (omega arith) (at_layout m f cpu was now p g))
+    rw answers (frames-answered m f (Drain cpu) (drain_lists m.layout (free_of m.frames) cpu) (drain_bound
+    m.layout (free_of m.frames) cpu) was now p none (omega arith) (at_layout m f cpu was now p g))
 
 pub drain_for-done : {before : List Delta} (m : Layers) (f : Frames) (op cpu : ℕ) (was now : TapeValue)
     → ArePlaced m → was.deltas ≡ before → cpu < m.layout.cpus → is_live m.blocks.blocks op ≡ true
@@ -81,7 +73,6 @@ drain_for-done {before} m f op cpu was now p none low live g =
     let answers : asked m.layout s 0 (DrainFor op cpu)
     ≡ done (with_free s (drain_lists m.layout s.free cpu)) =
     rw (lt-leb m.layout.cpus cpu low, live) refl in
-    subst (λ (a : Answered).
-    IsAnswered m (DrainFor op cpu) a (record m { frames = f }) before now.deltas Done) (sym answers)
+    rw answers
     (frames-answered m f (DrainFor op cpu) (drain_lists m.layout (free_of m.frames) cpu) (drain_bound m.layout
     (free_of m.frames) cpu) was now p none (omega arith) (at_layout m f cpu was now p g))

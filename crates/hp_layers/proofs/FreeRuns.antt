@@ -45,8 +45,7 @@ same-ancestor : (frame order k : ℕ) → k < 2 ^ order - frame % 2 ^ order
 same-ancestor frame order k below =
     let size : ℕ = 2 ^ order in
     let parts : frame % size + frame / size * size ≡ frame = mod-add-div' frame size in
-    ap (λ (n : ℕ). n * size)
-    (quotient (frame + k) size (frame / size) (omega (arith, parts)) (omega (arith, parts, below)))
+    rw (quotient (frame + k) size (frame / size) (omega (arith, parts)) (omega (arith, parts, below)))
 
 -- a frame whose ancestor starts a free block is in a free block
 stands : (l : LayoutParts) (a : FreeAreas) (frame order : ℕ) → order ≤ l.order

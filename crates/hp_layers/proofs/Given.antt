@@ -22,8 +22,7 @@ use Rattle.hp_layers.proofs.Taken.{tidy-less, with_buddy}
 pub may-give : (f : Frames) (order first : ℕ) → IsTidy f → MayReturn f order first
     → MayBeGiven f.buddy.layout f.buddy.areas order first
 may-give f order first h r =
-    subst (λ (l : LayoutParts). MayBeGiven l f.buddy.areas order first) (sym h.layout)
-    (record {
+    rw h.layout (record {
       in_order = r.in_order;
       aligned = r.aligned;
       within = r.within;
@@ -136,14 +135,9 @@ pub given-further : (l : LayoutParts) (rule : LayoutParts → FreeAreas → ℕ 
     → IsGiven (record (free_of f) { areas = fold (rule l) areas (range_with_len first (number + 1)) })
     ((number + 1) * bound l) f h was now
 given-further l rule bound areas first number at f g h was mid now same here a b =
-    subst (λ (a : FreeAreas). IsGiven (record (free_of f) { areas = a }) ((number + 1) * bound l) f h was now)
-    (sym (fold-range_more (rule l) areas first number))
-    (subst (λ (n : ℕ). IsGiven
-    (record (free_of f) { areas = rule l (fold (rule l) areas (range_with_len first number)) n })
-    ((number + 1) * bound l) f h was now) here
-    (given-then l (λ k a. rule k a at) bound (fold (rule l) areas (range_with_len first number))
-    (number * bound l) ((number + 1) * bound l) f g h was mid now same
-    (let e = one_done number (bound l) in omega (arith, e)) a b))
+    rw (fold-range_more (rule l) areas first number, ← here) (given-then l (λ k a. rule k a at) bound
+    (fold (rule l) areas (range_with_len first number)) (number * bound l) ((number + 1) * bound l) f g h was
+    mid now same (let e = one_done number (bound l) in omega (arith, e)) a b)
 
 -- ---- pageblocks that are added
 

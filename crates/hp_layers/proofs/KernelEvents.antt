@@ -1,5 +1,5 @@
 -- The events of the kernel's blocks.
-use Rattle.std.proofs.Common.{◌≡◌, ℕ, zero, suc, ◌+◌, ◌*◌, ◌<◌, ◌≤◌, List, [], ◌∷◌, length, set, Option, Some, None, refl, sym, ◌∙◌, ap, subst, arith}
+use Rattle.std.proofs.Common.{◌≡◌, ℕ, zero, suc, ◌+◌, ◌*◌, ◌<◌, ◌≤◌, List, [], ◌∷◌, length, set, Option, Some, None, refl, ◌∙◌, ap, subst, arith}
 use Rattle.std.proofs.lemmas.Bool.{le-ltb, lt-leb}
 use Rattle.std.proofs.lemmas.List.{length-set}
 use Rattle.std.proofs.lemmas.Nat.{pow_pos}
@@ -9,7 +9,7 @@ use Rattle.hp_units.specs.Memory.{FreeFrames, Memory, cached_list, kernel_order,
 use Rattle.hp_units.specs.ProcessorLists.{Handed}
 use Rattle.hp_units.specs.KernelBlocks.{kernel_block}
 use Rattle.hp_units.specs.Rows.{zone_of}
-use Rattle.hp_units.specs.Step.{Answered, done, give_back, kernel_gives, kernel_takes, with_free}
+use Rattle.hp_units.specs.Step.{done, give_back, kernel_gives, kernel_takes, with_free}
 use Rattle.hp_units.specs.declared.events.Event.TheVariants.{KernelAlloc, KernelFree}
 use Rattle.hp_units.specs.declared.replies.Refusal.TheVariants.{NoFrame}
 use Rattle.hp_units.specs.declared.replies.Reply.TheVariants.{Done, Frame as GivesFrame, Refused}
@@ -76,9 +76,7 @@ pub taken-low : (m : Layers) (wanted : Option Handed) (order most : ℕ) (f : Fr
     (frame : ℕ) → ArePlaced m → IsTaken wanted order most m.frames f was now (Some frame)
     → frame < length m.kernel
 taken-low m wanted order most f was now frame p t =
-    subst (λ (n : ℕ). frame < n) (sym p.one.kernel)
-    (subst (λ (k : LayoutParts). frame < frame_count k) p.one.cpus
-    (let some = pow_pos order in omega (arith, t.block.within, some)))
+    rw (p.one.kernel, ← p.one.cpus) (let some = pow_pos order in omega (arith, t.block.within, some))
 
 -- there is no block for the kernel
 pub kernel-refused : (m : Layers) (f : Frames) (cpu order most : ℕ) (was now : TapeValue) → ArePlaced m
@@ -89,8 +87,7 @@ pub kernel-refused : (m : Layers) (f : Frames) (cpu order most : ℕ) (was now :
     ≡ record { memory = state_of m; reply = Refused NoFrame }
 kernel-refused m f cpu order most was now p low t =
     none-taken m.layout (state_of m) cpu order low
-    (subst (λ (k : LayoutParts). kernel_block k (free_of m.frames) cpu order ≡ None) p.one.cpus
-    (hands-none _ (free_of m.frames) (free_of f) t.handed))
+    (rw (← p.one.cpus) (hands-none _ (free_of m.frames) (free_of f) t.handed))
 
 -- the kernel takes a block
 pub kernel-taken : {before : List Delta} (m : Layers) (f : Frames) (kernel : List (Option ℕ))
@@ -106,21 +103,17 @@ kernel-taken {before} m f kernel cpu order frame was mid now p low none t set_is
     let l = m.layout in
     let same : m.frames.cpus.layout ≡ l = p.one.cpus in
     let is : kernel_block l (free_of m.frames) cpu order ≡ Some (record { free = free_of f; frame = frame }) =
-    subst (λ (k : LayoutParts). kernel_block k (free_of m.frames) cpu order
-    ≡ Some (record { free = free_of f; frame = frame })) same (hands-some _ _ _ frame t.handed) in
+    rw (← same) (hands-some _ _ _ frame t.handed) in
     let one = frames-one m f p.one t.layout t.tidy.layout in
     let inside : frame < frame_count l =
-    subst (λ (k : LayoutParts). frame < frame_count k) same
-    (let some = pow_pos order in omega (arith, t.block.within, some)) in
+    rw (← same) (let some = pow_pos order in omega (arith, t.block.within, some)) in
     let v = view_of m in
     let first =
     notes-free v l (kernel_block_bound l (free_of m.frames) cpu order) was mid (free_of f)
     (free_of m.frames)
-    (subst (λ (k : LayoutParts). NotesFree k (kernel_block_bound k (free_of m.frames) cpu order) was mid
-    (free_of f) (free_of m.frames)) same t.notes) in
+    (rw (← same) t.notes) in
     let second = notes-kernel (record v { free = free_of f }) l 1 mid now kernel m.kernel (notes l inside) in
-    subst (λ (a : Answered). IsAnswered m (KernelAlloc order) a (record m { frames = f; kernel = kernel })
-    before now.deltas (GivesFrame frame)) (sym (taken l (state_of m) cpu order _ low is)) (record {
+    rw (taken l (state_of m) cpu order _ low is) (record {
       led = record {
         one =
             record {
@@ -132,9 +125,8 @@ kernel-taken {before} m f kernel cpu order frame was mid now p low none t set_is
               blocks = one.blocks;
             };
         layout = refl;
-        view = ap (λ (ks : List (Option ℕ)). record v { free = free_of f; kernel = ks }) set_is
-            ∙ ap (λ (w : FrameView). record v
-            { free = free_of f; pages = w.pages; kernel = set m.kernel frame (Some order) }) p.view;
+        view = rw set_is (ap (λ (w : FrameView). record v
+            { free = free_of f; pages = w.pages; kernel = set m.kernel frame (Some order) }) p.view);
       };
       reply = refl;
       noted =
@@ -182,10 +174,8 @@ kernel-given-in {before} m f kernel cpu frame order was mid now p low none is se
     (free_of f) fs
     (subst (λ (k : LayoutParts).
     NotesFree k (give_back_bound k fs cpu zone frame order) mid now (free_of f) fs) same g.notes) in
-    subst (λ (a : Answered).
-    IsAnswered m (KernelFree frame) a (record m { frames = f; kernel = kernel }) before now.deltas Done)
-    (sym (given l s cpu frame order low is
-    ∙ ap done (give_back-is l (with_kernel_order s frame None) cpu frame order))) (record {
+    rw (given l s cpu frame order low is)
+    (rw (give_back-is l (with_kernel_order s frame None) cpu frame order) (record {
       led = record {
         one =
             record {
@@ -197,19 +187,17 @@ kernel-given-in {before} m f kernel cpu frame order was mid now p low none is se
               blocks = one.blocks;
             };
         layout = refl;
-        view = ap (λ (ks : List (Option ℕ)). record v { free = free_of f; kernel = ks }) set_is
-            ∙ (ap (λ (gs : FreeFrames). record v { free = gs; kernel = set m.kernel frame None }) free_is
-            ∙ ap (λ (w : FrameView). record v {
-              free = given_back l fs cpu zone frame order;
-              pages = w.pages;
-              kernel = set m.kernel frame None;
-            }) p.view);
+        view = rw (set_is, free_is) (ap (λ (w : FrameView). record v {
+          free = given_back l fs cpu zone frame order;
+          pages = w.pages;
+          kernel = set m.kernel frame None;
+        }) p.view);
       };
       reply = refl;
       noted =
           noted l _ _ was now _ _ none (let few = give_back-few l fs cpu zone frame order p.one.layout in
           omega (arith, few)) (notes-then l 1 _ was mid now _ _ v first second);
-    })
+    }))
 
 -- the same, by the zone that was read
 pub kernel-given : {before : List Delta} (m : Layers) (f : Frames) (kernel : List (Option ℕ))
@@ -224,6 +212,4 @@ pub kernel-given : {before : List Delta} (m : Layers) (f : Frames) (kernel : Lis
     (record m { frames = f; kernel = kernel }) before now.deltas Done
 kernel-given m f kernel cpu frame order zone was mid now p low none is set_is notes zone_is g =
     kernel-given-in m f kernel cpu frame order was mid now p low none is set_is notes
-    (subst (λ (z : Zone). IsGiven (given_back m.frames.cpus.layout (free_of m.frames) cpu z frame order)
-    (give_back_bound m.frames.cpus.layout (free_of m.frames) cpu z frame order) m.frames f mid
-    now) zone_is g)
+    (rw (← zone_is) g)

@@ -1,6 +1,6 @@
 -- What one layer's call notes leads back in the whole frame view too. The call leaves the view's
 -- other parts as they are.
-use Rattle.std.proofs.Common.{◌≡◌, ℕ, List, [], ◌∷◌, Option, refl, sym, ◌∙◌, ap, subst}
+use Rattle.std.proofs.Common.{◌≡◌, ℕ, List, [], ◌∷◌, Option, refl, ◌∙◌, ap}
 use Rattle.std.specs.List.{AllByRecursion}
 use Rattle.hp_units.specs.LayoutParts.{LayoutParts}
 use Rattle.hp_units.specs.Memory.{Blocks, FreeFrames}
@@ -23,8 +23,7 @@ undo_all-part : {S : Type 0} (Own : Delta → Type 0) (Fit : Delta → S → Typ
     → undo_all undo deltas (put x) ≡ put (undo_all one deltas x)
 undo_all-part Own Fit one put [] x part own = refl
 undo_all-part Own Fit one put (d ∷ deltas) x part own =
-    ap (undo d) (undo_all-part Own Fit one put deltas x part own.1)
-    ∙ part.undone d (undo_all one deltas x) own.0
+    rw (undo_all-part Own Fit one put deltas x part own.1) (part.undone d (undo_all one deltas x) own.0)
 
 all_fit-part : {S : Type 0} (Own : Delta → Type 0) (Fit : Delta → S → Type 0) (one : Delta → S → S)
     (put : S → FrameView) (deltas : List Delta) (x : S)
@@ -33,8 +32,7 @@ all_fit-part : {S : Type 0} (Own : Delta → Type 0) (Fit : Delta → S → Type
 all_fit-part Own Fit one put [] x part own h = tt
 all_fit-part Own Fit one put (d ∷ deltas) x part own h = (
   all_fit-part Own Fit one put deltas x part own.1 h.0,
-  subst (λ (v : FrameView). Fits d v) (sym (undo_all-part Own Fit one put deltas x part own.1))
-      (part.fits d (undo_all one deltas x) own.0 h.1),
+  rw (undo_all-part Own Fit one put deltas x part own.1) (part.fits d (undo_all one deltas x) own.0 h.1),
 )
 
 all_any : (deltas : List Delta) → AllByRecursion IsOfMemory deltas

@@ -8,12 +8,12 @@ use Rattle.std.proofs.Math.Nat.{mul-le-mul_right, suc-mul}
 use Rattle.hp_units.specs.LayoutParts.{LayoutParts}
 use Rattle.hp_units.specs.Arithmetic.{frame_count}
 use Rattle.hp_units.specs.FreeAreas.{Taken, give_block}
-use Rattle.hp_units.specs.Memory.{FreeAreas, FreeFrames, Memory}
+use Rattle.hp_units.specs.Memory.{FreeFrames, Memory}
 use Rattle.hp_units.specs.Pages.{move_page, page_at}
 use Rattle.hp_units.specs.ProcessorLists.{Handed, handed_from}
 use Rattle.hp_units.specs.Migrations.{migration_source, migration_target}
 use Rattle.hp_units.specs.Rows.{is_live, with_areas, zone_of}
-use Rattle.hp_units.specs.Step.{Answered, migrate_step, with_pages}
+use Rattle.hp_units.specs.Step.{migrate_step, with_pages}
 use Rattle.hp_units.specs.declared.events.Event.TheVariants.{Migrate}
 use Rattle.hp_units.specs.declared.replies.Refusal.TheVariants.{NoFrame, NoOp, NothingToMove}
 use Rattle.hp_units.specs.declared.replies.Reply.TheVariants.{Moved, Refused}
@@ -30,7 +30,7 @@ use Rattle.hp_pages.proofs.FrameViews.{first_none}
 use Rattle.hp_plain.specs.Asked.{asked}
 use Rattle.hp_layers.specs.declared.frames.Frames.{Frames}
 use Rattle.hp_layers.specs.declared.layers.Layers.{Layers}
-use Rattle.hp_layers.specs.Frames.{IsGiven, IsTaken, MayReturn, free_of, places_of}
+use Rattle.hp_layers.specs.Frames.{IsGiven, IsTaken, MayReturn, free_of}
 use Rattle.hp_layers.specs.Layers.{ArePlaced, IsAnswered, state_of, view_of}
 use Rattle.hp_layers.proofs.Answers.{hands-none, hands-some, noted, notes-then}
 use Rattle.hp_layers.proofs.Lifts.{notes-free, notes-pages}
@@ -50,8 +50,7 @@ source-mapped m from holds = elim (cases_lt 0 (holders m.pages.pages.table from)
   | inr none ↦
       let empty : page_at (state_of m).pages from ≡ None =
       first_none m.pages.pages.table from (omega arith) in
-      absurd (let no : is_some (page_at (state_of m).pages from) ≡ false =
-      ap (λ (o : Option (ℕ × ℕ)). is_some o) empty in cc)
+      absurd (let no : is_some (page_at (state_of m).pages from) ≡ false = rw empty in cc)
 ]
 
 pub source-inside : (m : Layers) (from : ℕ) → ArePlaced m → is_some (page_at (state_of m).pages from) ≡ true
@@ -68,14 +67,11 @@ pub source-returns : (m : Layers) (wanted : Option Handed) (most : ℕ) (f : Fra
 source-returns m wanted most f was now from to p holds t = record {
   in_order = omega arith;
   aligned = omega arith;
-  within =
-      subst (λ (l : LayoutParts). from + 1 ≤ frame_count l) (sym (t.layout ∙ p.one.cpus))
-      (let inside = source-inside m from p holds in omega (arith, inside));
+  within = rw (t.layout, p.one.cpus) (let inside = source-inside m from p holds in omega (arith, inside));
   nowhere = λ o above below.
       let same : o ≡ from = omega arith in
       let some = source-mapped m from holds in
-      subst (λ (n : ℕ). places_of f n ≡ 0) (sym same)
-      (omega (arith, p.placed.once from, some, t.block.places from));
+      rw same (omega (arith, p.placed.once from, some, t.block.places from));
 }
 
 -- ---- what a Migrate answers
@@ -88,8 +84,7 @@ target-is fs (Some taken) new to is =
     let e = same_Some _ _ is in
     let areas : taken.areas ≡ new.areas = ap (λ (h : Handed). h.free.areas) e in
     let frame : taken.frame ≡ to = ap (λ (h : Handed). h.frame) e in (
-      ap (λ (a : FreeAreas). Some (record { areas = a; frame = taken.frame })) areas ∙ ap (λ (n : ℕ). Some
-          (record { areas = new.areas; frame = n })) frame,
+      rw (areas, frame),
       sym (ap (λ (h : Handed). h.free.cached) e),
     )
 
@@ -166,8 +161,7 @@ migrate-done {before} m f g ps op from to zone was mid more now p none live sour
     let same : m.frames.cpus.layout ≡ l = p.one.cpus in
     let behind : f.cpus.layout ≡ l = t.layout ∙ same in
     let target = target-is fs (migration_target l m.frames.buddy.areas) (free_of f) to
-    (subst (λ (k : LayoutParts). handed_from fs (migration_target k m.frames.buddy.areas)
-    ≡ Some (record { free = free_of f; frame = to })) same (hands-some _ _ _ to t.handed)) in
+    (rw (← same) (hands-some _ _ _ to t.handed)) in
     let holds = source-holds m op from source in
     let page = some_page (page_at s.pages from) holds in
     let seen : ps.pages ≡ page_frames_of l (move_page s.pages from to) =
@@ -176,11 +170,7 @@ migrate-done {before} m f g ps op from to zone was mid more now p none live sour
     (taken-inside m _ _ f was mid to p t) page.1 (taken-free m _ _ f was mid to p t))) in
     let free_is : free_of g
     ≡ record { areas = give_block l f.buddy.areas (zone_of l s from) from 0; cached = fs.cached } =
-    given.given
-    ∙ (ap (λ (k : LayoutParts). record (free_of f) { areas = give_block k f.buddy.areas zone from 0 }) behind
-    ∙ (ap (λ (z : Zone). record (free_of f) { areas = give_block l f.buddy.areas z from 0 }) zone_is
-    ∙ ap (λ (c : List (List ℕ)).
-    record { areas = give_block l f.buddy.areas (zone_of l s from) from 0; cached = c }) target.1)) in
+    rw (given.given, behind, zone_is, target.1) in
     let first =
     notes-free v l (steal_bound l) was mid (free_of f) fs
     (subst (λ (k : LayoutParts). NotesFree k (steal_bound k) was mid (free_of f) fs) same t.notes) in
@@ -188,17 +178,12 @@ migrate-done {before} m f g ps op from to zone was mid more now p none live sour
     notes-pages (record v { free = free_of f }) l 2 mid more ps.pages m.pages.pages
     (subst (λ (k : LayoutParts). NotesPages k 2 mid more ps.pages m.pages.pages) p.one.pages notes) in
     let third = notes-free (record v { pages = ps.pages }) l (give_bound l) more now (free_of g) (free_of f)
-    (subst (λ (k : LayoutParts). NotesFree k (give_bound k) more now (free_of g) (free_of f)) behind
-    given.notes) in
-    subst (λ (a : Answered). IsAnswered m (Migrate op) a (record m { frames = g; pages = ps }) before
-    now.deltas (Moved from to)) (sym (migrated l s op from _ live source target.0)) (record {
+    (rw (← behind) given.notes) in
+    rw (migrated l s op from _ live source target.0) (record {
       led = record {
         one = both-one m g ps p (given.layout ∙ t.layout) given.tidy.layout layout_is;
         layout = refl;
-        view =
-            ap (λ (q : PageFrames). record v { free = free_of g; pages = q }) seen ∙ ap
-            (λ (x : FreeFrames). record v { free = x; pages = page_frames_of l (move_page s.pages from to) })
-            free_is;
+        view = rw (seen, free_is);
       };
       reply = refl;
       noted =
@@ -218,6 +203,4 @@ pub block-last : (l : LayoutParts) {block at size : ℕ} → block < l.blocks �
 block-last l {block} {at} low here size_is =
     let more : suc block * (l.pageblocks * 2 ^ l.order) ≤ l.blocks * (l.pageblocks * 2 ^ l.order) =
     mul-le-mul_right (l.pageblocks * 2 ^ l.order) low in
-    subst (λ (n : ℕ). at * n + n ≤ frame_count l) (sym size_is)
-    (subst (λ (b : ℕ). b * (l.pageblocks * 2 ^ l.order) + l.pageblocks * 2 ^ l.order ≤ frame_count l)
-    (sym here) (omega (arith, more, suc-mul block (l.pageblocks * 2 ^ l.order))))
+    rw (size_is, here) (omega (arith, more, suc-mul block (l.pageblocks * 2 ^ l.order)))

@@ -1,5 +1,5 @@
 -- Memory blocks that go online, and the layers after changes of the free frames and the rows.
-use Rattle.std.proofs.Common.{◌≡◌, ℕ, ◌+◌, ◌*◌, ◌^◌, ◌<◌, ◌≤◌, List, true, Option, Some, None, refl, sym, ◌∙◌, ap, subst, arith}
+use Rattle.std.proofs.Common.{◌≡◌, ℕ, ◌+◌, ◌*◌, ◌^◌, ◌<◌, ◌≤◌, true, Some, None, refl, sym, ◌∙◌, ap, subst, arith}
 use Rattle.std.proofs.lemmas.Bool.{cond-true}
 use Rattle.std.proofs.Math.Nat.{mul_assoc, add-mul}
 use Rattle.hp_units.specs.declared.rows.Zone.{Zone}
@@ -7,11 +7,11 @@ use Rattle.hp_units.specs.declared.rows.State.TheVariants.{Online as OnlineState
 use Rattle.hp_units.specs.LayoutParts.{LayoutParts}
 use Rattle.hp_units.specs.Arithmetic.{block_of}
 use Rattle.hp_units.specs.Isolation.{add_block}
-use Rattle.hp_units.specs.Memory.{Blocks, FreeFrames, Memory, row_of, with_row}
+use Rattle.hp_units.specs.Memory.{Memory, row_of, with_row}
 use Rattle.hp_units.specs.Placement.{is_unplugged, offline_places}
 use Rattle.hp_units.specs.Rows.{online_block}
 use Rattle.hp_tape.specs.Bounds.{online_bound}
-use Rattle.hp_tape.specs.Deltas.{FrameView, PageFrames, frame_view_of, page_frames_of}
+use Rattle.hp_tape.specs.Deltas.{FrameView, frame_view_of, page_frames_of}
 use Rattle.hp_tape.specs.Tapes.{NotesBlocks, NotesFree, TapeValue}
 use Rattle.hp_pages.specs.Pages.{PagesValue, pages_of}
 use Rattle.hp_blocks.specs.Blocks.{BlocksValue}
@@ -71,12 +71,7 @@ onlined m f bs zone block was mid now p set_is layout_is notes g =
       pages = refl;
       kernel = refl;
       tidy = g.tidy;
-      state = ap (λ (fs : FreeFrames). record (state_of m) { free = fs; blocks = bs.blocks }) g.given
-          ∙ ap (λ (b : Blocks). record (state_of m) {
-            free = record (free_of m.frames)
-                { areas = add_block l zone m.frames.buddy.areas block };
-            blocks = b;
-          }) set_is;
+      state = rw (g.given, set_is);
       notes = notes-then l 1 l.pageblocks was mid now _ _ v first second;
     }
 
@@ -84,13 +79,7 @@ onlined m f bs zone block was mid now p set_is layout_is notes g =
 
 same_view : (v w : FrameView) → v.free ≡ w.free → v.pages ≡ w.pages → v.kernel ≡ w.kernel
     → v.blocks ≡ w.blocks → v ≡ w
-same_view v w free pages kernel blocks =
-    ap (λ (x : FreeFrames). record { free = x; pages = v.pages; kernel = v.kernel; blocks = v.blocks }) free
-    ∙ (ap (λ (x : PageFrames). record { free = w.free; pages = x; kernel = v.kernel; blocks = v.blocks })
-    pages
-    ∙ (ap (λ (x : List (Option ℕ)). record { free = w.free; pages = w.pages; kernel = x; blocks = v.blocks })
-    kernel
-    ∙ ap (λ (x : Blocks). record { free = w.free; pages = w.pages; kernel = w.kernel; blocks = x }) blocks))
+same_view v w free pages kernel blocks = rw (free, pages, kernel, blocks)
 
 pub reworked-led : (m new : Layers) (s : Memory) (most : ℕ) (was now : TapeValue) → ArePlaced m
     → IsReworked m s most new was now → AreLedTo m s new

@@ -6,11 +6,11 @@ use Rattle.hp_units.specs.declared.rows.Zone.{Zone}
 use Rattle.hp_units.specs.LayoutParts.{LayoutParts}
 use Rattle.hp_units.specs.Arithmetic.{frame_count}
 use Rattle.hp_units.specs.InLayout.{ArePagesOf}
-use Rattle.hp_units.specs.Memory.{FreeFrames, Memory, entry_of}
+use Rattle.hp_units.specs.Memory.{Memory, entry_of}
 use Rattle.hp_units.specs.Pages.{frame_at, fresh_words, map_page, read_word, unmap_page, write_word}
 use Rattle.hp_units.specs.ProcessorLists.{Handed, page_frame}
 use Rattle.hp_units.specs.Rows.{zone_of}
-use Rattle.hp_units.specs.Step.{Answered, done, give_back, map_step, unmap_step, with_free, with_pages}
+use Rattle.hp_units.specs.Step.{done, give_back, map_step, unmap_step, with_free, with_pages}
 use Rattle.hp_units.specs.declared.events.Event.TheVariants.{Map, Read, Unmap, Write}
 use Rattle.hp_units.specs.declared.replies.Refusal.TheVariants.{NoFrame}
 use Rattle.hp_units.specs.declared.replies.Reply.TheVariants.{Done, Refused, Word}
@@ -46,8 +46,7 @@ pub pages_seen : (m : Layers) → ArePlaced m → m.pages.pages ≡ page_frames_
 pages_seen m p = ap (λ (v : FrameView). v.pages) p.view
 
 pub settled : (m : Layers) → ArePlaced m → AreSettled m.pages.pages
-settled m p =
-    subst AreSettled (sym (pages_seen m p)) (settled_placed m.layout (state_of m) p.placed (pages_fit m p))
+settled m p = rw (pages_seen m p) (settled_placed m.layout (state_of m) p.placed (pages_fit m p))
 
 -- a frame that was handed out holds no page
 pub taken-free : (m : Layers) (wanted : Option Handed) (most : ℕ) (f : Frames) (was now : TapeValue)
@@ -94,8 +93,7 @@ pub map-refused : (m : Layers) (f : Frames) (cpu owner page most : ℕ) (was now
     ≡ record { memory = state_of m; reply = Refused NoFrame }
 map-refused m f cpu owner page most was now p low small unmapped t =
     map-none m.layout (state_of m) cpu owner page low small unmapped
-    (subst (λ (k : LayoutParts). page_frame k (free_of m.frames) cpu ≡ None) p.one.cpus
-    (hands-none _ (free_of m.frames) (free_of f) t.handed))
+    (rw (← p.one.cpus) (hands-none _ (free_of m.frames) (free_of f) t.handed))
 
 -- the layers with other frames and other pages are of one layout
 pub both-one : (m : Layers) (f : Frames) (ps : PagesValue) → ArePlaced m
@@ -129,21 +127,18 @@ map-done {before} m f ps cpu owner page frame was mid now p low small unmapped n
     let fs = free_of m.frames in
     let same : m.frames.cpus.layout ≡ l = p.one.cpus in
     let is : page_frame l fs cpu ≡ Some (record { free = free_of f; frame = frame }) =
-    subst (λ (k : LayoutParts). page_frame k fs cpu ≡ Some (record { free = free_of f; frame = frame })) same
-    (hands-some _ _ _ frame t.handed) in
+    rw (← same) (hands-some _ _ _ frame t.handed) in
     let seen : ps.pages ≡ page_frames_of l (map_page s.pages owner page frame (fresh_words l)) =
     set_is ∙ (ap (λ (q : PageFrames). map_frame q owner page frame) (pages_seen m p)
     ∙ sym (view-map_page l s.pages owner page frame (fresh_words l) (pages_once m p) low small
     (taken-inside m _ _ f was mid frame p t) unmapped (taken-free m _ _ f was mid frame p t)
     (zeros-blank l.words))) in
     let first =
-    notes-free v l (page_frame_bound l fs cpu) was mid (free_of f) fs (subst
-    (λ (k : LayoutParts). NotesFree k (page_frame_bound k fs cpu) was mid (free_of f) fs) same t.notes) in
+    notes-free v l (page_frame_bound l fs cpu) was mid (free_of f) fs (rw (← same) t.notes) in
     let second =
     notes-pages (record v { free = free_of f }) l 1 mid now ps.pages m.pages.pages
     (subst (λ (k : LayoutParts). NotesPages k 1 mid now ps.pages m.pages.pages) p.one.pages notes) in
-    subst (λ (a : Answered). IsAnswered m (Map owner page) a (record m { frames = f; pages = ps }) before
-    now.deltas Done) (sym (mapped l s cpu owner page _ low small unmapped is)) (record {
+    rw (mapped l s cpu owner page _ low small unmapped is) (record {
       led = record {
         one = both-one m f ps p t.layout t.tidy.layout layout_is;
         layout = refl;
@@ -202,22 +197,18 @@ unmap-done-in {before} m f ps cpu owner page frame was mid now p low small is no
     fs
     (subst (λ (k : LayoutParts). NotesFree k (give_back_bound k fs cpu zone frame 0) mid now (free_of f) fs)
     same g.notes) in
-    subst (λ (a : Answered).
-    IsAnswered m (Unmap owner page) a (record m { frames = f; pages = ps }) before now.deltas Done)
-    (sym (unmapped_by l s cpu owner page frame low small is
-    ∙ ap done (give_back-is l (with_pages s (unmap_page s.pages owner page)) cpu frame 0))) (record {
+    rw (unmapped_by l s cpu owner page frame low small is)
+    (rw (give_back-is l (with_pages s (unmap_page s.pages owner page)) cpu frame 0) (record {
       led = record {
         one = both-one m f ps p g.layout g.tidy.layout layout_is;
         layout = refl;
-        view = ap (λ (q : PageFrames). record v { free = free_of f; pages = q }) seen
-            ∙ ap (λ (gs : FreeFrames).
-            record v { free = gs; pages = page_frames_of l (unmap_page s.pages owner page) }) free_is;
+        view = rw (seen, free_is);
       };
       reply = refl;
       noted =
           noted l _ _ was now _ _ none (let few = give_back-few l fs cpu zone frame 0 p.one.layout in
           omega (arith, few)) (notes-then l 2 _ was mid now _ _ v first second);
-    })
+    }))
 
 -- the Unmap is done, by the frame that the pages returned and the zone that was read
 pub unmap-done : {before : List Delta} (m : Layers) (f : Frames) (ps : PagesValue) (cpu owner page frame : ℕ)
@@ -233,8 +224,7 @@ pub unmap-done : {before : List Delta} (m : Layers) (f : Frames) (ps : PagesValu
     (record m { frames = f; pages = ps }) before now.deltas Done
 unmap-done m f ps cpu owner page frame zone was mid now p low small is none layout_is set_is notes zone_is g =
     unmap-done-in m f ps cpu owner page frame was mid now p low small is none layout_is set_is notes
-    (subst (λ (z : Zone). IsGiven (given_back m.frames.cpus.layout (free_of m.frames) cpu z frame 0)
-    (give_back_bound m.frames.cpus.layout (free_of m.frames) cpu z frame 0) m.frames f mid now) zone_is g)
+    (rw (← zone_is) g)
 
 -- ---- Write
 
@@ -266,8 +256,7 @@ write-done {before} m ps owner page index value was now p word none layout_is se
     let first =
     notes-pages v l 1 was now ps.pages m.pages.pages
     (subst (λ (k : LayoutParts). NotesPages k 1 was now ps.pages m.pages.pages) p.one.pages notes) in
-    subst (λ (a : Answered). IsAnswered m (Write owner page index value) a (record m { pages = ps }) before
-    now.deltas Done) (sym answers) (record {
+    rw answers (record {
       led = record {
         one = both-one m m.frames ps p refl (p.one.buddy ∙ sym p.one.cpus) layout_is;
         layout = refl;

@@ -1,5 +1,5 @@
 -- The pageblocks of a memory block lie in the layout, and their numbers are small.
-use Rattle.std.proofs.Common.{◌≡◌, ℕ, suc, ◌+◌, ◌*◌, ◌^◌, ◌<◌, ◌≤◌, Fits, w32, sym, ◌∙◌, ap, subst, arith}
+use Rattle.std.proofs.Common.{◌≡◌, ℕ, suc, ◌+◌, ◌*◌, ◌^◌, ◌<◌, ◌≤◌, Fits, w32, arith}
 use Rattle.std.proofs.Math.Nat.{mul-le-mul_left, mul-le-mul_right, one-le-pow, suc-mul}
 use Rattle.hp_units.specs.LayoutParts.{LayoutParts, IsLayout}
 use Rattle.hp_units.specs.Arithmetic.{pageblock_count}
@@ -7,16 +7,14 @@ use Rattle.hp_units.specs.Arithmetic.{pageblock_count}
 -- pageblock `number` of a block, by the numbers that the code read
 pub pageblock-is : {at block count many : ℕ} (number : ℕ) → at ≡ block → count ≡ many
     → at * count + number ≡ block * many + number
-pageblock-is {at} {block} {count} number here all =
-    ap (λ (b : ℕ). b * count + number) here ∙ ap (λ (n : ℕ). block * n + number) all
+pageblock-is {at} {block} {count} number here all = rw (here, all)
 
 -- that pageblock lies in the layout
 pub pageblock-inside : (l : LayoutParts) {block at count number : ℕ} → block < l.blocks → at ≡ block
     → count ≡ l.pageblocks → number < count → at * count + number < pageblock_count l
 pageblock-inside l {block} {at} {count} {number} low here many less =
     let more : suc block * l.pageblocks ≤ l.blocks * l.pageblocks = mul-le-mul_right l.pageblocks low in
-    subst (λ (n : ℕ). n < l.blocks * l.pageblocks) (sym (pageblock-is number here many))
-    (omega (arith, more, suc-mul block l.pageblocks, many, less))
+    rw (pageblock-is number here many) (omega (arith, more, suc-mul block l.pageblocks, many, less))
 
 -- there are no more pageblocks than frames
 pub pageblocks-few : (l : LayoutParts) → IsLayout l → pageblock_count l ≤ 2 ^ 20
@@ -40,5 +38,4 @@ pub first-fits : {l : LayoutParts} {block at count : ℕ} → IsLayout l → blo
 first-fits {l} {block} {at} {count} layout low here many =
     let most : block * l.pageblocks ≤ l.blocks * l.pageblocks =
     omega (arith, mul-le-mul_right l.pageblocks low, suc-mul block l.pageblocks) in
-    subst (λ (b : ℕ). Fits w32 (b * count)) (sym here)
-    (subst (λ (n : ℕ). Fits w32 (block * n)) (sym many) (omega (arith, most, pageblocks-few l layout)))
+    rw (here, many) (omega (arith, most, pageblocks-few l layout))

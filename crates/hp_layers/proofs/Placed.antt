@@ -5,7 +5,6 @@ use Rattle.hp_units.specs.Arithmetic.{frame_count}
 use Rattle.hp_units.specs.Memory.{kernel_order}
 use Rattle.hp_units.specs.Pages.{frame_at}
 use Rattle.hp_lemmas.proofs.Placed.{IsInUse, kernel-in_use, page-in_use}
-use Rattle.hp_cpus.specs.Cpus.{AreTogether}
 use Rattle.hp_cpus.proofs.Placed.{placed-together}
 use Rattle.hp_layers.specs.declared.layers.Layers.{Layers}
 use Rattle.hp_layers.specs.Frames.{IsTidy, MayReturn}
@@ -14,12 +13,7 @@ use Rattle.hp_layers.specs.Layers.{ArePlaced, state_of}
 -- the free areas and the processors' lists are of one layout, and no frame is in two of their
 -- places
 pub tidy-placed : (m : Layers) → ArePlaced m → IsTidy m.frames
-tidy-placed m p =
-    subst (λ (l : LayoutParts).
-    AreTogether (record { layout = l; cached = m.frames.cpus.cached }) m.frames.buddy) (sym p.one.cpus)
-    (subst (λ (l : LayoutParts). AreTogether (record { layout = m.layout; cached = m.frames.cpus.cached })
-    (record { layout = l; areas = m.frames.buddy.areas })) (sym p.one.buddy)
-    (placed-together m.layout (state_of m) p.one.layout p.placed))
+tidy-placed m p = rw (p.one.cpus, p.one.buddy) (placed-together m.layout (state_of m) p.one.layout p.placed)
 
 -- ---- blocks that come back
 
@@ -49,5 +43,4 @@ page-returns m owner page frame p is =
 pub page-inside : (m : Layers) (owner page frame : ℕ) → ArePlaced m
     → frame_at (state_of m).pages owner page ≡ Some frame → frame < frame_count m.layout
 page-inside m owner page frame p is =
-    subst (λ (l : LayoutParts). frame < frame_count l) p.one.cpus
-    (let within = (page-returns m owner page frame p is).within in omega (arith, within))
+    rw (← p.one.cpus) (let within = (page-returns m owner page frame p is).within in omega (arith, within))

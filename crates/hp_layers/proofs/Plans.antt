@@ -1,5 +1,5 @@
 -- Plans: what is looked for in them, item by item, and how many blocks they name.
-use Rattle.std.proofs.Common.{◌≡◌, ℕ, zero, suc, ◌+◌, ◌<◌, ◌≤◌, ◌||◌, List, [], ◌∷◌, length, get_or, drop, Bool, true, false, cond, Option, Some, None, refl, sym, ◌∙◌, ap, subst, arith, inl, inr, map, add-one, ne_eqb}
+use Rattle.std.proofs.Common.{◌≡◌, ℕ, zero, suc, ◌+◌, ◌<◌, ◌≤◌, ◌||◌, List, [], ◌∷◌, length, get_or, drop, Bool, true, false, cond, Option, Some, None, refl, sym, ◌∙◌, ap, arith, inl, inr, map, add-one, ne_eqb}
 use Rattle.std.specs.Prelude.{nat_le}
 use Rattle.std.specs.List.{find, list_any}
 use Rattle.std.specs.Option.{is_some, option_map, option_or}
@@ -78,8 +78,7 @@ inside blocks (x ∷ xs) (suc i) d none low =
 
 pub item-within : (l : LayoutParts) (plan : List Item) (i : ℕ) (item : Item) → names_no_block l plan ≡ false
     → i < length plan → item ≡ get_or plan i item → item.block < l.blocks
-item-within l plan i item none low here =
-    subst (λ (x : Item). x.block < l.blocks) (sym here) (inside l.blocks plan i item none low)
+item-within l plan i item none low here = rw here (inside l.blocks plan i item none low)
 
 -- ---- how many blocks a plan names: no more than it has items
 

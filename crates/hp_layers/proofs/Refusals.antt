@@ -1,5 +1,5 @@
 -- Events that are refused before anything is taken, each for one reason.
-use Rattle.std.proofs.Common.{◌≡◌, ℕ, ◌<◌, ◌≤◌, Bool, true, false, List, [], ◌∷◌, Option, Some, None, refl, sym, ◌∙◌, ap, subst, arith}
+use Rattle.std.proofs.Common.{◌≡◌, ℕ, ◌<◌, ◌≤◌, Bool, true, false, List, [], ◌∷◌, Option, Some, None, refl, sym, ◌∙◌, ap, arith}
 use Rattle.std.specs.Prelude.{is_some, nat_le}
 use Rattle.std.specs.Bool.{then_some}
 use Rattle.std.proofs.lemmas.Bool.{le-leb, lt-leb}
@@ -107,13 +107,11 @@ read-le h e f = omega arith
 -- an owner, and a page, of the layout is one of the pages' own layout
 pub owner-there : {owner : ℕ} {m : Layers} {read most : ℕ} → ArePlaced m → read < most → read ≡ owner
     → most ≡ m.layout.owners → owner < m.pages.layout.owners
-owner-there {owner} p low is all =
-    subst (λ (l : LayoutParts). owner < l.owners) (sym p.one.pages) (read-lt low is all)
+owner-there {owner} p low is all = rw p.one.pages (read-lt low is all)
 
 pub page-there : {page : ℕ} {m : Layers} {read most : ℕ} → ArePlaced m → read < most → read ≡ page
     → most ≡ m.layout.pages → page < m.pages.layout.pages
-page-there {page} p low is all =
-    subst (λ (l : LayoutParts). page < l.pages) (sym p.one.pages) (read-lt low is all)
+page-there {page} p low is all = rw p.one.pages (read-lt low is all)
 
 -- ---- words
 
@@ -160,5 +158,4 @@ pub word-there_in_pages : (m : Layers) (owner page index : ℕ) (found : Option 
     → found ≡ None → found ≡ first_some (word_refusals m.layout (state_of m) owner page index)
     → IsWord m.pages.layout m.pages.pages.table owner page index
 word-there_in_pages m owner page index found one e first =
-    subst (λ (l : LayoutParts). IsWord l m.pages.pages.table owner page index) (sym one.pages)
-    (word-there m owner page index found e first)
+    rw one.pages (word-there m owner page index found e first)

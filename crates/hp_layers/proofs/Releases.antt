@@ -1,5 +1,5 @@
 -- Memory blocks that are released by their operation.
-use Rattle.std.proofs.Common.{◌≡◌, ℕ, ◌+◌, ◌*◌, ◌<◌, ◌≤◌, Bool, true, false, List, [], ◌∷◌, ◌++◌, length, take, get_or, cond, refl, sym, ◌∙◌, ap, subst, arith}
+use Rattle.std.proofs.Common.{◌≡◌, ℕ, ◌+◌, ◌*◌, ◌<◌, ◌≤◌, Bool, true, false, List, [], ◌∷◌, ◌++◌, length, take, get_or, cond, refl, ap, subst, arith}
 use Rattle.std.specs.List.{fold}
 use Rattle.std.proofs.lemmas.List.{length-append, take_more}
 use Rattle.hp_plain.specs.Asked.{asked}
@@ -12,9 +12,8 @@ use Rattle.hp_units.specs.declared.rows.Row.{Row}
 use Rattle.hp_units.specs.declared.rows.Zone.{Zone}
 use Rattle.hp_units.specs.LayoutParts.{LayoutParts}
 use Rattle.hp_units.specs.Isolation.{move_block}
-use Rattle.hp_units.specs.Memory.{Blocks, FreeAreas, FreeFrames, Memory, with_row}
+use Rattle.hp_units.specs.Memory.{Blocks, FreeAreas, Memory, with_row}
 use Rattle.hp_units.specs.Rows.{blocks_of, is_live, release_blocks, release_block, with_areas, with_block_row, zone_of_block}
-use Rattle.hp_units.specs.Step.{Answered}
 use Rattle.hp_tape.specs.declared.deltas.Delta.{Delta}
 use Rattle.hp_tape.specs.Bounds.{delta_bound, move_bound, moved_block_bound}
 use Rattle.hp_tape.specs.Deltas.{Fits, undo}
@@ -60,19 +59,7 @@ moved m f bs block flag zone row was mid now one zone_is g set_is layout_is note
       pages = refl;
       kernel = refl;
       tidy = g.tidy;
-      state = ap (λ (fs : FreeFrames). record (state_of m) { free = fs; blocks = bs.blocks }) g.given
-          ∙ (ap (λ (z : Zone). record (state_of m) {
-            free = record (free_of m.frames)
-                { areas = move_block l z flag m.frames.buddy.areas block };
-            blocks = bs.blocks;
-          }) zone_is
-          ∙ ap (λ (b : Blocks). record (state_of m) {
-            free = record (free_of m.frames) {
-              areas =
-                  move_block l (zone_of_block m.blocks.blocks block) flag m.frames.buddy.areas block;
-            };
-            blocks = b;
-          }) set_is);
+      state = rw (g.given, zone_is, set_is);
       notes =
           notes-more IsOfMemory Fits undo l (l.pageblocks * move_bound l + 1) (moved_block_bound l) was now _
           _
@@ -97,8 +84,7 @@ row-set m bs block row was now one tidy set_is layout_is notes =
       tidy = tidy;
       state = ap (λ (b : Blocks). record (state_of m) { blocks = b }) set_is;
       notes = notes-more IsOfMemory Fits undo l 1 (moved_block_bound l) was now _ _ (omega arith)
-          (notes-blocks v l 1 was now bs.blocks m.blocks.blocks (subst
-          (λ (k : LayoutParts). NotesBlocks k 1 was now bs.blocks m.blocks.blocks) one.blocks notes));
+          (notes-blocks v l 1 was now bs.blocks m.blocks.blocks (rw (← one.blocks) notes));
     }
 
 -- the pageblocks of a block change, and then its row
@@ -114,8 +100,7 @@ areas-and-row m f bs block most total areas row was mid now one le g set_is layo
     let l = m.layout in
     let v = view_of m in
     let first =
-    notes-free v l most was mid (free_of f) (free_of m.frames) (subst
-    (λ (k : LayoutParts). NotesFree k most was mid (free_of f) (free_of m.frames)) one.cpus g.notes) in
+    notes-free v l most was mid (free_of f) (free_of m.frames) (rw (← one.cpus) g.notes) in
     let second =
     notes-blocks (record v { free = free_of f }) l 1 mid now bs.blocks m.blocks.blocks
     (subst (λ (k : LayoutParts). NotesBlocks k 1 mid now bs.blocks m.blocks.blocks) one.blocks notes) in
@@ -125,9 +110,7 @@ areas-and-row m f bs block most total areas row was mid now one le g set_is layo
       pages = refl;
       kernel = refl;
       tidy = g.tidy;
-      state = ap (λ (fs : FreeFrames). record (state_of m) { free = fs; blocks = bs.blocks }) g.given
-          ∙ ap (λ (b : Blocks).
-          record (state_of m) { free = record (free_of m.frames) { areas = areas }; blocks = b }) set_is;
+      state = rw (g.given, set_is);
       notes =
           notes-more IsOfMemory Fits undo l (most + 1) total was now _ _ le
           (notes-then l most 1 was mid now _ _ v first second);
@@ -140,8 +123,7 @@ pub fold-further : (rule : Memory → ℕ → Memory) (s : Memory) (blocks : Lis
     → number < length blocks → get_or blocks number 0 ≡ block
     → fold rule s (take (number + 1) blocks) ≡ rule (fold rule s (take number blocks)) block
 fold-further rule s blocks number block low here =
-    ap (fold rule s) (take_more blocks number 0 low ∙ ap (λ (x : ℕ). take number blocks ++ x ∷ []) here)
-    ∙ fold_push rule s (take number blocks) block
+    rw (take_more blocks number 0 low, here) (fold_push rule s (take number blocks) block)
 
 pub blocks-further : (rule : LayoutParts → Memory → ℕ → Memory) (bound : LayoutParts → ℕ) (m n o : Layers)
     (blocks : List ℕ) (number block : ℕ) (was mid now : TapeValue)
@@ -154,11 +136,9 @@ pub blocks-further : (rule : LayoutParts → Memory → ℕ → Memory) (bound :
 blocks-further rule bound m n o blocks number block was mid now low here a b =
     let l = m.layout in
     let each = bound l in
-    subst (λ (s : Memory). IsReworked m s ((number + 1) * each) o was now)
-    (sym (fold-further (rule l) (state_of m) blocks number block low here))
+    rw (fold-further (rule l) (state_of m) blocks number block low here)
     (reworked-then (λ k s. rule k s block) bound m n o (fold (rule l) (state_of m) (take number blocks))
-    (number * each) ((number + 1) * each) was mid now
-    (let e = one_done number each in omega (arith, e)) a b)
+    (number * each) ((number + 1) * each) was mid now (let e = one_done number each in omega (arith, e)) a b)
 
 -- ---- the answer
 
@@ -189,12 +169,10 @@ pub cancel-done : {before : List Delta} (m new : Layers) (op : ℕ) (blocks : Li
     → IsAnswered m (Cancel op) (asked m.layout (state_of m) 0 (Cancel op)) new before now.deltas Released
 cancel-done {before} m new op blocks was now p none live is r =
     let all = blocks_of m.layout m.blocks.blocks op in
-    subst (λ (a : Answered). IsAnswered m (Cancel op) a new before now.deltas Released)
-    (sym (released m.layout (state_of m) op live))
-    (reworked-answered m new (Cancel op) (fold (release_block m.layout) (state_of m) all) Released
-    (length all * moved_block_bound m.layout) was now p none (omega arith)
-    (subst (λ (bs : List ℕ). IsReworked m (fold (release_block m.layout) (state_of m) bs)
-    (length bs * moved_block_bound m.layout) new was now) is r))
+    rw (released m.layout (state_of m) op live)
+    (reworked-answered m new (Cancel op) (fold (release_block m.layout) (state_of m) all) Released (length all
+    * moved_block_bound m.layout) was now p none (omega arith) (subst (λ (bs : List ℕ). IsReworked m (fold
+    (release_block m.layout) (state_of m) bs) (length bs * moved_block_bound m.layout) new was now) is r))
 
 -- a list with one number more, or with none, has at most one more entry
 pub push-few : (xs ys : List ℕ) (b : Bool) (x n : ℕ) → ys ≡ xs ++ cond b (x ∷ []) [] → length xs ≤ n

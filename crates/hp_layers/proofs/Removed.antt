@@ -1,5 +1,5 @@
 -- Pageblocks that leave the free areas.
-use Rattle.std.proofs.Common.{◌≡◌, ◌≢◌, ℕ, suc, ◌+◌, ◌*◌, ◌/◌, ◌%◌, ◌^◌, ◌<◌, ◌≤◌, List, length, true, sym, ◌∙◌, ap, subst, arith}
+use Rattle.std.proofs.Common.{◌≡◌, ◌≢◌, ℕ, suc, ◌+◌, ◌*◌, ◌/◌, ◌%◌, ◌^◌, ◌<◌, ◌≤◌, List, length, true, sym, ◌∙◌, ap, arith}
 use Rattle.std.proofs.lemmas.Nat.{pow_pos, shl-shr}
 use Rattle.std.proofs.Math.Nat.{mod-eq_of_lt, mul-le-mul_right, mul_assoc, suc-mul}
 use Rattle.hp_units.specs.declared.rows.Class.{Class}
@@ -17,9 +17,7 @@ pub first-within : (l k : LayoutParts) (pageblock number order : ℕ) → IsLayo
     → pageblock < pageblock_count l → order ≡ l.order → number ≡ pageblock
     → number * 2 ^ order % 4294967296 < frame_count k
 first-within l k pageblock number order layout same low order_is number_is =
-    subst (λ (j : LayoutParts). number * 2 ^ order % 4294967296 < frame_count j) (sym same)
-    (let is : number * 2 ^ order ≡ pageblock * 2 ^ l.order =
-    ap (λ (n : ℕ). n * 2 ^ order) number_is ∙ ap (λ (n : ℕ). pageblock * 2 ^ n) order_is in
+    rw same (let is : number * 2 ^ order ≡ pageblock * 2 ^ l.order = rw (number_is, order_is) in
     let some : 0 < 2 ^ l.order = pow_pos l.order in
     let more : suc pageblock * 2 ^ l.order ≤ l.blocks * l.pageblocks * 2 ^ l.order =
     mul-le-mul_right {m = suc pageblock} {n = l.blocks * l.pageblocks} (2 ^ l.order) low in
@@ -38,11 +36,9 @@ removed-stays l k zone a b pageblock other same is has ne on =
     let class : Class = isolated_class zone in
     let first : ℕ = pageblock * 2 ^ l.order in
     let frame : ℕ = other * 2 ^ l.order in
-    let here : b ≡ remove_pageblock l zone a pageblock =
-    is ∙ ap (λ (j : LayoutParts). remove_pageblock j zone a pageblock) same in
+    let here : b ≡ remove_pageblock l zone a pageblock = rw (is, same) in
     let apart : frame ≢ first =
     λ e. ne (sym (shl-shr other l.order) ∙ ap (λ (n : ℕ). n / 2 ^ l.order) e ∙ shl-shr pageblock l.order) in
-    subst (λ (c : FreeAreas). is_on frame (free_list c class l.order) ≡ true) (sym here)
-    (free_list-cases (λ (d : Class) (n : ℕ) (xs : List ℕ). is_on frame (free_list a d n) ≡ true
-    → is_on frame xs ≡ true) a class l.order (without first (free_list a class l.order)) has
+    rw here (free_list-cases (λ (d : Class) (n : ℕ) (xs : List ℕ). is_on frame (free_list a d n) ≡ true →
+    is_on frame xs ≡ true) a class l.order (without first (free_list a class l.order)) has
     (on_without-other frame first (free_list a class l.order) apart) (λ d n e. e) class l.order on)

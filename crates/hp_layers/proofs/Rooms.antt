@@ -1,5 +1,5 @@
 -- The room that calls leave on a tape.
-use Rattle.std.proofs.Common.{◌≡◌, ℕ, zero, suc, ◌+◌, ◌*◌, ◌^◌, ◌<◌, ◌≤◌, List, [], ◌∷◌, Option, Fits, w64, sym, subst, arith}
+use Rattle.std.proofs.Common.{◌≡◌, ℕ, zero, suc, ◌+◌, ◌*◌, ◌^◌, ◌<◌, ◌≤◌, List, [], ◌∷◌, Option, Fits, w64, arith}
 use Rattle.std.proofs.Math.Nat.{mul-le-mul, mul-le-mul_right, suc-mul}
 use Rattle.std.proofs.Math.Pow.{pow_mono}
 use Rattle.std.proofs.lemmas.List.{length-append}
@@ -25,22 +25,19 @@ room-turn t some more room = omega (arith, room)
 pub room-free : (l : LayoutParts) (most more : ℕ) (was now : TapeValue) (later earlier : FreeFrames)
     → NotesFree l most was now later earlier → HasRoom was (most + more) → HasRoom now more
 room-free l most more was now later earlier n room =
-    subst (λ (t : TapeValue). HasRoom t more) (sym n.tape)
-    (omega (arith, length-append was.deltas n.deltas, n.few, room))
+    rw n.tape (omega (arith, length-append was.deltas n.deltas, n.few, room))
 
 -- after a call on the pages
 pub room-pages : (l : LayoutParts) (most more : ℕ) (was now : TapeValue) (later earlier : PageFrames)
     → NotesPages l most was now later earlier → HasRoom was (most + more) → HasRoom now more
 room-pages l most more was now later earlier n room =
-    subst (λ (t : TapeValue). HasRoom t more) (sym n.tape)
-    (omega (arith, length-append was.deltas n.deltas, n.few, room))
+    rw n.tape (omega (arith, length-append was.deltas n.deltas, n.few, room))
 
 -- after a call on the kernel's blocks
 pub room-kernel : (l : LayoutParts) (most more : ℕ) (was now : TapeValue) (later earlier : List (Option ℕ))
     → NotesKernel l most was now later earlier → HasRoom was (most + more) → HasRoom now more
 room-kernel l most more was now later earlier n room =
-    subst (λ (t : TapeValue). HasRoom t more) (sym n.tape)
-    (omega (arith, length-append was.deltas n.deltas, n.few, room))
+    rw n.tape (omega (arith, length-append was.deltas n.deltas, n.few, room))
 
 -- the room for a frame of a processor's list, plus one, fits into 64 bits
 list-fits : (l : LayoutParts) (xs : List ℕ) → IsLayout l → Fits w64 (take_one_from l xs + 1)
@@ -66,8 +63,7 @@ kernel-fits l fs cpu (suc order) layout = omega (arith, layout.order)
 pub room-view : (l : LayoutParts) (most more : ℕ) (was now : TapeValue) (later earlier : FrameView)
     → NotesView l most was now later earlier → HasRoom was (most + more) → HasRoom now more
 room-view l most more was now later earlier n room =
-    subst (λ (t : TapeValue). HasRoom t more) (sym n.tape)
-    (omega (arith, length-append was.deltas n.deltas, n.few, room))
+    rw n.tape (omega (arith, length-append was.deltas n.deltas, n.few, room))
 
 -- room for all of several calls is room for those that are done and one more
 pub room-each : (t : TapeValue) (done all each : ℕ) → done < all → HasRoom t (all * each)

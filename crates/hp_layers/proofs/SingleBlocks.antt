@@ -15,12 +15,11 @@ use Rattle.hp_units.specs.declared.rows.Zone.{Zone}
 use Rattle.hp_units.specs.LayoutParts.{LayoutParts}
 use Rattle.hp_units.specs.Arithmetic.{block_bytes}
 use Rattle.hp_units.specs.Choices.{first_some}
-use Rattle.hp_units.specs.Isolation.{add_block}
 use Rattle.hp_units.specs.Memory.{Blocks, Memory, offline_row, row_of}
 use Rattle.hp_units.specs.Placement.{is_unplugged}
 use Rattle.hp_units.specs.Refusals.{event_refusals}
 use Rattle.hp_units.specs.Rows.{is_absent, is_offline, online_block, with_block_row}
-use Rattle.hp_units.specs.Step.{Answered, answer, auto_online, perform}
+use Rattle.hp_units.specs.Step.{answer, auto_online, perform}
 use Rattle.hp_tape.specs.Bounds.{delta_bound, online_bound}
 use Rattle.hp_tape.specs.Deltas.{Fits, undo}
 use Rattle.hp_tape.specs.Tapes.{NotesBlocks, TapeValue}
@@ -60,8 +59,7 @@ pub asked-reworked : {before : List Delta} (m new : Layers) (event : Event) (s :
 asked-reworked {before} m new event s reply most was now p first performs none le r =
     let is : asked m.layout (state_of m) 0 event ≡ record { memory = s; reply = reply } =
     ap (λ (o : Option Refusal). answer m.layout (state_of m) 0 0 event o) (sym first) ∙ performs in
-    subst (λ (a : Answered). IsAnswered m event a new before now.deltas reply) (sym is)
-    (reworked-answered m new event s reply most was now p none le r)
+    rw is (reworked-answered m new event s reply most was now p none le r)
 
 -- ---- blocks that may go online or be removed
 
@@ -117,12 +115,7 @@ online-twice : (l : LayoutParts) (zone : Zone) (s : Memory) (block : ℕ) (row :
     → online_block l zone (with_block_row s block row) block ≡ online_block l zone s block
 unfolding online_block
 online-twice l zone s block row =
-    ap (λ (rows : List Row). record {
-      free = record s.free { areas = add_block l zone s.free.areas block };
-      pages = s.pages;
-      kernel = s.kernel;
-      blocks = record s.blocks { rows = rows };
-    }) (set-set s.blocks.rows block row (record { state = OnlineState; zone = Some zone; claim = None }))
+    rw (set-set s.blocks.rows block row (record { state = OnlineState; zone = Some zone; claim = None }))
 
 -- ---- what an added block becomes
 
@@ -161,8 +154,7 @@ added-offline m new block was now none r =
     let s = with_block_row (state_of m) block offline_row in
     let is : auto_online l m.blocks.blocks.auto s block ≡ s =
     added-by_zone l m.blocks.blocks.auto s block ∙ ap (λ (o : Option Zone). added_to l o s block) none in
-    subst (λ (t : Memory). IsReworked m t (online_bound l) new was now) (sym is)
-    (reworked-more m new s 1 (online_bound l) was now (omega arith) r)
+    rw is (reworked-more m new s 1 (online_bound l) was now (omega arith) r)
 
 pub added-online : (m new : Layers) (zone : Zone) (block : ℕ) (was now : TapeValue)
     → added_zone m.blocks.blocks.auto ≡ Some zone
@@ -189,5 +181,4 @@ probe-done m new address block was now p first none is r =
     asked-reworked m new (Probe address)
     (auto_online m.layout m.blocks.blocks.auto (with_block_row (state_of m) at offline_row) at) Done
     (online_bound m.layout) was now p first refl none (omega arith)
-    (subst (λ (b : ℕ). IsReworked m (auto_online m.layout m.blocks.blocks.auto
-    (with_block_row (state_of m) b offline_row) b) (online_bound m.layout) new was now) is r)
+    (rw (← is) r)

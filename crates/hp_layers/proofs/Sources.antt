@@ -19,15 +19,13 @@ pub source-further : (l : LayoutParts) (s : Memory) (op number count : ℕ) → 
     → source_from l s op number (count - number) ≡ source_from l s op (number + 1) (count - (number + 1))
 source-further l s op number count low none =
     let less : count - number ≡ suc (count - (number + 1)) = omega arith in
-    ap (λ (n : ℕ). source_from l s op number n) less
-    ∙ ap (λ (o : Option ℕ). option_or o (source_from l s op (number + 1) (count - (number + 1)))) none
+    rw (less, none)
 
 pub source-here : (l : LayoutParts) (s : Memory) (op number count frame : ℕ) → number < count
     → source_of l s op number ≡ Some frame → source_from l s op number (count - number) ≡ Some frame
 source-here l s op number count frame low some =
     let less : count - number ≡ suc (count - (number + 1)) = omega arith in
-    ap (λ (n : ℕ). source_from l s op number n) less
-    ∙ ap (λ (o : Option ℕ). option_or o (source_from l s op (number + 1) (count - (number + 1)))) some
+    rw (less, some)
 
 pub source-past : (l : LayoutParts) (s : Memory) (op number count : ℕ) → count ≤ number
     → source_from l s op number (count - number) ≡ None
@@ -37,9 +35,7 @@ source-past l s op number count past =
 -- a block that the operation does not hold
 source-unclaimed : (l : LayoutParts) (s : Memory) (op block : ℕ)
     → is_claimed_by op (row_of s.blocks block) ≡ false → source_of l s op block ≡ None
-source-unclaimed l s op block none =
-    ap (λ (claimed : Bool). cond (claimed && is_going (row_of s.blocks block))
-    (find (λ frame. is_some (page_at s.pages frame)) (frames_of_block l block)) None) none
+source-unclaimed l s op block none = rw none
 
 -- several blocks that the operation does not hold
 pub source-skipped : (l : LayoutParts) (s : Memory) (op first more count : ℕ) → first + more ≤ count
@@ -50,11 +46,9 @@ source-skipped l s op first zero count low none =
     ap (λ (n : ℕ). source_from l s op n (count - n)) (sym same)
 source-skipped l s op first (suc more) count low none =
     let next : first + 1 + more ≡ first + suc more = omega arith in
-    source-further l s op first count (omega (arith, low))
-    (source-unclaimed l s op first (none first (omega arith) (omega arith)))
-    ∙ (source-skipped l s op (first + 1) more count (omega (arith, low))
-    (λ block from to. none block (omega (arith, from)) (omega (arith, to)))
-    ∙ ap (λ (n : ℕ). source_from l s op n (count - n)) next)
+    rw (source-further l s op first count (omega (arith, low)) (source-unclaimed l s op first
+    (none first (omega arith) (omega arith)))) (rw (source-skipped l s op (first + 1) more count
+    (omega (arith, low)) (λ block from to. none block (omega (arith, from)) (omega (arith, to)))) (rw next))
 
 -- all blocks between two numbers
 pub source-between : (l : LayoutParts) (s : Memory) (op first past count : ℕ) → first ≤ past → past ≤ count
@@ -62,9 +56,8 @@ pub source-between : (l : LayoutParts) (s : Memory) (op first past count : ℕ) 
     → source_from l s op first (count - first) ≡ source_from l s op past (count - past)
 source-between l s op first past count from to none =
     let same : first + (past - first) ≡ past = omega (arith, from) in
-    source-skipped l s op first (past - first) count (omega (arith, from, to))
-    (λ block low high. none block low (omega (arith, high, from)))
-    ∙ ap (λ (n : ℕ). source_from l s op n (count - n)) same
+    rw (source-skipped l s op first (past - first) count (omega (arith, from, to))
+    (λ block low high. none block low (omega (arith, high, from)))) (rw same)
 
 -- a block more, by whether it is claimed and whether it is going
 with_block : (p : ℕ → Bool) (f : ℕ → List ℕ) (g : ℕ → Bool) (block : ℕ) (xs : List ℕ) (later : Option ℕ)
@@ -76,9 +69,8 @@ with_block p f g block xs later false going e is = is
 with_block p f g block xs later true false e is =
     is ∙ ap (λ (b : Bool). find p (flat_map f (cond b (block ∷ filter g xs) (filter g xs)))) (sym e)
 with_block p f g block xs later true true e is =
-    ap (option_or (find p (f block))) is
-    ∙ (sym (find-append p (f block) (flat_map f (filter g xs)))
-    ∙ ap (λ (b : Bool). find p (flat_map f (cond b (block ∷ filter g xs) (filter g xs)))) (sym e))
+    rw (is, ← find-append p (f block) (flat_map f (filter g xs)))
+    (ap (λ (b : Bool). find p (flat_map f (cond b (block ∷ filter g xs) (filter g xs)))) (sym e))
 
 -- all blocks
 sources : (l : LayoutParts) (s : Memory) (op block count : ℕ)

@@ -12,7 +12,7 @@ use Rattle.hp_units.specs.declared.replies.Reply.{Reply}
 use Rattle.hp_tape.specs.declared.deltas.Delta.{Delta}
 use Rattle.hp_tape.specs.Bounds.{delta_bound}
 use Rattle.hp_units.specs.declared.events.Event.{Event}
-use Rattle.hp_tape.specs.Deltas.{FrameView, frame_view_of, page_frames_of}
+use Rattle.hp_tape.specs.Deltas.{frame_view_of, page_frames_of}
 use Rattle.hp_laws.proofs.EventSteps.{step-placed}
 use Rattle.hp_laws.proofs.Fitting.{placed-fits}
 use Rattle.hp_pages.specs.Pages.{pages_of, words_in, words_of}
@@ -67,9 +67,7 @@ contents_back l s layout p =
 -- the state of a well placed state's frame view is that state
 pub state_back : (l : LayoutParts) (s : Memory) → IsLayout l → IsWellPlaced l s
     → memory_of l (frame_view_of l s) ≡ s
-state_back l s layout p =
-    ap (λ (contents : List (List (Option (List ℕ)))).
-    record s { pages = record { table = s.pages.table; contents = contents } }) (contents_back l s layout p)
+state_back l s layout p = rw (contents_back l s layout p)
 
 -- ---- the layers after a step
 
@@ -86,9 +84,7 @@ are-placed m new s led p =
         placed =
             subst (λ (l : LayoutParts). IsWellPlaced l (state_of new)) (sym led.layout)
             (subst (λ (t : Memory). IsWellPlaced m.layout t) (sym is) p);
-        view =
-            led.view ∙ (ap (frame_view_of m.layout) (sym is)
-            ∙ ap (λ (l : LayoutParts). frame_view_of l (state_of new)) (sym led.layout));
+        view = rw (led.view, ← is, ← led.layout);
       },
       is,
     )
@@ -110,17 +106,12 @@ kept m new event serial cpu before now reply p a =
     let after = (step l (state_of m) serial cpu event).memory in
     let placed =
     are-placed m new after a.led (step-placed l (state_of m) serial cpu event p.one.layout p.placed) in
-    let seen : view_of new ≡ frame_view_of l (state_of new) =
-    a.led.view ∙ ap (frame_view_of l) (sym placed.1) in
+    let seen : view_of new ≡ frame_view_of l (state_of new) = rw (a.led.view, ← placed.1) in
     record {
       placed = placed.0;
       state = placed.1;
       layout = a.led.layout;
-      noted =
-          subst (λ (v : FrameView).
-          AreNoted l (delta_bound l (state_of m) event) before now v (frame_view_of l (state_of m))) seen
-          (subst (λ (v : FrameView). AreNoted l (delta_bound l (state_of m) event) before now (view_of new) v)
-          p.view a.noted);
+      noted = rw (← seen, ← p.view) a.noted;
     }
 
 pub kept_ok : (m new : Layers) (event : Event) (serial cpu : ℕ) (before now : List Delta) {E : Type 0}

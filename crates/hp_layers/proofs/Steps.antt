@@ -1,7 +1,5 @@
 -- A step of an event, by the answer of a processor that is in the layout.
-use Rattle.std.proofs.Common.{◌≡◌, ℕ, ◌<◌, ◌≤◌, List, Result, IfOk, Bool, Option, Some, None, refl, sym, ◌∙◌, ap, subst}
-use Rattle.std.specs.Bool.{then_some}
-use Rattle.std.specs.Option.{option_or}
+use Rattle.std.proofs.Common.{◌≡◌, ℕ, ◌<◌, ◌≤◌, List, Result, IfOk, Option, Some, None, refl}
 use Rattle.std.proofs.lemmas.Bool.{le-leb, lt-leb}
 use Rattle.hp_units.specs.declared.events.Event.{Event}
 use Rattle.hp_units.specs.declared.replies.Reply.{Reply}
@@ -28,9 +26,7 @@ step-no_cpu l s serial cpu event past = rw (le-leb l.cpus cpu past) refl
 pub step-in : (l : LayoutParts) (s : Memory) (serial cpu : ℕ) (event : Event) → cpu < l.cpus
     → step l s serial cpu event ≡ answer l s serial cpu event (first_some (event_refusals l s cpu event))
 unfolding step refusal_of
-step-in l s serial cpu event below =
-    ap (λ (b : Bool). answer l s serial cpu event
-    (option_or (then_some b NoCpu) (first_some (event_refusals l s cpu event)))) (lt-leb l.cpus cpu below)
+step-in l s serial cpu event below = rw (lt-leb l.cpus cpu below)
 
 answer-same : (l : LayoutParts) (s : Memory) (serial cpu other : ℕ) (event : Event) (refusal : Option Refusal)
     → perform l s serial cpu event ≡ perform l s 0 other event
@@ -44,9 +40,8 @@ pub step-asked : (l : LayoutParts) (s : Memory) (serial cpu other : ℕ) (event 
     → event_refusals l s cpu event ≡ event_refusals l s other event
     → step l s serial cpu event ≡ asked l s other event
 step-asked l s serial cpu other event below e refusals =
-    step-in l s serial cpu event below
-    ∙ (answer-same l s serial cpu other event (first_some (event_refusals l s cpu event)) e
-    ∙ ap (λ rs. answer l s 0 other event (first_some rs)) refusals)
+    rw (step-in l s serial cpu event below)
+    (rw (answer-same l s serial cpu other event (first_some (event_refusals l s cpu event)) e) (rw refusals))
 
 -- the answer to an event as that of its step
 pub answered : (m new : Layers) (event other : Event) (serial cpu : ℕ) (a : Answered)
@@ -54,7 +49,4 @@ pub answered : (m new : Layers) (event other : Event) (serial cpu : ℕ) (a : An
     → event ≡ other
     → step m.layout (state_of m) serial cpu other ≡ a → IfOk result (IsAnswered m other a new before now)
     → IfOk result (IsAnswered m event (step m.layout (state_of m) serial cpu event) new before now)
-answered m new event other serial cpu a before now result is steps h =
-    subst (λ (e : Event).
-    IfOk result (IsAnswered m e (step m.layout (state_of m) serial cpu e) new before now)) (sym is)
-    (subst (λ (b : Answered). IfOk result (IsAnswered m other b new before now)) (sym steps) h)
+answered m new event other serial cpu a before now result is steps h = rw (is, steps) h

@@ -1,11 +1,10 @@
 -- Blocks that are taken, straight from the areas or by a processor's list, and from several sources
 -- in turn.
-use Rattle.std.proofs.Common.{◌≡◌, ℕ, ◌+◌, ◌^◌, ◌≤◌, List, [], ◌∷◌, Option, Some, None, refl, sym, ◌∙◌, ap, subst, arith, IfSome}
+use Rattle.std.proofs.Common.{◌≡◌, ℕ, ◌+◌, ◌≤◌, List, [], ◌∷◌, Option, Some, None, refl, sym, ◌∙◌, ap, subst, arith, IfSome}
 use Rattle.std.specs.Prelude.{MatchOption}
 use Rattle.std.specs.Option.{option_or}
 use Rattle.hp_units.specs.declared.rows.Pool.{Pool}
 use Rattle.hp_units.specs.LayoutParts.{LayoutParts, IsLayout}
-use Rattle.hp_units.specs.Arithmetic.{frame_count}
 use Rattle.hp_units.specs.Memory.{FreeFrames, cached_list}
 use Rattle.hp_units.specs.FreeAreas.{Taken}
 use Rattle.hp_units.specs.Placement.{free_places}
@@ -58,10 +57,7 @@ area-taken-one : (f : Frames) (e : BuddyValue) (wanted : Option Taken) (order mo
     → NotesFree f.cpus.layout most was now (frames_of e.areas f.cpus) (free_of f)
     → IsTaken (handed_from (free_of f) wanted) order most f (with_buddy f e) was now answer
 area-taken-one f e wanted order most was now None h t notes = record {
-  handed =
-      subst (λ (w : Option Taken).
-      HandsOut (handed_from (free_of f) w) (free_of f) (frames_of e.areas f.cpus) None) (sym t.taken)
-      (refl, ap (λ (b : BuddyValue). frames_of b.areas f.cpus) t.none.0);
+  handed = rw t.taken (refl, ap (λ (b : BuddyValue). frames_of b.areas f.cpus) t.none.0);
   none = λ is. (ap (with_buddy f) t.none.0, t.none.1);
   layout = refl;
   tidy = subst (λ (b : BuddyValue). AreTogether f.cpus b) (sym t.none.0) h;
@@ -69,15 +65,12 @@ area-taken-one f e wanted order most was now None h t notes = record {
   notes = notes;
 }
 area-taken-one f e wanted order most was now (Some frame) h t notes = record {
-  handed =
-      subst (λ (w : Option Taken). HandsOut (handed_from (free_of f) w) (free_of f) (frames_of e.areas f.cpus)
-      (Some frame)) (sym t.taken) (refl, refl);
+  handed = rw t.taken (refl, refl);
   none = λ is. absurd cc;
   layout = refl;
   tidy = tidy-less f.cpus f.buddy e h t.layout t.apart (λ o. omega (arith, t.places o));
   block = record {
-    within =
-        subst (λ (l : LayoutParts). frame + 2 ^ order ≤ frame_count l) (t.layout ∙ h.layout) t.block.within;
+    within = rw (← h.layout, ← t.layout) t.block.within;
     places = λ o. omega (arith, t.places o);
   };
   notes = notes;
@@ -134,11 +127,9 @@ pub then-taken : (wanted : Option Handed) (other : Frames → Option Handed) (or
 then-taken wanted other order most bound old mid new was between now more answer le first second =
     let same = first.none refl in
     let here : IsTaken (other old) order (bound old) old new was now answer =
-    subst (λ (t : TapeValue). IsTaken (other old) order (bound old) old new t now answer) same.1
-    (subst (λ (f : Frames). IsTaken (other f) order (bound f) f new between now answer) same.0 second) in
+    rw (← same.1, ← same.0) second in
     let none : wanted ≡ None = wanted-none wanted (free_of old) (free_of mid) first.handed in
-    subst (λ (w : Option Handed). IsTaken (option_or w (other old)) order more old new was now answer)
-    (sym none) (record {
+    rw none (record {
       handed = here.handed;
       none = here.none;
       layout = here.layout;
@@ -165,9 +156,7 @@ pub list-empty : {f mid : Frames} {was between : TapeValue} {cpu : ℕ} {pool : 
     → IsTaken (take_one f.cpus.layout (free_of f) cpu pool) 0 most f mid was between answer
     → IsListEmpty f mid was between cpu pool
 list-empty {f} {mid} {was} {between} {cpu} {pool} {most} none t =
-    let h =
-    subst (λ (a : Option ℕ).
-    IsTaken (take_one f.cpus.layout (free_of f) cpu pool) 0 most f mid was between a) none t in
+    let h = rw none at t in
     let is = h.none refl in
     record {
       first = λ more. record {
@@ -176,11 +165,7 @@ list-empty {f} {mid} {was} {between} {cpu} {pool} {most} none t =
         layout = h.layout;
         tidy = h.tidy;
         block = tt;
-        notes =
-            subst (λ (g : Frames). NotesFree f.cpus.layout more was between (free_of g) (free_of f))
-            (sym is.0)
-            (subst (λ (t : TapeValue). NotesFree f.cpus.layout more was t (free_of f) (free_of f)) (sym is.1)
-            (nothing-noted f.cpus.layout more was (free_of f)));
+        notes = rw (is.0, is.1) (nothing-noted f.cpus.layout more was (free_of f));
       };
       same = is.0;
       tape = is.1;
@@ -200,15 +185,12 @@ pub steal-room : {f mid : Frames} {was between : TapeValue} {cpu : ℕ} {pool : 
     → HasRoom was (take_one_bound f.cpus.layout (free_of f) cpu pool)
     → HasRoom between (steal_bound mid.cpus.layout)
 steal-room {f = f} {between = between} layout e room =
-    subst (λ (g : Frames). HasRoom between (steal_bound g.cpus.layout)) (sym e.same)
-    (subst (λ (t : TapeValue). HasRoom t (steal_bound f.cpus.layout)) (sym e.tape)
-    (let few = steal-few f.cpus.layout layout in omega (arith, few, room, e.bound)))
+    rw (e.same, e.tape) (let few = steal-few f.cpus.layout layout in omega (arith, few, room, e.bound))
 
 pub list-room : (f mid : Frames) (was between : TapeValue) (cpu : ℕ) (pool other : Pool)
     → IsListEmpty f mid was between cpu pool
     → HasRoom was (take_one_bound f.cpus.layout (free_of f) cpu pool)
     → HasRoom between (take_one_bound mid.cpus.layout (free_of mid) cpu other)
 list-room f mid was between cpu pool other e room =
-    subst (λ (g : Frames). HasRoom between (take_one_bound g.cpus.layout (free_of g) cpu other)) (sym e.same)
-    (subst (λ (t : TapeValue). HasRoom t (take_one_bound f.cpus.layout (free_of f) cpu other)) (sym e.tape)
-    (let few = take-few f.cpus.layout (free_of f) cpu other in omega (arith, few, room, e.bound)))
+    rw (e.same, e.tape)
+    (let few = take-few f.cpus.layout (free_of f) cpu other in omega (arith, few, room, e.bound))

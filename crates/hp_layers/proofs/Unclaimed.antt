@@ -1,11 +1,10 @@
 -- Memory blocks that no operation holds before one begins.
-use Rattle.std.proofs.Common.{◌≡◌, ◌≢◌, ℕ, List, false, Option, Some, None, IfSome, refl, ap, sym, subst, ◌∙◌, eqb-true, ◌==◌}
+use Rattle.std.proofs.Common.{◌≡◌, ◌≢◌, ℕ, List, false, Option, Some, None, IfSome, refl, ap, ◌∙◌, eqb-true, ◌==◌}
 use Rattle.std.specs.Prelude.{find}
 use Rattle.std.specs.Option.{is_some, option_map, option_map_or}
 use Rattle.std.proofs.lemmas.List.{get_or-set_other}
 use Rattle.hp_units.specs.declared.plans.Item.{Item}
 use Rattle.hp_units.specs.declared.rows.Claim.{Claim}
-use Rattle.hp_units.specs.declared.rows.Row.{Row}
 use Rattle.hp_units.specs.declared.rows.Wish.{Wish}
 use Rattle.hp_units.specs.declared.rows.Wish.TheVariants.{Off as OffWish, Normal as NormalWish, Movable as MovableWish}
 use Rattle.hp_units.specs.Choices.{first_some}
@@ -46,8 +45,7 @@ later-stays m n o op plan number other ne is earlier =
 -- and no operation holds it
 pub unclaimed-still : (plan : List Item) (bs first : Blocks) (block : ℕ)
     → row_of bs block ≡ row_of first block → AreHeldByNone plan first → IsHeldByNone plan bs block
-unclaimed-still plan bs first block same none =
-    subst (λ (row : Row). IfSome (wish_of plan block) (λ wish. row.claim ≡ None)) (sym same) (none block)
+unclaimed-still plan bs first block same none = rw same (none block)
 
 -- ---- a plan that isn't refused
 
@@ -68,7 +66,6 @@ plan-unclaimed l s plan e block =
         → IfSome (option_map (λ item. item.wish) o) (λ wish. (row_of s.blocks block).claim ≡ None)
     by_item None is none = tt
     by_item (Some item) is none =
-        subst (λ (b : ℕ). (row_of s.blocks b).claim ≡ None)
-        (eqb-true item.block block (found_passes (λ i. i.block == block) plan item is))
+        rw (← (eqb-true item.block block (found_passes (λ i. i.block == block) plan item is)))
         (not-some (row_of s.blocks item.block).claim
         (found_fails (λ i. is_claimed (row_of s.blocks i.block)) (λ i. i.block == block) plan item none is))

@@ -1,5 +1,5 @@
 -- Deltas that are undone one after another, latest first.
-use Rattle.std.proofs.Common.{◌≡◌, ℕ, ◌<◌, ◌≤◌, List, [], ◌∷◌, ◌++◌, drop, length, take, sym, ◌∙◌, ap, subst, arith}
+use Rattle.std.proofs.Common.{◌≡◌, ℕ, ◌<◌, ◌≤◌, List, [], ◌∷◌, ◌++◌, drop, length, take, sym, ap, subst, arith}
 use Rattle.std.proofs.lemmas.List.{drop-append-le, length-append, take-append-le}
 use Rattle.std.specs.List.{AllByRecursion}
 use Rattle.hp_units.specs.LayoutParts.{LayoutParts}
@@ -42,9 +42,7 @@ unwound l all deltas delta now new first u is undone =
       numbers =
           (all-latest (IsDeltaOf l) deltas delta
           (subst (λ (ds : List Delta). AllByRecursion (IsDeltaOf l) ds) is u.numbers)).1;
-      ends =
-          sym (undo_all-append undo deltas (delta ∷ []) now)
-          ∙ ap (λ (ds : List Delta). undo_all undo ds now) (sym is) ∙ u.ends;
+      ends = rw (← undo_all-append undo deltas (delta ∷ []) now, ← is) u.ends;
     })
 
 -- ---- a tape's deltas past a mark
@@ -57,11 +55,9 @@ past-length mark all deltas delta more is =
 pub past-drop : (mark : ℕ) (all deltas : List Delta) (delta : Delta) → mark < length all
     → all ≡ deltas ++ delta ∷ [] → drop mark all ≡ drop mark deltas ++ delta ∷ []
 past-drop mark all deltas delta more is =
-    ap (λ (ds : List Delta). drop mark ds) is
-    ∙ drop-append-le mark deltas (delta ∷ []) (past-length mark all deltas delta more is)
+    rw is (drop-append-le mark deltas (delta ∷ []) (past-length mark all deltas delta more is))
 
 pub past-take : (mark : ℕ) (all deltas : List Delta) (delta : Delta) → mark < length all
     → all ≡ deltas ++ delta ∷ [] → take mark deltas ≡ take mark all
 past-take mark all deltas delta more is =
-    sym (ap (λ (ds : List Delta). take mark ds) is
-    ∙ take-append-le mark deltas (delta ∷ []) (past-length mark all deltas delta more is))
+    sym (rw is (take-append-le mark deltas (delta ∷ []) (past-length mark all deltas delta more is)))

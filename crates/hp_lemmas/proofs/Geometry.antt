@@ -15,23 +15,19 @@ half_cases q = grind arith
 -- the last bit of an even number is set
 pub xor_even : (t : ℕ) → bit_xor (t * 2) 1 ≡ t * 2 + 1
 xor_even t =
-    let e : bit_xor (t * 2 + 0) 1 ≡ bit_xor t 0 * 2 + 1 = xor_block 1 t 0 0 1 (omega arith) (omega arith) in
-    simp (add-zero, xor_zero_r) at e
+    simp (add-zero, xor_zero_r) at (xor_block 1 t 0 0 1 (omega arith) (omega arith))
 
 -- the last bit of an odd number is cleared
 pub xor_odd : (t : ℕ) → bit_xor (t * 2 + 1) 1 ≡ t * 2
 xor_odd t =
-    let e : bit_xor (t * 2 + 1) 1 ≡ bit_xor t 0 * 2 + 0 = xor_block 1 t 0 1 1 (omega arith) (omega arith) in
-    simp (add-zero, xor_zero_r) at e
+    simp (add-zero, xor_zero_r) at (xor_block 1 t 0 1 1 (omega arith) (omega arith))
 
 -- the buddy of a multiple
 pub buddy-multiple : (q order : ℕ) → buddy (q * 2 ^ order) order ≡ bit_xor q 1 * 2 ^ order
 buddy-multiple q order =
     let some : 0 < 2 ^ order = pow_pos order in
-    let e : bit_xor (q * 2 ^ order + 0) (1 * 2 ^ order + 0) ≡ bit_xor q 1 * 2 ^ order + 0 =
-    xor_block order q 1 0 0 some some in
     let one : 1 * 2 ^ order ≡ 2 ^ order = omega arith in
-    simp (add-zero, one) at e
+    simp (add-zero, one) at (xor_block order q 1 0 0 some some)
 
 -- the buddies of an even and an odd block
 pub buddy_even : (t order : ℕ) → buddy (t * 2 * 2 ^ order) order ≡ t * 2 * 2 ^ order + 2 ^ order
@@ -102,8 +98,7 @@ buddy-other first order e =
 pub same_above : (f g order top : ℕ) → order ≤ top → f / 2 ^ order ≡ g / 2 ^ order → f / 2 ^ top ≡ g / 2 ^ top
 same_above f g order top h e =
     let sum : top ≡ order + (top - order) = omega arith in
-    rw sum (sym (shr-shr f order (top - order)) ∙ ap (λ (n : ℕ). n / 2 ^ (top - order)) e
-    ∙ shr-shr g order (top - order))
+    rw sum (rw (← shr-shr f order (top - order), e) (shr-shr g order (top - order)))
 
 -- a block lies in the same greater blocks
 pub ancestor_above : (f order top : ℕ) → order ≤ top → ancestor f order / 2 ^ top ≡ f / 2 ^ top
@@ -127,12 +122,11 @@ upper_half_of q first last top e h =
     let next : first + 2 ^ last ≡ (q * 2 + 1) * 2 ^ last = grind arith in
     let here : (q * 2 ^ suc last + 2 ^ last) / 2 ^ suc last ≡ q =
     div-mul-add q (2 ^ suc last) (2 ^ last) less in
-    let there : q * 2 ^ suc last / 2 ^ suc last ≡ q = shl-shr q (suc last) in
     record {
       aligned = rw next (multiple_aligned (q * 2 + 1) last);
       lower_aligned = rw double (multiple_aligned (q * 2) last);
       buddy_is = rw double (buddy_odd q last);
-      above = same_above (first + 2 ^ last) first (suc last) top h (rw e (here ∙ sym there));
+      above = same_above (first + 2 ^ last) first (suc last) top h (rw e (here ∙ sym (shl-shr q (suc last))));
     }
 
 -- the upper half of an aligned block
@@ -144,9 +138,8 @@ upper_half first last top e h =
 pub below_aligned : (order count first : ℕ) → first % 2 ^ (order + count) ≡ 0 → first % 2 ^ order ≡ 0
 below_aligned order count first e =
     let some : 0 < 2 ^ order = pow_pos order in
-    let here : first ≡ first / 2 ^ (order + count) * 2 ^ (order + count) = multiple first (order + count) e in
     let there : first ≡ first / 2 ^ (order + count) * 2 ^ count * 2 ^ order =
-    here ∙ rw pow-add (grind arith) in
+    multiple first (order + count) e ∙ rw pow-add (grind arith) in
     rw there (multiple_aligned (first / 2 ^ (order + count) * 2 ^ count) order)
 
 -- a block and its buddy lie in the same greater blocks
@@ -155,12 +148,10 @@ pub above_of : (t order top first : ℕ) → suc order ≤ top
     → buddy first order / 2 ^ top ≡ first / 2 ^ top
 above_of t order top first h (inl e) =
     let double : t * 2 * 2 ^ order ≡ t * 2 ^ suc order = rw pow-suc (grind arith) in
-    let half = upper_half_of t (t * 2 * 2 ^ order) order top double h in
-    rw (e, buddy_even) half.above
+    rw (e, buddy_even) (upper_half_of t (t * 2 * 2 ^ order) order top double h).above
 above_of t order top first h (inr e) =
     let double : t * 2 * 2 ^ order ≡ t * 2 ^ suc order = rw pow-suc (grind arith) in
-    let half = upper_half_of t (t * 2 * 2 ^ order) order top double h in
-    rw (e, buddy_odd) (sym half.above)
+    rw (e, buddy_odd) (sym (upper_half_of t (t * 2 * 2 ^ order) order top double h).above)
 
 -- the same for an aligned block
 pub buddy_above : (first order top : ℕ) → first % 2 ^ order ≡ 0 → suc order ≤ top

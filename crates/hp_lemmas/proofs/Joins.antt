@@ -67,14 +67,12 @@ pub leaves-step : (same other : Bool) (frame order block x : ℕ) (xs ys : List 
     → list_places frame order (cond (not same) (x ∷ ys) ys) + covered frame order block
     ≡ list_places frame order (x ∷ xs)
 leaves-step true true frame order block x xs ys is e once some none rest =
-    let same : x ≡ block = is refl in
-    let two : 1 + list_places block order xs ≤ 1 = rw (list_places-cons, same, covered-self) at once in
+    let two : 1 + list_places block order xs ≤ 1 = rw (list_places-cons, is refl, covered-self) at once in
     let one : 1 ≤ list_places block order xs = some refl in
     absurd (omega arith)
 leaves-step true false frame order block x xs ys is e once some none rest =
-    let same : x ≡ block = is refl in
     let left : ys ≡ xs = none refl in
-    rw (left, list_places-cons, same) (omega arith)
+    rw (left, list_places-cons, is refl) (omega arith)
 leaves-step false other frame order block x xs ys is e once some none rest =
     let less : list_places block order xs ≤ 1 = omega (arith, once, list_places-cons block order x xs) in
     omega (arith, rest e less, list_places-cons frame order x xs, list_places-cons frame order x ys)
@@ -243,9 +241,8 @@ give_block-places l a zone first order frame size h aligned once =
     let left =
     rw (top, aligned) at (without_buddies-places a class first order (joined - order) frame
     (omega (arith, joins.low, joins.high)) once buddies) in
-    let sizes = without_buddies-size a class first order (joined - order) in
     let has : HasOrder (without_buddies a class first order (joined - order)) joined =
-    omega (arith, sizes.lists, joins.high) in
+    omega (arith, (without_buddies-size a class first order (joined - order)).lists, joins.high) in
     omega (
       arith,
       left,

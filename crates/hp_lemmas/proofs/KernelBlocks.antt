@@ -1,5 +1,5 @@
 -- In how many of the kernel's blocks a frame is.
-use Rattle.std.proofs.Common.{◌≡◌, ℕ, zero, suc, ◌+◌, ◌<◌, List, [], ◌∷◌, length, get_or, set, false, cond, Option, None, refl, sym, ap, subst, arith, add-zero}
+use Rattle.std.proofs.Common.{◌≡◌, ℕ, zero, suc, ◌+◌, ◌<◌, List, [], ◌∷◌, length, get_or, set, false, cond, Option, None, refl, ap, subst, arith, add-zero}
 use Rattle.std.specs.List.{enumerate_from, sum_by}
 use Rattle.std.specs.Option.{option_map_or}
 use Rattle.std.proofs.lemmas.List.FromFn.{length-enumerate_from, get_or-enumerate_from}
@@ -35,8 +35,5 @@ kernel-places s first frame entry h =
     let there =
     subst (λ (e : ℕ × Option ℕ). sum_by f (set (enumerate_from 0 s.kernel) first (0 + first, entry)) + f e
     ≡ sum_by f (enumerate_from 0 s.kernel) + f (0 + first, entry)) at sum in
-    let whole =
-    subst (λ (es : List (ℕ × Option ℕ)). sum_by f es
-    + f (0 + first, get_or s.kernel first None) ≡ sum_by f (enumerate_from 0 s.kernel)
-    + f (0 + first, entry)) (sym (enumerate-set 0 s.kernel first entry)) there in
+    let whole = rw (← enumerate-set 0 s.kernel first entry) at there in
     rw zero_sum at whole

@@ -1,5 +1,5 @@
 -- Lists of frames, and one list of the free areas written.
-use Rattle.std.proofs.Common.{◌≡◌, ◌≢◌, ℕ, ◌+◌, ◌*◌, ◌^◌, ◌<◌, ◌≤◌, List, [], ◌∷◌, Bool, true, false, not, cond, ◌||◌, refl, sym, ◌∙◌, ap, subst, arith, inl, inr, ◌==◌}
+use Rattle.std.proofs.Common.{◌≡◌, ◌≢◌, ℕ, ◌+◌, ◌*◌, ◌^◌, ◌<◌, ◌≤◌, List, [], ◌∷◌, Bool, true, false, not, cond, ◌||◌, refl, arith, inl, inr, ◌==◌}
 use Rattle.std.proofs.lemmas.List.{get_or-set_other, get_or-set_same}
 use Rattle.std.proofs.lemmas.Nat.{pow_pos}
 use Rattle.std.proofs.lemmas.Bool.{cases_eq, false_from_ne_true}
@@ -85,8 +85,7 @@ class_numbered-index IsoM = refl
 
 -- classes of one index are one
 pub class_index-same : (class other : Class) → class_index class ≡ class_index other → class ≡ other
-class_index-same class other e =
-    sym (class_numbered-index class) ∙ ap class_numbered e ∙ class_numbered-index other
+class_index-same class other e = rw (← class_numbered-index class, e) (class_numbered-index other)
 
 -- the list that was written
 pub free_list-same : (a : FreeAreas) (class : Class) (order : ℕ) (frames : List ℕ) → HasOrder a order
@@ -125,11 +124,6 @@ free_list-cases P a class order frames h new old c o =
     elim (cases_eq (5 * o + class_index c) (5 * order + class_index class)) [
       | inl same ↦
           let that = that_list class order c o same in
-          subst (λ (k : Class). P k o (free_list (with_free_list a class order frames) k o))
-          (sym that.class_is)
-          (subst (λ (n : ℕ). P class n (free_list (with_free_list a class order frames) class n))
-          (sym that.order_is)
-          (subst (λ (xs : List ℕ). P class order xs) (sym (free_list-same a class order frames h)) new))
-      | inr apart ↦
-          subst (λ (xs : List ℕ). P c o xs) (sym (free_list-apart a class order frames c o apart)) (old c o)
+          rw (that.class_is, that.order_is, free_list-same a class order frames h) new
+      | inr apart ↦ rw (free_list-apart a class order frames c o apart) (old c o)
     ]

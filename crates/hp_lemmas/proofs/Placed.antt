@@ -104,12 +104,6 @@ kernel_in s first order is = elim (cases_lt first (length s.kernel)) [
     nothing : None ≡ Some order → ⊥
     nothing e = cc
 
--- a kernel's block is as it must be
-kernel_is : (l : LayoutParts) (s : Memory) (first order : ℕ) → IsWellPlaced l s
-    → kernel_order s first ≡ Some order → IsKernelAt l s.blocks.rows first order
-kernel_is l s first order p is =
-    subst (λ (o : Option ℕ). IfSome o (IsKernelAt l s.blocks.rows first)) is (p.in_order.kernel first)
-
 -- a kernel's block is a place of each of its frames
 kernel_covers : (s : Memory) (first order f : ℕ) → kernel_order s first ≡ Some order → first ≤ f
     → f < first + 2 ^ order → 1 ≤ kernel_places s f
@@ -121,15 +115,15 @@ kernel_covers s first order f is above below =
 pub kernel-in_use : (l : LayoutParts) (s : Memory) (first order : ℕ) → IsLayout l → IsWellPlaced l s
     → kernel_order s first ≡ Some order → IsInUse l s order first
 kernel-in_use l s first order layout p is =
-    let block = kernel_is l s first order p is in
+    let block = subst (λ (o : Option ℕ). IfSome o (IsKernelAt l s.blocks.rows first)) is
+    (p.in_order.kernel first) in
     let some : 0 < 2 ^ order = pow_pos order in
     let last : ℕ = first + 2 ^ order - 1 in
     let covers = kernel_covers s first order last is (omega arith) (omega arith) in
-    let inside : last < frame_count l = in_frames l s last layout p (omega (arith, covers)) in
     record {
       in_order = block.in_order;
       aligned = block.aligned;
-      within = omega (arith, inside);
+      within = omega (arith, in_frames l s last layout p (omega (arith, covers)));
       nowhere = λ f above below. omega (arith, p.once f, kernel_covers s first order f is above below);
     }
 
@@ -139,15 +133,13 @@ pub page-in_use : (l : LayoutParts) (s : Memory) (owner page frame : ℕ) → Is
 page-in_use l s owner page frame layout p is =
     let mapped : 1 ≤ mapped_places s.pages frame =
     mapped_some l.owners l.pages s.pages.table owner page frame (table_of l s p.in_order) is in
-    let inside : frame < frame_count l = in_frames l s frame layout p (omega (arith, mapped)) in
     record {
       in_order = omega arith;
       aligned = omega arith;
-      within = omega (arith, inside);
+      within = omega (arith, in_frames l s frame layout p (omega (arith, mapped)));
       nowhere =
           λ f above below. let same : f ≡ frame = omega arith in
-          subst (λ (n : ℕ). free_places s.free.areas n + cached_places s.free n ≡ 0) (sym same)
-          (omega (arith, p.once frame, mapped));
+          rw same (omega (arith, p.once frame, mapped));
     }
 
 -- ---- the owners' pages
@@ -155,10 +147,9 @@ page-in_use l s owner page frame layout p is =
 -- the words of a page are as many as the layout says
 words_fit : (l : LayoutParts) (at : Option ℕ) (words : Option (List ℕ)) → IsPage l at words
     → IfSome words (λ words. length words ≡ l.words)
-words_fit l None None h = tt
 words_fit l None (Some words) h = absurd h
-words_fit l (Some frame) None h = tt
 words_fit l (Some frame) (Some words) h = h
+words_fit l _ None h = tt
 
 -- a page's frame is one of the layout
 frame_fits : (l : LayoutParts) (s : Memory) (owner page : ℕ) → IsLayout l → IsWellPlaced l s → (at : Option ℕ)

@@ -1,5 +1,5 @@
 -- In how many free blocks a frame is, before and after blocks are taken and given.
-use Rattle.std.proofs.Common.{◌≡◌, ℕ, zero, suc, ◌+◌, ◌*◌, ◌/◌, ◌^◌, ◌<◌, ◌≤◌, List, [], ◌∷◌, length, get_or, set, Option, Some, None, refl, cond, arith, IfSome, add-zero, ◌⊎◌, inl, inr, ◌-◌}
+use Rattle.std.proofs.Common.{◌≡◌, ℕ, zero, suc, ◌+◌, ◌*◌, ◌/◌, ◌^◌, ◌<◌, ◌≤◌, List, [], ◌∷◌, length, get_or, set, Option, Some, None, refl, cond, arith, IfSome, add-zero, ◌⊎◌, inl, inr}
 use Rattle.std.proofs.lemmas.List.Sums.{sum_by-cons}
 use Rattle.std.proofs.lemmas.Bool.Decides.{nat_tests}
 use Rattle.std.proofs.Math.Nat.{pow-suc}
@@ -19,8 +19,7 @@ list_places-cons frame order first frames = sum_by-cons (λ x. cond (covers fram
 pub covered-halves : (frame order first : ℕ)
     → covered frame (suc order) first ≡ covered frame order first + covered frame order (first + 2 ^ order)
 covered-halves frame order first =
-    let p : 2 ^ suc order ≡ 2 ^ order * 2 = pow-suc 2 order in
-    rw p (grind (arith, nat_tests))
+    rw (pow-suc 2 order) (grind (arith, nat_tests))
 
 -- another list at one place
 pub places_from-set : (frame number i m : ℕ) (lists : List (List ℕ)) (frames : List ℕ) → m ≡ number + i
@@ -94,8 +93,7 @@ pub order_or-among : (frames : List ℕ) (first count : ℕ) (other : Option ℕ
     → IfSome other (IsOrderAmong (suc first) count)
     → IfSome (order_or frames first other) (IsOrderAmong first (suc count))
 order_or-among [] first count None h = tt
-order_or-among [] first count (Some order) h = record { low = omega arith; high = omega arith }
-order_or-among (frame ∷ frames) first count other h = record { low = omega arith; high = omega arith }
+order_or-among _ first count _ h = record { low = omega arith; high = omega arith }
 
 -- the least order
 pub least_order-among : (a : FreeAreas) (class : Class) (first count : ℕ)

@@ -16,8 +16,7 @@ use Rattle.hp_units.specs.Placement.{IsInOrder, covered}
 
 -- what was set is read
 pub get_set : {X : Type 0} (xs : List X) (i : ℕ) (x : X) → i < length xs → slice_get (set xs i x) i ≡ Some x
-get_set xs i x lt =
-    slice_get-get_or (set xs i x) i x (rw length-set lt) ∙ ap (λ y. Some y) (get_or-set_same xs i x x lt)
+get_set xs i x lt = rw (slice_get-get_or (set xs i x) i x (rw length-set lt), get_or-set_same xs i x x lt)
 
 pub row_length : {A : Type 0} (pages : ℕ) (table : List (List (Option A))) (owner : ℕ)
     → AllByRecursion (λ row. length row ≡ pages) table → owner < length table
@@ -53,10 +52,9 @@ pub entry-same : {A : Type 0} (owners pages : ℕ) (table : List (List (Option A
     → owner < owners → page < pages → IsTable owners pages table
     → entry_of (with_entry table owner page e) owner page ≡ e
 entry-same owners pages table owner page e low short is =
-    ap (λ row. get_or row page None)
-    (get_or-set_same table owner (set (get_or table owner []) page e) [] (omega (arith, is.tall)))
-    ∙ get_or-set_same (get_or table owner []) page e None
-    (omega (arith, row_length pages table owner is.wide (omega (arith, is.tall))))
+    rw (get_or-set_same table owner (set (get_or table owner []) page e) [] (omega (arith, is.tall)))
+    (get_or-set_same (get_or table owner []) page e None
+    (omega (arith, row_length pages table owner is.wide (omega (arith, is.tall)))))
 
 -- another place of a table
 abbrev pub IsElsewhere : (owner page o p : ℕ) → Type 0
@@ -70,20 +68,15 @@ entry-apart table owner page e o p (inl ne) =
 entry-apart table owner page e o p (inr ne) = elim (cases_eq o owner) [
   | inl same ↦ elim (cases_lt owner (length table)) [
     | inl low ↦
-        subst (λ (n : ℕ). get_or (get_or (set table owner (set (get_or table owner []) page e)) n []) p None
-        ≡ get_or (get_or table n []) p None) (sym same)
-        (ap (λ row. get_or row p None)
-        (get_or-set_same table owner (set (get_or table owner []) page e) [] low)
-        ∙ get_or-set_other (get_or table owner []) page p e None ne)
+        rw same (ap (λ row. get_or row p None) (get_or-set_same table owner (set (get_or table owner []) page
+        e) [] low) ∙ get_or-set_other (get_or table owner []) page p e None ne)
     | inr high ↦
         ap (λ row. get_or row p None)
         (get_or_past (set table owner (set (get_or table owner []) page e)) o []
         (omega (arith, length-set table owner (set (get_or table owner []) page e)))
         ∙ sym (get_or_past table o [] (omega arith)))
   ]
-  | inr apart ↦
-      ap (λ row. get_or row p None)
-      (get_or-set_other table owner o (set (get_or table owner []) page e) [] apart)
+  | inr apart ↦ rw (get_or-set_other table owner o (set (get_or table owner []) page e) [] apart)
 ]
 
 pub entry-cases : {A : Type 0} (P : ℕ → ℕ → Option A → Type 0) (owners pages : ℕ)
@@ -96,10 +89,7 @@ entry-cases P owners pages table owner page e low short is new old o p = elim (c
   | inr ne ↦ subst (λ x. P o p x) (sym (entry-apart table owner page e o p (inl ne))) (old o p (inl ne))
   | inl same ↦ elim (cases_eq p page) [
     | inr ne ↦ subst (λ x. P o p x) (sym (entry-apart table owner page e o p (inr ne))) (old o p (inr ne))
-    | inl here ↦
-        subst (λ (n : ℕ). P n p (entry_of (with_entry table owner page e) n p)) (sym same)
-        (subst (λ (n : ℕ). P owner n (entry_of (with_entry table owner page e) owner n)) (sym here)
-        (subst (λ x. P owner page x) (sym (entry-same owners pages table owner page e low short is)) new))
+    | inl here ↦ rw (same, here, entry-same owners pages table owner page e low short is) new
   ]
 ]
 

@@ -1,4 +1,4 @@
-//! The table behind the lists. Each list is closed to a ring by an entry of its own, its head.
+//! The table that stores the lists. Each list is a ring: an entry of its own, its head, closes it.
 
 ghost use Rattle.std.specs.Prelude.{◌≡◌, ◌<◌, ◌+◌, ◌^◌, Some, vec_len};
 ghost use Rattle.hp_links.specs.Rings.{list_of_code};
@@ -44,7 +44,7 @@ fn code_of(list: ListNumber) -> u32
     list.0 + 1
 }
 
-/// The entries of the frames, and after them those of the heads.
+/// A table: the entries of the frames, then those of the heads; and the length of each list.
 #[derive(Drop)]
 pub struct Rings {
     pub frames: u32,

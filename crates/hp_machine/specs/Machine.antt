@@ -20,7 +20,7 @@ MachineValue = CourseValue
 abbrev pub booted : LayoutParts → MachineValue
 booted l = record { layout = l; before = 0; base = boot_memory l; history = []; state = boot_memory l }
 
--- the headline for one machine: its history is legal, and its state is what the plain machine
+-- the main theorem for one machine: its history is legal, and its state is what the plain machine
 -- reaches from the base by the steps of the history that are not undone
 abbrev pub IsHistory : MachineValue → Type 0
 IsHistory = IsCourseHistory

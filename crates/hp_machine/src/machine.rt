@@ -203,9 +203,10 @@ impl Machine {
         let _ = &self.course;
     }
 
-    /// Called for its contract: all of this holds over volumes that follow one another from boot
-    /// and lead to the machine's base, and then over its own records. An operation may begin before
-    /// a seal and end after it (Linux, memory hotplug: offlining).
+    /// Called for its contract: what `keeps_operations` guarantees also holds over the records of
+    /// volumes that follow one another from boot and lead to the machine's base, and then the
+    /// machine's own. An operation may begin before a seal and end after it (Linux, memory hotplug:
+    /// offlining).
     pub fn keeps_operations_across_seals(&self)
         ensures { KeepsOperationsAcrossSeals self.now }
     {
@@ -227,48 +228,48 @@ impl Machine {
         self.course.memory()
     }
 
-    /// Returns the front block of the free list of a class and an order (Gorman, chapter 6:
-    /// free_area); `None` if the list is empty, and past the greatest order.
+    /// Returns the front block of the free list of a class and an order, or `None` if the list is
+    /// empty or the order above the greatest (Gorman, chapter 6: free_area).
     pub fn front(&self, class: Class, order: Order) -> Option<Frame>
         ensures { result ≡ slice_get (free_list self.now.state.free.areas class order) 0 }
     {
         self.course.memory().front(class, order)
     }
 
-    /// Returns how many free blocks of 2^order frames a class has (Gorman, chapter 6: nr_free); 0
-    /// past the greatest order.
+    /// Returns the number of free blocks of a class and an order, or 0 above the greatest order
+    /// (Gorman, chapter 6: nr_free).
     pub fn list_len(&self, class: Class, order: Order) -> u32
         ensures { result ≡ length (free_list self.now.state.free.areas class order) }
     {
         self.course.memory().list_len(class, order)
     }
 
-    /// Returns the kind of a pageblock (Linux, memory hotplug: isolated pageblocks; Gorman, chapter
-    /// 6); `None` past the last pageblock.
+    /// Returns the kind of a pageblock, or `None` past the last one (Linux, memory hotplug:
+    /// isolated pageblocks; Gorman, chapter 6).
     pub fn kind(&self, pageblock: Pageblock) -> Option<Kind>
         ensures { result ≡ slice_get self.now.state.free.areas.kinds pageblock }
     {
         self.course.memory().kind(pageblock)
     }
 
-    /// Returns the order of the kernel's block that starts at a frame; `None` if none does, and
-    /// past the last frame.
+    /// Returns the order of the kernel block that starts at a frame, or `None` if none does or the
+    /// frame is outside the layout.
     pub fn kernel_at(&self, frame: Frame) -> Option<Order>
         ensures { result ≡ kernel_order self.now.state frame }
     {
         self.course.memory().kernel_at(frame)
     }
 
-    /// Returns the row of a memory block (Linux, memory hotplug: state); `None` past the last
-    /// block.
+    /// Returns the row of a memory block, or `None` past the last one (Linux, memory hotplug:
+    /// state).
     pub fn row(&self, block: Block) -> Option<Row>
         ensures { result ≡ slice_get self.now.state.blocks.rows block }
     {
         self.course.memory().row(block)
     }
 
-    /// Returns the frame that holds an owner's page; `None` if the page is not mapped, and past the
-    /// last owner or page.
+    /// Returns the frame that holds an owner's page, or `None` if the page is not mapped or outside
+    /// the layout.
     pub fn frame_at(&self, owner: Owner, page: Page) -> Option<Frame>
         ensures { result ≡ frame_at self.now.state.pages owner page }
     {

@@ -1,4 +1,3 @@
-mod Bars
 mod Bounds
 pub mod MarkLemmas
 mod Pictures

@@ -1,5 +1,5 @@
 -- Marks, one after another.
-use Rattle.std.proofs.Common.{◌≡◌, ℕ, ◌+◌, ◌<◌, ◌==◌, ◌||◌, inl, inr, Bool, true, false, cond, List, [], ◌∷◌, ◌++◌, length, set, get_or, take, Option, Some, None, option_map, slice_get, refl, sym, ap, subst, ◌∙◌, add-one}
+use Rattle.std.proofs.Common.{arith, ◌≡◌, ℕ, ◌+◌, ◌<◌, ◌==◌, ◌||◌, inl, inr, Bool, false, cond, List, [], ◌∷◌, ◌++◌, length, set, get_or, take, Option, Some, option_map, slice_get, refl, sym, ap, subst, ◌∙◌, add-one}
 use Rattle.std.proofs.lemmas.Bool.{cases_eq, cases_lt, eq-eqb, ne_eqb}
 use Rattle.std.proofs.lemmas.List.{take_more, length-set, get_or-set_other}
 use Rattle.std.proofs.lemmas.List.Folds.{list_any-append}
@@ -11,13 +11,7 @@ use Rattle.hp_map.specs.Marks.{AreMarked, Mark, at_frame, marks_below, on_list}
 
 -- what changes nothing, and one thing after another
 pub map_same : (f : Place → Place) → ((p : Place) → f p ≡ p) → (o : Option Place) → option_map f o ≡ o
-map_same f same None = refl
-map_same f same (Some p) = ap (λ q. Some q) (same p)
-
-pub map_then : (f g h : Place → Place) → ((p : Place) → g (f p) ≡ h p) → (o : Option Place)
-    → option_map g (option_map f o) ≡ option_map h o
-map_then f g h then None = refl
-map_then f g h then (Some p) = ap (λ q. Some q) (then p)
+map_same f same o = grind arith
 
 -- a place that was set leaves the others
 get_other : (xs : List Place) (i k : ℕ) (p : Place) → (k ≡ i → ⊥) → slice_get (set xs i p) k ≡ slice_get xs k
@@ -51,8 +45,7 @@ set_marks xs i p lt = λ k. elim (cases_eq i k) [
 -- marks after marks
 pub marks_then : (f g h : Mark) (old now new : List Place) → ((k : ℕ) (p : Place) → g k (f k p) ≡ h k p)
     → AreMarked f old now → AreMarked g now new → AreMarked h old new
-marks_then f g h old now new same first second = λ k.
-    second k ∙ (ap (option_map (g k)) (first k) ∙ map_then (f k) (g k) (h k) (same k) (slice_get old k))
+marks_then f g h old now new same first second = grind arith
 
 pub marks_same : (h : Mark) (old : List Place) → ((k : ℕ) (p : Place) → h k p ≡ p) → AreMarked h old old
 marks_same h old same = λ k. sym (map_same (h k) (same k) (slice_get old k))
@@ -66,9 +59,7 @@ pub marks_more : (marks : ℕ → Mark) (n : ℕ) (old now new : List Place)
     → AreMarked (marks_below marks n) old now → AreMarked (marks n) now new
     → AreMarked (marks_below marks (n + 1)) old new
 unfolding marks_below
-marks_more marks n old now new first second =
-    marks_then (marks_below marks n) (marks n) (marks_below marks (n + 1)) old now new
-    (λ k p. ap (λ (m : ℕ). marks_below marks m k p) (sym (add-one n))) first second
+marks_more marks n old now new first second = grind (arith, marks_then, add-one)
 
 pub marks_more_as : (marks : ℕ → Mark) (n : ℕ) (mark : Mark) (old now new : List Place) → mark ≡ marks n
     → AreMarked (marks_below marks n) old now → AreMarked mark now new
@@ -78,10 +69,7 @@ marks_more_as marks n mark old now new is first second =
 
 -- the first frames of a list, and one more
 list_one : (a b : Bool) (place p : Place) → cond b place (cond a place p) ≡ cond (a || (b || false)) place p
-list_one true true place p = refl
-list_one true false place p = refl
-list_one false true place p = refl
-list_one false false place p = refl
+list_one a b place p = grind arith
 
 pub list_more : (frames : List ℕ) (i : ℕ) (frame : ℕ) (place : Place) (old now new : List Place)
     → i < length frames → frame ≡ get_or frames i frame

@@ -1,14 +1,13 @@
 -- The pictures of memory blocks, one more after another.
-use Rattle.std.proofs.Common.{◌≡◌, ℕ, zero, suc, ◌+◌, List, [], ◌∷◌, ◌++◌, Bool, length, slice_get, IfSome, sym, ap, subst, ◌∙◌, if◌then◌else◌}
+use Rattle.std.proofs.Common.{arith, ◌≡◌, ℕ, zero, suc, ◌+◌, List, [], ◌∷◌, ◌++◌, length, slice_get, IfSome, sym, ap, subst, ◌∙◌}
 use Rattle.std.proofs.lemmas.List.{length-append}
 use Rattle.hp_units.specs.LayoutParts.{LayoutParts}
 use Rattle.hp_units.specs.Memory.{Memory}
 use Rattle.hp_map.specs.BlockPictures.{BlockValue, block_with}
 use Rattle.hp_map.specs.declared.block_picture.FreeBlock.{FreeBlock}
 use Rattle.hp_map.specs.declared.block_picture.KernelBlock.{KernelBlock}
-use Rattle.hp_map.proofs.Bars.{cells_bars}
 use Rattle.hp_map.specs.Blocks.{free_of, kernel_of}
-use Rattle.hp_map.specs.Cells.{bars_in, block_bars, cells_text}
+use Rattle.hp_map.specs.Cells.{cells_text}
 use Rattle.hp_map.specs.Pictures.{ArePictures, IsBlockPicture}
 use Rattle.hp_map.specs.declared.places.Place.{Place}
 
@@ -20,12 +19,12 @@ one_more P [] b each last (suc k) = tt
 one_more P (x ∷ xs) b each last zero = each 0
 one_more P (x ∷ xs) b each last (suc k) = one_more (λ n. P (suc n)) xs b (λ n. each (suc n)) last k
 
-pub pictures_more : (l : LayoutParts) (s : Memory) (places : List Place) (shows_orders : Bool) (n : ℕ)
-    (old new : List BlockValue) (b : BlockValue) → ArePictures l s places shows_orders n old
-    → IsBlockPicture l s places shows_orders n b → new ≡ old ++ b ∷ []
-    → ArePictures l s places shows_orders (n + 1) new
-pictures_more l s places shows_orders n old new b are is more =
-    let P = IsBlockPicture l s places shows_orders in
+pub pictures_more : (l : LayoutParts) (s : Memory) (places : List Place) (n : ℕ)
+    (old new : List BlockValue) (b : BlockValue) → ArePictures l s places n old
+    → IsBlockPicture l s places n b → new ≡ old ++ b ∷ []
+    → ArePictures l s places (n + 1) new
+pictures_more l s places n old new b are is more =
+    let P = IsBlockPicture l s places in
     record {
       all = ap length more ∙ (length-append old (b ∷ []) ∙ ap (λ (k : ℕ). k + 1) are.all);
       each = subst (λ (bs : List BlockValue). (k : ℕ) → IfSome (slice_get bs k) (P k)) (sym more)
@@ -33,22 +32,10 @@ pictures_more l s places shows_orders n old new b are is more =
     }
 
 -- a picture of these parts
-pub picture_is : (l : LayoutParts) (s : Memory) (places : List Place) (shows_orders : Bool) (block : ℕ)
-    (head cells ordered : List ℕ) (free : List FreeBlock) (kernel : List KernelBlock) (kinds : List ℕ)
-    (picture : BlockValue) → picture ≡ block_with head cells ordered free kernel kinds
-    → cells ≡ cells_text l places block
-    → bars_in ordered ≡ (if shows_orders then block_bars l else [])
-    → free ≡ free_of l s.free.areas block → kernel ≡ kernel_of l s block → bars_in kinds ≡ block_bars l
-    → IsBlockPicture l s places shows_orders block picture
-picture_is l s places shows_orders block head cells ordered free kernel kinds picture is are_cells
-    are_ordered are_free are_kernel are_kinds =
-    let bars : bars_in picture.cells ≡ block_bars l =
-    ap (λ (p : BlockValue). bars_in p.cells) is ∙ (ap bars_in are_cells ∙ cells_bars l places block) in
-    record {
-      cells = ap (λ (p : BlockValue). p.cells) is ∙ are_cells;
-      ordered = ap (λ (p : BlockValue). bars_in p.ordered) is
-          ∙ (are_ordered ∙ ap (λ bs. if shows_orders then bs else []) (sym bars));
-      free = ap (λ (p : BlockValue). p.free) is ∙ are_free;
-      kernel = ap (λ (p : BlockValue). p.kernel) is ∙ are_kernel;
-      kinds = ap (λ (p : BlockValue). bars_in p.kinds) is ∙ (are_kinds ∙ sym bars);
-    }
+pub picture_is : (l : LayoutParts) (s : Memory) (places : List Place) (block : ℕ) (head cells ordered : List ℕ)
+    (free : List FreeBlock) (kernel : List KernelBlock) (kinds : List ℕ) (picture : BlockValue)
+    → picture ≡ block_with head cells ordered free kernel kinds
+    → cells ≡ cells_text l places block → free ≡ free_of l s.free.areas block → kernel ≡ kernel_of l s block
+    → IsBlockPicture l s places block picture
+picture_is l s places block head cells ordered free kernel kinds picture is are_cells are_free are_kernel =
+    grind arith

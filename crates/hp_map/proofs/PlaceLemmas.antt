@@ -23,9 +23,13 @@ count_none : {A : Type 0} (test : A → Bool) (xs : List A)
     → ((i : ℕ) (x : A) → slice_get xs i ≡ Some x → test x ≡ false) → count_by test xs ≡ 0
 count_none test [] none = refl
 count_none test (x ∷ xs) none =
-    sum_by-cons (λ y. cond (test y) 1 0) x xs
-    ∙ (ap (λ (b : Bool). cond b 1 0 + count_by test xs) (none zero x refl) ∙ zero-add (count_by test xs)
-    ∙ count_none test xs (λ i y is. none (suc i) y is))
+    rw (
+      sum_by-cons (λ y. cond (test y) 1 0) x xs,
+      none zero x refl,
+      zero-add (count_by test xs),
+      count_none
+          test xs (λ i y is. none (suc i) y is),
+    )
 
 sum_none : {A : Type 0} (f : A → ℕ) (xs : List A) → ((i : ℕ) (x : A) → slice_get xs i ≡ Some x → f x ≡ 0)
     → sum_by f xs ≡ 0
@@ -38,9 +42,7 @@ sum_none f (x ∷ xs) none =
 off_each : (k : ℕ) (frames : List ℕ) → is_on k frames ≡ false → (i x : ℕ) → slice_get frames i ≡ Some x
     → (x == k) ≡ false
 off_each k [] off i x is = absurd cc
-off_each k (y ∷ ys) off zero x is =
-    let same : y ≡ x = grind arith in
-    subst (λ (n : ℕ). (n == k) ≡ false) same (or_parts (y == k) (is_on k ys) off).0
+off_each k (y ∷ ys) off zero x is = grind (arith, or_parts)
 off_each k (y ∷ ys) off (suc i) x is = off_each k ys (or_parts (y == k) (is_on k ys) off).1 i x is
 
 count_off : (k : ℕ) (frames : List ℕ) → is_on k frames ≡ false → count_by (λ other. other == k) frames ≡ 0
@@ -90,9 +92,7 @@ mapped_none ps k off =
 enumerated : {A : Type 0} (n : ℕ) (xs : List A) (i : ℕ) (x : ℕ × A)
     → slice_get (enumerate_from n xs) i ≡ Some x → (x.0 ≡ n + i) × (slice_get xs i ≡ Some x.1)
 enumerated n [] i x is = absurd cc
-enumerated n (y ∷ ys) zero x is =
-    let same : (n, y) ≡ x = grind arith in
-    (sym (ap (λ p. p.0) same) ∙ omega arith, ap (λ p. Some p.1) same)
+enumerated n (y ∷ ys) zero x is = grind arith
 enumerated n (y ∷ ys) (suc i) x is =
     let rest = enumerated (n + 1) ys i x is in
     (omega (arith, rest.0), rest.1)
@@ -132,10 +132,7 @@ IsNot k i = i ≡ k → ⊥
 
 pub at_has : (place : ℕ → Place) (number : ℕ → ℕ) (k i : ℕ)
     → Has (λ n. at_frame (number n) (place n)) k place (λ n. number n ≡ k) (λ n. IsNot k (number n)) i
-at_has place number k i = elim (cases_eq (number i) k) [
-  | inl same ↦ inl (same, λ p. cond_yes (number i == k) (place i) p (eq-eqb (number i) k same))
-  | inr other ↦ inr (other, λ p. cond_no (number i == k) (place i) p (ne_eqb (number i) k other))
-]
+at_has place number k i = grind (arith, cases_eq, cond_yes, eq-eqb, cond_no, ne_eqb)
 
 -- the lists of a processor
 abbrev pub IsCachedBy : FreeFrames → (k cpu : ℕ) → Type 0
@@ -185,21 +182,12 @@ cpu_has fs k cpu =
 
 -- the pages of an owner
 pub holds_is : (k : ℕ) (entry : Option ℕ) → holds k entry ≡ true → entry ≡ Some k
-holds_is k None e = absurd cc
-holds_is k (Some frame) e = ap (λ n. Some n) (eqb-true frame k e)
+holds_is k entry e = grind (arith, eqb-true)
 
 page_has : (ps : Pages) (k owner page : ℕ)
     → Has (on_page ps owner) k (λ n. Page owner) (λ n. frame_at ps owner n ≡ Some k)
     (λ n. holds k (frame_at ps owner n) ≡ false) page
-page_has ps k owner page = elim (cases_Bool (holds k (frame_at ps owner page))) [
-  | inl held ↦
-      inl (
-        holds_is k (frame_at ps owner page) held,
-        λ p.
-            cond_yes (holds k (frame_at ps owner page)) (Page owner) p held,
-      )
-  | inr other ↦ inr (other, λ p. cond_no (holds k (frame_at ps owner page)) (Page owner) p other)
-]
+page_has ps k owner page = grind (arith, cases_Bool, holds_is, cond_yes, cond_no)
 
 abbrev pub IsPageOf : Pages → (k owner : ℕ) → Type 0
 IsPageOf ps k owner = (page : ℕ) × (frame_at ps owner page ≡ Some k)
@@ -240,10 +228,7 @@ uncovered_by k order first none = elim (cases_lt k first) [
 block_has : (s : Memory) (k first : ℕ) (entry : Option ℕ) → kernel_order s first ≡ entry
     → (IsKernelFrom s k first × Sets (on_block first entry k) Kernel)
     ⊎ (IsNotKernelFrom s k first × Leaves (on_block first entry k))
-block_has s k first None is = inr (λ order other. absurd (no_order order (sym is ∙ other)), λ p. refl)
-  where
-    no_order : (order : ℕ) → None ≡ Some order → ⊥
-    no_order order e = cc
+block_has s k first None is = grind arith
 block_has s k first (Some order) is =
     elim (walk (λ offset. at_frame (first + offset) Kernel) k (λ n. Kernel) (λ n. first + n ≡ k)
     (λ n. IsNot k (first + n)) (at_has (λ n. Kernel) (λ n. first + n) k) (2 ^ order)) [

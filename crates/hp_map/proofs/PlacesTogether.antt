@@ -58,15 +58,12 @@ blocks_none l s k placed none = kernel_none s k each
 row_is : (l : LayoutParts) (s : Memory) (k : ℕ) (entry : Option Row)
     → slice_get s.blocks.rows (block_of l k) ≡ entry
     → row_of s.blocks (block_of l k) ≡ unwrap_or entry offline_row
-row_is l s k entry is =
-    sym (unwrap_or-slice_get s.blocks.rows (block_of l k) offline_row) ∙ ap (λ o. unwrap_or o offline_row) is
+row_is l s k entry is = rw (← unwrap_or-slice_get s.blocks.rows (block_of l k) offline_row, is)
 
 kind_is : (l : LayoutParts) (s : Memory) (k : ℕ) (entry : Option Kind)
     → slice_get s.free.areas.kinds (pageblock_of l k) ≡ entry
     → kind_of s.free.areas (pageblock_of l k) ≡ unwrap_or entry plain_kind
-kind_is l s k entry is =
-    sym (unwrap_or-slice_get s.free.areas.kinds (pageblock_of l k) plain_kind)
-    ∙ ap (λ o. unwrap_or o plain_kind) is
+kind_is l s k entry is = rw (← unwrap_or-slice_get s.free.areas.kinds (pageblock_of l k) plain_kind, is)
 
 unused_right : (l : LayoutParts) (s : Memory) (k : ℕ) → IsWellPlaced l s → cached_places s.free k ≡ 0
     → mapped_places s.pages k ≡ 0 → kernel_places s k ≡ 0 → IsPlaceOf l s k (unused_place l s k)
@@ -206,13 +203,11 @@ marked_length f (x ∷ xs) [] are = absurd (no (are 0))
   where
     no : None ≡ Some (f 0 x) → ⊥
     no e = cc
-marked_length f (x ∷ xs) (y ∷ ys) are =
-    ap (λ (n : ℕ). suc n) (marked_length (λ k. f (suc k)) xs ys (λ k. are (suc k)))
+marked_length f (x ∷ xs) (y ∷ ys) are = rw (marked_length (λ k. f (suc k)) xs ys (λ k. are (suc k)))
 
 if_mapped : (Q : Place → Type 0) (f : Place → Place) (o : Option Place) → ((p : Place) → o ≡ Some p → Q (f p))
     → IfSome (option_map f o) Q
-if_mapped Q f None h = tt
-if_mapped Q f (Some p) h = h p refl
+if_mapped Q f o h = grind arith
 
 -- the places of a state, marked from any others
 pub places_are : (l : LayoutParts) (s : Memory) (old unused cached mapped new : List Place) → IsWellPlaced l s
@@ -246,10 +241,7 @@ places_are l s old unused cached mapped new placed size first second third fourt
 pub block_within : (l : LayoutParts) (s : Memory) (first : ℕ) (entry : Option ℕ) → IsLayout l
     → IsWellPlaced l s → entry ≡ kernel_order s first
     → IfSome entry (λ order. (order ≤ 10) × (first + 2 ^ order ≤ 2 ^ 20))
-block_within l s first None limits placed is = tt
-block_within l s first (Some order) limits placed is =
-    let block = kernel-in_use l s first order limits placed (sym is) in
-    (omega (arith, block.in_order, limits.order), omega (arith, block.within, limits.frames))
+block_within l s first entry limits placed is = grind (arith, kernel-in_use)
 
 -- a pageblock lies within the frames
 pub pageblock_within : (l : LayoutParts) (n : ℕ) → IsLayout l → n < pageblock_count l

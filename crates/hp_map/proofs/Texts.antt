@@ -1,5 +1,5 @@
 -- What rising numbers give, one more after another.
-use Rattle.std.proofs.Common.{◌≡◌, ℕ, zero, suc, ◌+◌, List, [], ◌∷◌, ◌++◌, sym, ap, ◌∙◌, add-one, arith}
+use Rattle.std.proofs.Common.{◌≡◌, ℕ, zero, suc, ◌+◌, List, [], ◌∷◌, ◌++◌, ap, ◌∙◌, add-one, arith}
 use Rattle.std.proofs.lemmas.List.{flat_map_more}
 use Rattle.std.specs.List.{flat_map, range_with_len}
 
@@ -14,9 +14,4 @@ range_up n = ap (λ (k : ℕ). range_with_len 0 k) (add-one n) ∙ range_more 0 
 pub items_more : {A : Type 0} (f : ℕ → List A) (n : ℕ) (old now new piece : List A)
     → now ≡ old ++ flat_map f (range_with_len 0 n) → new ≡ now ++ piece → piece ≡ f n
     → new ≡ old ++ flat_map f (range_with_len 0 (n + 1))
-items_more {A} f n old now new piece before written is =
-    written
-    ∙ (ap (λ (p : List A). now ++ p) is
-    ∙ (ap (λ (b : List A). b ++ f n) before
-    ∙ (flat_map_more f old (range_with_len 0 n) n
-    ∙ ap (λ (ns : List ℕ). old ++ flat_map f ns) (sym (range_up n)))))
+items_more {A} f n old now new piece before written is = grind (arith, flat_map_more, range_up)

@@ -1,5 +1,5 @@
 -- What a walk over numbers makes of the place of one frame: the last number that has the frame sets it.
-use Rattle.std.proofs.Common.{◌≡◌, ℕ, zero, suc, ◌<◌, ◌⊎◌, inl, inr, refl, subst, ◌∙◌, arith}
+use Rattle.std.proofs.Common.{◌≡◌, ℕ, zero, suc, ◌<◌, ◌⊎◌, inl, inr, refl, ◌∙◌, arith}
 use Rattle.std.proofs.lemmas.Bool.{cases_eq}
 use Rattle.hp_map.specs.declared.places.Place.{Place}
 use Rattle.hp_map.specs.Marks.{Mark, marks_below}
@@ -23,10 +23,7 @@ HasBelow marks frame place Hit Miss n =
     ⊎ (((i : ℕ) → i < n → Miss i) × Leaves (marks_below marks n frame))
 
 one_more : (Miss : ℕ → Type 0) (n : ℕ) → Miss n → ((i : ℕ) → i < n → Miss i) → (i : ℕ) → i < suc n → Miss i
-one_more Miss n last below i lt = elim (cases_eq n i) [
-  | inl same ↦ subst Miss same last
-  | inr other ↦ below i (omega (arith, other))
-]
+one_more Miss n last below i lt = grind (arith, cases_eq)
 
 pub walk : (marks : ℕ → Mark) (frame : ℕ) (place : ℕ → Place) (Hit Miss : ℕ → Type 0)
     → ((i : ℕ) → Has marks frame place Hit Miss i) → (n : ℕ) → HasBelow marks frame place Hit Miss n

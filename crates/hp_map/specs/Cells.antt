@@ -1,5 +1,5 @@
 -- The cells of a memory block: a character for each of its frames, and a bar between pageblocks.
-use Rattle.std.specs.Prelude.{ℕ, ◌+◌, ◌*◌, ◌/◌, ◌%◌, ◌==◌, ◌&&◌, nat_lt, Bool, true, false, List, [], ◌∷◌, ◌++◌, codes, map, slice_get, unwrap_or, if◌then◌else◌}
+use Rattle.std.specs.Prelude.{ℕ, ◌+◌, ◌*◌, ◌/◌, ◌%◌, ◌==◌, ◌&&◌, nat_lt, Bool, List, [], ◌∷◌, ◌++◌, codes, slice_get, unwrap_or, if◌then◌else◌}
 use Rattle.std.specs.List.{flat_map, range_with_len}
 use Rattle.hp_units.specs.Arithmetic.{block_size, pageblock_size}
 use Rattle.hp_units.specs.LayoutParts.{LayoutParts}
@@ -30,19 +30,3 @@ frame_text l places block number =
 -- each frame of the block, by rising number, is drawn by the sign of its place
 abbrev pub cells_text : LayoutParts → List Place → (block : ℕ) → List ℕ
 cells_text l places block = flat_map (frame_text l places block) (range_with_len 0 (block_size l))
-
--- ---- where the bars are
-
-abbrev pub is_bar : (sign : ℕ) → Bool
-is_bar sign = sign == 124
-
--- of each character of a text, whether it is a bar
-abbrev pub bars_in : (text : List ℕ) → List Bool
-bars_in text = map is_bar text
-
-abbrev pub cell_bars : LayoutParts → (number : ℕ) → List Bool
-cell_bars l number = (if starts_later l number then true ∷ [] else []) ++ false ∷ []
-
--- of each character of a memory block
-abbrev pub block_bars : LayoutParts → List Bool
-block_bars l = flat_map (cell_bars l) (range_with_len 0 (block_size l))

@@ -1,6 +1,5 @@
 //! The mobility of the pageblocks of a memory block.
-ghost use Rattle.std.specs.Prelude.{◌≡◌, ◌<◌, false, IfOk};
-ghost use Rattle.hp_map.specs.Cells.{bars_in, block_bars, is_bar};
+ghost use Rattle.std.specs.Prelude.{◌<◌};
 
 use crate::cells::{first_of, starts_later, write_cell};
 use hp_machine::Machine;
@@ -11,7 +10,6 @@ use std::alloc::{AllocError, Global};
 /// pageblock.
 pub(crate) fn draw_kinds(alloc: Global, machine: &Machine, block: Block) -> Result<Text, AllocError>
     requires { block < machine.now.layout.blocks }
-    ensures { IfOk result (λ text. bars_in text ≡ block_bars machine.now.layout) }
 {
     let mut out = String::new(alloc);
     let is_in_use = is_used(machine.row(block));
@@ -30,8 +28,7 @@ pub(crate) fn draw_kinds(alloc: Global, machine: &Machine, block: Block) -> Resu
 
 /// Returns the letter of a frame in a pageblock of this kind, a space if it is not in use.
 fn letter(is_used: bool, kind: Option<Kind>) -> char
-    ensures ascii { result < 128 }
-    ensures no_bar { is_bar result ≡ false }
+    ensures { result < 128 }
 {
     match kind {
         Some(kind) if is_used => match kind.mobility {

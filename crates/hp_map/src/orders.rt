@@ -1,7 +1,6 @@
 //! The cells of a memory block with each free block drawn by its order.
-ghost use Rattle.std.specs.Prelude.{◌≡◌, ◌<◌, ◌≤◌, [], false, IfOk, IfSome, if◌then◌else◌};
+ghost use Rattle.std.specs.Prelude.{◌<◌, ◌≤◌, IfSome};
 ghost use Rattle.hp_units.specs.Arithmetic.{frame_count};
-ghost use Rattle.hp_map.specs.Cells.{bars_in, block_bars, is_bar};
 
 use crate::cells::{first_of, place_at, starts_later, write_cell};
 use crate::marks::size_of;
@@ -21,8 +20,6 @@ pub(crate) fn draw_orders(
     block: Block,
 ) -> Result<Text, AllocError>
     requires { block < machine.now.layout.blocks }
-    ensures { IfOk result
-        (λ text. bars_in text ≡ (if shows_orders then block_bars machine.now.layout else [])) }
 {
     let mut out = String::new(alloc);
     if !shows_orders {
@@ -41,8 +38,7 @@ pub(crate) fn draw_orders(
 /// Returns the character of a frame in this place, by its free block's order if it is free.
 fn sign_in_block(machine: &Machine, frame: Frame, place: Place) -> char
     requires { frame < frame_count machine.now.layout }
-    ensures ascii { result < 128 }
-    ensures no_bar { is_bar result ≡ false }
+    ensures { result < 128 }
 {
     match place {
         Place::Free => free_sign(machine, false, frame),
@@ -56,8 +52,7 @@ fn sign_in_block(machine: &Machine, frame: Frame, place: Place) -> char
 /// Returns the character of a free frame.
 fn free_sign(machine: &Machine, is_isolated: bool, frame: Frame) -> char
     requires { frame < frame_count machine.now.layout }
-    ensures ascii { result < 128 }
-    ensures no_bar { is_bar result ≡ false }
+    ensures { result < 128 }
 {
     match order_of(machine, frame) {
         Some(order) => ordered_sign(is_isolated, order, frame.0 % size_of(order)),
@@ -91,8 +86,7 @@ fn has_order(place: Option<(Class, Order)>, order: Order) -> bool {
 /// Returns the character of a frame in a free block of this order, `offset` frames after its first.
 fn ordered_sign(is_isolated: bool, order: Order, offset: u32) -> char
     requires { order ≤ 10 }
-    ensures ascii { result < 128 }
-    ensures no_bar { is_bar result ≡ false }
+    ensures { result < 128 }
 {
     if order.0 == 0 {
         plain_sign(is_isolated)
@@ -109,8 +103,7 @@ fn ordered_sign(is_isolated: bool, order: Order, offset: u32) -> char
 /// right after the first bracket, and then as if it were alone.
 fn inner_sign(is_isolated: bool, order: Order, offset: u32) -> char
     requires { order ≤ 10 }
-    ensures ascii { result < 128 }
-    ensures no_bar { is_bar result ≡ false }
+    ensures { result < 128 }
 {
     if order.0 < 10 && offset == 1 {
         char::from(b'0' + order.0 as u8)
@@ -125,8 +118,7 @@ fn inner_sign(is_isolated: bool, order: Order, offset: u32) -> char
 
 /// Returns the character of a free frame that is alone.
 fn plain_sign(is_isolated: bool) -> char
-    ensures ascii { result < 128 }
-    ensures no_bar { is_bar result ≡ false }
+    ensures { result < 128 }
 {
     if is_isolated { ':' } else { '.' }
 }

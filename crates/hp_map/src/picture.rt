@@ -22,7 +22,7 @@ pub fn picture_of(
     shows_orders: bool,
 ) -> Result<Vec<BlockPicture>, AllocError>
     ensures { IfOk result
-        (λ blocks. IsPicture machine.now.layout machine.now.state shows_orders blocks.items) }
+        (λ blocks. IsPicture machine.now.layout machine.now.state blocks.items) }
 {
     let places = places_of(alloc, machine)?;
     draw_blocks(alloc, machine, &places, shows_orders)
@@ -36,7 +36,7 @@ fn draw_blocks(
     shows_orders: bool,
 ) -> Result<Vec<BlockPicture>, AllocError>
     ensures { IfOk result (λ blocks. ArePictures machine.now.layout machine.now.state places.now.items
-        shows_orders machine.now.layout.blocks blocks.items) }
+        machine.now.layout.blocks blocks.items) }
 {
     let mut blocks = Vec::new(alloc);
     for number in 0..machine.layout().blocks() {
@@ -56,7 +56,7 @@ fn draw_block(
 ) -> Result<BlockPicture, AllocError>
     requires { block < machine.now.layout.blocks }
     ensures { IfOk result (λ picture. IsBlockPicture machine.now.layout machine.now.state places.now.items
-        shows_orders block picture) }
+        block picture) }
 {
     let head = draw_head(alloc, machine.row(block), block)?;
     let cells = draw_cells(alloc, machine.layout(), places, block)?;

@@ -1,3 +1,4 @@
 pub mod Gained
-mod Receipts
+pub mod Keys
+pub mod Receipts
 pub mod Runs

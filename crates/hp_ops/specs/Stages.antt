@@ -1,6 +1,7 @@
 -- How far the driver of a plan is after receipts.
-use Rattle.std.specs.Prelude.{◌≡◌, ℕ, ◌-◌, List, [], ◌∷◌, ◌++◌, Option, Some, None, nat_lt}
+use Rattle.std.specs.Prelude.{◌≡◌, ℕ, ◌+◌, ◌-◌, List, [], ◌∷◌, ◌++◌, Option, Some, None, nat_lt}
 use Rattle.hp_units.specs.Driver.{cause_of, end_after, end_of, next_after, next_drain, next_event, tried}
+use Rattle.hp_ops.specs.declared.stages.DriverKey.{DriverKey}
 use Rattle.hp_ops.specs.Names.{Item, Event, Begin, DrainFor, Migrate, Commit, Cancel, Reply, Refused, Refusal, NoOp, Receipt, OpEnd, EndsUndone, Driver, Stage, Begins, DrainsFor, Migrates, Commits, Cancels, Ended}
 
 -- the operation that a driver's event works on
@@ -28,6 +29,28 @@ event_in plan stage = work_in stage
 abbrev pub end_in : Stage → Option OpEnd
 end_in (Ended end) = end
 end_in stage = None
+
+-- a stage by two numbers: which stage it is, with the processor of a drain, and the operation that it
+-- works on, or 0
+abbrev pub stage_number : Stage → ℕ
+stage_number Begins = 0
+stage_number (Migrates op) = 1
+stage_number (Commits op) = 2
+stage_number (Cancels op) = 3
+stage_number (Ended end) = 4
+stage_number (DrainsFor op cpu) = 5 + cpu
+
+abbrev pub stage_op : Stage → ℕ
+stage_op Begins = 0
+stage_op (Migrates op) = op
+stage_op (Commits op) = op
+stage_op (Cancels op) = op
+stage_op (Ended end) = 0
+stage_op (DrainsFor op cpu) = op
+
+-- what the next events of a driver depend on
+abbrev pub key_of : Driver → DriverKey
+key_of d = record { left = d.left; stage = stage_number d.stage; op = stage_op d.stage }
 
 -- a driver after its receipts, on `cpus` processors and with at most `turns` migrations, whatever
 -- the plan

@@ -9,4 +9,4 @@ mod stages;
 
 pub use driver::run_plan;
 pub use port::Port;
-pub use stages::Driver;
+pub use stages::{Driver, DriverKey};

@@ -2,7 +2,7 @@
 ghost use Rattle.std.specs.Prelude.{◌≡◌, ◌-◌, ◌≤◌, ℕ, [], IfOk, List, None, OnErr, Some, cond};
 ghost use Rattle.hp_units.specs.Driver.{cause_after, is_migrate};
 ghost use Rattle.hp_ops.specs.Names.{Begin, Cancel, Commit, DrainFor, Item, Migrate};
-ghost use Rattle.hp_ops.specs.Stages.{EndsAs, Follows, IsAfter, IsRound, MovesOn, end_in, event_in, undone_by, work_in};
+ghost use Rattle.hp_ops.specs.Stages.{EndsAs, Follows, IsAfter, IsRound, MovesOn, end_in, event_in, key_of, stage_number, stage_op, undone_by, work_in};
 
 use hp_units::{Cpu, Event, OpEnd, Plan, Refusal, Reply, Serial};
 use std::alloc::{AllocError, Global};
@@ -36,6 +36,18 @@ pub struct Driver {
     why: Option<Refusal>,
     /// What comes next.
     stage: Stage,
+}
+
+/// What the next events of a driver depend on: how many migrations are left, and the stage with its
+/// operation.
+#[derive(Clone, Copy, PartialEq, Eq, Drop)]
+pub struct DriverKey {
+    /// How many migrations may still be tried.
+    pub left: u32,
+    /// The number of the stage; each processor's drain has its own.
+    pub stage: u64,
+    /// The operation that the stage works on, or 0 if it works on none.
+    pub op: Serial,
 }
 
 impl Driver {
@@ -73,6 +85,18 @@ impl Driver {
         self.left = left_after(self.left, event);
         self.why = why_after(self.why, event, reply);
         self.stage = self.stage_after(event, reply);
+    }
+
+    /// Returns what the next events depend on. Drivers with equal keys, for equally many
+    /// processors, ask for the same events after the same replies.
+    pub fn key(&self) -> DriverKey
+        ensures { result ≡ key_of self.now }
+    {
+        DriverKey {
+            left: self.left,
+            stage: self.stage.number(),
+            op: self.stage.operation(),
+        }
     }
 
     /// Returns the event to ask for next, if it is work on the operation.
@@ -212,6 +236,35 @@ impl Driver {
             Stage::Migrate { op }
         } else {
             Stage::Cancel { op }
+        }
+    }
+}
+
+impl Stage {
+    /// Returns the number of the stage.
+    fn number(&self) -> u64
+        ensures { result ≡ stage_number self.now }
+    {
+        match self {
+            Stage::Begin => 0,
+            Stage::Migrate { .. } => 1,
+            Stage::Commit { .. } => 2,
+            Stage::Cancel { .. } => 3,
+            Stage::Ended(_) => 4,
+            Stage::DrainFor { cpu, .. } => 5 + u64::from(cpu.0),
+        }
+    }
+
+    /// Returns the operation that the stage works on, or 0 if it works on none.
+    fn operation(&self) -> Serial
+        ensures { result ≡ stage_op self.now }
+    {
+        match self {
+            Stage::DrainFor { op, .. }
+            | Stage::Migrate { op }
+            | Stage::Commit { op }
+            | Stage::Cancel { op } => *op,
+            _ => Serial(0),
         }
     }
 }

@@ -28,9 +28,8 @@ blank-zeros (w ∷ ws) e =
 
 -- a zero that is written again
 pub set-zero : (n index : ℕ) → set {A = ℕ} (replicate n 0) index 0 ≡ replicate n 0
-set-zero zero index = refl
-set-zero (suc n) zero = refl
 set-zero (suc n) (suc index) = ap (λ (xs : List ℕ). 0 ∷ xs) (set-zero n index)
+set-zero _ _ = refl
 
 -- a word that is written and is not 0: the words are not blank
 pub set-some : (words : List ℕ) (index value : ℕ) → index < length words → (value ≡ 0 → ⊥)
@@ -69,7 +68,6 @@ some-needed words some = cond-false _ _ _ some
 pub buffer-words : (n : ℕ) (words : List ℕ) → length words ≡ n
     → unwrap_or (buffer_for words) (replicate n 0) ≡ words
 buffer-words n words size = elim (cases_Bool (is_blank words)) [
-  | inl blank ↦ ap (λ (b : Option (List ℕ)). unwrap_or b (replicate n 0)) (none-needed words blank)
-      ∙ (ap (λ (k : ℕ). replicate k 0) (sym size) ∙ sym (blank-zeros words blank))
+  | inl blank ↦ rw (none-needed words blank, ← size, ← blank-zeros words blank)
   | inr some ↦ ap (λ (b : Option (List ℕ)). unwrap_or b (replicate n 0)) (some-needed words some)
 ]

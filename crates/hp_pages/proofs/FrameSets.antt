@@ -1,5 +1,5 @@
 -- Bits of words, and the lowest number that passes a test.
-use Rattle.std.proofs.Common.{Option, Some, None, zero, suc, ◌≡◌, ℕ, ◌<◌, ◌≤◌, ◌+◌, ◌-◌, ◌*◌, ◌/◌, ◌%◌, ◌^◌, Bool, true, false, cond, eqb, bit_and, bit_or, List, length, get_or, set, w64, refl, sym, ap, ◌∙◌, subst, inl, inr, arith}
+use Rattle.std.proofs.Common.{Option, Some, None, zero, suc, ◌≡◌, ℕ, ◌<◌, ◌≤◌, ◌+◌, ◌-◌, ◌*◌, ◌/◌, ◌%◌, ◌^◌, Bool, true, false, cond, eqb, bit_and, bit_or, List, length, get_or, set, w64, refl, sym, ap, ◌∙◌, inl, inr, arith}
 use Rattle.std.specs.Prelude.{find}
 use Rattle.std.specs.List.{range_with_len}
 use Rattle.std.specs.Int.{bit_at, bit_not, trailing_zeros}
@@ -73,8 +73,7 @@ none_in_word words first at before none n low high = elim (cases_lt n at) [
   | inl less ↦ before n low less
   | inr more ↦
       let same = same_word at n more high in
-      subst (λ (k : ℕ). eqb (bit_at (get_or words k 0) (n % 64)) 1 ≡ false) (sym same.0)
-      (none (n % 64) same.1 same.2)
+      rw same.0 (none (n % 64) same.1 same.2)
 ]
 
 -- nor have words that are 0
@@ -84,9 +83,7 @@ pub none_in_words : (words : List ℕ) (first at past : ℕ)
     → (n : ℕ) → first ≤ n → n < past * 64 → has words n ≡ false
 none_in_words words first at past before empty n low high = elim (cases_lt n (at / 64 * 64 + 64)) [
   | inl less ↦ before n low less
-  | inr more ↦
-      ap (λ (word : ℕ). eqb (bit_at word (n % 64)) 1) (empty (n / 64) (omega arith) (omega arith))
-      ∙ ap (λ (bit : ℕ). eqb bit 1) (bit_at-zero (n % 64))
+  | inr more ↦ rw (empty (n / 64) (omega arith) (omega arith), bit_at-zero (n % 64))
 ]
 
 -- no frame of the word is below its lowest
@@ -98,8 +95,7 @@ found_below words first at bit before lowest n low high = elim (cases_lt n at) [
   | inl less ↦ before n low less
   | inr more ↦
       let same = same_word at n more (omega (arith, lowest.high)) in
-      subst (λ (k : ℕ). eqb (bit_at (get_or words k 0) (n % 64)) 1 ≡ false) (sym same.0)
-      (lowest.below (n % 64) same.1 (omega arith))
+      rw same.0 (lowest.below (n % 64) same.1 (omega arith))
 ]
 
 -- a word's lowest frame at or after one
@@ -111,9 +107,7 @@ found_in_word words first at bit from before lowest past within = record {
   low = omega (arith, lowest.low);
   high = within;
   passes =
-      let row : (at / 64 * 64 + bit) / 64 ≡ at / 64 = div-mul-add (at / 64) 64 bit lowest.high in
-      let column : (at / 64 * 64 + bit) % 64 ≡ bit = mod-mul-add (at / 64) 64 bit lowest.high in
-      rw (row, column) lowest.passes;
+      rw (div-mul-add (at / 64) 64 bit lowest.high, mod-mul-add (at / 64) 64 bit lowest.high) lowest.passes;
   below = found_below words first at bit before lowest;
 }
 
@@ -182,11 +176,9 @@ pub has-set : (words : List ℕ) (frame before word : ℕ) (is_in : Bool) → fr
 has-set words frame before word is_in low old bits n = elim (cases_eq (n / 64) (frame / 64)) [
   | inl same ↦
       let now : get_or (set words (frame / 64) word) (n / 64) 0 ≡ word =
-      ap (λ k. get_or (set words (frame / 64) word) k 0) same
-      ∙ get_or-set_same words (frame / 64) word 0 (omega arith) in
+      rw same (get_or-set_same words (frame / 64) word 0 (omega arith)) in
       let was : before ≡ get_or words (n / 64) 0 = old ∙ ap (λ k. get_or words k 0) (sym same) in
-      ap (λ w. eqb (bit_at w (n % 64)) 1) now ∙ (ap (λ b. eqb b 1) (bits (n % 64) (omega arith))
-      ∙ here same (get_or words (n / 64) 0) was)
+      rw (now, bits (n % 64) (omega arith)) (here same (get_or words (n / 64) 0) was)
   | inr other ↦
       ap (λ w. eqb (bit_at w (n % 64)) 1) (get_or-set_other words (frame / 64) (n / 64) word 0 other)
       ∙ sym (ap (λ b. cond b is_in (has words n)) (ne_eqb n frame (λ e. other (ap (λ k. k / 64) e))))
@@ -197,12 +189,9 @@ has-set words frame before word is_in low old bits n = elim (cases_eq (n / 64) (
         ≡ cond (eqb n frame) is_in (eqb (bit_at w (n % 64)) 1)
     here same w was = elim (cases_eq n frame) [
       | inl e ↦
-          ap (λ b. eqb (cond b (bit_of is_in) (bit_at before (n % 64))) 1)
-          (eq-eqb (n % 64) (frame % 64) (ap (λ k. k % 64) e))
-          ∙ (bit-one is_in ∙ sym (ap (λ b. cond b is_in (eqb (bit_at w (n % 64)) 1)) (eq-eqb n frame e)))
+          rw ((eq-eqb (n % 64) (frame % 64) (ap (λ k. k % 64) e)), bit-one is_in)
+          (sym (ap (λ b. cond b is_in (eqb (bit_at w (n % 64)) 1)) (eq-eqb n frame e)))
       | inr other ↦
-          ap (λ b. eqb (cond b (bit_of is_in) (bit_at before (n % 64))) 1)
-          (ne_eqb (n % 64) (frame % 64) (λ e. other (omega (arith, same, e))))
-          ∙ (ap (λ v. eqb (bit_at v (n % 64)) 1) was
-          ∙ sym (ap (λ b. cond b is_in (eqb (bit_at w (n % 64)) 1)) (ne_eqb n frame other)))
+          rw ((ne_eqb (n % 64) (frame % 64) (λ e. other (omega (arith, same, e)))), was)
+          (sym (ap (λ b. cond b is_in (eqb (bit_at w (n % 64)) 1)) (ne_eqb n frame other)))
     ]

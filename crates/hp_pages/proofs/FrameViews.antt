@@ -1,5 +1,5 @@
 -- The first page of a frame, and the buffers of a frame view.
-use Rattle.std.proofs.Common.{◌≡◌, ℕ, ◌<◌, ◌≤◌, List, length, get_or, set, map, Option, Some, None, refl, sym, ap, ◌∙◌, subst, inl, inr, arith}
+use Rattle.std.proofs.Common.{◌≡◌, ℕ, ◌<◌, ◌≤◌, List, length, get_or, set, map, Option, Some, None, refl, sym, ap, ◌∙◌, inl, inr, arith}
 use Rattle.std.specs.List.{range_with_len}
 use Rattle.std.specs.Option.{option_and_then}
 use Rattle.std.proofs.lemmas.Bool.{cases_eq, cases_Bool, cond-false, cond-true}
@@ -20,8 +20,7 @@ pub entry_at : (table : List (List (Option ℕ))) (f : ℕ) (found : ℕ × ℕ)
     → entry_of table found.0 found.1 ≡ Some f
 entry_at table f found first =
     let is = page_from-Some 0 table f found first in
-    subst (λ (o : ℕ). entry_of table o found.1 ≡ Some f)
-    (let e : is.row ≡ found.0 = omega (arith, is.owner_is) in e) is.entry
+    rw (← (let e : is.row ≡ found.0 = omega (arith, is.owner_is) in e)) is.entry
 
 -- a frame that holds no page has no first page
 none_found : (table : List (List (Option ℕ))) (f : ℕ) (found : Option (ℕ × ℕ)) → holders table f ≡ 0
@@ -53,10 +52,9 @@ kept_found : (table : List (List (Option ℕ))) (owner page : ℕ) (x : Option �
     → (entry_of table owner page ≡ Some f → ⊥) → (x ≡ Some f → ⊥) → page_from 0 table f ≡ found
     → page_from 0 (with_entry table owner page x) f ≡ found
 kept_found table owner page x f None is_in once was now first =
-    let counts = holders-entry table owner page x f is_in.in_owners is_in.in_pages in
     first_none (with_entry table owner page x) f (omega (
       arith,
-      counts,
+      holders-entry table owner page x f is_in.in_owners is_in.in_pages,
       not_held f (entry_of table owner page) was,
       not_held f x now,
       page_from-None 0 table f first,
@@ -104,17 +102,14 @@ one_changed b c n at x lt here others =
     let cs = map c (range_with_len 0 n) in
     let len : length bs ≡ n = length-map-range_with_len b 0 n in
     let more : length cs ≡ n = length-map-range_with_len c 0 n in
-    ext_get_or None cs (set bs at x) (more ∙ sym (length-set bs at x ∙ len)) (λ k in_list.
-    let within : k < n = omega (arith, more, in_list) in
-    get_or-map-range_with_len c 0 n k k None within (omega arith)
-    ∙ elim (cases_eq k at) [
-      | inl same ↦
-          ap c same ∙ (here ∙ sym (ap (λ (i : ℕ). get_or (set bs at x) i None) same
-          ∙ get_or-set_same bs at x None (omega (arith, len, lt))))
-      | inr other ↦
-          others k within other ∙ sym (get_or-set_other bs at k x None other
-          ∙ get_or-map-range_with_len b 0 n k k None within (omega arith))
-    ])
+    rw (ext_get_or None cs (set bs at x) (more ∙ sym (length-set bs at x ∙ len))
+    (λ k in_list. let within : k < n = omega (arith, more, in_list) in get_or-map-range_with_len c 0 n k k
+    None within (omega arith) ∙ elim (cases_eq k at) [
+      | inl same ↦ ap c same ∙ (here ∙ sym (ap (λ (i : ℕ). get_or (set bs at x) i None) same ∙ get_or-set_same
+          bs at x None (omega (arith, len, lt))))
+      | inr other ↦ others k within other ∙ sym (get_or-set_other bs at
+          k x None other ∙ get_or-map-range_with_len b 0 n k k None within (omega arith))
+    ]))
 
 pub two_changed : {X : Type 0} (b c : ℕ → Option X) (n at also : ℕ) (x y : Option X) → at < n → also < n
     → (at ≡ also → ⊥) → c at ≡ x → c also ≡ y
@@ -127,23 +122,20 @@ two_changed b c n at also x y lt also_lt apart here there others =
     let len : length bs ≡ n = length-map-range_with_len b 0 n in
     let once_len : length once ≡ n = length-set bs at x ∙ len in
     let more : length cs ≡ n = length-map-range_with_len c 0 n in
-    ext_get_or None cs (set once also y) (more ∙ sym (length-set once also y ∙ once_len)) (λ k in_list.
-    let within : k < n = omega (arith, more, in_list) in
-    get_or-map-range_with_len c 0 n k k None within (omega arith)
-    ∙ elim (cases_eq k also) [
-      | inl same ↦
-          ap c same ∙ (there ∙ sym (ap (λ (i : ℕ). get_or (set once also y) i None) same
-          ∙ get_or-set_same once also y None (omega (arith, once_len, also_lt))))
-      | inr other ↦ elim (cases_eq k at) [
-        | inl same ↦
-            ap c same ∙ (here ∙ sym (get_or-set_other once also k y None other
-            ∙ (ap (λ (i : ℕ). get_or once i None) same
-            ∙ get_or-set_same bs at x None (omega (arith, len, lt)))))
-        | inr too ↦ others k within too other
-            ∙ sym (get_or-set_other once also k y None other ∙ (get_or-set_other bs at k x None too
-            ∙ get_or-map-range_with_len b 0 n k k None within (omega arith)))
-      ]
-    ])
+    rw
+    (ext_get_or None cs (set once also y) (more ∙ sym (length-set once also y ∙ once_len)) (λ k in_list. let
+    within : k < n = omega (arith, more, in_list) in get_or-map-range_with_len c 0 n k k None within (omega
+    arith) ∙ elim (cases_eq k also) [
+      | inl same ↦ ap c same ∙ (there ∙ sym (ap (λ (i : ℕ). get_or (set once
+          also y) i None) same ∙ get_or-set_same once also y None (omega (arith, once_len, also_lt))))
+      | inr other ↦
+          elim (cases_eq k at) [
+            | inl same ↦ ap c same ∙ (here ∙ sym (get_or-set_other once also k y None other
+                ∙ (ap (λ (i : ℕ). get_or once i None) same ∙ get_or-set_same bs at x None (omega (arith, len, lt)))))
+            | inr too ↦ others k within too other ∙ sym (get_or-set_other once also k y None other ∙ (get_or-set_other
+                bs at k x None too ∙ get_or-map-range_with_len b 0 n k k None within (omega arith)))
+          ]
+    ]))
 
 -- a frame whose first page and its words are the same has the same buffer
 kept_by : (ps new : Pages) (found : Option (ℕ × ℕ))
@@ -155,5 +147,4 @@ kept_by ps new (Some page) words = ap (option_and_then buffer_for) (words page r
 pub buffer_kept : (ps new : Pages) (f : ℕ) → page_at new f ≡ page_at ps f
     → ((page : ℕ × ℕ) → page_at ps f ≡ Some page → words_at new page.0 page.1 ≡ words_at ps page.0 page.1)
     → buffer_by new f ≡ buffer_by ps f
-buffer_kept ps new f first words =
-    ap (option_and_then (page_buffer new)) first ∙ kept_by ps new (page_at ps f) words
+buffer_kept ps new f first words = rw first (kept_by ps new (page_at ps f) words)

@@ -4,6 +4,6 @@ pub mod FrameViews
 mod PageCalls
 pub mod PageParts
 pub mod Places
-mod Tables
+pub mod Tables
 pub mod Views
 mod WordCalls

@@ -51,8 +51,7 @@ map_counts : (v : PageFrames) (owner page frame : ℕ) → IsIn v.table owner pa
     → entry_of v.table owner page ≡ None → (f : ℕ)
     → holders (with_entry v.table owner page (Some frame)) f ≡ holders v.table f + held f (Some frame) 1
 map_counts v owner page frame is_in unmapped f =
-    let e = holders-entry v.table owner page (Some frame) f is_in.in_owners is_in.in_pages in
-    let g = rw unmapped at e in
+    let g = rw unmapped at (holders-entry v.table owner page (Some frame) f is_in.in_owners is_in.in_pages) in
     omega (arith, g)
 
 -- a view stays settled when a page is mapped
@@ -61,8 +60,7 @@ pub settled-map : (l : LayoutParts) (v : PageFrames) (owner page frame : ℕ) �
     → owner < l.owners → page < l.pages → entry_of v.table owner page ≡ None → holders v.table frame ≡ 0
     → AreSettled (map_frame v owner page frame)
 settled-map l v owner page frame are settled in_owners in_pages unmapped free =
-    let is_in = page_of l v owner page are in_owners in_pages in
-    let counts = map_counts v owner page frame is_in unmapped in
+    let counts = map_counts v owner page frame (page_of l v owner page are in_owners in_pages) unmapped in
     let new = map_frame v owner page frame in
     record {
       once = λ f. elim (cases_eq frame f) [
@@ -87,9 +85,7 @@ kept-none v frame none =
 -- what a call that changes nothing notes
 pub notes-nothing : (l : LayoutParts) (v new : PageFrames) (tape : TapeValue) → new ≡ v
     → NotesPages l 1 tape tape new v
-notes-nothing l v new tape same =
-    subst (λ (w : PageFrames). NotesPages l 1 tape tape w v) (sym same)
-    (notes-none IsOfPages FitsPages pages_undo l 1 tape v)
+notes-nothing l v new tape same = rw same (notes-none IsOfPages FitsPages pages_undo l 1 tape v)
 
 -- what taking a buffer away notes
 pub notes-empty : (l : LayoutParts) (v : PageFrames) (frame : ℕ) (words : List ℕ) (was now : TapeValue)
@@ -110,9 +106,7 @@ notes-empty l v frame words was now are in_frames there room noted =
       lead = record {
         fit = (tt, get_or-set_same v.buffers frame None None within);
         back = same_frames _ _ _ _ refl
-            (set-set v.buffers frame None (Some words)
-            ∙ (ap (λ (b : Option (List ℕ)). set v.buffers frame b) (sym there)
-            ∙ set-get_or v.buffers frame None));
+            (rw (set-set v.buffers frame None (Some words), ← there) (set-get_or v.buffers frame None));
       };
     }
 
@@ -141,8 +135,7 @@ unmap_counts : (v : PageFrames) (owner page frame : ℕ) → IsIn v.table owner 
     → entry_of v.table owner page ≡ Some frame → (f : ℕ)
     → holders (with_entry v.table owner page None) f + held f (Some frame) 1 ≡ holders v.table f
 unmap_counts v owner page frame is_in mapped f =
-    let e = holders-entry v.table owner page None f is_in.in_owners is_in.in_pages in
-    let g = rw mapped at e in
+    let g = rw mapped at (holders-entry v.table owner page None f is_in.in_owners is_in.in_pages) in
     omega (arith, g)
 
 -- a view stays settled when a page is unmapped
@@ -162,14 +155,11 @@ settled-unmap l v owner page frame are settled in_owners in_pages mapped =
       buffers = λ f. elim (cases_eq frame f) [
         | inl same ↦
             let none : buffer_of new f ≡ None =
-            subst (λ (n : ℕ). get_or (set v.buffers frame None) n None ≡ None) same
-            (get_or-set_same v.buffers frame None None within) in
+            rw (← same) (get_or-set_same v.buffers frame None None within) in
             subst (λ (b : Option (List ℕ)). IfSome b (IsNeeded new f)) (sym none) tt
         | inr other ↦
-            subst (λ (b : Option (List ℕ)). IfSome b (IsNeeded new f))
-            (sym (get_or-set_other v.buffers frame f None None (λ e. other (sym e))))
-            (needed_at v new f f (buffer_of v f) (λ one. omega (arith, counts f, held_no frame f other, one))
-            (settled.buffers f))
+            rw (get_or-set_other v.buffers frame f None None (λ e. other (sym e))) (needed_at v new f f
+            (buffer_of v f) (λ one. omega (arith, counts f, held_no frame f other, one)) (settled.buffers f))
       ];
     }
 
@@ -214,8 +204,7 @@ move_counts : (v : PageFrames) (owner page from to : ℕ) → IsIn v.table owner
     → holders (with_entry v.table owner page (Some to)) f + held f (Some from) 1
     ≡ holders v.table f + held f (Some to) 1
 move_counts v owner page from to is_in mapped f =
-    let e = holders-entry v.table owner page (Some to) f is_in.in_owners is_in.in_pages in
-    rw mapped at e
+    rw mapped at (holders-entry v.table owner page (Some to) f is_in.in_owners is_in.in_pages)
 
 -- a view stays settled when a page moves
 pub settled-move : (l : LayoutParts) (v : PageFrames) (owner page from to : ℕ) → ArePageFramesOf l v
@@ -224,10 +213,9 @@ pub settled-move : (l : LayoutParts) (v : PageFrames) (owner page from to : ℕ)
     → owner < l.owners → page < l.pages
     → AreSettled (move_entry v owner page from to)
 settled-move l v owner page from to are settled from_in to_in mapped free in_owners in_pages =
-    let is_in = page_of l v owner page are in_owners in_pages in
     let from_within : from < length v.buffers = omega (arith, are.frames, from_in) in
     let to_within : to < length v.buffers = omega (arith, are.frames, to_in) in
-    let counts = move_counts v owner page from to is_in mapped in
+    let counts = move_counts v owner page from to (page_of l v owner page are in_owners in_pages) mapped in
     let apart = apart_of v owner page from to mapped free in
     let x = buffer_of v from in
     let y = buffer_of v to in
@@ -248,21 +236,17 @@ settled-move l v owner page from to are settled from_in to_in mapped free in_own
               held_no from f (λ e. apart (e ∙ sym same)),
               subst (λ (n : ℕ). holders v.table n ≡ 0) same free,
             ) in
-            subst (λ (b : Option (List ℕ)). IfSome b (IsNeeded new f))
-            (sym (subst (λ (n : ℕ). get_or (set (set v.buffers from y) to x) n None ≡ x) same
-            (swapped_b v.buffers from to x y to_within)))
-            (needed_at v new from f x (λ _. one) (settled.buffers from))
+            rw (subst (λ (n : ℕ). get_or (set (set v.buffers from y) to x) n None ≡ x) same (swapped_b
+            v.buffers from to x y to_within)) (needed_at v new from f x (λ _. one) (settled.buffers from))
         | inr other_to ↦ elim (cases_eq from f) [
           | inl same ↦
-              subst (λ (b : Option (List ℕ)). IfSome b (IsNeeded new f))
-              (sym (subst (λ (n : ℕ). get_or (set (set v.buffers from y) to x) n None ≡ y) same
-              (swapped_a v.buffers from to x y apart from_within) ∙ has_none v to settled free)) tt
+              rw (subst (λ (n : ℕ). get_or (set (set v.buffers from y) to x) n None ≡ y) same
+              (swapped_a v.buffers from to x y apart from_within)) (rw (has_none v to settled free) tt)
           | inr other_from ↦
-              subst (λ (b : Option (List ℕ)). IfSome b (IsNeeded new f))
-              (sym (get_or-set_other (set v.buffers from y) to f x None (λ e. other_to (sym e))
-              ∙ get_or-set_other v.buffers from f y None (λ e. other_from (sym e))))
+              rw (get_or-set_other (set v.buffers from y) to f x None (λ e. other_to (sym e)))
+              (rw (get_or-set_other v.buffers from f y None (λ e. other_from (sym e)))
               (needed_at v new f f (buffer_of v f) (λ one. omega
-              (arith, counts f, held_no from f other_from, held_no to f other_to, one)) (settled.buffers f))
+              (arith, counts f, held_no from f other_from, held_no to f other_to, one)) (settled.buffers f)))
         ]
       ];
     }

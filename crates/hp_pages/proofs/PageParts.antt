@@ -1,5 +1,5 @@
 -- Parts of the layer's view: buffers, pages, tapes, and the view without pages.
-use Rattle.std.proofs.Common.{◌≡◌, ℕ, zero, suc, ◌<◌, ◌+◌, List, [], ◌∷◌, ◌++◌, length, get_or, set, map, take, replicate, Option, Some, None, refl, sym, ap, ◌∙◌, subst, inl, inr, arith}
+use Rattle.std.proofs.Common.{◌≡◌, ℕ, zero, suc, ◌<◌, ◌+◌, List, [], ◌∷◌, ◌++◌, length, get_or, set, map, take, replicate, Option, Some, None, refl, sym, ◌∙◌, subst, inl, inr, arith}
 use Rattle.std.specs.Prelude.{IfSome, option_map}
 use Rattle.std.specs.List.{AllByRecursion, range_with_len}
 use Rattle.std.specs.Option.{option_and_then}
@@ -33,9 +33,7 @@ value_of layout table buffers = value_with layout (view_of table buffers)
 pub same_frames : (table other : List (List (Option ℕ))) (buffers others : List (Option (List ℕ)))
     → table ≡ other → buffers ≡ others
     → view_of table buffers ≡ view_of other others
-same_frames table other buffers others e f =
-    ap (λ (t : List (List (Option ℕ))). view_of t buffers) e
-    ∙ ap (λ (b : List (Option (List ℕ))). view_of other b) f
+same_frames table other buffers others e f = rw (e, f)
 
 -- the numbers of a layer's parts
 pub are_of : (l : LayoutParts) (t : TableValue) (buffers : List (Option (List ℕ))) (zeros : List ℕ)
@@ -69,13 +67,8 @@ layer-buffer l t buffers new zeros frame b are low sized e =
   where
     words_at : (f : ℕ) → IfSome (get_or (set buffers frame b) f None) (λ words. length words ≡ l.words)
     words_at f = elim (cases_eq f frame) [
-      | inl same ↦
-          subst (λ (o : Option (List ℕ)). IfSome o (λ words. length words ≡ l.words))
-          (sym (ap (λ (n : ℕ). get_or (set buffers frame b) n None) same
-          ∙ get_or-set_same buffers frame b None (omega (arith, are.buffers_of, low)))) sized
-      | inr other ↦
-          subst (λ (o : Option (List ℕ)). IfSome o (λ words. length words ≡ l.words))
-          (sym (get_or-set_other buffers frame f b None other)) (are.words f)
+      | inl same ↦ rw (same, get_or-set_same buffers frame b None (omega (arith, are.buffers_of, low))) sized
+      | inr other ↦ rw (get_or-set_other buffers frame f b None other) (are.words f)
     ]
 
 -- a changed word leaves the size of its buffer the same
@@ -135,27 +128,22 @@ pub first_page : (l : LayoutParts) (v : PageFrames) (frame : ℕ) (page : ℕ ×
 first_page l v frame page are first =
     let is = page_from-Some 0 v.table frame page first in
     let row_is : is.row ≡ page.0 = omega (arith, is.owner_is) in
-    let length_is = row_length l.pages v.table is.row are.pages is.in_owners in
     record {
       entry = subst (λ (o : ℕ). entry_of v.table o page.1 ≡ Some frame) row_is is.entry;
       in_owners = omega (arith, row_is, is.in_owners, are.owners);
-      in_pages = omega (arith, is.in_pages, length_is);
+      in_pages = omega (arith, is.in_pages, row_length l.pages v.table is.row are.pages is.in_owners);
     }
 
 -- a tape by its parts, after one note and after two
 pub noted_one : (was now : TapeValue) (d : Delta) → now.room ≡ was.room → now.deltas ≡ was.deltas ++ d ∷ []
     → now ≡ record { room = was.room; deltas = was.deltas ++ d ∷ [] }
-noted_one was now d room noted =
-    ap (λ (r : ℕ). record now { room = r }) room
-    ∙ ap (λ (ds : List Delta). record { room = was.room; deltas = ds }) noted
+noted_one was now d room noted = rw (room, noted)
 
 pub noted_two : (was mid now : TapeValue) (d e : Delta) → mid.room ≡ was.room
     → mid.deltas ≡ was.deltas ++ d ∷ [] → now.room ≡ mid.room → now.deltas ≡ mid.deltas ++ e ∷ []
     → now ≡ record { room = was.room; deltas = was.deltas ++ (d ∷ e ∷ []) }
 noted_two was mid now d e mid_room mid_noted room noted =
-    ap (λ (r : ℕ). record now { room = r }) (room ∙ mid_room)
-    ∙ ap (λ (ds : List Delta). record { room = was.room; deltas = ds })
-    (noted ∙ (ap (λ (ds : List Delta). ds ++ e ∷ []) mid_noted ∙ append_assoc was.deltas (d ∷ []) (e ∷ [])))
+    rw (room, mid_room, noted, mid_noted, append_assoc was.deltas (d ∷ []) (e ∷ []))
 
 -- what an entry holds
 pub held_yes : (frame f : ℕ) → frame ≡ f → held f (Some frame) 1 ≡ 1
@@ -183,13 +171,9 @@ pub swap_twice : (buffers : List (Option (List ℕ))) (a b : ℕ) → (a ≡ b �
 swap_twice buffers a b apart a_in b_in =
     let x = get_or buffers a None in
     let y = get_or buffers b None in
-    let once = set (set buffers a y) b x in
-    ap (λ (z : Option (List ℕ)). set (set once a z) b (get_or once a None)) (swapped_b buffers a b x y b_in)
-    ∙ (ap (λ (z : Option (List ℕ)). set (set once a x) b z) (swapped_a buffers a b x y apart a_in)
-    ∙ (ap (λ (bs : List (Option (List ℕ))). set bs b y)
-    (set_comm (set buffers a y) b a x x (λ e. apart (sym e))
-    ∙ ap (λ (bs : List (Option (List ℕ))). set bs b x) (set-set buffers a y x ∙ set-get_or buffers a None))
-    ∙ (set-set buffers b x y ∙ set-get_or buffers b None)))
+    rw (swapped_b buffers a b x y b_in, swapped_a buffers a b x y apart a_in)
+    (rw ((set_comm (set buffers a y) b a x x (λ e. apart (sym e))), set-set buffers a y x)
+    (rw (set-get_or buffers a None, set-set buffers b x y) (set-get_or buffers b None)))
 
 -- ---- no pages
 
@@ -197,9 +181,7 @@ swap_twice buffers a b apart a_in b_in =
 pub map_none : {X : Type 0} (f : ℕ → Option X) → ((n : ℕ) → f n ≡ None) → (first count : ℕ)
     → map f (range_with_len first count) ≡ replicate count None
 map_none f none first zero = refl
-map_none {X = X} f none first (suc count) =
-    ap (λ (x : Option X). x ∷ map f (range_with_len (first + 1) count)) (none first)
-    ∙ ap (λ (xs : List (Option X)). None ∷ xs) (map_none f none (first + 1) count)
+map_none {X = X} f none first (suc count) = rw (none first, map_none f none (first + 1) count)
 
 -- the frame view of a layout without pages
 abbrev pub no_pages : LayoutParts → PageFrames
@@ -209,13 +191,9 @@ no_pages l =
 -- it is the frame view of empty pages
 pub no_pages_is : (l : LayoutParts) → page_frames_of l (empty_pages l) ≡ no_pages l
 no_pages_is l =
-    ap (λ (b : List (Option (List ℕ))).
-    record { table = replicate l.owners (replicate l.pages None); buffers = b })
-    (map_none (λ frame. option_and_then (λ page.
-    option_and_then buffer_for (words_at (empty_pages l) page.0 page.1)) (page_at (empty_pages l) frame))
-    (λ frame. ap
-    (option_and_then (λ page. option_and_then buffer_for (words_at (empty_pages l) page.0 page.1)))
-    (empty_first l.owners l.pages frame)) 0 (frame_count l))
+    rw (map_none
+    (λ frame. option_and_then (λ page. option_and_then buffer_for (words_at (empty_pages l) page.0 page.1))
+    (page_at (empty_pages l) frame)) (λ frame. rw (empty_first l.owners l.pages frame)) 0 (frame_count l))
 
 -- no buffer
 abbrev pub no_buffer : Option (List ℕ)
@@ -223,9 +201,8 @@ no_buffer = None
 
 -- no frame has a buffer in it
 pub none_read : (count frame : ℕ) → get_or (replicate count no_buffer) frame None ≡ None
-none_read zero frame = refl
-none_read (suc count) zero = refl
 none_read (suc count) (suc frame) = none_read count frame
+none_read _ _ = refl
 
 -- and that frame view is settled
 pub settled_no_pages : (l : LayoutParts) → AreSettled (no_pages l)
@@ -237,8 +214,7 @@ settled_no_pages l = record {
             (empty_first l.owners l.pages frame),
       );
   buffers =
-      λ frame. subst (λ (b : Option (List ℕ)). IfSome b (IsNeeded (no_pages l) frame))
-      (sym (none_read (frame_count l) frame)) tt;
+      λ frame. rw (none_read (frame_count l) frame) tt;
 }
 
 -- the new layer
@@ -247,10 +223,8 @@ pub new_is : (l layout : LayoutParts) (rows : List (List (Option ℕ))) (buffers
     → rows ≡ replicate l.owners (replicate l.pages None) → buffers ≡ replicate (frame_count l) None
     → value_of layout rows buffers ≡ record { layout = l; pages = page_frames_of l (empty_pages l) }
 new_is l layout rows buffers layout_is rows_are buffers_are =
-    ap (λ (k : LayoutParts). value_of k rows buffers) layout_is
-    ∙ (ap (λ (v : PageFrames). value_with l v) (same_frames rows (replicate l.owners (replicate l.pages None))
-    buffers (replicate (frame_count l) None) rows_are buffers_are)
-    ∙ ap (λ (v : PageFrames). value_with l v) (sym (no_pages_is l)))
+    rw layout_is (rw (same_frames rows (replicate l.owners (replicate l.pages None)) buffers
+    (replicate (frame_count l) None) rows_are buffers_are) (rw (← no_pages_is l)))
 
 -- ---- lists that are copied
 
@@ -259,6 +233,5 @@ pub copied-more : {X : Type 0} (xs items copy new : List X) (at : ℕ) (item x :
     → at < length items → item ≡ get_or items at item → x ≡ item → copy ≡ take at xs → new ≡ copy ++ x ∷ []
     → new ≡ take (at + 1) xs
 copied-more {X} xs items copy new at item x same low read is done e =
-    e ∙ (ap (λ (ys : List X). ys ++ x ∷ []) done
-    ∙ (ap (λ (y : X). take at xs ++ y ∷ []) (is ∙ (read ∙ ap (λ (ys : List X). get_or ys at item) same))
-    ∙ sym (take_more xs at item (subst (λ (ys : List X). at < length ys) same low))))
+    rw (e, done, is, read, same)
+    (sym (take_more xs at item (subst (λ (ys : List X). at < length ys) same low)))

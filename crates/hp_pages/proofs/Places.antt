@@ -34,8 +34,7 @@ row_sum-set base (y ∷ row) zero place x f lt e =
     rw same (let r = row_sum (base + 1) row f in let a = held f x base in let b = held f y
     base in let goal : a + r + b ≡ b + r + a = omega arith in goal)
 row_sum-set base (y ∷ row) (suc i) place x f lt e =
-    let step = row_sum-set (base + 1) row i place x f (omega arith) (omega arith) in
-    omega (arith, step)
+    omega (arith, row_sum-set (base + 1) row i place x f (omega arith) (omega arith))
 
 -- the sum of a table after one row changed
 pub table_sum-set : (pages base : ℕ) (table : List (List (Option ℕ))) (owner place : ℕ)
@@ -89,10 +88,9 @@ row_none base [] f none = refl
 row_none base (entry ∷ row) f none =
     let whole : cond (holds f entry) 1 0 + count_by (holds f) row ≡ 0 =
     sym (sum_by-cons (λ (e : Option ℕ). cond (holds f e) 1 0) entry row) ∙ none in
-    let rest = row_none (base + 1) row f (omega (arith, whole)) in
     elim (cases_Bool (holds f entry)) [
       | inl is ↦ absurd (omega (arith, rw is at whole))
-      | inr isnt ↦ rw isnt (omega (arith, rest))
+      | inr isnt ↦ rw isnt (omega (arith, row_none (base + 1) row f (omega (arith, whole))))
     ]
 
 -- the sum of a frame that holds no page is 0
@@ -215,9 +213,8 @@ entry_in {A = A} table owner page x e = record {
 pub entry-same : {A : Type 0} (table : List (List (Option A))) (owner page : ℕ) (x : Option A)
     → IsIn table owner page → entry_of (with_entry table owner page x) owner page ≡ x
 entry-same {A = A} table owner page x is_in =
-    ap (λ (row : List (Option A)). get_or row page None)
-    (get_or-set_same table owner (set (get_or table owner []) page x) [] is_in.in_owners)
-    ∙ get_or-set_same (get_or table owner []) page x None is_in.in_pages
+    rw (get_or-set_same table owner (set (get_or table owner []) page x) [] is_in.in_owners)
+    (get_or-set_same (get_or table owner []) page x None is_in.in_pages)
 
 pub entry-other : {A : Type 0} (table : List (List (Option A))) (owner page : ℕ) (x : Option A)
     (other_owner other_page : ℕ)
@@ -227,12 +224,10 @@ pub entry-other : {A : Type 0} (table : List (List (Option A))) (owner page : �
 entry-other {A = A} table owner page x other_owner other_page is_in apart =
     elim (cases_eq other_owner owner) [
       | inl same ↦ rw same (
-          ap (λ (row : List (Option A)). get_or row other_page None)
-          (get_or-set_same table owner (set (get_or table owner []) page x) [] is_in.in_owners)
-          ∙ get_or-set_other (get_or table owner []) page other_page x None (apart same))
+          rw (get_or-set_same table owner (set (get_or table owner []) page x) [] is_in.in_owners)
+          (get_or-set_other (get_or table owner []) page other_page x None (apart same)))
       | inr other ↦
-          ap (λ (row : List (Option A)). get_or row other_page None)
-          (get_or-set_other table owner other_owner (set (get_or table owner []) page x) [] other)
+          rw (get_or-set_other table owner other_owner (set (get_or table owner []) page x) [] other)
     ]
 
 -- an entry that is set back
@@ -241,12 +236,9 @@ pub entry-back : {A : Type 0} (table : List (List (Option A))) (owner page : ℕ
     → with_entry (with_entry table owner page x) owner page was ≡ table
 entry-back {A = A} table owner page x was is_in e =
     let row = get_or table owner [] in
-    ap (λ (r : List (Option A)). set (set table owner (set row page x)) owner (set r page was))
-    (get_or-set_same table owner (set row page x) [] is_in.in_owners)
-    ∙ (set-set table owner (set row page x) (set (set row page x) page was)
-    ∙ (ap (λ (r : List (Option A)). set table owner r)
-    (set-set row page x was ∙ (ap (λ (y : Option A). set row page y) (sym e) ∙ set-get_or row page None))
-    ∙ set-get_or table owner []))
+    rw (get_or-set_same table owner (set row page x) [] is_in.in_owners)
+    (rw (set-set table owner (set row page x) (set (set row page x) page was), set-set row page x was)
+    (rw (← e, set-get_or row page None) (set-get_or table owner [])))
 
 -- ---- frames that hold at most one page
 
@@ -280,14 +272,12 @@ only_of table owner page f None once e first =
 only_of table owner page f (Some found) once e first =
     let is = page_from-Some 0 table f found first in
     let row_is : is.row ≡ found.0 = omega (arith, is.owner_is) in
-    let entry : entry_of table found.0 found.1 ≡ Some f =
-    subst (λ (o : ℕ). entry_of table o found.1 ≡ Some f) row_is is.entry in
+    let entry : entry_of table found.0 found.1 ≡ Some f = rw (← row_is) is.entry in
     let apart : (found.0 ≡ owner → found.1 ≡ page → ⊥) → ⊥ =
     same_page table owner page f found.0 found.1 once e entry in
     elim (cases_eq found.0 owner) [
       | inl same ↦ elim (cases_eq found.1 page) [
-        | inl also ↦
-            ap (λ (p : ℕ × ℕ). Some p) (ap (λ (o : ℕ). (o, found.1)) same ∙ ap (λ (p : ℕ). (owner, p)) also)
+        | inl also ↦ rw (same, also)
         | inr other ↦ absurd (apart (λ a b. other b))
       ]
       | inr other ↦ absurd (apart (λ a b. other a))
@@ -342,10 +332,9 @@ row_sum-le : (base most : ℕ) (row : List (Option ℕ)) (f : ℕ) → base + le
     → row_sum base row f ≤ length row * most
 row_sum-le base most [] f le = omega arith
 row_sum-le base most (entry ∷ row) f le =
-    let rest = row_sum-le (base + 1) most row f (omega arith) in
     let here : held f entry base ≤ base =
     elim (cases_Bool (holds f entry)) [ inl is ↦ rw is (omega arith) | inr isnt ↦ rw isnt (omega arith) ] in
-    omega (arith, rest, here, suc-mul (length row) most)
+    omega (arith, row_sum-le (base + 1) most row f (omega arith), here, suc-mul (length row) most)
 
 pub table_sum-le : (pages base most : ℕ) (table : List (List (Option ℕ))) (f : ℕ)
     → AllByRecursion (λ row. length row ≡ pages) table

@@ -107,18 +107,10 @@ page_of_found t sums frame (Some found) are lt once some first =
       owner = found.0;
       page = found.1;
       first = first;
-      owner_is =
-          ap (λ n. n / t.pages) sum_is
-          ∙ (div-mul-add is.row t.pages found.1 in_row ∙ omega (arith, is.owner_is));
+      owner_is = rw (sum_is, div-mul-add is.row t.pages found.1 in_row) (omega (arith, is.owner_is));
       page_is = ap (λ n. n % t.pages) sum_is ∙ mod-mul-add is.row t.pages found.1 in_row;
       small = omega (arith, is.owner_is, is.in_owners, are.table.owners);
     }
-
-pub page_of_sum : (t : TableValue) (sums : List ℕ) (frame : ℕ) → AreSumsOf t sums → frame < t.frames
-    → holders t.rows frame ≤ 1
-    → (get_or sums frame 0 ≡ 0 → ⊥) → IsPageOf t (get_or sums frame 0) frame
-page_of_sum t sums frame are lt once some =
-    page_of_found t sums frame (page_from 0 t.rows frame) are lt once some refl
 
 -- that page as the code computes it
 pub page_told : (t : TableValue) (sums : List ℕ) (frame sum : ℕ) → AreSumsOf t sums → frame < t.frames
@@ -127,7 +119,8 @@ pub page_told : (t : TableValue) (sums : List ℕ) (frame sum : ℕ) → AreSums
     → (Some ((sum - 1) / t.pages, (sum - 1) % t.pages) ≡ page_from 0 t.rows frame)
     × ((sum - 1) / t.pages < 64)
 page_told t sums frame sum are lt once e some =
-    let told = page_of_sum t sums frame are lt once (λ none. some (e ∙ none)) in
+    let told = page_of_found t sums frame (page_from 0 t.rows frame) are lt once (λ none. some (e ∙ none))
+    refl in
     rw e (rw (told.owner_is, told.page_is) (sym told.first, told.small))
 
 -- ---- a changed entry
@@ -203,11 +196,9 @@ sum_fits : (t : TableValue) (rows : List (List (Option ℕ))) (f : ℕ) → IsTa
     → table_sum t.pages 1 rows f < 2 ^ 64
 sum_fits t rows f table owners all =
     let most = 1 + 64 * 2 ^ 16 in
-    let cells : length rows * t.pages ≤ 64 * 2 ^ 16 = mul-le _ _ _ _ owners table.pages in
-    let sum = table_sum-le t.pages 1 most rows f all (omega (arith, cells)) in
+    let sum = table_sum-le t.pages 1 most rows f all (omega (arith, mul-le _ _ _ _ owners table.pages)) in
     let row : t.pages * most ≤ 2 ^ 16 * most = omega (arith, table.pages) in
-    let all_rows : length rows * (t.pages * most) ≤ 64 * (2 ^ 16 * most) = mul-le _ _ _ _ owners row in
-    omega (arith, sum, all_rows)
+    omega (arith, sum, mul-le _ _ _ _ owners row)
 
 -- a place may be added to the sum of the new frame
 pub can_join : (t : TableValue) (sums : List ℕ) (owner page : ℕ) (now : Option ℕ) → AreSumsOf t sums
@@ -218,12 +209,11 @@ pub can_join : (t : TableValue) (sums : List ℕ) (owner page : ℕ) (now : Opti
 can_join t sums owner page None are frames in_owners in_pages in_frames = tt
 can_join t sums owner page (Some frame) are frames in_owners in_pages in_frames =
     let is_in = page_in t.pages t.rows owner page are.table.rows in_owners in_pages in
-    let new = with_entry t.rows owner page (Some frame) in
     let sum =
     rw (eq-eqb frame frame refl) at
     (new_sum t sums owner page (Some frame) frame are frames in_owners in_pages in_frames) in
     let fits =
-    sum_fits t new frame are.table (omega
+    sum_fits t (with_entry t.rows owner page (Some frame)) frame are.table (omega
     (arith, length-set t.rows owner (set (get_or t.rows owner []) page (Some frame)), are.table.owners))
     (row_set t.pages t.rows owner (set (get_or t.rows owner []) page (Some frame)) are.table.rows
     (length-set (get_or t.rows owner []) page (Some frame)
@@ -251,13 +241,9 @@ mapped_at frames rows owner page now other_owner other_page is_in in_frames was 
         | inl also ↦
             subst InFrames (let e : now ≡ entry_of (with_entry rows owner page now) other_owner other_page =
             rw (same, also) (sym (entry-same rows owner page now is_in)) in e) in_frames
-        | inr other ↦
-            subst InFrames
-            (sym (entry-other rows owner page now other_owner other_page is_in (λ a b. other b))) was
+        | inr other ↦ rw (entry-other rows owner page now other_owner other_page is_in (λ a b. other b)) was
       ]
-      | inr other ↦
-          subst InFrames (sym (entry-other rows owner page now other_owner other_page is_in (λ a b. other a)))
-          was
+      | inr other ↦ rw (entry-other rows owner page now other_owner other_page is_in (λ a b. other a)) was
     ]
 
 -- the numbers of a table with another entry
@@ -294,9 +280,7 @@ are_sums-set sums pages rows owner page now are in_owners in_pages in_frames =
     let new_len : length (joined gone now place) ≡ length sums = length-joined gone now place ∙ gone_len in
     let new = with_entry rows owner page now in
     record {
-      table =
-          subst (λ (n : ℕ). IsTable (record { frames = n; pages = pages; rows = new })) (sym new_len)
-          (is_table-set t owner page now are.table in_owners in_pages in_frames);
+      table = rw new_len (is_table-set t owner page now are.table in_owners in_pages in_frames);
       each = λ f lt.
           joined_sum gone now place f
           (subst (λ (n : ℕ). IfSome now (λ frame. frame < n)) (sym gone_len) in_frames)
@@ -306,9 +290,8 @@ are_sums-set sums pages rows owner page now are in_owners in_pages in_frames =
 -- ---- the empty table
 
 empty_row : (n i : ℕ) → get_or (replicate n no_frame) i None ≡ None
-empty_row zero i = refl
-empty_row (suc n) zero = refl
 empty_row (suc n) (suc i) = empty_row n i
+empty_row _ _ = refl
 
 empty_entry : (owners pages owner page : ℕ)
     → entry_of (replicate owners (replicate pages no_frame)) owner page ≡ None
@@ -351,13 +334,9 @@ are_sums-empty sums owners pages rows frames sums_are rows_are small some_pages 
         some_pages = some_pages;
         pages = pages_le;
         owners =
-            let n : length rows ≡ owners =
-            ap length rows_are ∙ length-replicate owners (replicate pages no_frame) in
+            let n : length rows ≡ owners = rw rows_are (length-replicate owners (replicate pages no_frame)) in
             omega (arith, n);
-        rows =
-            subst (λ (r : List (List (Option ℕ))). AllByRecursion (λ row. length row ≡ pages) r)
-            (sym rows_are)
-            (empty_rows owners pages);
+        rows = rw rows_are (empty_rows owners pages);
         mapped =
             λ owner page.
             MatchOption-from_none _ _ (ap (λ (r : List (List (Option ℕ))). entry_of r owner page)

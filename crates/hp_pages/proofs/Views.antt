@@ -10,7 +10,7 @@ use Rattle.hp_units.specs.LayoutParts.{LayoutParts}
 use Rattle.hp_units.specs.Arithmetic.{IsFrame, frame_count}
 use Rattle.hp_units.specs.InLayout.{ArePagesOf}
 use Rattle.hp_units.specs.Memory.{Memory, Pages, entry_of, with_entry}
-use Rattle.hp_units.specs.Pages.{frame_at, fresh_words, map_page, move_page, page_at, read_word, unmap_page, words_at, write_word}
+use Rattle.hp_units.specs.Pages.{frame_at, map_page, move_page, page_at, read_word, unmap_page, words_at, write_word}
 use Rattle.hp_units.specs.Placement.{IsPage, IsWellPlaced}
 use Rattle.hp_tape.specs.Deltas.{PageFrames, buffer_for, buffer_of, is_blank, page_frames_of}
 use Rattle.hp_pages.specs.Pages.{ArePageFramesOf, AreSettled, IsNeeded, map_frame, move_entry, move_frame, unmap_frame, unmap_from, words_in, words_of, write_at, write_frame}
@@ -106,7 +106,6 @@ frame_in l ps owner page frame are mapped =
 apart_from : (ps : Pages) (owner page frame : ℕ) → frame_at ps owner page ≡ Some frame → (f : ℕ)
     → (f ≡ frame → ⊥) → entry_of ps.table owner page ≡ Some f → ⊥
 apart_from ps owner page frame mapped f other e =
-    let both : Some frame ≡ Some f = sym mapped ∙ e in
     other (let same : f ≡ frame = cc in same)
 
 -- a page is unmapped
@@ -121,14 +120,12 @@ view-unmap_page l ps owner page frame are in_owners in_pages mapped =
     let counts = rw mapped at (holders-entry ps.table owner page None frame is_in.in_owners is_in.in_pages) in
     let gone : holders new.table frame ≡ 0 = omega (arith, counts, held_self frame, are.once frame) in
     let view = page_frames_of l ps in
-    same_frames _ _ _ _ refl (one_changed (buffer_by ps) (buffer_by new) (frame_count l) frame None in_frames
-    (ap (option_and_then (page_buffer new)) (first_none new.table frame gone))
-    (λ f lt other. buffer_kept ps new f
-    (first_kept ps.table owner page None f is_in (are.once f) (apart_from ps owner page frame mapped f other)
-    (λ e. cc))
-    (λ found e.
-    other_words ps owner page None f found has_words (apart_from ps owner page frame mapped f other) e)))
-    ∙ sym (ap (λ (entry : Option ℕ). option_map_or (unmap_from view owner page) entry view) mapped)
+    rw (same_frames _ _ _ _ refl (one_changed (buffer_by ps) (buffer_by new) (frame_count l) frame None
+    in_frames (ap (option_and_then (page_buffer new)) (first_none new.table frame gone))
+    (λ f lt other. buffer_kept ps new f (first_kept ps.table owner page None f is_in (are.once f)
+    (apart_from ps owner page frame mapped f other) (λ e. cc)) (λ found e. other_words ps owner page None f
+    found has_words (apart_from ps owner page frame mapped f other) e))))
+    (sym (ap (λ (entry : Option ℕ). option_map_or (unmap_from view owner page) entry view) mapped))
 
 -- the words in the frame of a mapped page
 frame_words : (l : LayoutParts) (ps : Pages) (owner page frame : ℕ) (are : AreOnce l ps)
@@ -137,10 +134,8 @@ frame_words : (l : LayoutParts) (ps : Pages) (owner page frame : ℕ) (are : Are
 frame_words l ps owner page frame are mapped =
     let has = mapped_words l ps owner page frame are mapped in
     let first = only_page ps.table owner page frame (are.once frame) mapped in
-    ap (λ (b : Option (List ℕ)). unwrap_or b (fresh_words l))
-    (buffer_is l ps frame (frame_in l ps owner page frame are mapped)
-    ∙ (ap (option_and_then (page_buffer ps)) first ∙ ap (option_and_then buffer_for) has.are))
-    ∙ buffer-words l.words has.words has.size
+    rw (buffer_is l ps frame (frame_in l ps owner page frame are mapped), first, has.are)
+    (buffer-words l.words has.words has.size)
 
 -- one word is written
 pub view-write_word : (l : LayoutParts) (ps : Pages) (owner page frame index value : ℕ) → AreOnce l ps
@@ -156,16 +151,12 @@ view-write_word l ps owner page frame index value are in_owners in_pages mapped 
     let write : Option (List ℕ) → Option (List ℕ) = option_map (λ words. set words index value) in
     let before = mapped_words l ps owner page frame are mapped in
     let there = frame_words l ps owner page frame are mapped in
-    same_frames _ _ _ _ refl (one_changed (buffer_by ps) (buffer_by new) (frame_count l) frame
+    rw (same_frames _ _ _ _ refl (one_changed (buffer_by ps) (buffer_by new) (frame_count l) frame
     (buffer_for (set (words_in l view frame) index value)) in_frames
-    (ap (option_and_then (page_buffer new)) first
-    ∙ (ap (option_and_then buffer_for)
-    (entry-same ps.contents owner page (write (words_at ps owner page)) has_words ∙ ap write before.are)
-    ∙ ap (λ (ws : List ℕ). buffer_for (set ws index value)) (sym there)))
-    (λ f lt other. buffer_kept ps new f refl
-    (λ found e. other_words ps owner page (write (words_at ps owner page)) f found has_words
-    (apart_from ps owner page frame mapped f other) e)))
-    ∙ sym (ap (λ (entry : Option ℕ). option_map_or (λ n. write_at l view n index value) entry view) mapped)
+    (rw (first, entry-same ps.contents owner page (write (words_at ps owner page)) has_words)
+    (rw (before.are, ← there))) (λ f lt other. buffer_kept ps new f refl (λ found e. other_words ps owner page
+    (write (words_at ps owner page)) f found has_words (apart_from ps owner page frame mapped f other) e))))
+    (sym (ap (λ (entry : Option ℕ). option_map_or (λ n. write_at l view n index value) entry view) mapped))
 
 -- a page moves
 pub view-move_page : (l : LayoutParts) (ps : Pages) (owner page from to : ℕ) → AreOnce l ps → IsFrame l to
@@ -201,8 +192,7 @@ view-move_page l ps owner page from to are to_in first free =
     let words = page_buffer ps in
     let from_buffer : buffer_of view from ≡ page_buffer ps (owner, page) =
     buffer_is l ps from from_in ∙ ap (option_and_then words) first in
-    let to_buffer : buffer_of view to ≡ None =
-    buffer_is l ps to to_in ∙ ap (option_and_then words) (first_none ps.table to free) in
+    let to_buffer : buffer_of view to ≡ None = rw (buffer_is l ps to to_in, first_none ps.table to free) in
     ap (λ (p : Option (ℕ × ℕ)). page_frames_of l
     (option_map_or (λ page. record ps { table = with_entry ps.table page.0 page.1 (Some to) }) p ps)) first
     ∙ (same_frames _ _ _ _ refl (two_changed (buffer_by ps) (buffer_by new) (frame_count l) from to
@@ -221,17 +211,14 @@ pub view-words_at : (l : LayoutParts) (ps : Pages) (owner page frame : ℕ) → 
     → frame_at ps owner page ≡ Some frame
     → words_of l (page_frames_of l ps) owner page ≡ words_at ps owner page
 view-words_at l ps owner page frame are mapped =
-    ap (option_map (words_in l (page_frames_of l ps))) mapped
-    ∙ (ap (λ (ws : List ℕ). Some ws) (frame_words l ps owner page frame are mapped)
-    ∙ sym (mapped_words l ps owner page frame are mapped).are)
+    rw (mapped, frame_words l ps owner page frame are mapped)
+    (rw (← (mapped_words l ps owner page frame are mapped).are))
 
 pub view-read_word : (l : LayoutParts) (ps : Pages) (owner page frame index : ℕ) → AreOnce l ps
     → frame_at ps owner page ≡ Some frame
     → slice_index (unwrap_or (words_of l (page_frames_of l ps) owner page) []) index
     ≡ read_word ps owner page index
-view-read_word l ps owner page frame index are mapped =
-    ap (λ (words : Option (List ℕ)). slice_index (unwrap_or words []) index)
-    (view-words_at l ps owner page frame are mapped)
+view-read_word l ps owner page frame index are mapped = rw (view-words_at l ps owner page frame are mapped)
 
 -- ---- the conditions of the calls
 
@@ -264,12 +251,8 @@ are_page_frames l ps are = record {
   mapped = are.mapped;
   frames = length-map-range_with_len (buffer_by ps) 0 (frame_count l);
   words = λ frame. elim (cases_lt frame (frame_count l)) [
-    | inl within ↦
-        subst (λ (b : Option (List ℕ)). IfSome b (λ words. length words ≡ l.words))
-        (sym (buffer_is l ps frame within)) (buffer_words l ps (page_at ps frame) are)
-    | inr past ↦
-        subst (λ (b : Option (List ℕ)). IfSome b (λ words. length words ≡ l.words))
-        (sym (no_buffer_past l ps frame past)) tt
+    | inl within ↦ rw (buffer_is l ps frame within) (buffer_words l ps (page_at ps frame) are)
+    | inr past ↦ rw (no_buffer_past l ps frame past) tt
   ];
 }
 
@@ -294,12 +277,8 @@ settled_view l ps are = record {
   once = are.once;
   buffers = λ frame. elim (cases_lt frame (frame_count l)) [
     | inl within ↦
-        subst (λ (b : Option (List ℕ)). IfSome b (IsNeeded (page_frames_of l ps) frame))
-        (sym (buffer_is l ps frame within))
-        (needed_found l ps frame (page_at ps frame) (are.once frame) refl)
-    | inr past ↦
-        subst (λ (b : Option (List ℕ)). IfSome b (IsNeeded (page_frames_of l ps) frame))
-        (sym (no_buffer_past l ps frame past)) tt
+        rw (buffer_is l ps frame within) (needed_found l ps frame (page_at ps frame) (are.once frame) refl)
+    | inr past ↦ rw (no_buffer_past l ps frame past) tt
   ];
 }
 
@@ -307,10 +286,9 @@ settled_view l ps are = record {
 
 page_words : (l : LayoutParts) (entry : Option ℕ) (words : Option (List ℕ)) → IsPage l entry words
     → is_some words ≡ is_some entry
-page_words l None None is = refl
 page_words l None (Some words) is = absurd is
 page_words l (Some frame) None is = absurd is
-page_words l (Some frame) (Some words) is = refl
+page_words l _ _ is = refl
 
 -- in a well placed state no frame holds two pages, and the frame view of its pages is settled
 pub once_placed : (l : LayoutParts) (s : Memory) → IsWellPlaced l s → ArePagesOf l s.pages → AreOnce l s.pages

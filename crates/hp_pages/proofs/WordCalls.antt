@@ -8,7 +8,7 @@ use Rattle.hp_units.specs.Arithmetic.{IsFrame}
 use Rattle.hp_units.specs.Pages.{fresh_words}
 use Rattle.hp_tape.specs.declared.deltas.Delta.{Delta}
 use Rattle.hp_tape.specs.declared.deltas.Delta.TheVariants.{Word as WordDelta, LargeWord, Filled}
-use Rattle.hp_tape.specs.Deltas.{FitsPages, HasOneWord, IsDeltaOf, IsOfPages, PageFrames, buffer_for, buffer_of, is_blank, pages_undo, with_buffer, word_delta}
+use Rattle.hp_tape.specs.Deltas.{FitsPages, HasOneWord, IsDeltaOf, IsOfPages, PageFrames, buffer_for, buffer_of, is_blank, pages_undo, with_buffer}
 use Rattle.hp_tape.specs.Tapes.{TapeValue, NotesPages}
 use Rattle.hp_pages.specs.declared.pages.PreparedWrite.TheVariants.{Change, Fill}
 use Rattle.hp_pages.specs.Pages.{change_at, needs_buffer, prepared_at, words_in, write_at}
@@ -100,8 +100,7 @@ notes-fill l v frame index value was now are in_frames in_words none room noted 
               (ap (λ (n : ℕ). set (replicate n 0) index value) (sym size)),
         );
         back = same_frames _ _ _ _ refl
-            (set-set v.buffers frame (Some words) None ∙ (ap (λ (b : Option (List ℕ)). set v.buffers frame b)
-            (sym none) ∙ set-get_or v.buffers frame None));
+            (rw (set-set v.buffers frame (Some words) None, ← none) (set-get_or v.buffers frame None));
       };
     }
 
@@ -164,9 +163,6 @@ by_size frame index was now false =
       back = λ v. refl;
     }
 
-is-word_delta : (frame index was now : ℕ) → IsWordDelta frame index was now (word_delta frame index was now)
-is-word_delta frame index was now = by_size frame index was now (nat_lt was (2 ^ 32) && nat_lt now (2 ^ 32))
-
 -- what changing a word in a buffer notes
 pub notes-word : (l : LayoutParts) (v : PageFrames) (frame index value : ℕ) (words : List ℕ)
     (was now : TapeValue)
@@ -177,9 +173,8 @@ pub notes-word : (l : LayoutParts) (v : PageFrames) (frame index value : ℕ) (w
     v
 notes-word l v frame index value words was now are in_frames in_words there room noted =
     let before = slice_index (words_in l v frame) index in
-    let read : before ≡ slice_index words index =
-    ap (λ (b : Option (List ℕ)). slice_index (unwrap_or b (fresh_words l)) index) there in
-    let delta = is-word_delta frame index before value in
+    let read : before ≡ slice_index words index = rw there in
+    let delta = by_size frame index before value (nat_lt before (2 ^ 32) && nat_lt value (2 ^ 32)) in
     let len : length words ≡ l.words =
     subst (λ (b : Option (List ℕ)). IfSome b (λ ws. length ws ≡ l.words)) there (are.words frame) in
     let within : frame < length v.buffers = omega (arith, are.frames, in_frames) in
@@ -197,18 +192,11 @@ notes-word l v frame index value words was now are in_frames in_words there room
       lead = record {
         fit = (
           tt,
-          delta.fit _ (ap (λ (b : Option (List ℕ)). slice_get (unwrap_or b []) index) new
-              ∙ get_set words index value index_in),
+          delta.fit _ (rw new (get_set words index value index_in)),
         );
         back = delta.back _ ∙ same_frames _ _ _ _ refl
-            (ap (λ (b : Option (List ℕ)). set
-            (set v.buffers frame (option_map (λ ws. set ws index value) (buffer_of v frame))) frame
-            (option_map (λ ws. set ws index before) b)) new
-            ∙ (set-set v.buffers frame _ _
-            ∙ (ap (λ (ws : List ℕ). set v.buffers frame (Some ws)) (set-set words index value before
-            ∙ (ap (λ (n : ℕ). set words index n) read ∙ set-get_or words index 0))
-            ∙ (ap (λ (b : Option (List ℕ)). set v.buffers frame b) (sym there)
-            ∙ set-get_or v.buffers frame None))));
+            (rw (new, set-set v.buffers frame _ _, set-set words index value before, read)
+            (rw (set-get_or words index 0, ← there) (set-get_or v.buffers frame None)));
       };
     }
 

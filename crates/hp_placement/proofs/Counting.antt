@@ -64,8 +64,7 @@ so_far_more {X} {g} {Q} {xs} {d} {i} {old} {mid} {new} h x low is q m = record {
   adds =
       λ frame.
       let more : total (g frame) 0 (take (i + 1) xs) ≡ total (g frame) 0 (take i xs) + g frame i x =
-      subst (λ (y : X). total (g frame) 0 (take (i + 1) xs) ≡ total (g frame) 0 (take i xs) + g frame i y) is
-      (rw add-one (total-more (g frame) 0 xs i i d low (omega arith))) in
+      rw (← is) (rw add-one (total-more (g frame) 0 xs i i d low (omega arith))) in
       omega (arith, m.adds frame, h.adds frame);
 }
 
@@ -77,8 +76,7 @@ pub so_far_twice : {X : Type 0} {g : ℕ → ℕ → X → ℕ} {Q : ℕ → X �
     → IsTwice old (λ frame. total (g frame) 0 xs)
 so_far_twice {X} {g} {Q} {xs} {d} {i} {old} {mid} h x low is t =
     let part : total (g t.frame) 0 (take i xs) + g t.frame i x ≤ total (g t.frame) 0 xs =
-    subst (λ (y : X). total (g t.frame) 0 (take i xs) + g t.frame i y ≤ total (g t.frame) 0 xs) is
-    (total-part (g t.frame) 0 xs i i d low (omega arith)) in
+    rw (← is) (total-part (g t.frame) 0 xs i i d low (omega arith)) in
     record { frame = t.frame; twice = omega (arith, t.twice, h.adds t.frame) }
 
 pub so_far_all : {X : Type 0} {g : ℕ → ℕ → X → ℕ} {Q : ℕ → X → Type 0} {xs : List X} {d : X} {i : ℕ}
@@ -86,10 +84,7 @@ pub so_far_all : {X : Type 0} {g : ℕ → ℕ → X → ℕ} {Q : ℕ → X →
     → SoFar g Q xs d i old new → i ≡ length xs → AreMarked old new (λ frame. total (g frame) 0 xs)
 so_far_all {X} {g} {Q} {xs} {d} {i} {old} {new} h all = record {
   adds =
-      λ frame.
-      h.adds frame
-      ∙ ap (λ (n : ℕ). mark_of old frame + total (g frame) 0 (take n xs)) all
-      ∙ ap (λ (n : ℕ). mark_of old frame + n) (total-all (g frame) 0 xs);
+      λ frame. rw (h.adds frame, all, total-all (g frame) 0 xs);
 }
 
 -- ---- the same places in other words
@@ -109,8 +104,7 @@ twice_as {p} {old} q same h = record {
 -- a sum over a list, also over its numbered entries
 pub total-sum : {X : Type 0} (f : X → ℕ) (from : ℕ) (xs : List X) → total (λ k x. f x) from xs ≡ sum_by f xs
 total-sum f from [] = refl
-total-sum f from (x ∷ xs) =
-    ap (λ (n : ℕ). f x + n) (total-sum f (from + 1) xs) ∙ sym (sum_by-cons f x xs)
+total-sum f from (x ∷ xs) = rw (total-sum f (from + 1) xs, ← sum_by-cons f x xs)
 
 pub total-numbered : {X : Type 0} (g : ℕ → X → ℕ) (from : ℕ) (xs : List X)
     → total g from xs ≡ sum_by (λ (e : ℕ × X). g e.0 e.1) (enumerate_from from xs)
@@ -122,8 +116,7 @@ total-numbered {X} g from (x ∷ xs) =
 pub total-lists : (frame from : ℕ) (lists : List (List ℕ))
     → total (λ number frames. list_places frame (number / 5) frames) from lists ≡ places_from frame from lists
 total-lists frame from [] = refl
-total-lists frame from (frames ∷ lists) =
-    ap (λ (n : ℕ). list_places frame (from / 5) frames + n) (total-lists frame (from + 1) lists)
+total-lists frame from (frames ∷ lists) = rw (total-lists frame (from + 1) lists)
 
 -- ---- the entries of a list
 

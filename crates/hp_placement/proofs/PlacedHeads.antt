@@ -9,10 +9,8 @@ use Rattle.hp_units.specs.FreeAreas.{is_on}
 on_more : (frames : List ℕ) (i x frame : ℕ) → i < length frames → get_or frames i 0 ≡ x
     → is_on frame (take (i + 1) frames) ≡ (is_on frame (take i frames) || (x == frame))
 on_more frames i x frame low is =
-    ap (is_on frame) (take_more frames i 0 low)
-    ∙ list_any-append (λ other. other == frame) (take i frames) (get_or frames i 0 ∷ [])
-    ∙ ap (λ (b : Bool). is_on frame (take i frames) || b) (or_false (get_or frames i 0 == frame))
-    ∙ ap (λ (y : ℕ). is_on frame (take i frames) || (y == frame)) is
+    rw (take_more frames i 0 low) (rw (list_any-append (λ other. other == frame) (take i frames)
+    (get_or frames i 0 ∷ [])) (rw (or_false (get_or frames i 0 == frame), is)))
   where
     or_false : (b : Bool) → (b || false) ≡ b
     or_false true = refl
@@ -34,18 +32,14 @@ pub heads_more : (heads old frames : List ℕ) (number i x : ℕ) → i < length
 heads_more heads old frames number i x low is there h f = elim (cases_eq f x) [
   | inl same ↦
       let on : is_on f (take (i + 1) frames) ≡ true =
-      on_more frames i x f low is
-      ∙ ap (λ (b : Bool). is_on f (take i frames) || b) (eq-eqb x f (sym same))
-      ∙ or_true (is_on f (take i frames)) in
+      rw (on_more frames i x f low is, eq-eqb x f (sym same)) (or_true (is_on f (take i frames))) in
       ap (λ (n : ℕ). get_or (set heads x number) n 0) same ∙ get_or-set_same heads x number 0 there
       ∙ sym (ap (λ (b : Bool). cond b number (get_or old f 0)) on)
   | inr apart ↦
       let off : is_on f (take (i + 1) frames) ≡ is_on f (take i frames) =
-      on_more frames i x f low is
-      ∙ ap (λ (b : Bool). is_on f (take i frames) || b) (ne_eqb x f (λ same. apart (sym same)))
-      ∙ or_none (is_on f (take i frames)) in
-      get_or-set_other heads x f number 0 apart ∙ h f
-      ∙ sym (ap (λ (b : Bool). cond b number (get_or old f 0)) off)
+      rw (on_more frames i x f low is, (ne_eqb x f (λ same. apart (sym same))))
+      (or_none (is_on f (take i frames))) in
+      rw (get_or-set_other heads x f number 0 apart, h f, ← off)
 ]
 
 -- the first frames of a list's blocks have its number, and all others a lower one

@@ -1,5 +1,5 @@
 -- Rows, kinds and marks of numbers that are not in the layout.
-use Rattle.std.proofs.Common.{◌≡◌, ℕ, ◌+◌, ◌*◌, ◌/◌, ◌^◌, ◌<◌, ◌≤◌, List, [], ◌∷◌, ◌++◌, length, get_or, cond, IfSome, Option, None, refl, sym, ◌∙◌, ap, subst, arith, inl, inr}
+use Rattle.std.proofs.Common.{◌≡◌, ℕ, ◌+◌, ◌*◌, ◌/◌, ◌^◌, ◌<◌, ◌≤◌, List, [], ◌∷◌, ◌++◌, length, get_or, cond, IfSome, Option, None, refl, sym, ◌∙◌, ap, arith, inl, inr}
 use Rattle.std.proofs.lemmas.Bool.{cases_lt}
 use Rattle.std.proofs.lemmas.List.{get_or_append_left, get_or_past, get_or_push}
 use Rattle.std.proofs.lemmas.Nat.{pow_pos}
@@ -36,27 +36,22 @@ pub all_rows : (rows : List Row) (number : ℕ) → number ≡ length rows
     → ((k : ℕ) → k < number → IsRow (get_or rows k offline_row)) → AreRows rows
 all_rows rows number all each block = elim (cases_lt block number) [
   | inl low ↦ each block low
-  | inr past ↦
-      subst (λ (r : Row). IsRow r) (sym (get_or_past rows block offline_row (omega arith))) (refl, refl)
+  | inr past ↦ rw (get_or_past rows block offline_row (omega arith)) (refl, refl)
 ]
 
 -- there are few pageblocks
 pub pageblocks_few : (l : LayoutParts) → IsLayout l → pageblock_count l ≤ 2 ^ 20
 pageblocks_few l layout =
-    let some : 1 ≤ 2 ^ l.order = pow_pos l.order in
     let turned : l.blocks * (l.pageblocks * 2 ^ l.order) ≡ l.blocks * l.pageblocks * 2 ^ l.order =
     grind arith in
     let more : l.blocks * l.pageblocks * 1 ≤ l.blocks * l.pageblocks * 2 ^ l.order =
-    omega (arith, mul-le-mul_left (l.blocks * l.pageblocks) some) in
+    omega (arith, mul-le-mul_left (l.blocks * l.pageblocks) (pow_pos l.order)) in
     let frames : l.blocks * (l.pageblocks * 2 ^ l.order) ≤ 2 ^ 20 = layout.frames in
     omega arith
 
 -- the kind of a pageblock of an offline block fits an offline row
 plain_fits : (kind : Kind) (row : Row) → kind ≡ plain_kind → row ≡ offline_row → IsKind kind row
-plain_fits kind row k r =
-    subst (λ (other : Kind). IsKind other row) (sym k)
-    (subst (λ (other : Row). IsKind plain_kind other) (sym r)
-    (record { mobility = λ same. absurd (apart same); isolated = refl }))
+plain_fits kind row k r = rw (k, r) (record { mobility = λ same. absurd (apart same); isolated = refl })
   where
     apart : Movable ≡ Unmovable → ⊥
     apart e = cc
@@ -68,8 +63,7 @@ pub all_kinds : (l : LayoutParts) (kinds : List Kind) (rows : List Row) (number 
 all_kinds l kinds rows number layout size blocks all each pageblock = elim (cases_lt pageblock number) [
   | inl low ↦ each pageblock low
   | inr past ↦
-      let some : 1 ≤ l.pageblocks =
-      subst (λ (n : ℕ). 1 ≤ n) (sym layout.pageblocks.2) (pow_pos layout.pageblocks.0) in
+      let some : 1 ≤ l.pageblocks = rw layout.pageblocks.2 (pow_pos layout.pageblocks.0) in
       let block : l.blocks ≤ pageblock / l.pageblocks = (le-div_iff_mul-le some).1 (omega arith) in
       plain_fits (kind_at kinds pageblock) (row_at l rows pageblock)
       (get_or_past kinds pageblock plain_kind (omega arith))
@@ -83,9 +77,7 @@ pub kernel_each : (l : LayoutParts) (rows : List Row) (kernel : List (Option ℕ
     → IsKernelPlaced l rows kernel
 kernel_each l rows kernel number all each first = elim (cases_lt first number) [
   | inl low ↦ each first low
-  | inr past ↦
-      subst (λ (e : Option ℕ). IfSome e (IsKernelAt l rows first))
-      (sym (get_or_past kernel first None (omega arith))) tt
+  | inr past ↦ rw (get_or_past kernel first None (omega arith)) tt
 ]
 
 -- one more frame's mark
@@ -93,9 +85,7 @@ pub marks_more : (l : LayoutParts) (rows : List Row) (marks new : List ℕ) (num
     → ((k : ℕ) → k < number → get_or marks k 1 ≡ unplugged l rows k) → new ≡ marks ++ x ∷ []
     → x ≡ unplugged l rows number → (k : ℕ) → k < number + 1 → get_or new k 1 ≡ unplugged l rows k
 marks_more l rows marks new number x long each pushed is k low = elim (cases_lt k number) [
-  | inl before ↦
-      ap (λ (xs : List ℕ). get_or xs k 1) pushed ∙ get_or_append_left marks (x ∷ []) 1 k (omega arith)
-      ∙ each k before
+  | inl before ↦ rw (pushed, get_or_append_left marks (x ∷ []) 1 k (omega arith)) (each k before)
   | inr past ↦
       let same : k ≡ number = omega arith in
       rw (same, pushed) (get_or_push marks x 1 number long ∙ is)

@@ -1,5 +1,5 @@
 -- The step of a Begin of a processor that is in the layout.
-use Rattle.std.proofs.Common.{◌≡◌, ℕ, ◌<◌, ◌≤◌, Bool, true, false, List, Option, Some, None, refl, sym, ◌∙◌, ap, subst, arith}
+use Rattle.std.proofs.Common.{◌≡◌, ℕ, ◌<◌, ◌≤◌, Bool, true, false, List, Option, Some, None, refl, ◌∙◌, ap, arith}
 use Rattle.std.specs.Prelude.{nat_le}
 use Rattle.std.specs.Bool.{then_some}
 use Rattle.std.specs.Option.{option_or}
@@ -34,7 +34,5 @@ pub begins : (l : LayoutParts) (s : Memory) (serial cpu : ℕ) (plan : List Item
     → opened l s serial plan ≡ step l s serial cpu event
 unfolding step refusal_of
 begins l s serial cpu plan event below e =
-    subst (λ (v : Event). opened l s serial plan ≡ step l s serial cpu v) (sym e)
-    (answer-same l s serial cpu plan (first_some (plan_refusals l s plan))
-    ∙ ap (answer l s serial cpu (Begin plan))
-    (passes l.cpus cpu (nat_le l.cpus cpu) (first_some (plan_refusals l s plan)) refl below))
+    rw e (answer-same l s serial cpu plan (first_some (plan_refusals l s plan)) ∙ ap (answer l s serial cpu
+    (Begin plan)) (passes l.cpus cpu (nat_le l.cpus cpu) (first_some (plan_refusals l s plan)) refl below))

@@ -19,18 +19,14 @@ range-below a (suc n) b e = elim (on_cases b a (range_with_len (a + 1) n) e) [
   | inr rest ↦ let h : b < a + 1 + n = range-below (a + 1) n b rest in omega arith
 ]
 
--- an element of a list is on it
-at-on : (xs : List ℕ) (k : ℕ) → k < length xs → is_on (get_or xs k 0) xs ≡ true
-at-on xs k below =
-    list_any_at (λ other. other == get_or xs k 0) xs k 0 below (eq-eqb (get_or xs k 0) (get_or xs k 0) refl)
-
 -- the blocks that an operation holds are of the layout
 pub blocks_of-below : (l : LayoutParts) (bs : Blocks) (op : ℕ) (blocks : List ℕ) → blocks ≡ blocks_of l bs op
     → (k : ℕ) → k < length blocks → get_or blocks k 0 < l.blocks
 blocks_of-below l bs op blocks e k below =
     let p : ℕ → Bool = λ (block : ℕ). is_claimed_by op (row_of bs block) in
     let on : is_on (get_or blocks k 0) (blocks_of l bs op) ≡ true =
-    subst (λ (xs : List ℕ). is_on (get_or blocks k 0) xs ≡ true) e (at-on blocks k below) in
+    subst (λ (xs : List ℕ). is_on (get_or blocks k 0) xs ≡ true) e (list_any_at (λ other. other == get_or
+    blocks k 0) blocks k 0 below (eq-eqb (get_or blocks k 0) (get_or blocks k 0) refl)) in
     let h : get_or blocks k 0 < 0 + l.blocks =
     range-below 0 l.blocks (get_or blocks k 0) (on-filter p (get_or blocks k 0) (all_blocks l) on) in
     omega arith
@@ -38,6 +34,4 @@ blocks_of-below l bs op blocks e k below =
 -- a filter of the numbers below `n`, with one more number
 pub filter-below_more : (p : ℕ → Bool) (n : ℕ) (keep : Bool) → p n ≡ keep
     → filter p (range_with_len 0 (n + 1)) ≡ filter p (range_with_len 0 n) ++ cond keep (n ∷ []) []
-filter-below_more p n keep e =
-    filter-range_more p 0 n keep (ap p (zero-add n) ∙ e)
-    ∙ ap (λ (k : ℕ). filter p (range_with_len 0 n) ++ cond keep (k ∷ []) []) (zero-add n)
+filter-below_more p n keep e = rw (filter-range_more p 0 n keep (ap p (zero-add n) ∙ e), zero-add n)

@@ -25,6 +25,4 @@ pub find-flat_item : (p : ℕ → Bool) (f : ℕ → List ℕ) (xs : List ℕ) (
     → i < length xs → d ≡ get_or xs i d → found ≡ find p (f d)
     → find p (flat_map f (drop i xs)) ≡ option_or found (find p (flat_map f (drop (i + 1) xs)))
 find-flat_item p f xs i d found h item e =
-    let rest : Option ℕ = find p (flat_map f (drop (i + 1) xs)) in
-    find-flat_step p f xs i d h ∙ ap (λ (n : ℕ). option_or (find p (f n)) rest) (sym item)
-    ∙ ap (λ (o : Option ℕ). option_or o rest) (sym e)
+    rw (find-flat_step p f xs i d h, ← item, ← e)

@@ -19,8 +19,7 @@ made lists kinds = record { lists = lists; kinds = kinds }
 pub empty-areas_are : (l : LayoutParts) (lists : List (List ℕ)) (kinds : List Kind)
     → lists ≡ replicate (5 * (l.order + 1)) [] → kinds ≡ replicate (pageblock_count l) plain_kind
     → made lists kinds ≡ empty_areas l
-empty-areas_are l lists kinds e f =
-    ap (λ (xs : List (List ℕ)). made xs kinds) e ∙ ap (made (replicate (5 * (l.order + 1)) [])) f
+empty-areas_are l lists kinds e f = rw (e, f)
 
 -- areas with nothing free are within their layout
 pub empty-areas_of : (l : LayoutParts) → AreFreeAreasOf l (empty_areas l)

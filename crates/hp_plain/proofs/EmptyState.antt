@@ -3,7 +3,7 @@ use Rattle.std.proofs.Common.{◌≡◌, ℕ, zero, suc, ◌≤◌, List, length
 use Rattle.std.specs.List.{AllByRecursion}
 use Rattle.std.proofs.lemmas.List.{length-replicate}
 use Rattle.hp_units.specs.LayoutParts.{LayoutParts}
-use Rattle.hp_units.specs.Arithmetic.{IsFrame, frame_count}
+use Rattle.hp_units.specs.Arithmetic.{frame_count}
 use Rattle.hp_units.specs.Memory.{Memory, entry_of, offline_row}
 use Rattle.hp_units.specs.Boot.{empty_pages, empty_blocks}
 use Rattle.hp_units.specs.InLayout.{AreFreeFramesOf, ArePagesOf, AreKernelBlocksOf, AreBlocksOf, IsMemoryOf}
@@ -33,11 +33,9 @@ pages_of l = record {
       all_replicate (λ (row : List (Option (List ℕ))). length row ≡ l.pages) l.owners (replicate l.pages None)
       (length-replicate l.pages None);
   mapped =
-      λ owner page.
-      subst (λ (o : Option ℕ). IfSome o (IsFrame l)) (sym (no_entry l.owners l.pages owner page)) tt;
+      λ owner page. rw (no_entry l.owners l.pages owner page) tt;
   words =
-      λ owner page. subst (λ (o : Option (List ℕ)). IfSome o (λ words. length words ≡ l.words))
-      (sym (no_entry l.owners l.pages owner page)) tt;
+      λ owner page. rw (no_entry l.owners l.pages owner page) tt;
 }
 
 -- the kernel blocks of the empty state

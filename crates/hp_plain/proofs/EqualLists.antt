@@ -1,14 +1,12 @@
 -- Lists that are compared by `==`.
-use Rattle.std.proofs.Common.{◌≡◌, ◌≢◌, ℕ, List, Bool, true, false, Option, None, Some, Decides, MatchBool, ap, nat_eq, refl, rules, ◌&&◌}
+use Rattle.std.proofs.Common.{◌≡◌, ◌≢◌, ℕ, List, Bool, true, false, Option, Some, Decides, MatchBool, ap, nat_eq, refl, rules, ◌&&◌}
 use Rattle.std.specs.Cmp.Lexicographic.{pointwise, pointwise_decides}
 use Rattle.std.specs.Option.{option_eq}
 use Rattle.hp_units.specs.declared.rows.Claim.{Claim}
 use Rattle.hp_units.specs.declared.rows.Row.{Row}
-use Rattle.hp_units.specs.declared.rows.State.{State}
 use Rattle.hp_units.specs.declared.rows.Zone.{Zone}
 use Rattle.hp_units.specs.contracts.rows.ClaimPartialEq.TheImpl as claim
 use Rattle.hp_units.specs.contracts.rows.RowPartialEq.TheImpl as row
-use Rattle.hp_units.specs.contracts.rows.StatePartialEq.TheImpl as state
 use Rattle.hp_units.specs.contracts.rows.ZonePartialEq.TheImpl as zone
 use Rattle.std.proofs.lemmas.Bool.{false≢true}
 use Rattle.std.proofs.lemmas.Bool.Decides.{Decides-eqb}
@@ -25,16 +23,11 @@ lists_told decides xs ys r is = told r (slice_eq-Decides decides xs ys r is)
 
 pub options_decided : {A : Type 0} {E : A → A → Bool} → ((x y : A) → Decides (E x y) (x ≡ y))
     → (x y : Option A) → Decides (option_eq E x y) (x ≡ y)
-options_decided decides None None = search rules
-options_decided decides None (Some y) = search rules
-options_decided decides (Some x) None = search rules
 options_decided decides (Some x) (Some y) = search (decides x y, rules)
+options_decided decides _ _ = search rules
 
 pub numbers_decided : (xs ys : List ℕ) → Decides (pointwise nat_eq xs ys) (xs ≡ ys)
 numbers_decided xs ys = pointwise_decides Decides-eqb xs ys
-
-states_decided : (x y : State) → Decides (state.ghosts.eq x y) (x ≡ y)
-states_decided x y = search rules
 
 zones_decided : (x y : Zone) → Decides (zone.ghosts.eq x y) (x ≡ y)
 zones_decided x y = search rules
@@ -48,7 +41,7 @@ both_decided false b p q = (λ t. absurd (false≢true t), λ both. absurd (fals
 
 pub rows_decided : (x y : Row) → Decides (row.ghosts.eq x y) (x ≡ y)
 rows_decided x y =
-    let parts = both_decided _ _ (states_decided x.state y.state) (both_decided _ _
+    let parts = both_decided _ _ (search rules) (both_decided _ _
     (options_decided zones_decided x.zone y.zone) (options_decided claims_decided x.claim y.claim)) in (
       λ same. let p = parts.0 same in search (p, rules),
       λ equal. parts.1 (

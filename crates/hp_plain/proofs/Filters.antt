@@ -11,8 +11,7 @@ filter-step : (keep same : Bool) (number x : ℕ) (xs ys : List ℕ) → (x == n
     → is_on number (cond keep (x ∷ ys) ys) ≡ true → is_on number (x ∷ xs) ≡ true
 filter-step keep true number x xs ys s h e = ap (λ (b : Bool). b || is_on number xs) s
 filter-step false false number x xs ys s h e = ap (λ (b : Bool). b || is_on number xs) s ∙ h e
-filter-step true false number x xs ys s h e =
-    ap (λ (b : Bool). b || is_on number xs) s ∙ h (sym (ap (λ (b : Bool). b || is_on number ys) s) ∙ e)
+filter-step true false number x xs ys s h e = rw s (h (sym (ap (λ (b : Bool). b || is_on number ys) s) ∙ e))
 
 -- a number on a filtered list is on the list
 pub on-filter : (p : ℕ → Bool) (number : ℕ) (xs : List ℕ) → is_on number (filter p xs) ≡ true

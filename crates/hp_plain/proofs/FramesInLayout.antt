@@ -30,8 +30,7 @@ on-set lists i j frames frame on = elim (cases_eq j i) [
         ap (λ (k : ℕ). get_or (set lists i frames) k []) same ∙ get_or-set_same lists i frames [] there in
         inl (same, subst (λ (xs : List ℕ). is_on frame xs ≡ true) e on)
     | inr past ↦
-        inr (subst (λ (ls : List (List ℕ)). is_on frame (get_or ls j []) ≡ true)
-        (set_past lists i frames past) on)
+        inr (rw (← set_past lists i frames past) on)
   ]
   | inr apart ↦
       inr (subst (λ (xs : List ℕ). is_on frame xs ≡ true) (get_or-set_other lists i j frames [] apart) on)

@@ -1,5 +1,5 @@
 -- The pageblocks of a memory block are added one after another.
-use Rattle.std.proofs.Common.{Result, Ok, Err, OnOk, OnErr, ◌≡◌, ℕ, ◌+◌, ◌*◌, ◌%◌, ◌^◌, ◌<◌, ◌≤◌, sym, ◌∙◌, ap, subst, arith}
+use Rattle.std.proofs.Common.{Result, Ok, Err, OnOk, OnErr, ◌≡◌, ℕ, ◌+◌, ◌*◌, ◌%◌, ◌^◌, ◌<◌, ◌≤◌, sym, subst, arith}
 use Rattle.std.specs.List.{fold, range_with_len}
 use Rattle.std.proofs.Math.Nat.{mul-le-mul_left}
 use Rattle.hp_units.specs.LayoutParts.{LayoutParts, IsLayout}
@@ -46,9 +46,7 @@ adds_pageblock l zone old mid new block number layout below low is added =
     let few : pageblock * 2 ^ l.order < 2 ^ 32 =
     pageblock_few l pageblock layout (pageblock_of_block l block number below low) in
     let whole : pageblock * 2 ^ l.order % 2 ^ 32 ≡ pageblock * 2 ^ l.order = omega arith in
-    added ∙ ap (with_back mid (usable_class zone Movable) l.order) whole
-    ∙ ap (λ (a : FreeAreas). add_pageblock l zone a pageblock) is
-    ∙ sym (fold-range_more (add_pageblock l zone) old (block * l.pageblocks) number)
+    rw (added, whole, is, ← fold-range_more (add_pageblock l zone) old (block * l.pageblocks) number)
 
 -- and the areas with it are within the layout
 pub keeps_pageblock : (l : LayoutParts) (zone : Zone) (mid new : FreeAreas) (block number : ℕ) → IsLayout l
@@ -59,7 +57,6 @@ pub keeps_pageblock : (l : LayoutParts) (zone : Zone) (mid new : FreeAreas) (blo
 keeps_pageblock l zone mid new block number layout below low of added =
     let pageblock = block * l.pageblocks + number in
     let there : pageblock < pageblock_count l = pageblock_of_block l block number below low in
-    let few : pageblock * 2 ^ l.order < 2 ^ 32 = pageblock_few l pageblock layout there in
     let within : pageblock * 2 ^ l.order + 2 ^ l.order ≤ frame_count l = pageblock_within l pageblock there in
     subst (AreFreeAreasOf l) (sym added)
     (of_back l mid (usable_class zone Movable) l.order (pageblock * 2 ^ l.order % 2 ^ 32) of (omega arith))

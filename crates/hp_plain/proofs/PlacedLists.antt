@@ -1,5 +1,5 @@
 -- One more list in a walk over the free blocks, or over the processors' lists.
-use Rattle.std.proofs.Common.{◌≡◌, ℕ, zero, suc, ◌+◌, ◌*◌, ◌/◌, ◌%◌, ◌<◌, List, [], length, get_or, refl, sym, ◌∙◌, ap, subst, arith, true, ◌==◌, inl, inr}
+use Rattle.std.proofs.Common.{◌≡◌, ℕ, suc, ◌+◌, ◌*◌, ◌/◌, ◌%◌, ◌<◌, List, [], length, get_or, refl, ◌∙◌, ap, subst, arith, true, ◌==◌, inl, inr}
 use Rattle.std.specs.List.{count_by}
 use Rattle.std.proofs.lemmas.Bool.{cases_lt, false≢true}
 use Rattle.std.proofs.lemmas.List.{get_or_past}
@@ -19,12 +19,8 @@ use Rattle.hp_placement.proofs.Counting.{SoFar, marked_as, so_far_all, so_far_mo
 
 -- the class numbered `n` has the index `n`, if `n` is below five
 class_of_low : (n : ℕ) → n < 5 → class_index (class_numbered n) ≡ n
-class_of_low zero h = refl
-class_of_low (suc zero) h = refl
-class_of_low (suc (suc zero)) h = refl
-class_of_low (suc (suc (suc zero))) h = refl
-class_of_low (suc (suc (suc (suc zero)))) h = refl
 class_of_low (suc (suc (suc (suc (suc n))))) h = absurd (omega arith)
+class_of_low _ h = refl
 
 -- the list of a number
 pub list_numbered : (a : FreeAreas) (number : ℕ)
@@ -61,9 +57,7 @@ each_list P a each none class order = elim (cases_lt (5 * order + class_index cl
       subst (λ (c : Class). P c order (free_list a class order)) is.class_is
       (subst (λ (n : ℕ). P (class_numbered ((5 * order + class_index class) % 5)) n
       (free_list a class order)) is.order_is here)
-  | inr past ↦
-      subst (P class order) (sym (get_or_past a.lists (5 * order + class_index class) [] past))
-      (none class order)
+  | inr past ↦ rw (get_or_past a.lists (5 * order + class_index class) [] past) (none class order)
 ]
 
 -- ---- the free blocks
@@ -83,10 +77,7 @@ pub free_more : (l : LayoutParts) (a : FreeAreas) (rows : List Row) (number orde
     × AreMarked mid new (λ frame. list_places frame order (free_list a class order))
     → FreeSoFar l a rows (number + 1) old new
 free_more l a rows number order class old mid new h low class_is order_is placed =
-    let here = subst (λ (c : Class). IsListPlaced l a.kinds rows c (number / 5) (free_list a c (number / 5))
-    × AreMarked mid new (λ frame. list_places frame (number / 5) (free_list a c (number / 5)))) class_is
-    (subst (λ (o : ℕ). IsListPlaced l a.kinds rows class o (free_list a class o)
-    × AreMarked mid new (λ frame. list_places frame o (free_list a class o))) order_is placed) in
+    let here = rw (order_is, class_is) at placed in
     so_far_more h (free_list a (class_numbered (number % 5)) (number / 5)) low (list_numbered a number) here.0
     here.1
 
@@ -98,10 +89,7 @@ pub free_twice : (l : LayoutParts) (a : FreeAreas) (rows : List Row) (number ord
     → IsTwice mid (λ frame. list_places frame order (free_list a class order)))
     → AreListsPlaced l a rows → IsTwice old (free_places a)
 free_twice l a rows number order class old mid h low class_is order_is twice placed =
-    let here = subst (λ (c : Class).
-    IsTwice mid (λ frame. list_places frame (number / 5) (free_list a c (number / 5)))) class_is
-    (subst (λ (o : ℕ). IsTwice mid (λ frame. list_places frame o (free_list a class o))) order_is
-    (twice (placed class order))) in
+    let here = rw (order_is, class_is) at (twice (placed class order)) in
     twice_as (free_places a) (λ frame. total-lists frame 0 a.lists)
     (so_far_twice h (free_list a (class_numbered (number % 5)) (number / 5)) low (list_numbered a number) here)
 
@@ -118,10 +106,8 @@ free_all l a rows number old new h all = (
 -- ---- the processors' lists
 
 pool_of_low : (n : ℕ) → n < 3 → pool_index (pool_numbered n) ≡ n
-pool_of_low zero h = refl
-pool_of_low (suc zero) h = refl
-pool_of_low (suc (suc zero)) h = refl
 pool_of_low (suc (suc (suc n))) h = absurd (omega arith)
+pool_of_low _ h = refl
 
 pool_numbered-index : (pool : Pool) → pool_numbered (pool_index pool) ≡ pool
 pool_numbered-index NuPool = refl
@@ -151,11 +137,9 @@ pub cached_more : (l : LayoutParts) (fs : FreeFrames) (rows : List Row) (number 
     × AreMarked mid new (λ frame. count_by (λ other. other == frame) frames)
     → CachedSoFar l fs rows (number + 1) old new
 cached_more l fs rows number pool kinds frames old mid new h low pool_is kinds_is frames_is placed =
-    let list : get_or fs.cached number [] ≡ frames =
-    cached_numbered fs number ∙ ap (cached_list fs (number / 3)) (sym pool_is) ∙ sym frames_is in
+    let list : get_or fs.cached number [] ≡ frames = rw (cached_numbered fs number, ← pool_is, ← frames_is) in
     so_far_more h frames low list
-    (subst (λ (p : Pool). IsPoolPlaced l fs.areas.kinds rows p frames) pool_is
-    (subst (λ (ks : List Kind). IsPoolPlaced l ks rows pool frames) kinds_is placed.0)) placed.1
+    (rw (← pool_is, ← kinds_is) placed.0) placed.1
 
 pub cached_twice : (l : LayoutParts) (fs : FreeFrames) (rows : List Row) (number : ℕ) (pool : Pool)
     (kinds : List Kind) (frames : List ℕ) (old mid : List ℕ)
@@ -165,12 +149,8 @@ pub cached_twice : (l : LayoutParts) (fs : FreeFrames) (rows : List Row) (number
     → IsTwice mid (λ frame. count_by (λ other. other == frame) frames))
     → ArePoolsPlaced l fs rows → IsTwice old (cached_places fs)
 cached_twice l fs rows number pool kinds frames old mid h low pool_is kinds_is frames_is twice placed =
-    let list : get_or fs.cached number [] ≡ frames =
-    cached_numbered fs number ∙ ap (cached_list fs (number / 3)) (sym pool_is) ∙ sym frames_is in
-    let here : IsPoolPlaced l kinds rows pool frames =
-    subst (λ (ks : List Kind). IsPoolPlaced l ks rows pool frames) (sym kinds_is)
-    (subst (λ (xs : List ℕ). IsPoolPlaced l fs.areas.kinds rows pool xs) (sym frames_is)
-    (placed (number / 3) pool)) in
+    let list : get_or fs.cached number [] ≡ frames = rw (cached_numbered fs number, ← pool_is, ← frames_is) in
+    let here : IsPoolPlaced l kinds rows pool frames = rw (kinds_is, frames_is) (placed (number / 3) pool) in
     twice_as (cached_places fs)
     (λ frame. total-sum (λ (xs : List ℕ). count_by (λ other. other == frame) xs) 0 fs.cached)
     (so_far_twice h frames low list (twice here))
@@ -187,8 +167,7 @@ cached_all l fs rows number old new h all = (
         (ap pool_numbered rest ∙ pool_numbered-index pool)
         (h.each (3 * cpu + pool_index pool) (omega arith))
     | inr past ↦
-        subst (IsPoolPlaced l fs.areas.kinds rows pool)
-        (sym (get_or_past fs.cached (3 * cpu + pool_index pool) [] past)) (λ frame on. absurd (false≢true on))
+        rw (get_or_past fs.cached (3 * cpu + pool_index pool) [] past) (λ frame on. absurd (false≢true on))
   ],
   marked_as (cached_places fs)
       (λ frame. total-sum (λ (xs : List ℕ). count_by (λ other. other == frame) xs) 0 fs.cached)

@@ -1,5 +1,5 @@
 -- One more page in a walk over an owner's pages, and one more owner in a walk over all.
-use Rattle.std.proofs.Common.{◌≡◌, ℕ, ◌+◌, ◌<◌, ◌≤◌, List, [], length, get_or, cond, Option, None, refl, sym, ap, subst, arith, inl, inr}
+use Rattle.std.proofs.Common.{◌≡◌, ℕ, ◌+◌, ◌<◌, ◌≤◌, List, [], length, get_or, cond, Option, None, refl, sym, subst, arith, inl, inr}
 use Rattle.std.specs.List.{count_by}
 use Rattle.std.proofs.lemmas.Bool.{cases_lt}
 use Rattle.std.proofs.lemmas.List.{get_or_past}
@@ -19,15 +19,12 @@ past_page table owner page pages long past = get_or_past (get_or table owner [])
 
 past_owner : {A : Type 0} (table : List (List (Option A))) (owner page : ℕ) → length table ≤ owner
     → entry_of table owner page ≡ None
-past_owner table owner page past =
-    ap (λ row. get_or row page None) (get_or_past table owner [] past)
+past_owner table owner page past = rw (get_or_past table owner [] past)
 
 -- a page that isn't there is as it must be
 no_page : (l : LayoutParts) (ps : Pages) (owner page : ℕ) → frame_at ps owner page ≡ None
     → words_at ps owner page ≡ None → IsPage l (frame_at ps owner page) (words_at ps owner page)
-no_page l ps owner page frame words =
-    subst (λ (f : Option ℕ). IsPage l f (words_at ps owner page)) (sym frame)
-    (subst (λ (w : Option (List ℕ)). IsPage l None w) (sym words) tt)
+no_page l ps owner page frame words = rw (frame, words) tt
 
 -- ---- the pages of an owner
 
@@ -58,9 +55,7 @@ pub owner_twice : (l : LayoutParts) (ps : Pages) (owner page : ℕ) (entry : Opt
 owner_twice l ps owner page entry words old mid of there low h entry_is words_is twice placed =
     let long : length (get_or ps.table owner []) ≡ l.pages =
     row_length l.pages ps.table owner of.pages (omega (arith, of.owners)) in
-    let here : IsPage l entry words =
-    subst (λ (f : Option ℕ). IsPage l f words) (sym entry_is)
-    (subst (λ (w : Option (List ℕ)). IsPage l (frame_at ps owner page) w) (sym words_is) (placed page)) in
+    let here : IsPage l entry words = rw (entry_is, words_is) (placed page) in
     twice_as (λ frame. count_by (holds frame) (get_or ps.table owner []))
     (λ frame. total-sum (λ (e : Option ℕ). cond (holds frame e) 1 0) 0 (get_or ps.table owner []))
     (so_far_twice h entry (omega arith) (sym entry_is) (twice here))

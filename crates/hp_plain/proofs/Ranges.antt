@@ -10,8 +10,7 @@ pub range_step : (a n size : ℕ) → n < size
 range_step a n size h =
     let less : size - n ≡ suc (size - (n + 1)) = omega arith in
     let next : a + n + 1 ≡ a + (n + 1) = omega arith in
-    ap (λ (k : ℕ). range_with_len (a + n) k) less
-    ∙ ap (λ (k : ℕ). (a + n) ∷ range_with_len k (size - (n + 1))) next
+    rw (less, next)
 
 -- a test whether some number from `n` on passes
 pub any-below_step : (p : ℕ → Bool) (n size : ℕ) (holds : Bool) → n < size → p n ≡ holds
@@ -19,8 +18,7 @@ pub any-below_step : (p : ℕ → Bool) (n size : ℕ) (holds : Bool) → n < si
     ≡ cond holds true (list_any p (range_with_len (n + 1) (size - (n + 1))))
 any-below_step p n size holds h e =
     let less : size - n ≡ suc (size - (n + 1)) = omega arith in
-    ap (λ (k : ℕ). list_any p (range_with_len n k)) less
-    ∙ or_cond (p n) holds (list_any p (range_with_len (n + 1) (size - (n + 1)))) e
+    rw less (or_cond (p n) holds (list_any p (range_with_len (n + 1) (size - (n + 1)))) e)
   where
     or_cond : (x y rest : Bool) → x ≡ y → (x || rest) ≡ cond y true rest
     or_cond true true rest f = refl
@@ -52,6 +50,4 @@ range_push a (suc n) =
 -- a fold over the numbers from `a` on, with one more
 pub fold-range_more : {B : Type 0} (f : B → ℕ → B) (b : B) (a n : ℕ)
     → fold f b (range_with_len a (n + 1)) ≡ f (fold f b (range_with_len a n)) (a + n)
-fold-range_more f b a n =
-    ap (λ (k : ℕ). fold f b (range_with_len a k)) (add-one n) ∙ ap (fold f b) (range_push a n)
-    ∙ fold_push f b (range_with_len a n) (a + n)
+fold-range_more f b a n = rw (add-one n, range_push a n) (fold_push f b (range_with_len a n) (a + n))

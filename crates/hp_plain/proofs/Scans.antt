@@ -26,10 +26,8 @@ pub find-flat_step : {X : Type 0} (p : ℕ → Bool) (f : X → List ℕ) (xs : 
     → find p (flat_map f (drop i xs))
     ≡ option_or (find p (f (get_or xs i d))) (find p (flat_map f (drop (i + 1) xs)))
 find-flat_step {X} p f xs i d h =
-    ap (λ (ys : List X). find p (flat_map f ys)) (drop-cons xs i d h)
-    ∙ find-append p (f (get_or xs i d)) (flat_map f (drop (suc i) xs))
-    ∙ ap (λ (k : ℕ). option_or (find p (f (get_or xs i d))) (find p (flat_map f (drop k xs))))
-    (sym (add-one i))
+    rw (drop-cons xs i d h, find-append p (f (get_or xs i d)) (flat_map f (drop (suc i) xs)))
+    (rw (← add-one i))
 
 -- ---- the blocks of a plan
 

@@ -1,5 +1,5 @@
 -- Values made of their parts, and equal if their parts are.
-use Rattle.std.proofs.Common.{◌≡◌, ℕ, zero, suc, ◌<◌, List, [], ◌∷◌, ◌++◌, length, get_or, set, Option, None, Some, refl, sym, ◌∙◌, ap, subst}
+use Rattle.std.proofs.Common.{◌≡◌, ℕ, suc, ◌<◌, List, [], ◌∷◌, ◌++◌, length, get_or, set, Option, None, refl, sym, subst}
 use Rattle.std.specs.List.{slice_get}
 use Rattle.std.specs.Option.{option_flatten}
 use Rattle.std.proofs.lemmas.List.{get_or_default}
@@ -33,34 +33,26 @@ image_value layout memory = record { layout = layout; memory = memory }
 -- states of equal parts are equal
 pub memory_is : (f g : FreeFrames) (p q : Pages) (k j : List (Option ℕ)) (b c : Blocks)
     → f ≡ g → p ≡ q → k ≡ j → b ≡ c → memory_value f p k b ≡ memory_value g q j c
-memory_is f g p q k j b c free pages kernel blocks =
-    ap (λ (x : FreeFrames). memory_value x p k b) free
-    ∙ ap (λ (x : Pages). memory_value g x k b) pages
-    ∙ ap (λ (x : List (Option ℕ)). memory_value g q x b) kernel
-    ∙ ap (λ (x : Blocks). memory_value g q j x) blocks
+memory_is f g p q k j b c free pages kernel blocks = rw (free, pages, kernel, blocks)
 
 -- an entry that may be nothing, and nothing past the end
 pub entry_read : {X : Type 0} (xs : List (Option X)) (i : ℕ)
     → option_flatten (slice_get xs i) ≡ get_or xs i None
-entry_read [] i = refl
-entry_read (None ∷ xs) zero = refl
-entry_read (Some x ∷ xs) zero = refl
 entry_read (x ∷ xs) (suc i) = entry_read xs i
+entry_read _ _ = refl
 
 -- a list of lists with one more item at the back of one of them
 pub list_added : (lists : List (List ℕ)) (n number item : ℕ) (row new : List ℕ) → n ≡ number
     → number < length lists → row ≡ get_or lists n row → new ≡ row ++ item ∷ []
     → set lists n new ≡ set lists number (get_or lists number [] ++ item ∷ [])
 list_added lists n number item row new same below read wrote =
-    ap (set lists n) (wrote ∙ ap (λ (xs : List ℕ). xs ++ item ∷ []) (read
-    ∙ get_or_default lists n row [] (subst (λ (m : ℕ). m < length lists) (sym same) below)))
-    ∙ ap (λ (m : ℕ). set lists m (get_or lists m [] ++ item ∷ [])) same
+    rw (wrote, read)
+    (rw ((get_or_default lists n row [] (subst (λ (m : ℕ). m < length lists) (sym same) below)), same))
 
 -- a table with one entry of one of its rows set
 pub entry_set : {A : Type 0} (table : List (List (Option A))) (n owner page : ℕ) (entry : Option A)
     (row new : List (Option A)) → n ≡ owner → owner < length table → row ≡ get_or table n row
     → new ≡ set row page entry → set table n new ≡ with_entry table owner page entry
 entry_set {A} table n owner page entry row new same below read wrote =
-    ap (set table n) (wrote ∙ ap (λ (r : List (Option A)). set r page entry) (read
-    ∙ get_or_default table n row [] (subst (λ (m : ℕ). m < length table) (sym same) below)))
-    ∙ ap (λ (m : ℕ). set table m (set (get_or table m []) page entry)) same
+    rw (wrote, read)
+    (rw ((get_or_default table n row [] (subst (λ (m : ℕ). m < length table) (sym same) below)), same))

@@ -19,7 +19,5 @@ pub fold-enumerate_more : {X B : Type 0} (f : B → ℕ × X → B) (b : B) (xs 
     ≡ f (fold f b (enumerate_from 0 (take i xs))) (i, get_or xs i d)
 fold-enumerate_more {X} {B} f b xs i d below =
     let number : 0 + length (take i xs) ≡ i = omega (arith, length-take {A = X}) in
-    ap (λ (ys : List X). fold f b (enumerate_from 0 ys)) (take_more xs i d below)
-    ∙ ap (fold f b) (enumerate_push 0 (take i xs) (get_or xs i d))
-    ∙ fold_push f b (enumerate_from 0 (take i xs)) (0 + length (take i xs), get_or xs i d)
-    ∙ ap (λ (k : ℕ). f (fold f b (enumerate_from 0 (take i xs))) (k, get_or xs i d)) number
+    rw (take_more xs i d below, enumerate_push 0 (take i xs) (get_or xs i d))
+    (rw (fold_push f b (enumerate_from 0 (take i xs)) (0 + length (take i xs), get_or xs i d), number))

@@ -30,8 +30,7 @@ pub has_free : (l : LayoutParts) (s : Memory) (a : FreeAreas) (start m : List �
     → a ≡ s.free.areas → AreListsPlaced l a s.blocks.rows × AreMarked start m (free_places a)
     → HasFree l s start m
 has_free l s a start m starts areas placed =
-    let here = subst (λ (b : FreeAreas). AreListsPlaced l b s.blocks.rows
-    × AreMarked start m (free_places b)) areas placed in
+    let here = rw areas at placed in
     record { starts = starts; placed = here.0; marked = here.1 }
 
 -- on processors' lists

@@ -1,4 +1,6 @@
 mod Below
 pub mod Lists
+pub mod Marking
+pub mod MarksMade
 pub mod Scripted
 pub mod Started

@@ -1,8 +1,8 @@
 pub mod Begins
 pub mod Checks
 pub mod Counting
-pub mod Ends
 pub mod Limits
+pub mod Marks
 pub mod Scripts
 pub mod Setup
 pub mod Starts

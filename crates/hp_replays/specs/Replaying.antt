@@ -34,7 +34,7 @@ IsFault l base before h (WrongReply serial) =
     (at : ℕ) × (r : Record) × HasWrongReply l base before h at r × (r.serial ≡ serial)
 IsFault l base before h OutOfMemory = Unit {0}
 
--- the records are not a legal history; nothing if memory ran out
+-- the records are not a legal history; if memory ran out, this claims nothing
 abbrev pub Refutes : LayoutParts → Memory → ℕ → List Record → ReplayFault → Type 0
 Refutes l base before h (WrongSerial at) = IsLegal l base before h → ⊥
 Refutes l base before h (WrongReply serial) = IsLegal l base before h → ⊥

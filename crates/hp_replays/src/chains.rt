@@ -19,7 +19,8 @@ use std::alloc::{AllocError, Global};
 /// place of any other.
 #[derive(Clone, Copy, Debug, PartialEq, Eq, Drop)]
 pub enum ChainFault {
-    /// The volume at this place was not sealed after as many records as the volumes before it hold.
+    /// The `before` of the volume at this place is not the number of records in the volumes before
+    /// it.
     WrongCount { at: u64 },
     /// The base of the volume at this place has another layout, or is not the state that the
     /// volumes before it lead to.

@@ -13,13 +13,13 @@ pub enum ControlFault {
     /// There is no such file: the path is unknown, or the memory block is not in the layout or is
     /// absent.
     NoFile,
-    /// The file takes no text.
+    /// The file cannot be written.
     ReadOnly,
-    /// The file does not take this text.
+    /// The file does not accept this text.
     BadText,
     /// Out of memory.
     OutOfMemory,
-    /// The file has no text to read.
+    /// The file cannot be read.
     WriteOnly,
 }
 

@@ -1,4 +1,4 @@
--- What a line asks for, once an echo is read as its control file takes it.
+-- What a line asks for. For an echo, that is what its control file makes of the word.
 use Rattle.std.specs.Prelude.{ℕ, Bool, true, false, List, Result, Ok, Err}
 use Rattle.hp_units.specs.declared.events.Event.{Event}
 use Rattle.hp_units.specs.declared.plans.Item.{Item}

@@ -43,7 +43,7 @@ boot_of word =
     else (if bytes_eq word (codes "absent") then Some Absent
     else None)))
 
--- what `f` makes of each item, if it makes something of each
+-- the results of `f` for all items, if it has one for each
 unfoldable pub each_in : {B : Type 0} → (Data → Option B) → Items → Option (List B)
 each_in f no_items = Some []
 each_in f (item d ds) = do
@@ -55,7 +55,7 @@ each_in f (item d ds) = do
 abbrev pub boot_at : Data → Option Boot
 boot_at d = option_and_then boot_of (as_str d)
 
--- a value is a text; which one
+-- whether a value is a text, and which one
 abbrev pub is_text : Value → Bool
 is_text v = is_some (as_str (view v))
 

@@ -18,7 +18,7 @@ abbrev pub Fails : {A : Type 0} → ScenarioFault → Result A ScenarioFault →
 Fails OutOfMemory read = Unit {0}
 Fails fault read = read ≡ Err fault
 
--- what a function returned, seen by `view`, is what reading gives, or memory ran out
+-- the function returned the result, seen through `view`, or ran out of memory
 abbrev pub Gives : {X Y : Type 0} → (X → Y) → Result X ScenarioFault → Result Y ScenarioFault → Type 0
 Gives view (Ok x) read = read ≡ Ok (view x)
 Gives view (Err e) read = Fails e read

@@ -1,4 +1,4 @@
-//! What a line asks for, once an `echo` is read as its control file takes it.
+//! What a line asks for. For an `echo`, that is what its control file makes of the word.
 ghost use Rattle.std.specs.Prelude.{◌≡◌};
 ghost use Rattle.hp_scenario.specs.Asked as means;
 ghost use Rattle.hp_scenario.specs.Seen.{asked_seen};
@@ -7,7 +7,7 @@ use crate::lines::Work;
 use hp_requests::{CONTROL_TURNS, ControlFault, Request};
 use hp_units::{Event, Plan};
 
-/// What a line asks for, once it is known how the control file of an `echo` takes its word.
+/// What a line asks for. For an `echo`, that is what its control file makes of the word.
 #[derive(Drop)]
 pub enum Asked<'a> {
     /// One event of the machine.

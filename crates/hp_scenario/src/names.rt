@@ -55,7 +55,7 @@ pub(crate) fn line_from<'a>(
     Ok(Some(Line { cpu, work }))
 }
 
-/// Returns the work of a request, with its name numbered.
+/// Returns the work of a request, with the owner's number in place of its name.
 #[inline(always)]
 fn numbered_work(
     alloc: Global,

@@ -22,7 +22,7 @@ pub(crate) fn number32(word: &str) -> Option<u32>
     }
 }
 
-/// The same for words that may be longer than one digit.
+/// Returns the same for a word that is not a single digit.
 #[inline(never)]
 #[tactic(auto, using(crate::proofs::PlainNumbers::plain_fits, crate::proofs::PlainNumbers::plain_exceeds))]
 fn longer_number32(word: &str) -> Option<u32>

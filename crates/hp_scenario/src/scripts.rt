@@ -105,7 +105,7 @@ fn only_place(lines: &[Line]) -> Option<usize>
     Some(place)
 }
 
-/// Returns the scripts of lines that all belong to one of them. The lines stay where they are, and
+/// Returns the scripts if all lines belong to one of them. The lines stay where they are, and
 /// nothing is allocated.
 fn left_together(scripts: Vec<Script>, place: usize, lines: Vec<Line>, cpus: u32) -> Vec<Script>
     requires bare { scripts.items ≡ map (script_of []) (range_with_len 0 cpus) }

@@ -26,8 +26,8 @@ pub(crate) fn event_from<'a>(verb: &str, args: &[&'a str]) -> Option<Request<'a>
     }
 }
 
-/// Returns the number below 2^32 that the only word is, in decimal, without sign and leading zeros;
-/// `None` for any other word, and if there is not exactly one.
+/// Parses the only word as a decimal number below 2^32, without a sign and without leading zeros.
+/// Returns `None` for any other word, or if there is not exactly one.
 #[tactic(auto, unfolding(crate::specs::Lines::only_number))]
 pub fn only32(args: &[&str]) -> Option<u32>
     ensures { result ≡ says.only_number 32 (map (λ w. w.now) args.now) }
@@ -36,8 +36,8 @@ pub fn only32(args: &[&str]) -> Option<u32>
     number32(word)
 }
 
-/// Returns the number below 2^64 that the only word is, in decimal, without sign and leading zeros;
-/// `None` for any other word, and if there is not exactly one.
+/// Parses the only word as a decimal number below 2^64, without a sign and without leading zeros.
+/// Returns `None` for any other word, or if there is not exactly one.
 #[tactic(auto, unfolding(crate::specs::Lines::only_number))]
 pub fn only64(args: &[&str]) -> Option<u64>
     ensures { result ≡ says.only_number 64 (map (λ w. w.now) args.now) }

@@ -4,6 +4,7 @@ pub mod Asked
 pub mod ClosedNets
 pub mod Coefficients
 pub mod Compared
+pub mod Continuing
 pub mod Copied
 pub mod Counting
 pub mod Counts
@@ -22,6 +23,7 @@ pub mod Places
 pub mod Plays
 pub mod Regions
 pub mod Shares
+pub mod Steering
 pub mod Steps
 pub mod Trails
 pub mod Uniqueness

@@ -1,5 +1,5 @@
 -- What a script asks for does not depend on its receipts' numbers, but for that of its last Begin.
-use Rattle.std.proofs.Common.{◌≡◌, ℕ, ◌+◌, true, false, cond, ltb, List, [], ◌∷◌, ◌++◌, map, Option, Some, None, refl, ap, sym, subst, ◌∙◌}
+use Rattle.std.proofs.Common.{◌≡◌, ℕ, ◌+◌, Bool, true, false, cond, ltb, List, [], ◌∷◌, ◌++◌, map, Option, Some, None, refl, ap, sym, subst, ◌∙◌}
 use Rattle.std.specs.Prelude.{option_map}
 use Rattle.std.specs.List.{last_or, list_all}
 use Rattle.std.specs.Option.{option_map_or}
@@ -35,18 +35,19 @@ tried_same (r ∷ rs) =
     ∙ (ap (λ (n : ℕ). cond (is_migrate r.event) 1 0 + n) (tried_same rs)
     ∙ sym (sum_by-cons (λ (q : Receipt). cond (is_migrate q.event) 1 0) r rs))
 
--- so a turn is the same
-turn_same : (turns op : ℕ) (xs ys : List Receipt) → tried xs ≡ tried ys
+-- so a turn is the same where a migration is left after both or neither
+turn_same : (turns op : ℕ) (xs ys : List Receipt) → ltb (tried xs) turns ≡ ltb (tried ys) turns
     → migrate_or_cancel turns op xs ≡ migrate_or_cancel turns op ys
-turn_same turns op xs ys same = ap (λ (n : ℕ). cond (ltb n turns) (Migrate op) (Cancel op)) same
+turn_same turns op xs ys same = ap (λ (is_left : Bool). cond is_left (Migrate op) (Cancel op)) same
 
-drain_same : (cpus turns op cpu : ℕ) (xs ys : List Receipt) → tried xs ≡ tried ys
+drain_same : (cpus turns op cpu : ℕ) (xs ys : List Receipt) → ltb (tried xs) turns ≡ ltb (tried ys) turns
     → next_drain cpus turns op cpu xs ≡ next_drain cpus turns op cpu ys
 drain_same cpus turns op cpu xs ys same =
     ap (λ (e : Event). cond (ltb cpu cpus) (DrainFor op cpu) e) (turn_same turns op xs ys same)
 
 -- and what follows an answer
-after_same : (cpus turns : ℕ) (xs ys : List Receipt) → tried xs ≡ tried ys → (e : Event) (reply : Reply)
+pub after_same : (cpus turns : ℕ) (xs ys : List Receipt) → ltb (tried xs) turns ≡ ltb (tried ys) turns
+    → (e : Event) (reply : Reply)
     → next_after cpus turns xs e reply ≡ next_after cpus turns ys e reply
 after_same cpus turns xs ys same (Begin plan) (Opened op) = ap Some (drain_same cpus turns op 0 xs ys same)
 after_same cpus turns xs ys same (DrainFor op cpu) Done =
@@ -76,7 +77,7 @@ driver_same cpus turns plan rs =
         (Some (Begin plan)) ≡ option_map_or (λ r. next_after cpus turns rs r.event r.reply) o
         (Some (Begin plan))
     by_last None = refl
-    by_last (Some r) = after_same cpus turns (plain rs) rs (tried_same rs) r.event r.reply
+    by_last (Some r) = after_same cpus turns (plain rs) rs (ap (λ (n : ℕ). ltb n turns) (tried_same rs)) r.event r.reply
 
 -- ---- lines
 

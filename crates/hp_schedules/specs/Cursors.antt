@@ -1,6 +1,6 @@
 -- Positions of processors in their scripts.
 use Rattle.std.specs.Prelude.{◌≡◌, ℕ, List, [], ◌∷◌, ◌++◌, Option, Some, None, length, drop, slice_get, option_and_then}
-use Rattle.hp_ops.specs.Stages.{IsAfter, event_in}
+use Rattle.hp_ops.specs.Stages.{IsAfter, event_in, key_of}
 use Rattle.hp_ops.specs.declared.stages.Driver.{Driver}
 use Rattle.hp_ops.specs.declared.stages.Stage.TheVariants.{Begin as Begins}
 use Rattle.std.specs.Option.{option_map_or}
@@ -82,6 +82,18 @@ pub record AreCursors (g : Setting) (news : List Record) (cursors : List Cursor)
   pub each : (cpu : ℕ) (lines : List Step) (c : Cursor)
       → slice_get g.scripts cpu ≡ Some lines → slice_get cursors cpu ≡ Some c
       → IsCursor g.layout.cpus lines (receipts_of cpu news) c
+
+-- what the further calls of a cursor's script depend on, beside what it is replied: its line, the
+-- operation that it began last, and its driver's key
+abbrev pub steering_of : Cursor → List ℕ
+steering_of c =
+    c.line ∷ c.op ∷ (key_of c.driver).left ∷ (key_of c.driver).stage ∷ (key_of c.driver).op ∷ []
+
+-- these are a processor's numbers after the new records
+abbrev pub IsSteered : Setting → (cpu : ℕ) → List Record → List ℕ → Type 0
+IsSteered g cpu news numbers =
+    (lines : List Step) → slice_get g.scripts cpu ≡ Some lines
+    → (c : Cursor) × IsCursor g.layout.cpus lines (receipts_of cpu news) c × (numbers ≡ steering_of c)
 
 -- what a processor's script calls after the new records, with the position of the line
 abbrev pub IsCalledFor : Setting → (cpu : ℕ) → List Record → Option NextCall → Type 0

@@ -4,7 +4,7 @@ ghost use Rattle.std.specs.Option.{option_map_or};
 ghost use Rattle.hp_units.specs.Receipts.{receipt_of};
 ghost use Rattle.hp_units.specs.declared.events.Event.{Event as AnyEvent};
 ghost use Rattle.hp_units.specs.declared.replies.Receipt.{Receipt};
-ghost use Rattle.hp_schedules.specs.Cursors.{IsAsked, IsCursor, IsRequested, asks, asks_at, cursor_at, driver_before, first_driver};
+ghost use Rattle.hp_schedules.specs.Cursors.{IsAsked, IsCursor, IsRequested, asks, asks_at, cursor_at, driver_before, first_driver, steering_of};
 
 use crate::scripts::{CallScript, Step, later_operation};
 use hp_ops::Driver;
@@ -93,6 +93,20 @@ impl Cursor {
             Step::Own(work) => Ok(Some(work.event(self.op))),
             Step::Carry { plan, .. } => self.driver.next(alloc, plan),
         }
+    }
+
+    /// Returns the numbers that the further calls depend on, beside the replies to them.
+    pub(crate) fn steering(&self) -> [u64; 5]
+        ensures { result ≡ steering_of self.now }
+    {
+        let key = self.driver.key();
+        [
+            self.line as u64,
+            self.op.0,
+            u64::from(key.left),
+            key.stage,
+            key.op.0,
+        ]
     }
 
     /// Returns the position after the current line's call, given the record of that call.

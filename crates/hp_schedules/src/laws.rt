@@ -2,6 +2,7 @@
 ghost use Rattle.std.specs.Prelude.{◌≡◌, ◌↔◌, ◌++◌, ℕ, List, Some};
 ghost use Rattle.hp_units.specs.declared.replies.Record.{Record};
 ghost use Rattle.hp_schedules.specs.Alike.{AreAlike, UndoNothing};
+ghost use Rattle.hp_schedules.specs.Continuing.{ContinueAlike, ContinuesAs};
 ghost use Rattle.hp_schedules.specs.Orders.{HasCount, HasOneCount};
 ghost use Rattle.hp_schedules.specs.Outcomes.{OutcomeValue};
 ghost use Rattle.hp_schedules.specs.Interleavings.{AreOneCalls, IsCountOfLengths, IsInterleaving};
@@ -33,4 +34,12 @@ pub fn alike_places_go_on_alike()
     ensures { (g : Setting) (p q rest : List ℕ) (h k : List Record) (x : OutcomeValue) → UndoNothing g.scripts
         → plays g p ≡ Some h → plays g q ≡ Some k → AreAlike g h k
         → EndsWith g (p ++ rest) x → EndsWith g (q ++ rest) x }
+{}
+
+/// If no script undoes steps by their serials, two beginnings that continue alike have the same
+/// continuations, call for call, with the same events, serials and replies.
+pub fn alike_beginnings_continue_alike()
+    ensures { (g : Setting) (p q rest : List ℕ) (h k end : List Record) → UndoNothing g.scripts
+        → plays g p ≡ Some h → plays g q ≡ Some k → ContinueAlike g h k → plays g (p ++ rest) ≡ Some end
+        → ContinuesAs g q rest h k end }
 {}

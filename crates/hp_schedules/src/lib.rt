@@ -32,8 +32,8 @@ pub use cursors::{Cursor, NextCall};
 pub use digests::{key_digest, learn, mixed};
 pub use exchanges::Exchanges;
 pub use laws::{
-    alike_places_go_on_alike, counts_are_unique, interleavings_are_counted,
-    schedules_are_interleavings,
+    alike_beginnings_continue_alike, alike_places_go_on_alike, counts_are_unique,
+    interleavings_are_counted, schedules_are_interleavings,
 };
 pub use multinomials::{HowMany, call_count, interleavings_of};
 pub use outcomes::{Outcome, Replies, all_answers};

@@ -216,16 +216,9 @@ fn same_rows(rows: &[Row], others: &[Row]) -> bool
         return false;
     }
     for (place, row) in rows.iter().enumerate() {
-        if !same_row(row, &others[place]) {
+        if *row != others[place] {
             return false;
         }
     }
     true
-}
-
-/// Returns whether both rows are equal.
-fn same_row(row: &Row, other: &Row) -> bool
-    ensures { IsTrue result ↔ (row.now ≡ other.now) }
-{
-    *row == *other
 }

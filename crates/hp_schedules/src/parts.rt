@@ -82,7 +82,7 @@ impl Shard {
     pub fn is_of(&self, processors: u32, records: &[Record]) -> bool
         ensures { IsTrue result ↔ IsOfPart processors self.now (schedule_of records.now) }
     {
-        let first = first_records(records, self.calls);
+        let first = &records[..records.len().min(self.calls as usize)];
         number_of(first, processors, self.of) == u64::from(self.index)
     }
 
@@ -102,13 +102,6 @@ impl Shard {
         }
         !self.is_of(processors, records)
     }
-}
-
-/// Returns the first `calls` records, or all if there are fewer.
-fn first_records(records: &[Record], calls: u32) -> &[Record]
-    ensures { result.now ≡ take calls records.now }
-{
-    &records[..records.len().min(calls as usize)]
 }
 
 /// Returns the index of the part that the first records belong to.

@@ -1,8 +1,8 @@
 //! Positions of all processors in their scripts.
-ghost use Rattle.std.specs.Prelude.{◌≡◌, ◌<◌, ◌++◌, ◌∷◌, [], IfOk, List, Some, length, map, slice_set};
+ghost use Rattle.std.specs.Prelude.{◌≡◌, ◌<◌, ◌++◌, ◌∷◌, ℕ, true, [], IfOk, List, Some, length, map, slice_set};
 ghost use Rattle.hp_units.specs.Receipts.{receipts_of};
 ghost use Rattle.hp_units.specs.declared.replies.Record.{Record as NewRecord};
-ghost use Rattle.hp_schedules.specs.Cursors.{AreCursors, IsCalledFor, cursor_at};
+ghost use Rattle.hp_schedules.specs.Cursors.{AreCursors, IsCalledFor, IsSteered, cursor_at};
 ghost use Rattle.hp_schedules.specs.Schedules.{Setting};
 ghost use Rattle.hp_schedules.specs.Scripts.{own_operation};
 
@@ -56,6 +56,25 @@ impl Positions {
     {
         let cursor = &self.cursors[cpu as usize];
         cursor.op
+    }
+
+    /// Appends five numbers that the processor's further calls depend on, beside the replies to
+    /// them, and returns whether each fits 32 bits. If not, `numbers` holds a part of them.
+    pub fn push_steering(&self, cpu: u32, numbers: &mut Vec<u32>) -> Result<bool, AllocError>
+        requires { cpu < length self.now.cursors.items }
+        ensures { IfOk result (λ fit. fit ≡ true → (part : List ℕ)
+            × (numbers.new.items ≡ numbers.old.items ++ part) × (length part ≡ 5)
+            × ((g : Setting) (news : List NewRecord) → AreCursors g news self.now.cursors.items
+            → IsSteered g cpu news part)) }
+    {
+        let steering = self.cursors[cpu as usize].steering();
+        for number in &steering {
+            let Ok(number) = u32::try_from(*number) else {
+                return Ok(false);
+            };
+            numbers.push(number)?;
+        }
+        Ok(true)
     }
 
     /// Moves the processor past its call and returns its former position, for `go_back`.

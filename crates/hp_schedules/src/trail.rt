@@ -69,7 +69,9 @@ impl Trail {
             return end;
         }
         self.shares[end] = share;
-        self.learn(share.end, end);
+        if share.end < self.places.len() {
+            self.places[share.end] = end;
+        }
         end + 1
     }
 
@@ -90,14 +92,5 @@ impl Trail {
             return None;
         }
         Some(place)
-    }
-
-    /// Sets the hint for the end at index `end`.
-    fn learn(&mut self, end: usize, place: usize)
-        ensures { self.new.shares.items ≡ self.old.shares.items }
-    {
-        if let Some(hint) = self.places.get_mut(end) {
-            *hint = place;
-        }
     }
 }

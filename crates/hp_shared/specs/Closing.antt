@@ -55,7 +55,8 @@ pub record AreCounted (l : LayoutParts) (seats : List SeatValue) (seen : LockedV
   pub handed : handed_in seats ≡ seen.machine.before
   pub reached : AreReached l seats seen.total
 
--- the fault comes from what was under the lock; as many seats as processors count what is there
+-- the fault comes from what was under the lock; if there are as many seats as processors, their
+-- counts agree with it
 pub record HasCause (l : LayoutParts) (seats : List SeatValue) (volumes : List Volume)
     (why : CloseFault) : Type 0 where
   pub seen : LockedValue

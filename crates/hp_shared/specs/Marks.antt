@@ -13,17 +13,17 @@ lower None n = n
 lower (Some m) None = Some m
 lower (Some m) (Some n) = Some (if nat_le m n then m else n)
 
--- an entry is not a record's receipt, and `serial` belongs to one of the two
+-- an entry is not this record's receipt, and `serial` is that of the entry or of the record
 abbrev pub EntryDiffersAt : Option Receipt → Receipt → ℕ → Type 0
 EntryDiffersAt entry b serial =
     (entry ≢ Some b) × ((b.serial ≡ serial) ⊎ ((a : Receipt) × (entry ≡ Some a) × (a.serial ≡ serial)))
 
--- at some place of the receipts `done` the seat's have another entry, or none
+-- at some place of `done` the seat has another receipt, or none
 abbrev pub DiffersBefore : List Receipt → List Receipt → ℕ → Type 0
 DiffersBefore receipts done serial =
     (at : ℕ) × (b : Receipt) × (slice_get done at ≡ Some b) × EntryDiffersAt (slice_get receipts at) b serial
 
--- the receipts `done` are at the same places among the seat's
+-- the seat has each receipt of `done` at the same place
 abbrev pub Agrees : List Receipt → List Receipt → Type 0
 Agrees receipts done = (at : ℕ) (b : Receipt) → slice_get done at ≡ Some b → slice_get receipts at ≡ Some b
 

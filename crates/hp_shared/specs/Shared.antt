@@ -78,8 +78,8 @@ left_by seat HistoryFull =
     record { cpu = seat.cpu; receipts = seat.receipts; sealed = seat.sealed; fulls = seat.fulls + 1 }
 left_by seat OutOfMemory = seat
 
--- the seat's receipts do not rule out that the history is full: with one processor, its receipts
--- without those of sealed records are at least as many as the history holds
+-- as far as the seat's own counts show, the history may be full: with one processor, the seat has
+-- at least as many unsealed receipts as the history holds records
 abbrev pub MayBeFull : LayoutParts → SeatValue → Type 0
 MayBeFull l seat = l.cpus ≡ 1 → l.history + seat.sealed ≤ length seat.receipts
 

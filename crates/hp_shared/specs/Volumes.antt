@@ -31,8 +31,8 @@ abbrev pub IsMiscounted : List Volume → ℕ → Type 0
 IsMiscounted volumes at =
     (v : Volume) × (slice_get volumes at ≡ Some v) × (v.before ≢ records_in (take at volumes))
 
--- the place of the first volume with a wrong number; if all are right, their number, and they do
--- not hold `sealed` records
+-- `at` is the place of the first volume with a wrong number; or, if all numbers are right but the
+-- volumes do not hold `sealed` records, it is the number of volumes
 pub record IsWrongAt (volumes : List Volume) (sealed at : ℕ) : Type 0 where
   pub counted : AreCountedBefore volumes at
   pub wrong : IsMiscounted volumes at ⊎ ((at ≡ length volumes) × (records_in volumes ≢ sealed))

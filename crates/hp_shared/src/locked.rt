@@ -18,7 +18,8 @@ use std::sync::ledger::{Book, Share};
 /// all records, sealed ones included, of sealed records, and of calls that found the history full.
 /// Each ledger has one part per processor.
 ///
-/// If a call found the history full, all records are as many as the limit, or no serial is left.
+/// If a call found the history full, there are at least as many records as the limit, or no serial
+/// is left.
 #[derive(Drop)]
 pub struct Locked<L: Job> {
     machine: Machine,
@@ -72,10 +73,11 @@ impl<L: Job> Locked<L> {
     /// lock.
     ///
     /// Errors are those of `Machine::answer`, with `HistoryFull` if and only if the history holds
-    /// its limit or the last serial is 2^64 - 1. On an error, nothing but `told` changes. A share
-    /// with a part for each processor counts all records: it gets `HistoryFull` only if these,
-    /// without the sealed ones that the seat counts, are as many as the limit, or they are 2^64 -
-    /// 1.
+    /// its limit or the last serial is 2^64 - 1. On an error, nothing but `told` changes.
+    ///
+    /// A share with a part for each processor counts all records. It gets `HistoryFull` only if
+    /// their number, less the sealed ones that the seat counts, has reached the limit, or no serial
+    /// is left.
     pub fn turn(
         &mut self,
         alloc: Global,
@@ -118,7 +120,7 @@ impl<L: Job> Locked<L> {
 
     /// Hands out the records since the last seal, with the state before them. Makes no record:
     /// total and share stay as they were. `handed`, the seat's share of the sealed records, rises
-    /// by as many as are handed out. Waits for nobody. On an error, nothing changes.
+    /// by their number. Waits for nobody. On an error, nothing changes.
     pub fn seal(
         &mut self,
         alloc: Global,

@@ -157,8 +157,9 @@ impl<L: Job> Seat<L> {
     }
 }
 
-/// Called for its contract: as many seats as processors, at most 64, count all records and all that
-/// are sealed, and the records reach the limit if a seat found the history full. Has no effect.
+/// Called for its contract: if there are as many seats as processors, their counts add up to all
+/// records and to all sealed records, and the records reach the limit if a seat found the history
+/// full. Has no effect.
 pub(crate) fn audit_all<L: Job>(locked: &mut Locked<L>, seats: &mut Vec<Seat<L>>)
     ensures locked { locked.new ≡ locked.old }
     ensures seats { seats.new.items ≡ seats.old.items }

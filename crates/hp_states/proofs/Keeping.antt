@@ -1,7 +1,6 @@
 -- What the walk keeps of a place, and what it adds where it is found again.
-use Rattle.std.proofs.Common.{◌≡◌, ℕ, ◌+◌, ◌*◌, ◌<◌, ◌≤◌, true, List, [], ◌∷◌, ◌++◌, length, get_or, IfSome, Option, None, Some, slice_get, refl, ap, sym, subst, ◌∙◌, add-one, arith, length-append, inl, inr}
-use Rattle.std.specs.Prelude.{slice_range}
-use Rattle.std.proofs.Math.Nat.{mul-le-mul_right, suc-mul, zero-mul}
+use Rattle.std.proofs.Common.{◌≡◌, ℕ, ◌+◌, ◌≤◌, true, List, [], ◌∷◌, ◌++◌, length, get_or, IfSome, Option, None, Some, slice_get, refl, ap, sym, subst, ◌∙◌, arith, inl, inr}
+use Rattle.std.specs.Prelude.{◌⊎◌}
 use Rattle.std.proofs.lemmas.List.{length_push}
 use Rattle.std.proofs.lemmas.Option.{none-some, slice_get_within}
 use Rattle.hp_laws.proofs.Lists.{get_push_cases}
@@ -12,7 +11,7 @@ use Rattle.hp_schedules.specs.Ends.{AreCounted}
 use Rattle.hp_schedules.specs.Parts.{AllOfPart, PartValue}
 use Rattle.hp_schedules.specs.Schedules.{Setting, plays, schedule_of}
 use Rattle.hp_states.specs.Frames.{counts_of}
-use Rattle.hp_states.specs.Seen.{AreSamePlaces, Grow, IsMemo, IsOnWay, IsRow, IsRowAmong, IsSeen, MemoValue, SeenValue, key_in, width_of}
+use Rattle.hp_states.specs.Seen.{AreSamePlaces, Grow, IsMemo, IsOnWay, IsRow, IsRowAmong, IsSeen, MemoValue, SeenValue}
 use Rattle.hp_schedules.specs.Shares.{AddsCounts, AddsShares, AreAtEnds, AreSince, amount_of}
 use Rattle.hp_states.specs.Standing.{AreSameNumbers, IsKey, IsStanding, KeepMeanings, StandingValue}
 use Rattle.hp_states.specs.Walks.{BeforeInPart, HasRoomFrom, IsAt, IsPartWalkedBefore, IsPartWalkedThrough, ThroughInPart}
@@ -20,7 +19,6 @@ use Rattle.hp_schedules.specs.declared.rows.Share.{Share}
 use Rattle.hp_schedules.specs.declared.tally.Ending.{Ending}
 use Rattle.hp_states.proofs.Counts.{count_past, count_read}
 use Rattle.hp_states.proofs.Grown.{grow_added, seen_grows}
-use Rattle.hp_schedules.proofs.InRows.{last_range, range_same}
 use Rattle.hp_states.proofs.Keys.{key_kept, keys_alike}
 use Rattle.hp_states.proofs.Merges.{merged, walked_seen}
 use Rattle.hp_states.proofs.Rooms.{ordered_added, room_alike}
@@ -100,65 +98,31 @@ row_kept g part p s old new earlier key shares within here is since grow before 
     seen : SeenValue
     seen = record { news = p.records; counts = counts_in shares (length new) }
 
--- ---- keys that stand one after another
+-- ---- one more is kept
 
-key_begins : (place width many : ℕ) → place < many → place * width + width ≤ many * width
-key_begins place width many less =
-    subst (λ (n : ℕ). n ≤ many * width) (suc-mul place width) (mul-le-mul_right width (omega arith))
-
--- those that there are stay where they are as one comes, which stands at the end
-key_left : (keys key : List ℕ) (width place many : ℕ) → length keys ≡ many * width → place < many
-    → key_in (keys ++ key) width place ≡ key_in keys width place
-key_left keys key width place many long less =
-    range_same keys key (place * width) (place * width + width) (omega arith)
-    (omega (arith, long, key_begins place width many less))
-
-key_last : (keys key : List ℕ) (width many : ℕ) → length keys ≡ many * width → length key ≡ width
-    → key_in (keys ++ key) width many ≡ key
-key_last keys key width many long wide =
-    ap (λ (n : ℕ). slice_range (keys ++ key) n (n + width)) (sym long)
-    ∙ (ap (λ (n : ℕ). slice_range (keys ++ key) (length keys) n) whole ∙ last_range keys key)
+pub memo_more : (g : Setting) (ends : List Ending) (memo later : MemoValue) (shares : List Share)
+    → later ≡ record memo { keys = memo.keys ++ memo.key ∷ []; rows = memo.rows ++ shares ∷ [] }
+    → IsMemo g ends memo → IsRow g ends memo.standing memo.key shares → IsMemo g ends later
+memo_more g ends memo later shares is kept one =
+    subst (IsMemo g ends) (sym is) (record {
+      all = λ i key other at h. by_place i key other (get_push_cases memo.keys memo.key key i at)
+          (get_push_cases memo.rows shares other i h);
+      many = omega (arith, kept.many, length_push memo.keys memo.key, length_push memo.rows shares);
+      undo = kept.undo;
+    })
   where
-    whole : length keys + width ≡ length (keys ++ key)
-    whole = omega (arith, length-append keys key, wide)
-
--- one more is kept
-pub memo_more : (g : Setting) (ends : List Ending) (memo later : MemoValue) (news : List Record)
-    (shares : List Share)
-    → later ≡ record memo { keys = memo.keys ++ memo.key; rows = memo.rows ++ shares ∷ [] }
-    → IsMemo g ends memo → IsKey g memo.standing news memo.key → IsRow g ends memo.standing memo.key shares
-    → IsMemo g ends later
-memo_more g ends memo later news shares is kept key_is one =
-    subst (IsMemo g ends) (sym is) (record { all = all; many = many; undo = kept.undo })
-  where
-    many : length (memo.keys ++ memo.key) ≡ length (memo.rows ++ shares ∷ []) * width_of g
-    many =
-        length-append memo.keys memo.key
-        ∙ (ap (λ (n : ℕ). n + length memo.key) kept.many
-        ∙ (ap (λ (n : ℕ). length memo.rows * width_of g + n) key_is.long
-        ∙ (sum ∙ ap (λ (n : ℕ). n * width_of g) (sym (length_push memo.rows shares)))))
-      where
-        sum : length memo.rows * width_of g + width_of g ≡ (length memo.rows + 1) * width_of g
-        sum =
-            sym (suc-mul (length memo.rows) (width_of g))
-            ∙ ap (λ (n : ℕ). n * width_of g) (sym (add-one (length memo.rows)))
-
-    all : (i : ℕ) (other : List Share) → slice_get (memo.rows ++ shares ∷ []) i ≡ Some other
-        → IsRow g ends memo.standing (key_in (memo.keys ++ memo.key) (width_of g) i) other
-    all i other h =
-        elim (get_push_cases memo.rows shares other i h) [
-          | inl there ↦
-              subst (λ (k : List ℕ). IsRow g ends memo.standing k other)
-              (sym (key_left memo.keys memo.key (width_of g) i (length memo.rows) kept.many
-              (slice_get_within memo.rows i other there)))
-              (kept.all i other there)
-          | inr here ↦
-              subst (λ (n : ℕ). IsRow g ends memo.standing
-              (key_in (memo.keys ++ memo.key) (width_of g) n) other) (sym here.0)
-              (subst (λ (k : List ℕ). IsRow g ends memo.standing k other)
-              (sym (key_last memo.keys memo.key (width_of g) (length memo.rows) kept.many key_is.long))
-              (subst (λ (ss : List Share). IsRow g ends memo.standing memo.key ss) here.1 one))
-        ]
+    by_place : (i : ℕ) (key : List ℕ) (other : List Share)
+        → (slice_get memo.keys i ≡ Some key) ⊎ ((i ≡ length memo.keys) × (memo.key ≡ key))
+        → (slice_get memo.rows i ≡ Some other) ⊎ ((i ≡ length memo.rows) × (shares ≡ other))
+        → IsRow g ends memo.standing key other
+    by_place i key other (inl at) (inl h) = kept.all i key other at h
+    by_place i key other (inl at) (inr new) =
+        absurd (let less = slice_get_within memo.keys i key at in omega (arith, less, new.0, kept.many))
+    by_place i key other (inr new) (inl h) =
+        absurd (let less = slice_get_within memo.rows i other h in omega (arith, less, new.0, kept.many))
+    by_place i key other (inr new) (inr last) =
+        subst (λ (k : List ℕ). IsRow g ends memo.standing k other) new.1
+        (subst (λ (ss : List Share). IsRow g ends memo.standing memo.key ss) last.1 one)
 
 -- ---- as more is known
 
@@ -180,13 +144,12 @@ pub memo_extended : (g : Setting) (ends : List Ending) (old new : MemoValue)
     → IsMemo g ends old → IsMemo g ends new
 memo_extended g ends old new same keep kept = record {
   all =
-      λ i shares h.
-      subst (λ (keys : List ℕ). IsRow g ends new.standing (key_in keys (width_of g) i) shares) (sym same.1)
-      (row_extended g ends old.standing new.standing (key_in old.keys (width_of g) i) shares keep
-      (kept.all i shares (subst (λ (all : List (List Share)). slice_get all i ≡ Some shares) same.2 h)));
+      λ i key shares at h. row_extended g ends old.standing new.standing key shares keep
+      (kept.all i key shares (subst (λ (all : List (List ℕ)). slice_get all i ≡ Some key) same.1 at)
+      (subst (λ (all : List (List Share)). slice_get all i ≡ Some shares) same.2 h));
   many =
-      ap (λ (keys : List ℕ). length keys) same.1
-      ∙ (kept.many ∙ ap (λ (all : List (List Share)). length all * width_of g) (sym same.2));
+      ap (λ (keys : List (List ℕ)). length keys) same.1
+      ∙ (kept.many ∙ ap (λ (all : List (List Share)). length all) (sym same.2));
   undo = λ set. kept.undo (sym same.0 ∙ set);
 }
 
@@ -208,7 +171,7 @@ memo_same g ends old new same kept =
 pub memo_added : (g : Setting) (old new : List Ending) (memo : MemoValue) → Grow old new → IsMemo g old memo
     → IsMemo g new memo
 memo_added g old new memo grow kept = record {
-  all = λ i shares h. let is = kept.all i shares h in record {
+  all = λ i key shares at h. let is = kept.all i key shares at h in record {
     seen = is.seen;
     told = is.told;
     at_ends = at_ends_more shares (length old) (length new) grow.longer is.at_ends;
@@ -225,12 +188,11 @@ pub memo_begun : (g : Setting) (ends : List Ending) (memo : MemoValue) → memo.
     → (memo.is_on ≡ true → UndoNothing g.scripts) → IsMemo g ends memo
 memo_begun g ends memo bare none undo = record {
   all =
-      λ i shares h. absurd (none-some shares
+      λ i key shares at h. absurd (none-some shares
       (subst (λ (rows : List (List Share)). slice_get rows i ≡ Some shares) none h));
   many =
-      ap (λ (keys : List ℕ). length keys) bare
-      ∙ (sym (zero-mul (width_of g))
-      ∙ ap (λ (rows : List (List Share)). length rows * width_of g) (sym none));
+      ap (λ (keys : List (List ℕ)). length keys) bare
+      ∙ ap (λ (rows : List (List Share)). length rows) (sym none);
   undo = undo;
 }
 
@@ -259,18 +221,13 @@ pub record IsFound (g : Setting) (p : StepsValue) (memo : MemoValue) (ends : Lis
   pub among : IsRowAmong memo.keys memo.rows memo.key shares
 
 -- as it was looked for
-pub row_among : {R : Type 0} (now : R → List Share) (told : Option R) (keys : List ℕ)
-    (rows : List (List Share)) (key shown_keys shown : List ℕ) (place : ℕ)
-    → shown_keys ≡ keys → shown ≡ key → key_in shown_keys (length shown) place ≡ shown
+pub row_among : {R : Type 0} (now : R → List Share) (told : Option R) (keys : List (List ℕ))
+    (rows : List (List Share)) (key shown : List ℕ) (place : ℕ)
+    → shown ≡ key → slice_get keys place ≡ Some shown
     → IfSome told (λ r. slice_get rows place ≡ Some (now r))
     → IfSome told (λ r. IsRowAmong keys rows key (now r))
-row_among now None keys rows key shown_keys shown place keys_are key_is is at = tt
-row_among now (Some r) keys rows key shown_keys shown place keys_are key_is is at = (
-  place,
-  at,
-  subst (λ (ks : List ℕ). key_in ks (length key) place ≡ key) keys_are
-      (subst (λ (k : List ℕ). key_in shown_keys (length k) place ≡ k) key_is is),
-)
+row_among now None keys rows key shown place key_is is at = tt
+row_among now (Some r) keys rows key shown place key_is is at = (place, at, is ∙ ap Some key_is)
 
 -- the one that was walked, from which all goes on alike
 pub record IsLike (g : Setting) (p : StepsValue) (ends : List Ending) (shares : List Share) : Type 0 where
@@ -294,14 +251,8 @@ found_like g p memo ends shares found = record {
       row.key_is found.key_is;
 }
   where
-    same : key_in memo.keys (width_of g) found.among.0 ≡ memo.key
-    same =
-        ap (λ (n : ℕ). key_in memo.keys n found.among.0) (sym found.key_is.long) ∙ found.among.2
-
     row : IsRow g ends memo.standing memo.key shares
-    row =
-        subst (λ (k : List ℕ). IsRow g ends memo.standing k shares) same
-        (found.kept.all found.among.0 shares found.among.1)
+    row = found.kept.all found.among.0 memo.key shares found.among.2 found.among.1
 
 -- what is added to the ends
 found_counted : (g : Setting) (part : PartValue) (p : StepsValue) (old new : List Ending)

@@ -4,22 +4,19 @@ use Rattle.std.specs.Prelude.{◌⊎◌, fold}
 use Rattle.std.proofs.lemmas.Bool.{cases_lt}
 use Rattle.std.proofs.lemmas.List.{append_assoc, length-append, length_push}
 use Rattle.std.proofs.lemmas.Option.{none-some, same_Some, slice_get_within}
-use Rattle.hp_states.proofs.Coded.{coded_states_are_same}
 use Rattle.hp_laws.proofs.Lists.{get_end, get_left}
-use Rattle.hp_units.specs.History.{net_of, value_of}
 use Rattle.hp_units.specs.Receipts.{receipts_of}
 use Rattle.hp_units.specs.declared.events.Event.{Event}
 use Rattle.hp_units.specs.declared.replies.Receipt.{Receipt}
 use Rattle.hp_units.specs.declared.replies.Record.{Record}
 use Rattle.hp_schedules.specs.Alike.{AreAlike, exchanges}
 use Rattle.hp_schedules.specs.Exchanges.{IsExchanged, exchange_in}
-use Rattle.hp_states.specs.Numbered.{AreNamed, IsNumbered, IsStateAt}
-use Rattle.hp_schedules.specs.Openings.{AreOpen, NumberedOpening}
 use Rattle.hp_schedules.specs.Schedules.{Setting, next_call, play_one, plays, record_of_call, schedule_of}
 use Rattle.hp_schedules.specs.Scripts.{own_operation}
-use Rattle.hp_states.specs.Standing.{AddsParts, IsBegunKey, IsKey, IsPart, IsStanding, KeepMeanings, StandingValue}
+use Rattle.hp_states.specs.Standing.{AddsParts, IsBegunKey, IsKey, IsPart, KeepMeanings, StandingValue}
+use Rattle.hp_states.specs.Stops.{AreNumbersAt}
 use Rattle.hp_schedules.proofs.Exchanged.{exchanges_other, exchanges_own}
-use Rattle.hp_states.proofs.Numbered.{named_once, number_kept, state_kept}
+use Rattle.hp_states.proofs.StopNumbers.{numbers_join, numbers_kept}
 use Rattle.hp_schedules.proofs.Plays.{asks_within, from_news, plays_one, stays_none}
 
 -- ---- as more numbers come
@@ -30,11 +27,8 @@ key_kept g old new news key keep is = record {
   state = is.state;
   openings = is.openings;
   state_first = is.state_first;
-  state_is = state_kept g old.codes new.codes news (Some is.state) keep.codes is.state_is;
   openings_next = is.openings_next;
-  openings_are =
-      number_kept g old.codes new.codes old.lists new.lists news (Some is.openings) keep.codes keep.lists
-      is.openings_are;
+  numbers_are = numbers_kept g news old.stops new.stops is.state is.openings keep.stops is.numbers_are;
   parts = λ cpu within. let part = is.parts cpu within in record {
     number = part.number;
     first = part.first;
@@ -124,16 +118,14 @@ key_more s news state openings cpu number op old key begun is exchanged own =
 
 pub key_whole : (g : Setting) (s : StandingValue) (news : List Record) (state openings cpus : ℕ)
     (key : List ℕ)
-    → cpus ≡ length g.scripts → IsStateAt g s.codes news (Some state)
-    → IsNumbered g s.codes s.lists news (Some openings) → IsBegunKey s news state openings cpus key
-    → IsKey g s news key
-key_whole g s news state openings cpus key many state_is openings_are begun = record {
+    → cpus ≡ length g.scripts → AreNumbersAt g news s.stops state openings
+    → IsBegunKey s news state openings cpus key → IsKey g s news key
+key_whole g s news state openings cpus key many are begun = record {
   state = state;
   openings = openings;
   state_first = begun.state_first;
-  state_is = state_is;
   openings_next = begun.openings_next;
-  openings_are = openings_are;
+  numbers_are = are;
   parts = λ cpu within. begun.parts cpu (omega (arith, within, many));
   long = omega (arith, begun.long, many);
 }
@@ -141,13 +133,10 @@ key_whole g s news state openings cpus key many state_is openings_are begun = re
 -- begun with the numbers of where a walk stands
 pub key_made : (g : Setting) (s : StandingValue) (news : List Record) (state openings cpus : ℕ)
     (old first key : List ℕ)
-    → cpus ≡ length g.scripts → s.here.state ≡ Some state → s.here.openings ≡ Some openings
-    → IsStanding g news s → old ≡ [] → first ≡ old ++ state ∷ openings ∷ []
-    → AddsParts s news cpus first key → IsKey g s news key
-key_made g s news state openings cpus old first key many state_is openings_are stands none is more =
-    key_whole g s news state openings cpus key many
-    (subst (IsStateAt g s.codes news) state_is stands.stops.1)
-    (subst (IsNumbered g s.codes s.lists news) openings_are stands.stops.0)
+    → cpus ≡ length g.scripts → AreNumbersAt g news s.stops state openings
+    → old ≡ [] → first ≡ old ++ state ∷ openings ∷ [] → AddsParts s news cpus first key → IsKey g s news key
+key_made g s news state openings cpus old first key many are none is more =
+    key_whole g s news state openings cpus key many are
     (more state openings (key_begun s news state openings old first none is))
 
 -- ---- how many calls there were follows from the exchanges
@@ -263,24 +252,6 @@ calls_same g h k first second same =
 
 -- ---- places with one key
 
--- the states are the same, and Cancels lead back to the same states
-state_same : (g : Setting) (s : StandingValue) (h k : List Record) (n m : ℕ) → n ≡ m
-    → IsStateAt g s.codes h (Some n) → IsStateAt g s.codes k (Some m)
-    → value_of g.layout g.base (g.start ++ h) ≡ value_of g.layout g.base (g.start ++ k)
-state_same g s h k n m same first second =
-    coded_states_are_same g.layout s.codes m (value_of g.layout g.base (g.start ++ h))
-    (value_of g.layout g.base (g.start ++ k))
-    (subst (λ (number : ℕ). IsStateAt g s.codes h (Some number)) same first) second
-
-openings_same : (g : Setting) (s : StandingValue) (h k : List Record) (n m : ℕ) → n ≡ m
-    → (first : IsNumbered g s.codes s.lists h (Some n)) → (second : IsNumbered g s.codes s.lists k (Some m))
-    → first.1 ≡ second.1
-openings_same g s h k n m same first second =
-    named_once g.layout s.codes second.0 first.1 second.1
-    (subst (λ (ns : List NumberedOpening). AreNamed g.layout s.codes ns first.1)
-    (same_Some first.0 second.0 (sym first.2 ∙ (ap (slice_get s.lists) same ∙ second.2))) first.3)
-    second.3
-
 exchanged_same : (s : StandingValue) (cpu : ℕ) (h k : List Record) (key : List ℕ) → IsPart s cpu h key
     → IsPart s cpu k key → exchanges cpu h ≡ exchanges cpu k
 exchanged_same s cpu h k key a b =
@@ -291,26 +262,21 @@ exchanged_same s cpu h k key a b =
 pub keys_alike : (g : Setting) (s : StandingValue) (h k : List Record) (key : List ℕ)
     → plays g (schedule_of h) ≡ Some h → plays g (schedule_of k) ≡ Some k
     → IsKey g s h key → IsKey g s k key → AreAlike g h k
-unfolding value_of
 keys_alike g s h k key first second a b = record {
   calls = calls_same g h k first second exchanged;
   exchanged = exchanged;
   begun =
       λ cpu within. same_Some (own_operation (receipts_of cpu h)) (own_operation (receipts_of cpu k))
       (sym (a.parts cpu within).second ∙ (b.parts cpu within).second);
-  nets = record {
-    openings = b.openings_are.1;
-    first_open =
-        subst (AreOpen g.layout g.base (net_of (g.start ++ h)))
-        (openings_same g s h k a.openings b.openings
-        (same_Some a.openings b.openings (sym a.openings_next ∙ b.openings_next)) a.openings_are
-        b.openings_are) a.openings_are.4;
-    second_open = b.openings_are.4;
-    state =
-        state_same g s h k a.state b.state (same_Some a.state b.state (sym a.state_first ∙ b.state_first))
-        a.state_is b.state_is;
-  };
+  nets = numbers_join g s.stops h k b.state b.openings same b.numbers_are;
 }
   where
     exchanged : (cpu : ℕ) → cpu < length g.scripts → exchanges cpu h ≡ exchanges cpu k
     exchanged cpu within = exchanged_same s cpu h k key (a.parts cpu within) (b.parts cpu within)
+
+    same : AreNumbersAt g h s.stops b.state b.openings
+    same =
+        subst (λ (n : ℕ). AreNumbersAt g h s.stops b.state n)
+        (same_Some a.openings b.openings (sym a.openings_next ∙ b.openings_next))
+        (subst (λ (n : ℕ). AreNumbersAt g h s.stops n a.openings)
+        (same_Some a.state b.state (sym a.state_first ∙ b.state_first)) a.numbers_are)

@@ -16,6 +16,7 @@ pub mod Numbered
 pub mod OfPart
 pub mod Parts
 pub mod Rooms
+pub mod StopNumbers
 pub mod Stood
 pub mod Walked
 pub mod Walks

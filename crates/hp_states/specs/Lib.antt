@@ -7,5 +7,6 @@ pub mod Places
 pub mod Rooms
 pub mod Seen
 pub mod Standing
+pub mod Stops
 pub mod Texts
 pub mod Walks

@@ -1,5 +1,5 @@
 -- Walked places, and how many schedules continue from each.
-use Rattle.std.specs.Prelude.{◌≡◌, ℕ, ◌+◌, ◌*◌, ◌≤◌, Bool, true, List, [], ◌∷◌, ◌++◌, Some, length, slice_get, slice_index_or, slice_range}
+use Rattle.std.specs.Prelude.{◌≡◌, ℕ, ◌≤◌, Bool, true, List, [], ◌∷◌, ◌++◌, Some, length, slice_get, slice_index_or}
 use Rattle.hp_units.specs.declared.replies.Record.{Record}
 use Rattle.hp_schedules.specs.Alike.{UndoNothing}
 use Rattle.hp_schedules.specs.Notes.{HasNoEnd}
@@ -40,22 +40,14 @@ pub record Grow (old new : List Ending) : Type 0 where
 
 -- ---- the places that are kept
 
--- whether places are kept; their keys, one after another, and their rows; the key written last; and
--- the numbers of the place where the walk is
+-- whether places are kept; their keys and their rows; the key written last; and the numbers of the
+-- place where the walk is
 pub record MemoValue : Type 0 where
   pub is_on : Bool
-  pub keys : List ℕ
+  pub keys : List (List ℕ)
   pub rows : List (List Share)
   pub key : List ℕ
   pub standing : StandingValue
-
--- the key at this index, if each key has `width` numbers
-abbrev pub key_in : (keys : List ℕ) → (width place : ℕ) → List ℕ
-key_in keys width place = slice_range keys (place * width) (place * width + width)
-
--- how many numbers a key has
-abbrev pub width_of : Setting → ℕ
-width_of g = 2 * length g.scripts + 2
 
 -- the key of a place, and its shares among these ends; the history has room for all
 -- that continues from it
@@ -69,17 +61,17 @@ pub record IsRow (g : Setting) (ends : List Ending) (s : StandingValue) (key : L
   pub room : HasRoomFrom g (schedule_of seen.news)
 
 -- a place with this key is kept, with these shares
-abbrev pub IsRowAmong : (keys : List ℕ) → (rows : List (List Share)) → (key : List ℕ)
+abbrev pub IsRowAmong : (keys : List (List ℕ)) → (rows : List (List Share)) → (key : List ℕ)
     → (shares : List Share) → Type 0
 IsRowAmong keys rows key shares =
-    (i : ℕ) × (slice_get rows i ≡ Some shares) × (key_in keys (length key) i ≡ key)
+    (i : ℕ) × (slice_get rows i ≡ Some shares) × (slice_get keys i ≡ Some key)
 
 -- the kept places are right for these ends; and if any are to be kept, no script undoes steps by
 -- their serials
 pub record IsMemo (g : Setting) (ends : List Ending) (memo : MemoValue) : Type 0 where
-  pub all : (i : ℕ) (shares : List Share) → slice_get memo.rows i ≡ Some shares
-      → IsRow g ends memo.standing (key_in memo.keys (width_of g) i) shares
-  pub many : length memo.keys ≡ length memo.rows * width_of g
+  pub all : (i : ℕ) (key : List ℕ) (shares : List Share) → slice_get memo.keys i ≡ Some key
+      → slice_get memo.rows i ≡ Some shares → IsRow g ends memo.standing key shares
+  pub many : length memo.keys ≡ length memo.rows
   pub undo : memo.is_on ≡ true → UndoNothing g.scripts
 
 -- the same places are kept
@@ -89,7 +81,7 @@ AreSamePlaces old new = (new.is_on ≡ old.is_on) × (new.keys ≡ old.keys) × 
 -- one more place is kept, under the key written last, with these shares
 abbrev pub IsKeptMore : List Share → (old new : MemoValue) → Type 0
 IsKeptMore shares old new =
-    new ≡ record old { keys = old.keys ++ old.key; rows = old.rows ++ shares ∷ [] }
+    new ≡ record old { keys = old.keys ++ old.key ∷ []; rows = old.rows ++ shares ∷ [] }
 
 -- if places are kept, the numbers are those of the place after the new records
 abbrev pub IsOnWay : Setting → List Record → MemoValue → Type 0

@@ -1,49 +1,33 @@
 -- The numbers that describe the place where a walk is.
-use Rattle.std.specs.Prelude.{◌≡◌, ℕ, ◌+◌, ◌*◌, ◌<◌, List, ◌∷◌, Some, length, reverse, slice_get, [], ◌++◌}
-use Rattle.hp_states.specs.Codes.{KeepCodes}
+use Rattle.std.specs.Prelude.{◌≡◌, ℕ, ◌+◌, ◌*◌, ◌<◌, List, Some, length, slice_get}
 use Rattle.hp_units.specs.Receipts.{receipts_of}
 use Rattle.hp_units.specs.declared.replies.Record.{Record}
 use Rattle.hp_schedules.specs.Exchanges.{AreExchanged, ExchangesValue, IsExchanged}
 use Rattle.hp_schedules.specs.Numbers.{KeepNumbers}
-use Rattle.hp_states.specs.Numbered.{IsNumbered, IsStateAt}
-use Rattle.hp_schedules.specs.Openings.{NumberedOpening}
 use Rattle.hp_schedules.specs.Schedules.{Setting}
 use Rattle.hp_schedules.specs.Scripts.{own_operation}
-use Rattle.hp_states.specs.declared.standing.Stop.{Stop}
+use Rattle.hp_states.specs.Stops.{AreNumbersAt, AreSameStops, AreStopsAt, KeepStops, StopsValue}
 
--- what each number of a state, of a list of cancellable operations and of exchanges means; the
--- number of each processor's exchanges; and the numbers of this place and of those that the walk
--- came through
+-- the numbers of the places that the walk came through; what each number of exchanges means; and
+-- the number of each processor's exchanges
 pub record StandingValue : Type 0 where
-  pub codes : List (List ℕ)
-  pub lists : List (List NumberedOpening)
+  pub stops : StopsValue
   pub exchanged : ExchangesValue
-  pub here : Stop
-  pub before : List Stop
-
--- the numbers of the places that the new records lead through, the latest first
-abbrev pub AreStops : Setting → (codes : List (List ℕ)) → List (List NumberedOpening) → (news : List Record)
-    → List Stop → Type 0
-AreStops g codes lists news [] = Unit {0}
-AreStops g codes lists news (stop ∷ stops) =
-    IsNumbered g codes lists news stop.openings × IsStateAt g codes news stop.state
-    × ((before : List Record) (r : Record) → news ≡ before ++ r ∷ [] → AreStops g codes lists before stops)
 
 -- the numbers are those of the place after the new records
 pub record IsStanding (g : Setting) (news : List Record) (s : StandingValue) : Type 0 where
-  pub stops : AreStops g s.codes s.lists news (s.here ∷ reverse s.before)
+  pub stops : AreStopsAt g news s.stops
   pub exchanged : AreExchanged g news s.exchanged
 
 -- each number keeps its meaning
 pub record KeepMeanings (old new : StandingValue) : Type 0 where
-  pub codes : KeepCodes old.codes new.codes
-  pub lists : KeepNumbers old.lists new.lists
+  pub stops : KeepStops old.stops new.stops
   pub chains : KeepNumbers old.exchanged.chains new.exchanged.chains
 
 -- all numbers keep their meaning; only the place differs
 abbrev pub AreSameNumbers : (old new : StandingValue) → Type 0
 AreSameNumbers old new =
-    (new.codes ≡ old.codes) × (new.lists ≡ old.lists) × (new.exchanged.chains ≡ old.exchanged.chains)
+    AreSameStops old.stops new.stops × (new.exchanged.chains ≡ old.exchanged.chains)
 
 -- a processor's part of a key: the number of its exchanges, and the operation that it began last
 pub record IsPart (s : StandingValue) (cpu : ℕ) (news : List Record) (key : List ℕ) : Type 0 where
@@ -71,8 +55,7 @@ pub record IsKey (g : Setting) (s : StandingValue) (news : List Record) (key : L
   pub state : ℕ
   pub openings : ℕ
   pub state_first : slice_get key 0 ≡ Some state
-  pub state_is : IsStateAt g s.codes news (Some state)
   pub openings_next : slice_get key 1 ≡ Some openings
-  pub openings_are : IsNumbered g s.codes s.lists news (Some openings)
+  pub numbers_are : AreNumbersAt g news s.stops state openings
   pub parts : (cpu : ℕ) → cpu < length g.scripts → IsPart s cpu news key
   pub long : length key ≡ 2 * length g.scripts + 2

@@ -1,4 +1,4 @@
--- Byte strings one after another in one buffer.
+-- Byte strings, or keys, one after another in one buffer.
 use Rattle.std.specs.Prelude.{ℕ, zero, suc, ◌≡◌, ◌≤◌, List, [], ◌∷◌, slice_range}
 
 -- the strings of a buffer from `start` on, given where each ends

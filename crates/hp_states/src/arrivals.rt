@@ -21,7 +21,8 @@ use hp_units::Record;
 use std::alloc::{AllocError, Global};
 
 /// Decides how to treat the place just reached: skip it if it belongs to another part, reuse the
-/// counts of a place that is alike, or walk it.
+/// counts of a place that is alike, or walk it. If the search has stopped, a place of the part is
+/// always walked, so that its next schedule is near.
 ///
 /// While too few calls are made to decide the part, a place is always walked, since schedules of
 /// other parts continue from it. Its state still gets a number, because operations that begin there
@@ -33,6 +34,7 @@ pub fn arrive<W: Watch>(
     positions: &Positions,
     part: Shard,
     processors: u32,
+    is_stopped: bool,
     tally: &mut Tally,
     memo: &mut Memo,
     watch: &mut W,
@@ -47,6 +49,7 @@ pub fn arrive<W: Watch>(
     ensures way { (g : Setting) → memory.now ≡ memory_at g records.now → IsOnWay g records.now memo.old
         → IsOnWay g records.now memo.new }
     ensures limit { tally.new.limit ≡ tally.old.limit }
+    ensures watch { W.has_ended watch.old → W.has_ended watch.new }
 {
     if records.len() < part.calls() as usize {
         let _has_key = memo.come_to(alloc, memory, positions, processors)?;
@@ -55,7 +58,9 @@ pub fn arrive<W: Watch>(
     if part.leaves_out(processors, records) {
         return Ok(Entry::Counted);
     }
-    enter(alloc, memory, positions, processors, tally, memo, watch)
+    enter(
+        alloc, memory, positions, processors, is_stopped, tally, memo, watch,
+    )
 }
 
 /// Decides the same for a place from which only schedules of one part continue: if a place that is
@@ -65,6 +70,7 @@ fn enter<W: Watch>(
     memory: &Memory,
     positions: &Positions,
     processors: u32,
+    is_stopped: bool,
     tally: &mut Tally,
     memo: &mut Memo,
     watch: &mut W,
@@ -79,7 +85,11 @@ fn enter<W: Watch>(
     ensures way { (g : Setting) (news : List NewRecord) → memory.now ≡ memory_at g news
         → IsOnWay g news memo.old → IsOnWay g news memo.new }
     ensures limit { tally.new.limit ≡ tally.old.limit }
+    ensures watch { W.has_ended watch.old → W.has_ended watch.new }
 {
+    if is_stopped {
+        return Ok(Entry::Open(Level::new(tally)));
+    }
     let has_key = memo.come_to(alloc, memory, positions, processors)?;
     if !has_key {
         return Ok(Entry::Open(Level::new(tally)));
@@ -100,6 +110,7 @@ fn add_shares<W: Watch>(
     requires { AreAtEnds (length tally.old.ends) shares.now }
     ensures ok { IfOk result (IsAdded tally.old shares.now tally.new) }
     ensures limit { tally.new.limit ≡ tally.old.limit }
+    ensures watch { W.has_ended watch.old → W.has_ended watch.new }
 {
     if !fit_in(shares, tally.room()) {
         return Ok(Entry::Open(Level::new(tally)));
@@ -125,6 +136,7 @@ pub fn note<W: Watch>(
         → IsNotedAtEnd is_end processors (standing g records.now) tally.old.ends tally.new.ends) }
     ensures trail { OnOk result (KeepsBefore (length tally.old.trail) tally.old tally.new) }
     ensures limit { tally.new.limit ≡ tally.old.limit }
+    ensures watch { W.has_ended watch.old → W.has_ended watch.new }
 {
     if !is_end {
         return Ok(());
@@ -163,8 +175,8 @@ pub fn leave(
     keep(positions, processors, tally.since(frame.start), memo)
 }
 
-/// Stores the place's key, with these shares of what was counted since the walk reached it, unless
-/// no memory is left for more.
+/// Stores the place's key, if it has one, with these shares of what was counted since the walk
+/// reached it.
 fn keep(
     positions: &Positions,
     processors: u32,
@@ -179,9 +191,6 @@ fn keep(
         → IsMemo g ends memo.new) }
     ensures same { (memo.new.is_on ≡ memo.old.is_on) × (memo.new.standing ≡ memo.old.standing) }
 {
-    if memo.is_full() {
-        return Ok(());
-    }
     let has_key = memo.write_key(positions, processors)?;
     if !has_key {
         return Ok(());

@@ -1,5 +1,5 @@
 //! The table of encoded states.
-ghost use Rattle.std.specs.Prelude.{◌≡◌, [], IfOk, IfSome, OnOk};
+ghost use Rattle.std.specs.Prelude.{◌≡◌, [], IfOk, OnOk};
 ghost use Rattle.hp_states.specs.Codes.{IsCoded, KeepCodes, state_code};
 
 use crate::code::Code;
@@ -57,17 +57,6 @@ impl Codes {
         memory.is_placed();
         encode(&mut self.written, memory)?;
         self.texts.number_of(self.written.bytes())
-    }
-
-    /// Returns the number of the memory's state if it is found.
-    pub(crate) fn find(&mut self, memory: &Memory) -> Result<Option<usize>, AllocError>
-        ensures same { self.new ≡ self.old }
-        ensures ok { IfOk result (λ found.
-            IfSome found (λ n. IsCoded memory.now.layout self.new n memory.now.state)) }
-    {
-        memory.is_placed();
-        encode(&mut self.written, memory)?;
-        Ok(self.texts.find(self.written.bytes()))
     }
 
     /// Returns about how many bytes the states take.

@@ -3,11 +3,13 @@
 //! A memory's state is encoded part by part (`code`, `memories`), and equal codes share a number
 //! (`texts`, `codes`), so that a search compares and keeps numbers instead of states. A number means
 //! only one state of a layout (`laws`). A place is where a schedule of scripts leads: the crate owns
-//! the numbers by which places are compared (`openings`, `standing`), the places walked so far with
-//! how many schedules continue from each to each end (`memo`), and what a walk does when it reaches
-//! and leaves a place (`arrivals`). It makes no calls: hp_explore does.
+//! the numbers by which places are compared (`openings`, `stops`, `standing`), tables of keys that
+//! are made of such numbers (`key_table`), the places walked so far with how many schedules continue
+//! from each to each end (`memo`), and what a walk does when it reaches and leaves a place
+//! (`arrivals`). It makes no calls: hp_explore does.
 //!
-//! Read specs/Numbers, specs/Parts and specs/Codes first, then specs/Places and specs/Walks.
+//! Read specs/Numbers, specs/Parts and specs/Codes first, then specs/Places, specs/Stops
+//! and specs/Walks.
 #![tactic(auto)]
 
 mod arrivals;
@@ -17,11 +19,13 @@ mod digests;
 mod ends;
 mod frames;
 mod kept_counts;
+mod key_table;
 mod laws;
 mod memo;
 mod memories;
 mod openings;
 mod standing;
+mod stops;
 mod texts;
 mod watch;
 
@@ -30,6 +34,8 @@ pub use codes::Codes;
 pub use ends::outcome_at;
 pub use frames::{Entry, Level};
 pub use kept_counts::kept_counts_are_added;
+pub use key_table::KeyTable;
 pub use laws::codes_tell_states_apart;
 pub use memo::Memo;
-pub use watch::{KEPT_BYTES, Silent, Watch};
+pub use stops::Stops;
+pub use watch::{KEPT_BYTES, Reach, Silent, Watch};

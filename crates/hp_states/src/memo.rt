@@ -1,37 +1,33 @@
 //! The places walked so far, with the counts that are reused at equivalent places.
-ghost use Rattle.std.specs.Prelude.{◌≡◌, ◌++◌, ◌∷◌, [], IfOk, IfSome, IsTrue, List, None, OnOk, Some, cond, length, replicate, true};
+ghost use Rattle.std.specs.Prelude.{◌≡◌, ◌++◌, ◌∷◌, [], IfOk, IfSome, List, None, OnOk, Some, cond, length, replicate, true};
 ghost use Rattle.hp_units.specs.History.{effect_of};
 ghost use Rattle.hp_units.specs.declared.replies.Record.{Record as NewRecord};
 ghost use Rattle.hp_schedules.specs.Alike.{leaves_steps};
 ghost use Rattle.hp_schedules.specs.Cursors.{AreCursors};
 ghost use Rattle.hp_schedules.specs.Schedules.{Setting};
-ghost use Rattle.hp_states.specs.Seen.{AreSamePlaces, IsKeptMore, IsMemo, IsOnWay, IsRowAmong, key_in};
+ghost use Rattle.hp_states.specs.Seen.{AreSamePlaces, IsKeptMore, IsMemo, IsOnWay, IsRowAmong};
 ghost use Rattle.hp_states.specs.Standing.{AreSameNumbers, IsKey, KeepMeanings};
 ghost use Rattle.hp_states.specs.Places.{IsPlace, memory_at};
 ghost use Rattle.hp_schedules.specs.declared.tally.Ending.{Ending};
 
+use crate::key_table::KeyTable;
 use crate::standing::Standing;
-use crate::texts::TABLE_BYTES;
 use hp_memory::Memory;
-use hp_schedules::{Positions, Rows, Share, key_digest, learn};
+use hp_schedules::{Positions, Rows, Share};
 use hp_units::{Cpu, Record};
-use indexmap::IndexMap;
 use std::alloc::{AllocError, Global};
 use std::marker::Model;
 
 /// The places walked so far: the key of each, and how many schedules continue from it to each end.
 ///
-/// All keys have the same width and are stored one after another. `latest` maps a hash to the
-/// newest place that has it. `key` is the key written last.
+/// A place's key and its row of shares have the same index. `key` is the key written last.
 pub struct Memo {
     is_on: bool,
-    keys: Vec<u32>,
+    keys: KeyTable,
     rows: Rows,
-    latest: IndexMap<u64, usize>,
     key: Vec<u32>,
     standing: Standing,
-    /// How many bytes may be kept, and how many the places take.
-    limit: u64,
+    /// How many bytes the shares take.
     size: u64,
 }
 
@@ -42,7 +38,7 @@ impl Model for Memo {
 
     ghost view = { λ m. record {
       is_on = m.is_on;
-      keys = m.keys.items;
+      keys = m.keys;
       rows = m.rows;
       key = m.key.items;
       standing = m.standing;
@@ -54,12 +50,10 @@ impl Drop for Memo {
     fn drop(self) {
         let Memo {
             is_on: _,
-            keys: _,
+            keys: _keys,
             rows: _rows,
-            latest: _,
             key: _,
             standing: _standing,
-            limit: _,
             size: _,
         } = self;
     }
@@ -69,34 +63,32 @@ impl Memo {
     /// Creates an empty memo for a walk at the beginning of the scripts. With `is_on` false, no
     /// place is ever stored.
     ///
-    /// `is_closed` states that no Cancel can drop a step that led there. Once states and places take
-    /// `memory` bytes, no more are stored, and those that are stored stay in use.
+    /// `is_closed` states that no Cancel can drop a step that led there.
     pub fn start(
         alloc: Global,
         is_on: bool,
         processors: usize,
         is_closed: bool,
-        memory: u64,
     ) -> Result<Memo, AllocError>
         ensures on { IfOk result (λ memo. memo.is_on ≡ is_on) }
         ensures rows { IfOk result (λ memo. (memo.keys ≡ []) × (memo.rows ≡ [])) }
         ensures standing { IfOk result (λ memo. memo.standing ≡ record {
-          codes = [];
-          lists = [] ∷ [];
+          stops = record {
+            codes = [];
+            lists = [] ∷ [];
+            here = record { openings = cond is_closed (Some 0) None; state = None };
+            before = [];
+          };
           exchanged = record { chains = [] ∷ []; here = replicate processors 0 };
-          here = record { openings = cond is_closed (Some 0) None; state = None };
-          before = [];
         }) }
     {
         let standing = Standing::start(alloc, processors, is_closed)?;
         Ok(Memo {
             is_on,
-            keys: Vec::new(alloc),
+            keys: KeyTable::new(alloc),
             rows: Rows::new(alloc),
-            latest: IndexMap::new(alloc),
             key: Vec::new(alloc),
             standing,
-            limit: memory,
             size: 0,
         })
     }
@@ -156,14 +148,14 @@ impl Memo {
         if !self.is_on {
             return Ok(false);
         }
-        let adds = !self.is_full();
-        self.standing.number_state(alloc, memory, adds)?;
+        self.standing.number_state(alloc, memory)?;
         self.standing.key(positions, processors, &mut self.key)
     }
 
-    /// Returns whether the states and places take all the memory that they may.
-    pub fn is_full(&self) -> bool {
-        self.standing.size().saturating_add(self.size) >= self.limit
+    /// Returns about how many bytes the states and places take.
+    pub fn bytes(&self) -> u64 {
+        let places = self.keys.bytes().saturating_add(self.size);
+        self.standing.size().saturating_add(places)
     }
 
     /// Writes the key of the place where the walk is, after `come_to`, and returns whether it has
@@ -192,14 +184,10 @@ impl Memo {
     pub(crate) fn shares(&self) -> Option<&[Share]>
         ensures { IfSome result (λ shares. IsRowAmong self.now.keys self.now.rows self.now.key shares.now) }
     {
-        let key = self.key.as_slice();
-        let Some(place) = self.latest.get(&key_digest(key)) else {
+        let Some(place) = self.keys.find(self.key.as_slice()) else {
             return None;
         };
-        if !is_key_at(self.keys.as_slice(), *place, key) {
-            return None;
-        }
-        self.rows.row(*place)
+        self.rows.row(place)
     }
 
     /// Stores a place under the key written last, with these shares.
@@ -207,43 +195,11 @@ impl Memo {
         ensures same { (self.new.is_on ≡ self.old.is_on) × (self.new.standing ≡ self.old.standing) }
         ensures ok { OnOk result (IsKeptMore shares.now self.old self.new) }
     {
-        let digest = key_digest(self.key.as_slice());
-        let place = self.rows.len();
         self.size = self
             .size
-            .saturating_add(size_of_place(self.key.len(), shares.len()));
-        self.keys.extend_from_slice(self.key.as_slice())?;
+            .saturating_add((shares.len() as u64).saturating_mul(16));
         self.rows.push(shares)?;
-        learn(&mut self.latest, digest, place)
+        let _place = self.keys.add(self.key.as_slice())?;
+        Ok(())
     }
-}
-
-/// Returns about how many bytes a place takes whose key has this many numbers, with its shares.
-fn size_of_place(numbers: usize, shares: usize) -> u64 {
-    let key = (numbers as u64).saturating_mul(4);
-    let row = (shares as u64).saturating_mul(16);
-    TABLE_BYTES.saturating_add(key).saturating_add(row)
-}
-
-/// Returns whether the key at index `place` is this one. All keys are equally long.
-fn is_key_at(keys: &[u32], place: usize, key: &[u32]) -> bool
-    ensures { IsTrue result → key_in keys.now (length key.now) place ≡ key.now }
-{
-    match key_at(keys, place, key.len()) {
-        Some(there) => there == key,
-        None => false,
-    }
-}
-
-/// Returns the key at index `place`, if each key has `width` numbers.
-fn key_at(keys: &[u32], place: usize, width: usize) -> Option<&[u32]>
-    ensures { IfSome result (λ key. key.now ≡ key_in keys.now width place) }
-{
-    let Some(start) = place.checked_mul(width) else {
-        return None;
-    };
-    let Some(end) = start.checked_add(width) else {
-        return None;
-    };
-    keys.get(start..end)
 }

@@ -1,6 +1,6 @@
-//! Where a walk is, in numbers: its state, the operations that a Cancel can take back, and each
-//! processor's transcript. Equal numbers mean equal things.
-ghost use Rattle.std.specs.Prelude.{◌≡◌, ◌++◌, ◌∷◌, [], IfOk, List, None, OnOk, Some, cond, length, replicate, true, unwrap_or};
+//! Where a walk is, in numbers: those of its places (`stops`), and each processor's transcript.
+//! Equal numbers mean equal things.
+ghost use Rattle.std.specs.Prelude.{◌≡◌, ◌++◌, ◌∷◌, [], IfOk, List, None, OnOk, Some, cond, length, replicate, true};
 ghost use Rattle.hp_units.specs.History.{effect_of};
 ghost use Rattle.hp_units.specs.declared.replies.Record.{Record as NewRecord};
 ghost use Rattle.hp_schedules.specs.Alike.{leaves_steps};
@@ -9,29 +9,17 @@ ghost use Rattle.hp_schedules.specs.Schedules.{Setting};
 ghost use Rattle.hp_states.specs.Standing.{AddsParts, AreSameNumbers, IsKey, IsStanding, KeepMeanings};
 ghost use Rattle.hp_states.specs.Places.{memory_at};
 
-use crate::Codes;
-use crate::openings::Openings;
+use crate::stops::{Stops, push_two};
 use hp_memory::Memory;
 use hp_schedules::{Exchanges, Positions};
 use hp_units::{Cpu, Record};
 use std::alloc::{AllocError, Global};
 use std::marker::Model;
 
-/// A place on the way: the numbers of its cancellable operations and of its state, as far as known.
-#[derive(Clone, Copy, Drop)]
-pub(crate) struct Stop {
-    openings: Option<usize>,
-    state: Option<usize>,
-}
-
-/// The numbers of the place where a walk is, and of each place before it, from the
-/// beginning of the scripts.
+/// The numbers of the place where a walk is, of the places before it, and of the transcripts.
 pub(crate) struct Standing {
-    codes: Codes,
-    openings: Openings,
+    stops: Stops,
     exchanges: Exchanges,
-    here: Stop,
-    before: Vec<Stop>,
 }
 
 impl Model for Standing {
@@ -39,24 +27,15 @@ impl Model for Standing {
 
     ghost Value = { StandingValue };
 
-    ghost view = { λ s. record {
-      codes = s.codes;
-      lists = s.openings;
-      exchanged = s.exchanges;
-      here = s.here;
-      before = s.before.items;
-    } };
+    ghost view = { λ s. record { stops = s.stops; exchanged = s.exchanges } };
 }
 
 /// Keeps callers from proving again how each field is dropped.
 impl Drop for Standing {
     fn drop(self) {
         let Standing {
-            codes: _codes,
-            openings: _openings,
+            stops: _stops,
             exchanges: _exchanges,
-            here: _,
-            before: _,
         } = self;
     }
 }
@@ -70,23 +49,19 @@ impl Standing {
         is_closed: bool,
     ) -> Result<Standing, AllocError>
         ensures { IfOk result (λ s. s ≡ record {
-          codes = [];
-          lists = [] ∷ [];
+          stops = record {
+            codes = [];
+            lists = [] ∷ [];
+            here = record { openings = cond is_closed (Some 0) None; state = None };
+            before = [];
+          };
           exchanged = record { chains = [] ∷ []; here = replicate processors 0 };
-          here = record { openings = cond is_closed (Some 0) None; state = None };
-          before = [];
         }) }
     {
         let exchanges = Exchanges::start(alloc, processors)?;
         Ok(Standing {
-            codes: Codes::new(alloc),
-            openings: Openings::new(alloc),
+            stops: Stops::start(alloc, is_closed),
             exchanges,
-            here: Stop {
-                openings: first_number(is_closed),
-                state: None,
-            },
-            before: Vec::new(alloc),
         })
     }
 
@@ -98,15 +73,8 @@ impl Standing {
             → leaves_steps (effect_of latest.now.event) ≡ true
             → IsStanding g (news ++ latest.now ∷ []) self.new) }
     {
-        let was = self.here;
-        let openings = self.openings.after(was.openings, was.state, latest)?;
-        self.exchanges.go_on(alloc, latest.cpu, latest)?;
-        self.before.push(was)?;
-        self.here = Stop {
-            openings,
-            state: None,
-        };
-        Ok(())
+        self.stops.go_on(latest)?;
+        self.exchanges.go_on(alloc, latest.cpu, latest)
     }
 
     /// Takes back the latest call of processor `cpu`.
@@ -115,62 +83,23 @@ impl Standing {
         ensures back { (g : Setting) (news : List NewRecord) (r : NewRecord) → r.cpu ≡ cpu
             → IsStanding g (news ++ r ∷ []) self.old → IsStanding g news self.new }
     {
-        let here = known_of(self.before.pop());
-        self.here = here;
+        self.stops.go_back();
         self.exchanges.go_back(cpu);
     }
 
-    /// Gives the current state the number that it has, and with `adds` a new one if it has none;
-    /// unless it is unknown which operations a Cancel can take back.
-    pub(crate) fn number_state(
-        &mut self,
-        alloc: Global,
-        memory: &Memory,
-        adds: bool,
-    ) -> Result<(), AllocError>
+    /// Gives the current state the number that it has, or a new one, unless it is unknown which
+    /// operations a Cancel can take back.
+    pub(crate) fn number_state(&mut self, alloc: Global, memory: &Memory) -> Result<(), AllocError>
         ensures kept { KeepMeanings self.old self.new }
         ensures here { (g : Setting) (news : List NewRecord) → memory.now ≡ memory_at g news
             → IsStanding g news self.old → IsStanding g news self.new }
     {
-        if adds {
-            self.add_state(alloc, memory)
-        } else {
-            self.find_state(memory)
-        }
-    }
-
-    /// Gives the current state the number that it has, or a new one.
-    fn add_state(&mut self, alloc: Global, memory: &Memory) -> Result<(), AllocError>
-        ensures kept { KeepMeanings self.old self.new }
-        ensures here { (g : Setting) (news : List NewRecord) → memory.now ≡ memory_at g news
-            → IsStanding g news self.old → IsStanding g news self.new }
-    {
-        if self.here.openings.is_none() {
-            return Ok(());
-        }
-        let state = self.codes.number_of(alloc, memory)?;
-        self.here.state = Some(state);
-        Ok(())
-    }
-
-    /// Gives the current state the number that it has, if any.
-    fn find_state(&mut self, memory: &Memory) -> Result<(), AllocError>
-        ensures kept { KeepMeanings self.old self.new }
-        ensures here { (g : Setting) (news : List NewRecord) → memory.now ≡ memory_at g news
-            → IsStanding g news self.old → IsStanding g news self.new }
-    {
-        if self.here.openings.is_none() {
-            return Ok(());
-        }
-        if let Some(state) = self.codes.find(memory)? {
-            self.here.state = Some(state);
-        }
-        Ok(())
+        self.stops.number_state(alloc, memory)
     }
 
     /// Returns about how many bytes the states take.
     pub(crate) fn size(&self) -> u64 {
-        self.codes.size()
+        self.stops.size()
     }
 
     /// Writes the key of the current place into `key` and returns whether there is one.
@@ -190,15 +119,9 @@ impl Standing {
             → AreCursors g news positions.now.cursors.items → IsStanding g news self.now
             → IsKey g self.now news key.new.items) }
     {
-        let Some(state) = self.here.state else {
-            return Ok(false);
-        };
-        let Some(openings) = self.here.openings else {
-            return Ok(false);
-        };
         key.clear();
-        let fit = push_two(key, state as u64, openings as u64)?;
-        if !fit {
+        let has = self.stops.push_numbers(key)?;
+        if !has {
             return Ok(false);
         }
         self.push_parts(positions, processors, key)
@@ -231,41 +154,4 @@ impl Standing {
         }
         Ok(true)
     }
-}
-
-/// Returns the number of the list at the beginning: the empty list if the history is closed,
-/// otherwise unknown.
-fn first_number(is_closed: bool) -> Option<usize>
-    ensures { result ≡ cond is_closed (Some 0) None }
-{
-    if is_closed { Some(0) } else { None }
-}
-
-/// Returns the place, or one of which nothing is known.
-fn known_of(stop: Option<Stop>) -> Stop
-    ensures { result ≡ unwrap_or stop (record { openings = None; state = None }) }
-{
-    match stop {
-        Some(stop) => stop,
-        None => Stop {
-            openings: None,
-            state: None,
-        },
-    }
-}
-
-/// Appends two numbers and returns whether they fit. If not, the contents are unspecified.
-fn push_two(numbers: &mut Vec<u32>, first: u64, second: u64) -> Result<bool, AllocError>
-    ensures { IfOk result (λ fit. fit ≡ true
-        → numbers.new.items ≡ numbers.old.items ++ first ∷ second ∷ []) }
-{
-    let Ok(first) = u32::try_from(first) else {
-        return Ok(false);
-    };
-    let Ok(second) = u32::try_from(second) else {
-        return Ok(false);
-    };
-    numbers.push(first)?;
-    numbers.push(second)?;
-    Ok(true)
 }

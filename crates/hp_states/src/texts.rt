@@ -69,13 +69,6 @@ impl Texts {
         }
     }
 
-    /// Returns the number of `text` if it is found.
-    pub(crate) fn find(&self, text: &[u8]) -> Option<usize>
-        ensures { IfSome result (λ n. slice_get self.now n ≡ Some text.now) }
-    {
-        self.found(digest_of(text), text)
-    }
-
     /// Returns about how many bytes the strings take.
     pub(crate) fn size(&self) -> u64 {
         (self.bytes.len() as u64).saturating_add(
@@ -147,7 +140,7 @@ fn text_in<'a>(bytes: &'a [u8], ends: &[usize], number: usize) -> &'a [u8]
 }
 
 /// Returns the place where a string starts, which is where the one before it ends.
-fn start_of(ends: &[usize], number: usize) -> usize
+pub(crate) fn start_of(ends: &[usize], number: usize) -> usize
     requires { number < length ends.now }
     ensures { result ≡ start_of 0 ends.now number }
 {

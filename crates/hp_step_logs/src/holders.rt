@@ -31,7 +31,7 @@ impl FrameHolder {
         }
     }
 
-    /// Returns the holder of a frame where no block of the kernel starts.
+    /// Returns the holder of a frame at which no block of the kernel starts.
     fn of_page(page: Option<(Owner, Page)>) -> FrameHolder
         ensures { result ≡ holder_by None page }
     {

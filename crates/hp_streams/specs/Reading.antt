@@ -12,7 +12,7 @@ pub record ReadsAll (old new : Option (List ℕ)) : Type 0 where
   pub within : IfSome old (λ input. length input ≤ limit)
   pub end : IsAtEnd new
 
--- when each fault comes; `read` is that a call of the reader failed
+-- when each fault occurs; `read` states that a call of the reader failed
 abbrev pub IsReadFault : (known : Option (List ℕ)) (read : Type 0) → ReadFault → Type 0
 IsReadFault known read ReadFailed = read
 IsReadFault known read TooLong = IfSome known (λ input. limit < length input)

@@ -1,10 +1,11 @@
-//! All the bytes of a stream: reads them up to a limit, and writes them.
+//! Reads all bytes of a stream, up to a limit, and writes all bytes to one.
 //!
 //! `read_all` reads a `Source` to its end, and `write_all` writes bytes to a `Sink`; both are
-//! proved for any source and sink. `Counted` makes one of each reader and writer of the standard
-//! library. The crate owns the limit of an input and the faults of reading it. It opens no file and
-//! no stream, prints nothing, and depends on no other crate. Read src/streams.rt first: what a
-//! source and a sink must do.
+//! proved for any source and sink. `Counted` makes a source or a sink of any reader or writer of
+//! the standard library. The crate owns the limit of an input and the faults of reading it. It
+//! opens no file and no stream, prints nothing, and depends on no other crate.
+//!
+//! Read src/streams.rt first: what a source and a sink must do.
 #![tactic(auto)]
 
 mod reading;

@@ -1,19 +1,24 @@
-//! Rows as one picture: time downwards, the frames of a memory across, a colour for each character.
+//! A trace for a browser: its rows as one SVG picture, and the page that steps through its lines of
+//! JSON.
 //!
-//! The crate owns the picture: where each text and each cell of a row is, its colour, the legend.
-//! It knows nothing of machines or scenarios. What a picture looks like is tested; proved is that
-//! its runs cover each cell once, and that no two characters share a colour. Read pictures.rt
-//! first, then rows.rt and runs.rt; sheets.rt says where things are.
+//! The crate owns the picture: where each text and each cell of a row is, its colour, the legend; and
+//! the page's text around the lines, which viewer/build.py writes from the files of viewer/. It knows
+//! nothing of machines or scenarios. What either looks like is tested; proved is that the runs of a
+//! picture cover each cell once, that no two characters share a colour, and that a page has the lines
+//! as they are. Read pictures.rt first, then rows.rt and runs.rt; page.rt is apart.
 #![tactic(auto)]
 
 mod elements;
 mod marks;
 mod moves;
+mod page;
 mod pictures;
 mod rows;
 mod runs;
 mod sheets;
+mod viewer;
 
 pub use marks::{FILLS, colours_differ};
+pub use page::page_of;
 pub use pictures::picture_of;
 pub use runs::{Run, runs_of};

@@ -1,5 +1,5 @@
 -- What is heard, one part after another, and how a talk ends after it.
-use Rattle.std.proofs.Common.{◌≡◌, ◌≢◌, ℕ, List, [], ◌∷◌, ◌++◌, Option, refl, sym, ap, subst, ◌∙◌, append-nil, append_assoc}
+use Rattle.std.proofs.Common.{arith, ◌≡◌, ◌≢◌, ℕ, List, [], ◌∷◌, ◌++◌, Option, refl, sym, ap, subst, ◌∙◌, append-nil, append_assoc}
 use Rattle.std.proofs.lemmas.List.Elements.{All-append, All-nil}
 use Rattle.std.specs.Io.KnownBytes.{Appends, Consumes, IsAtEnd, Keeps}
 use Rattle.hp_talk.specs.Cuts.{IsCut}
@@ -80,12 +80,6 @@ heard_last P Broken d e f bytes rest front after h k other t cut heard =
 
 -- ---- what waits is sent
 
-pub heard_sent : {S : Type 0} (P : S → List ℕ → List ℕ → S → Type 0) (d e : Desk S) (bytes : List ℕ)
-    (h : HeldValue) (sent : Option (List ℕ)) → Hears P More d bytes e h → Appends e.sent sent e.waiting
-    → Hears P More d bytes (desk e.talk sent []) h
-heard_sent P d e bytes h sent x now =
-    (x.0, x.1, x.2, x.3, x.4, answers_sent P d e sent x.0 x.5 now)
-
 pub more_broken : {S : Type 0} (P : S → List ℕ → List ℕ → S → Type 0) (d e : Desk S) (line block : List ℕ)
     (h : HeldValue) (sent input left : Option (List ℕ)) → Consumes input left block
     → Hears P More d (line ++ block) e h → Breaks e.sent e.waiting [] sent
@@ -102,9 +96,7 @@ more_broken P d e line block h sent input left read x now = record {
 quit_in : (lines : List (List ℕ)) (bytes beyond : List ℕ)
     → bytes ≡ ended lines ++ (quit ++ newline ∷ beyond)
     → bytes ++ newline ∷ [] ≡ ended lines ++ (quit ++ newline ∷ (beyond ++ newline ∷ []))
-quit_in lines bytes beyond is =
-    longer lines bytes (quit ++ newline ∷ beyond) (newline ∷ []) is
-    ∙ ap (λ (t : List ℕ). ended lines ++ t) (append_assoc quit (newline ∷ beyond) (newline ∷ []))
+quit_in lines bytes beyond is = grind (arith, longer, append_assoc)
 
 pub quit_sent : {S : Type 0} (P : S → List ℕ → List ℕ → S → Type 0) (d e : Desk S) (line block : List ℕ)
     (h : HeldValue) (sent input left : Option (List ℕ)) → Consumes input left block
@@ -154,35 +146,24 @@ block_broken {S} P d e f line block h input left read same sent x = record {
 pub ended_whole : {S : Type 0} (P : S → List ℕ → List ℕ → S → Type 0) (d : Desk S) (line : List ℕ)
     (input left : Option (List ℕ)) → Consumes input left [] → IsAtEnd left → line ≡ [] → d.waiting ≡ []
     → Ends P ends.Input d line input left d
-ended_whole P d line input left read end none waits = record {
-  bytes = [];
-  read = read;
-  lines = [];
-  end = (end, [], [], append-nil line ∙ none, All-nil (λ (b : ℕ). b ≢ newline), refl);
-  said = (answers_none P d, waits);
-}
+ended_whole P d line input left read end none waits = grind (arith, append-nil, All-nil, answers_none)
 
 -- a line without its newline
 last_of : (line : List ℕ) → (line ++ []) ++ newline ∷ [] ≡ ended (line ∷ []) ++ []
-last_of line =
-    ap (λ (l : List ℕ). l ++ newline ∷ []) (append-nil line) ∙ sym (append-nil (line ++ newline ∷ []))
+last_of line = cc (append-nil line, append-nil (line ++ newline ∷ []))
 
 -- nothing is said to a line `quit`
 quit_said : {S : Type 0} (P : S → List ℕ → List ℕ → S → Type 0) (d e : Desk S) → e ≡ d → d.waiting ≡ []
     → Answers P d [] (desk e.talk e.sent [])
 quit_said {S} P d e same none =
-    subst (λ (x : Desk S). Answers P d [] (desk x.talk x.sent [])) (sym same)
-    (subst (λ (w : List ℕ). Answers P d [] (desk d.talk d.sent w)) none (answers_none P d))
+    rw same (subst (λ (w : List ℕ). Answers P d [] (desk d.talk d.sent w)) none (answers_none P d))
 
 as_last : (line : List ℕ) → line ≢ [] → line ∷ [] ≡ with_last [] line
-as_last [] other = absurd (other refl)
-as_last (b ∷ bs) other = refl
+as_last line other = grind arith
 
 line_said : {S : Type 0} (P : S → List ℕ → List ℕ → S → Type 0) (d e : Desk S) (line : List ℕ) (h : HeldValue)
     → IsWhole line → HearsLine P More d (line ++ []) e h → Answers P d (line ∷ []) e
-line_said P d e line h whole x =
-    let y = subst (λ (l : List ℕ). HearsLine P More d l e h) (append-nil line) x in
-    said_once P d e line (record { whole = whole; other = y.0 }) y.1
+line_said P d e line h whole x = grind (arith, append-nil, said_once)
 
 pub last_replied : {S : Type 0} (P : S → List ℕ → List ℕ → S → Type 0) (d e : Desk S) (line : List ℕ)
     (h : HeldValue) (input left sent : Option (List ℕ)) → Consumes input left [] → IsAtEnd left
@@ -243,30 +224,13 @@ last_broken P d e line h input left read whole x =
 pub unread : {S : Type 0} (P : S → List ℕ → List ℕ → S → Type 0) (d : Desk S) (line : List ℕ)
     (input left : Option (List ℕ)) → Keeps input left → IsWhole line → d.waiting ≡ []
     → Ends P ends.ReadFailed d line input left d
-unread P d line input left kept whole waits = record {
-  bytes = [];
-  read = consumes_kept input left kept;
-  lines = [];
-  end = (line, append-nil line, whole);
-  said = (answers_none P d, waits);
-}
+unread P d line input left kept whole waits = grind (arith, consumes_kept, append-nil, answers_none)
 
 -- ---- a whole talk
 
 pub begun : {S : Type 0} (P : S → List ℕ → List ℕ → S → Type 0) (d : Desk S) (input : Option (List ℕ))
     (h : HeldValue) → h ≡ nothing_held → GoesOn P d input input d h
-begun P d input h none = record {
-  bytes = [];
-  read = consumes_none input;
-  heard = (
-    [],
-    [],
-    refl,
-    All-nil (λ (b : ℕ). b ≢ newline),
-    holds_nothing h none,
-    answers_none P d,
-  );
-}
+begun P d input h none = grind (arith, consumes_none, All-nil, holds_nothing, answers_none)
 
 pub gone_on : {S : Type 0} (P : S → List ℕ → List ℕ → S → Type 0) (d e f : Desk S)
     (input mid left : Option (List ℕ)) (h k : HeldValue) → GoesOn P d input mid e h
@@ -293,34 +257,12 @@ gone_on P d e f input mid left h k t more =
 end_after : (how : TalkEnd) (front : List (List ℕ)) (bytes : List ℕ) (lines : List (List ℕ))
     (left : Option (List ℕ)) → IsEndOf how bytes lines left
     → IsEndOf how (ended front ++ bytes) (front ++ lines) left
-end_after ends.Input front bytes lines left e = (
-  e.0,
-  front ++ e.1,
-  e.2,
-  ended_after front e.1 bytes e.2 e.3,
-  e.4,
-  ap (λ (l : List (List ℕ)). front ++ l) e.5 ∙ with_last_after front e.1 e.2,
-)
-end_after ends.Quit front bytes lines left e = (
-  e.0,
-  append_assoc (ended front) bytes (newline ∷ [])
-      ∙ ended_after front lines (bytes ++ newline ∷ []) (quit ++ newline ∷ e.0) e.1,
-)
-end_after ends.ReadFailed front bytes lines left e = (e.0, ended_after front lines bytes e.0 e.1, e.2)
-end_after ends.WriteFailed front bytes lines left e = (
-  e.0,
-  append_assoc (ended front) bytes (newline ∷ [])
-      ∙ ended_after front lines (bytes ++ newline ∷ []) e.0 e.1,
-)
-end_after ends.Worn front bytes lines left e = (e.0, ended_after front lines bytes e.0 e.1, e.2)
+end_after how front bytes lines left e = grind (arith, ended_after, with_last_after, append_assoc)
 
 said_after : {S : Type 0} (P : S → List ℕ → List ℕ → S → Type 0) (how : TalkEnd) (d e f : Desk S)
     (xs ys : List (List ℕ)) → Answers P d xs e → IsSaid P how e ys f → IsSaid P how d (xs ++ ys) f
 said_after P ends.WriteFailed d e f xs ys a b = fails_joined P d e f xs ys a b
-said_after P ends.Input d e f xs ys a b = (answers_joined P d e f xs ys a b.0, b.1)
-said_after P ends.Quit d e f xs ys a b = (answers_joined P d e f xs ys a b.0, b.1)
-said_after P ends.ReadFailed d e f xs ys a b = (answers_joined P d e f xs ys a b.0, b.1)
-said_after P ends.Worn d e f xs ys a b = (answers_joined P d e f xs ys a b.0, b.1)
+said_after P how d e f xs ys a b = (answers_joined P d e f xs ys a b.0, b.1)
 
 pub at_end : {S : Type 0} (P : S → List ℕ → List ℕ → S → Type 0) (how : TalkEnd) (d e f : Desk S)
     (input mid left : Option (List ℕ)) (h : HeldValue) → GoesOn P d input mid e h

@@ -1,108 +1,47 @@
 -- What is sent and said, one part after another.
-use Rattle.std.proofs.Common.{◌≡◌, ℕ, List, [], ◌∷◌, ◌++◌, take, drop, Option, Some, None, refl, sym, ap, subst, ◌∙◌, append-nil, append_assoc}
+use Rattle.std.proofs.Common.{arith, ◌≡◌, ℕ, List, [], ◌∷◌, ◌++◌, take, drop, Option, sym, ap, subst, ◌∙◌, append-nil, append_assoc}
 use Rattle.std.proofs.lemmas.List.Elements.{All-append, All-nil, All-push}
 use Rattle.std.specs.Io.KnownBytes.{Appends, Consumes, Keeps}
 use Rattle.hp_talk.specs.Talks.{Answers, AreReplies, Breaks, Desk, Fails, IsTurn, Misses, Says, Sends, desk}
 
 -- ---- known bytes
 
-pub appends_none : (a : Option (List ℕ)) → Appends a a []
-appends_none None = tt
-appends_none (Some x) = sym (append-nil x)
-
 pub appends_joined : (a b c : Option (List ℕ)) (m n : List ℕ) → Appends a b m → Appends b c n
     → Appends a c (m ++ n)
-appends_joined None b c m n p q = tt
-appends_joined (Some x) None c m n p q = absurd p
-appends_joined (Some x) (Some y) None m n p q = absurd q
-appends_joined (Some x) (Some y) (Some z) m n p q =
-    q ∙ ap (λ (l : List ℕ). l ++ n) p ∙ append_assoc x m n
-
-pub appends_kept : (a b c : Option (List ℕ)) (m : List ℕ) → Appends a b m → Keeps b c → Appends a c m
-appends_kept None b c m p q = tt
-appends_kept (Some x) None c m p q = absurd p
-appends_kept (Some x) (Some y) None m p q = absurd q
-appends_kept (Some x) (Some y) (Some z) m p q = q ∙ p
+appends_joined a b c m n p q = grind (arith, append_assoc)
 
 pub consumes_none : (a : Option (List ℕ)) → Consumes a a []
-consumes_none None = tt
-consumes_none (Some x) = refl
+consumes_none a = grind arith
 
 pub consumes_kept : (a b : Option (List ℕ)) → Keeps a b → Consumes a b []
-consumes_kept None b q = tt
-consumes_kept (Some x) None q = absurd q
-consumes_kept (Some x) (Some y) q = sym q
+consumes_kept a b q = grind arith
 
 pub consumes_joined : (a b c : Option (List ℕ)) (m n : List ℕ) → Consumes a b m → Consumes b c n
     → Consumes a c (m ++ n)
-consumes_joined None b c m n p q = tt
-consumes_joined (Some x) None c m n p q = absurd p
-consumes_joined (Some x) (Some y) None m n p q = absurd q
-consumes_joined (Some x) (Some y) (Some z) m n p q =
-    p ∙ ap (λ (l : List ℕ). m ++ l) q ∙ sym (append_assoc m n z)
+consumes_joined a b c m n p q = grind (arith, append_assoc)
 
 -- ---- what is sent
 
 sends_joined : (a b c : Option (List ℕ)) (w x u y v : List ℕ) → Sends a w x b u → Sends b u y c v
     → Sends a w (x ++ y) c v
-sends_joined a b c w x u y v s t = record {
-  now = s.now ++ t.now;
-  appended = appends_joined a b c s.now t.now s.appended t.appended;
-  is =
-      append_assoc s.now t.now v ∙ ap (λ (l : List ℕ). s.now ++ l) t.is
-      ∙ sym (append_assoc s.now u y) ∙ ap (λ (l : List ℕ). l ++ y) s.is ∙ append_assoc w x y;
-}
+sends_joined a b c w x u y v s t = grind (arith, appends_joined, append_assoc)
 
 breaks_joined : (a b c : Option (List ℕ)) (w x u y : List ℕ) → Sends a w x b u → Breaks b u y c
     → Breaks a w (x ++ y) c
-breaks_joined a b c w x u y s t = record {
-  now = s.now ++ t.now;
-  beyond = t.beyond;
-  appended = appends_joined a b c s.now t.now s.appended t.appended;
-  is =
-      append_assoc s.now t.now t.beyond ∙ ap (λ (l : List ℕ). s.now ++ l) t.is
-      ∙ sym (append_assoc s.now u y) ∙ ap (λ (l : List ℕ). l ++ y) s.is ∙ append_assoc w x y;
-}
-
--- what waits was sent
-sends_all : (a b c : Option (List ℕ)) (w x u : List ℕ) → Sends a w x b u → Appends b c u → Sends a w x c []
-sends_all a b c w x u s sent = record {
-  now = s.now ++ u;
-  appended = appends_joined a b c s.now u s.appended sent;
-  is = append-nil (s.now ++ u) ∙ s.is;
-}
+breaks_joined a b c w x u y s t = grind (arith, appends_joined, append_assoc)
 
 -- a beginning of what waits was sent
 breaks_off : (a b c : Option (List ℕ)) (w x u : List ℕ) → Sends a w x b u → Breaks b u [] c → Breaks a w x c
-breaks_off a b c w x u s t = record {
-  now = s.now ++ t.now;
-  beyond = t.beyond;
-  appended = appends_joined a b c s.now t.now s.appended t.appended;
-  is =
-      append_assoc s.now t.now t.beyond
-      ∙ ap (λ (l : List ℕ). s.now ++ l) (t.is ∙ append-nil u) ∙ s.is;
-}
+breaks_off a b c w x u s t = grind (arith, appends_joined, append_assoc, append-nil)
 
 -- a text was sent after what waits
 pub sent_with : (a b c : Option (List ℕ)) (w text t waits : List ℕ) → Appends a b w → waits ≡ [] → t ≡ text
     → Appends b c t → Sends a w text c waits
-sent_with a b c w text t waits first none same second = record {
-  now = w ++ text;
-  appended =
-      subst (λ (l : List ℕ). Appends a c (w ++ l)) same (appends_joined a b c w t first second);
-  is = ap (λ (l : List ℕ). (w ++ text) ++ l) none ∙ append-nil (w ++ text);
-}
+sent_with a b c w text t waits first none same second = grind (arith, appends_joined, append-nil)
 
 pub broken_with : (a b c : Option (List ℕ)) (w text t : List ℕ) → Appends a b w → t ≡ text → Breaks b t [] c
     → Breaks a w text c
-broken_with a b c w text t first same second = record {
-  now = w ++ second.now;
-  beyond = second.beyond;
-  appended = appends_joined a b c w second.now first second.appended;
-  is =
-      append_assoc w second.now second.beyond
-      ∙ ap (λ (l : List ℕ). w ++ l) (second.is ∙ append-nil t ∙ same);
-}
+broken_with a b c w text t first same second = grind (arith, appends_joined, append_assoc, append-nil)
 
 pub broken_before : (a b : Option (List ℕ)) (w text : List ℕ) → Breaks a w [] b → Breaks a w text b
 broken_before a b w text t = record {
@@ -116,20 +55,13 @@ broken_before a b w text t = record {
 -- a beginning of bytes was sent, and then no more
 pub broken_at : (a b c : Option (List ℕ)) (bytes : List ℕ) (at : ℕ) → Appends a b (take at bytes) → Keeps b c
     → take at bytes ++ drop at bytes ≡ bytes → Breaks a bytes [] c
-broken_at a b c bytes at first kept cut = record {
-  now = take at bytes;
-  beyond = drop at bytes;
-  appended = appends_kept a b c (take at bytes) first kept;
-  is = cut ∙ sym (append-nil bytes);
-}
+broken_at a b c bytes at first kept cut = grind (arith, append-nil)
 
 -- ---- replies
 
 replies_joined : {S : Type 0} (P : S → List ℕ → List ℕ → S → Type 0) (s mid new : S) (xs ys : List (List ℕ))
     (x y : List ℕ) → AreReplies P s xs x mid → AreReplies P mid ys y new → AreReplies P s (xs ++ ys) (x ++ y) new
-replies_joined {S} P s mid new [] ys x y p q =
-    subst (λ (t : List ℕ). AreReplies P s ys (t ++ y) new) (sym p.0)
-    (subst (λ (m : S). AreReplies P m ys y new) p.1 q)
+replies_joined {S} P s mid new [] ys x y p q = rw p.0 (subst (λ (m : S). AreReplies P m ys y new) p.1 q)
 replies_joined {S} P s mid new (l ∷ xs) ys x y p q = (
   p.0,
   p.1,
@@ -140,12 +72,7 @@ replies_joined {S} P s mid new (l ∷ xs) ys x y p q = (
 )
 
 pub answers_none : {S : Type 0} (P : S → List ℕ → List ℕ → S → Type 0) (d : Desk S) → Answers P d [] d
-answers_none P d = record {
-  turns = All-nil IsTurn;
-  text = [];
-  replied = (refl, refl);
-  sends = record { now = []; appended = appends_none d.sent; is = sym (append-nil d.waiting) };
-}
+answers_none P d = grind (arith, All-nil, append-nil)
 
 pub answers_joined : {S : Type 0} (P : S → List ℕ → List ℕ → S → Type 0) (d e f : Desk S)
     (xs ys : List (List ℕ)) → Answers P d xs e → Answers P e ys f → Answers P d (xs ++ ys) f
@@ -168,32 +95,17 @@ fails_joined P d e f xs ys a b = record {
 
 pub said_once : {S : Type 0} (P : S → List ℕ → List ℕ → S → Type 0) (d e : Desk S) (line : List ℕ)
     → IsTurn line → Says P d line e → Answers P d (line ∷ []) e
-said_once P d e line turn says = record {
-  turns = All-push IsTurn [] line (All-nil IsTurn) turn;
-  text = says.text;
-  replied = (says.text, e.talk, [], says.replied, sym (append-nil says.text), (refl, refl));
-  sends = says.sends;
-}
+said_once P d e line turn says = grind (arith, All-push, All-nil, append-nil)
 
 pub missed_once : {S : Type 0} (P : S → List ℕ → List ℕ → S → Type 0) (d e : Desk S) (line : List ℕ)
     → IsTurn line → Misses P d line e → Fails P d (line ∷ []) e
-missed_once P d e line turn misses = record {
-  turns = All-push IsTurn [] line (All-nil IsTurn) turn;
-  text = misses.text;
-  replied = (misses.text, e.talk, [], misses.replied, sym (append-nil misses.text), (refl, refl));
-  breaks = misses.breaks;
-}
+missed_once P d e line turn misses = grind (arith, All-push, All-nil, append-nil)
 
 -- what waits was sent
 pub answers_sent : {S : Type 0} (P : S → List ℕ → List ℕ → S → Type 0) (d e : Desk S)
     (sent : Option (List ℕ)) (xs : List (List ℕ)) → Answers P d xs e → Appends e.sent sent e.waiting
     → Answers P d xs (desk e.talk sent [])
-answers_sent P d e sent xs a now = record {
-  turns = a.turns;
-  text = a.text;
-  replied = a.replied;
-  sends = sends_all d.sent e.sent sent d.waiting a.text e.waiting a.sends now;
-}
+answers_sent P d e sent xs a now = grind (arith, appends_joined, append-nil)
 
 pub answers_broken : {S : Type 0} (P : S → List ℕ → List ℕ → S → Type 0) (d e : Desk S)
     (sent : Option (List ℕ)) (xs : List (List ℕ)) → Answers P d xs e → Breaks e.sent e.waiting [] sent

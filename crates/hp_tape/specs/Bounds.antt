@@ -26,11 +26,11 @@ steal_bound l = l.order + 2
 abbrev pub move_bound : LayoutParts → ℕ
 move_bound l = 1 + 2 * 2 ^ l.order
 
--- a batch of single frames between the areas and a processor's list, and one frame more
+-- moving a batch of single frames between the areas and a processor's list, and one frame more
 abbrev pub batch_bound : LayoutParts → ℕ
 batch_bound l = l.batch * (l.order + 2) + 1
 
--- one frame from a processor's list: one delta if the list has a frame, otherwise a refill
+-- taking one frame from a processor's list: one delta if the list has a frame, otherwise a refill
 abbrev pub take_one_from : LayoutParts → List ℕ → ℕ
 take_one_from l [] = batch_bound l
 take_one_from l (frame ∷ frames) = 1
@@ -38,8 +38,8 @@ take_one_from l (frame ∷ frames) = 1
 abbrev pub take_one_bound : LayoutParts → FreeFrames → (cpu : ℕ) → Pool → ℕ
 take_one_bound l fs cpu pool = take_one_from l (cached_list fs cpu pool)
 
--- one frame back: straight to the areas if its pageblock is isolated; otherwise
--- one delta, or a spill
+-- giving one frame back: straight to the areas if its pageblock is isolated; otherwise one delta,
+-- or a spill
 abbrev pub put_one_bound : LayoutParts → FreeFrames → (cpu : ℕ) → Zone → (frame : ℕ) → ℕ
 put_one_bound l fs cpu zone frame =
     let kind = kind_of fs.areas (pageblock_of l frame) in
@@ -53,13 +53,13 @@ cached_frames fs cpu =
     length (cached_list fs cpu NuPool) + length (cached_list fs cpu NmPool)
     + length (cached_list fs cpu MmPool)
 
--- all frames on a processor's lists go back to the areas
+-- giving all frames on a processor's lists back to the areas
 abbrev pub drain_bound : LayoutParts → FreeFrames → (cpu : ℕ) → ℕ
 drain_bound l fs cpu = cached_frames fs cpu * (l.order + 2)
 
 -- ---- of the events
 
--- a block that is isolated or released; one that goes offline or is added; one that goes online
+-- isolating or releasing a block; committing one; taking one online
 abbrev pub moved_block_bound : LayoutParts → ℕ
 moved_block_bound l = 1 + l.pageblocks * (1 + 2 * 2 ^ l.order)
 

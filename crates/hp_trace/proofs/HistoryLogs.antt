@@ -1,5 +1,5 @@
 -- The log of the states that rows show is the log of the histories that lead to them.
-use Rattle.std.proofs.Common.{◌≡◌, ◌⊎◌, ℕ, Bool, true, false, ◌==◌, if◌then◌else◌, List, [], ◌∷◌, ◌++◌, length, append_assoc, Option, refl, sym, ap, ap₂, subst, inl, inr, ◌∙◌, arith}
+use Rattle.std.proofs.Common.{◌≡◌, ◌⊎◌, ℕ, Bool, true, false, ◌==◌, if◌then◌else◌, List, [], ◌∷◌, ◌++◌, length, append_assoc, Option, refl, sym, ap, ap₂, inl, inr, ◌∙◌, arith}
 use Rattle.std.proofs.lemmas.Bool.{eq-eqb, eqb-true}
 use Rattle.hp_units.specs.Boot.{boot_memory}
 use Rattle.hp_units.specs.History.{net_of, run, value_of}
@@ -12,7 +12,7 @@ use Rattle.hp_judge.specs.declared.events.LogEvent.{LogEvent}
 use Rattle.hp_lawful.specs.Logs.{log_of, log_of_all, step_log}
 use Rattle.hp_lawful.proofs.Histories.{log-push}
 use Rattle.hp_lawful.proofs.Unchanged.{step_none}
-use Rattle.hp_machine.specs.Machine.{IsCalled, MachineValue, booted, record_of, sealed}
+use Rattle.hp_machine.specs.Machine.{IsCalled, MachineValue, booted, sealed}
 use Rattle.hp_map.specs.declared.row_picture.Move.{Move}
 use Rattle.hp_trace.specs.Logs.{histories}
 use Rattle.hp_trace.specs.Rows.{Row, drawing, words}
@@ -74,29 +74,15 @@ pub record TakesTurn (m n : MachineValue) : Type 0 where
 -- the same history goes on
 goes_on : (m n : MachineValue) (rows : List Row) → n.before ≡ m.before
     → (if n.before == m.before then histories n rows else m.history ∷ histories n rows) ≡ histories n rows
-goes_on m n rows same =
-    ap (λ (b : Bool). if b then histories n rows else m.history ∷ histories n rows)
-    (eq-eqb n.before m.before same)
+goes_on m n rows same = rw (eq-eqb n.before m.before same)
 
 same_turn : (m : MachineValue) → IsReached m → TakesTurn m m
-same_turn m reached = record {
-  layout = refl;
-  reached = reached;
-  whole = λ rows asked answer moved ih.
-      ap (λ (xs : List LogEvent). own_log m ++ (xs ++ rows_log m rows)) (step_none m.layout m.state)
-      ∙ (ih ∙ ap (λ (hs : List (List Record)). log_of_all m.layout m.base hs)
-      (sym (goes_on m m rows refl)));
-}
+same_turn m reached = grind (arith, step_none, goes_on)
 
 -- one more record
 more_own : (m n : MachineValue) (cpu : ℕ) (event : Event) (r : Receipt) → IsReached m
     → IsCalled m cpu event r n → own_log n ≡ own_log m ++ step_log m.layout m.state n.state
-more_own m n cpu event r reached called =
-    ap₂ (λ (l : LayoutParts) (b : Memory). log_of l b n.history) called.layout called.base
-    ∙ (ap (λ (h : List Record). log_of m.layout m.base h) called.history
-    ∙ (log-push m.layout m.base m.history (record_of cpu r)
-    ∙ ap₂ (λ (s t : Memory). own_log m ++ step_log m.layout s t) (sym reached)
-    (sym (called.state ∙ ap (λ (h : List Record). value_of m.layout m.base h) called.history))))
+more_own m n cpu event r reached called = grind (arith, log-push)
 
 called_turn : (m n : MachineValue) (cpu : ℕ) (event : Event) (r : Receipt) → IsReached m
     → IsCalled m cpu event r n → TakesTurn m n
@@ -148,11 +134,9 @@ sealed_turn m reached = record {
 -- ---- all turns
 
 pub turn_taken : (m n : MachineValue) → IsReached m → IsTurn m n → TakesTurn m n
-turn_taken m n reached (inl same) =
-    subst (λ (k : MachineValue). TakesTurn m k) (sym same) (same_turn m reached)
+turn_taken m n reached (inl same) = rw same (same_turn m reached)
 turn_taken m n reached (inr (inl called)) = called_turn m n called.0 called.1 called.2 reached called.3
-turn_taken m n reached (inr (inr same)) =
-    subst (λ (k : MachineValue). TakesTurn m k) (sym same) (sealed_turn m reached)
+turn_taken m n reached (inr (inr same)) = rw same (sealed_turn m reached)
 
 pub whole_rows : (m after : MachineValue) (rows : List Row) → IsReached m → Turns m rows after
     → own_log m ++ rows_log m rows ≡ whole_log m rows

@@ -1,5 +1,5 @@
 -- Lines that are traced one after another.
-use Rattle.std.proofs.Common.{◌≡◌, ℕ, ◌+◌, ◌<◌, List, [], ◌∷◌, ◌++◌, length, get_or, drop, take, refl, sym, ap, ap₂, subst, ◌∙◌, append_assoc, append-nil, arith}
+use Rattle.std.proofs.Common.{◌≡◌, ℕ, ◌+◌, ◌<◌, List, [], ◌∷◌, ◌++◌, length, get_or, drop, take, refl, sym, ap, subst, ◌∙◌, append_assoc, append-nil, arith}
 use Rattle.std.proofs.lemmas.List.{length-take-le, take_more}
 use Rattle.hp_machine.specs.Machine.{MachineValue, booted}
 use Rattle.hp_scenario.specs.Asked.{asked_by}
@@ -31,8 +31,7 @@ made_more names first last [] line m mid after lists rows at made one =
     let here : last ≡ first = omega (arith, at) in
     let work =
     subst (λ (n : ℕ). MakesWork m line.cpu (asked_by line.work) (numbered_text names n line) rows after) here
-    (subst (λ (k : MachineValue). MakesWork k line.cpu (asked_by line.work) (numbered_text names last line)
-    rows after) made.0 one) in
+    (rw (← made.0) one) in
     (after, rows, [], work, ap (λ (l : List (List Row)). l ++ rows ∷ []) made.1, (refl, refl))
 made_more names first last (x ∷ xs) line m mid after lists rows at made one =
     let here : last ≡ (first + 1) + length xs = omega (arith, at) in (
@@ -47,9 +46,7 @@ made_more names first last (x ∷ xs) line m mid after lists rows at made one =
 shown_more : (v : View) (first last : ℕ) (lists : List (List Row)) (rows : List Row)
     → last ≡ first + length lists
     → shown_rows v first (lists ++ rows ∷ []) ≡ shown_rows v first lists ++ rows_if (shows v last) rows
-shown_more v first last [] rows at =
-    let here : first ≡ last = omega (arith, at) in
-    append-nil (rows_if (shows v first) rows) ∙ ap (λ (n : ℕ). rows_if (shows v n) rows) here
+shown_more v first last [] rows at = grind (arith, append-nil)
 shown_more v first last (l ∷ ls) rows at =
     let here : last ≡ (first + 1) + length ls = omega (arith, at) in
     ap (λ (t : List Row). rows_if (shows v first) l ++ t) (shown_more v (first + 1) last ls rows here)
@@ -87,10 +84,9 @@ pub lines_more : (v : View) (names : List (List ℕ)) (before : ℕ) (lines : Li
     → TracesLines v names before m (take (i + 1) lines) old new after
 lines_more v names before lines i line m mid after old between new within at traced one =
     let count : length (take i lines) ≡ i = length-take-le i lines (omega (arith, within)) in
-    subst (λ (l : List Line). TracesLines v names before m l old new after)
-    (sym (take_more lines i line within ∙ ap (λ (x : Line). take i lines ++ x ∷ []) (sym at)))
-    (line_more v names before (before + i + 1) (take i lines) line m mid after old between new
-    (omega (arith, count)) traced one)
+    rw (take_more lines i line within ∙ ap (λ (x : Line). take i lines ++ x ∷ []) (sym at)) (line_more v
+    names before (before + i + 1) (take i lines) line m mid after old between new (omega (arith, count))
+    traced one)
 
 -- the lines before those that may be shown, and the others
 pub scenario_traced : (form : Form) (v : View) (s : ScenarioValue) (lines front back : List Line) (n : ℕ)
@@ -99,24 +95,6 @@ pub scenario_traced : (form : Form) (v : View) (s : ScenarioValue) (lines front 
     → boot ≡ booted s.layout → TracesLines v s.names 0 boot front unseen later mid
     → IsStart form v mid start → TracesLines v s.names n mid back start rows after
     → IsScenarioTraced form v s rows
-scenario_traced form v s lines front back n unseen later start rows boot mid after same count at_front at_back
-    at first begun traced =
-    let counted : n ≡ skipped v (length s.lines) =
-    count ∙ ap (λ (ls : List Line). skipped v (length ls)) same in
-    let fronts : front ≡ take (skipped v (length s.lines)) s.lines =
-    at_front ∙ ap₂ (λ (k : ℕ) (ls : List Line). take k ls) counted same in
-    let backs : back ≡ drop (skipped v (length s.lines)) s.lines =
-    at_back ∙ ap₂ (λ (k : ℕ) (ls : List Line). drop k ls) counted same in
-    record {
-      unseen = first.lists;
-      first = mid;
-      begins =
-          subst (λ (ls : List Line). MakesLines s.names 1 (booted s.layout) ls first.lists mid) fronts
-          (subst (λ (k : MachineValue). MakesLines s.names 1 k front first.lists mid) at first.made);
-      start = start;
-      begun = begun;
-      machine = after;
-      traced =
-          subst (λ (ls : List Line). TracesLines v s.names (skipped v (length s.lines)) mid ls start rows after)
-          backs (subst (λ (k : ℕ). TracesLines v s.names k mid back start rows after) counted traced);
-    }
+scenario_traced form v s lines front back n unseen later start rows boot mid after same count at_front
+    at_back at first begun traced =
+    grind arith

@@ -1,9 +1,8 @@
 -- What is shown for lines that come after a scenario's is the trace of the scenario with them.
-use Rattle.std.proofs.Common.{◌≡◌, ℕ, ◌+◌, ◌-◌, ◌^◌, nat_lt, Bool, true, false, List, [], ◌∷◌, ◌++◌, length, map, drop, take, Option, None, inl, inr, refl, sym, ap, subst, ◌∙◌, append_assoc, append-nil, arith, if◌then◌else◌}
+use Rattle.std.proofs.Common.{◌≡◌, ℕ, ◌+◌, ◌-◌, ◌^◌, List, [], ◌∷◌, ◌++◌, length, map, drop, take, Option, None, inl, inr, refl, sym, ap, subst, ◌∙◌, append_assoc, append-nil, arith}
 use Rattle.std.specs.Prelude.{codes}
 use Rattle.std.specs.Fmt.{format_spec, styled_decimal}
 use Rattle.std.specs.List.{AllByRecursion}
-use Rattle.std.proofs.lemmas.Bool.{ltb-false}
 use Rattle.std.proofs.lemmas.List.{drop_at, length-append, take_at}
 use Rattle.hp_machine.specs.Machine.{MachineValue, booted}
 use Rattle.hp_map.specs.declared.row_picture.Move.{Move}
@@ -12,12 +11,9 @@ use Rattle.hp_scenario.specs.Names.{Numbered}
 use Rattle.hp_scenario.specs.Scenario.{ScenarioValue}
 use Rattle.hp_scenario.specs.declared.lines.Line.{Line}
 use Rattle.hp_text.specs.Plans.{plan_line}
-use Rattle.hp_text.specs.Answers.{sealed_line}
-use Rattle.hp_text.specs.Files.{write_fault_line}
-use Rattle.hp_control.specs.Reads.{file_text}
-use Rattle.hp_trace.specs.Calls.{MakesWork, answer_text, file_rows, moved_of}
+use Rattle.hp_trace.specs.Calls.{MakesWork, answer_text, moved_of}
 use Rattle.hp_trace.specs.Lives.{AreRead, IsBegun, LiveValue, LivesThrough, with_lines}
-use Rattle.hp_trace.specs.Rows.{AreDrawn, DrawsIf, IsRow, Row, RowsValue, SaysAs, drawing, noted, words}
+use Rattle.hp_trace.specs.Rows.{AreDrawn, DrawsIf, IsRow, Row, RowsValue, SaysAs, drawing, words}
 use Rattle.hp_trace.specs.Traces.{IsStart, IsTraceOf, MakesLines, TracesLine, TracesLines, numbered_text, rows_if, skipped}
 use Rattle.hp_trace.specs.Views.{shows}
 use Rattle.hp_trace.specs.declared.rows.Form.{Form}
@@ -35,28 +31,11 @@ row_below : (front : List ℕ) (m : MachineValue) (asked answer : List ℕ) (mov
     (old new : RowsValue)
     → IsRow Written m asked answer moved old new
     → IsRow Written m asked answer moved (below front old) (below front new)
-row_below front m asked answer moved old new row =
-    let was = row.added in
-    record {
-      blocks = row.blocks;
-      picture = row.picture;
-      added = record {
-        text = front ++ was.text;
-        kept = was.kept;
-        written = record {
-          gap = was.written.gap;
-          memory = was.written.memory;
-          is = ap (λ (t : List ℕ). front ++ t) was.written.is ∙ simp append_assoc;
-        };
-        is = ap (λ (r : RowsValue). below front r) was.is;
-      };
-    }
+row_below front m asked answer moved old new row = grind (arith, append_assoc)
 
 said_below : (front text : List ℕ) (old new : RowsValue) → SaysAs Written text old new
     → SaysAs Written text (below front old) (below front new)
-said_below front text old new said =
-    ap (λ (r : RowsValue). below front r) said
-    ∙ ap (λ (t : List ℕ). record old { text = t }) (sym (append_assoc front old.text text))
+said_below front text old new said = rw (said, ← append_assoc front old.text text)
 
 drawn_below : (front : List ℕ) (rows : List Row) (old new : RowsValue) → old.form ≡ Written
     → AreDrawn rows old new → AreDrawn rows (below front old) (below front new)
@@ -110,12 +89,9 @@ work_otherwise m cpu (asks.plan items turns) asked other rows after made = (
   drawing other [] None m ∷ (made.steps ++ words (plan_line made.end) ∷ []),
   record { steps = made.steps; end = made.end; driven = made.driven; is = refl },
 )
-work_otherwise m cpu (asks.not_taken fault) asked other rows after made =
-    (noted m other (write_fault_line fault), (made.0, refl))
-work_otherwise m cpu (asks.cat path) asked other rows after made =
-    (file_rows m (file_text m.layout m.state path) other, (made.0, refl))
-work_otherwise m cpu asks.seal asked other rows after made =
-    (noted after other (sealed_line (length m.history)), (made.0, refl))
+work_otherwise m cpu (asks.not_taken fault) asked other rows after made = grind arith
+work_otherwise m cpu (asks.cat path) asked other rows after made = grind arith
+work_otherwise m cpu asks.seal asked other rows after made = grind arith
 
 lines_otherwise : (names other : List (List ℕ)) (number : ℕ) (m : MachineValue) (lines : List Line)
     (lists : List (List Row)) (after : MachineValue)
@@ -158,16 +134,9 @@ lines_below : (v : View) (names : List (List ℕ)) (before number : ℕ) (first 
     → TracesLines v names before first (lines ++ map (λ c. c.line) came) start
     (record new.rows { text = total ++ shown }) new.machine
 lines_below v names before number first start lines [] total shown old new at same is traced lives alike =
-    subst (λ (t : List ℕ). TracesLines v names before first (lines ++ []) start
-    (record new.rows { text = total ++ t }) new.machine) (sym lives.0)
-    (subst (λ (t : LiveValue). TracesLines v names before first (lines ++ []) start
-    (record t.rows { text = total ++ [] }) t.machine) (sym lives.1)
-    (subst (λ (t : List ℕ). TracesLines v names before first (lines ++ []) start
-    (record old.rows { text = t }) old.machine) (sym (append-nil total))
-    (subst (λ (l : List Line). TracesLines v names before first l start (record old.rows { text = total })
-    old.machine) (sym (append-nil lines)) traced)))
-lines_below v names before number first start lines (c ∷ came) total shown old new at same is traced lives
-    alike =
+    grind (arith, append-nil)
+lines_below v names before number first start lines (c ∷ came) total shown old new at same is traced
+    lives alike =
     let next = lives.0 in
     let one : TracesLine v c.names number old.machine c.line (record old.rows { text = [] }) next.rows
     next.machine =
@@ -181,12 +150,8 @@ lines_below v names before number first start lines (c ∷ came) total shown old
     let form : next.rows.form ≡ Written =
     drawn_form (rows_if (shows v number) one.rows) (record old.rows { text = [] }) next.rows is one.drawn in
     let count : length (lines ++ c.line ∷ []) ≡ length lines + 1 = length-append lines (c.line ∷ []) in
-    subst (λ (t : List ℕ). TracesLines v names before first (lines ++ (c.line ∷ map (λ d. d.line) came)) start
-    (record new.rows { text = t }) new.machine)
-    (append_assoc total next.rows.text lives.1 ∙ ap (λ (t : List ℕ). total ++ t) (sym lives.3))
-    (subst (λ (l : List Line). TracesLines v names before first l start
-    (record new.rows { text = (total ++ next.rows.text) ++ lives.1 }) new.machine)
-    (append_assoc lines (c.line ∷ []) (map (λ d. d.line) came))
+    rw (← (append_assoc total next.rows.text lives.1 ∙ ap (λ (t : List ℕ). total ++ t) (sym lives.3)))
+    (rw (← (append_assoc lines (c.line ∷ []) (map (λ d. d.line) came)))
     (lines_below v names before (number + 1) first start (lines ++ c.line ∷ []) came
     (total ++ next.rows.text) lives.1 next new (omega (arith, at, count)) (lives.2.same ∙ same) form longer
     lives.4 alike.1))
@@ -197,22 +162,11 @@ pub begun_after : (v : View) (s : ScenarioValue) (lines : List Line) (boot after
     (unseen later rows : RowsValue)
     → lines ≡ s.lines → boot ≡ booted s.layout → TracesLines v s.names 0 boot lines unseen later after
     → IsStart Written v after rows → IsBegun v s (record { machine = after; view = v; rows = rows })
-begun_after v s lines boot after unseen later rows same at traced start = record {
-  same = refl;
-  lists = traced.lists;
-  run =
-      subst (λ (ls : List Line). MakesLines s.names 1 (booted s.layout) ls traced.lists after) same
-      (subst (λ (k : MachineValue). MakesLines s.names 1 k lines traced.lists after) at traced.made);
-  begun = start;
-}
+begun_after v s lines boot after unseen later rows same at traced start = grind arith
 
 -- the lines before those that are shown are the scenario's
 skipped_are : (v : View) (n k : ℕ) → v.from ≡ n + 1 → skipped v (n + k) ≡ n
-skipped_are v n k from = by_test (nat_lt (v.from - 1) (n + k)) refl
-  where
-    by_test : (b : Bool) → nat_lt (v.from - 1) (n + k) ≡ b → (if b then v.from - 1 else n + k) ≡ n
-    by_test true is = omega (arith, from)
-    by_test false is = omega (arith, from, ltb-false (v.from - 1) (n + k) is)
+skipped_are v n k from = grind arith
 
 pub shown_is_traced : (v : View) (s : ScenarioValue) (came : List Numbered) (names : List (List ℕ))
     (shown : List ℕ) (begun now : LiveValue)
@@ -250,8 +204,7 @@ shown_is_traced v s came names shown begun now from b read lives =
             subst (λ (ls : List Line). TracesLines v names (skipped v (length (s.lines ++ more)))
             begun.machine ls begun.rows (record now.rows { text = begun.rows.text ++ shown }) now.machine)
             back
-            (subst (λ (n : ℕ). TracesLines v names n begun.machine more begun.rows
-            (record now.rows { text = begun.rows.text ++ shown }) now.machine) (sym count) traced);
+            (rw count traced);
       };
       written = refl;
     }

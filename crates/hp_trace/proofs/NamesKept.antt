@@ -1,6 +1,6 @@
 -- The names of later lines do not change how a line is written.
-use Rattle.std.proofs.Common.{◌≡◌, ℕ, ◌+◌, ◌<◌, ◌||◌, not, cond, Bool, true, false, List, [], ◌∷◌, ◌++◌, length, Option, Some, None, refl, sym, ap, subst, ◌∙◌, append_assoc, append-nil, arith, if◌then◌else◌, option_map}
-use Rattle.std.specs.Prelude.{codes, unwrap_or}
+use Rattle.std.proofs.Common.{◌≡◌, ℕ, ◌<◌, not, Bool, true, false, List, [], ◌∷◌, ◌++◌, length, Option, Some, None, refl, sym, ap, subst, ◌∙◌, append_assoc, append-nil, arith, if◌then◌else◌, option_map}
+use Rattle.std.specs.Prelude.{codes}
 use Rattle.std.specs.Fmt.{decimal}
 use Rattle.std.specs.List.{AllByRecursion, list_any, position_or_len}
 use Rattle.std.specs.Str.{bytes_eq}
@@ -9,39 +9,20 @@ use Rattle.std.proofs.lemmas.List.Sums.{prefix_len-le-length}
 use Rattle.std.proofs.lemmas.Option.{none-some, same_Some, slice_get-get_or}
 use Rattle.indexmap.specs.IndexSet.{insert_key}
 use Rattle.hp_units.specs.declared.events.Event.{Event}
-use Rattle.hp_units.specs.declared.events.Event.TheVariants.{KernelAlloc, KernelFree, Map, Unmap, Write, Read, Drain, Online, Begin, DrainFor, Migrate, Commit, Cancel, UndoAfter, Probe, Remove, SetAuto}
 use Rattle.hp_scenario.specs.Lines.{Request, Said, line_says, named, plain}
 use Rattle.hp_scenario.specs.Names.{Numbered, access_event, line_in, names_with, numbered, owner_of, work_of}
-use Rattle.hp_scenario.specs.Spelling.{FitsEvent, FitsRequest, FitsWork}
-use Rattle.hp_scenario.specs.declared.lines.Work.{Work}
-use Rattle.hp_scenario.specs.declared.lines.Work.TheVariants as work
+use Rattle.hp_scenario.specs.Spelling.{FitsEvent, FitsRequest}
 use Rattle.hp_scenario.proofs.LineLaw.{lines_law}
 use Rattle.hp_text.specs.Lines.{shown_line, shown_work}
 use Rattle.hp_text.specs.Spelling.{event_text}
-use Rattle.hp_text.specs.State.{name_of}
 use Rattle.hp_text.specs.declared.escapes.Brackets.TheVariants.{Escaped}
 use Rattle.hp_trace.specs.Lives.{AreRead}
 
 -- ---- a name
 
-name_kept : (names more : List (List ℕ)) (owner : ℕ) → owner < length names
-    → name_of names owner ≡ name_of (names ++ more) owner
-name_kept names more owner inside =
-    ap (λ (o : Option (List ℕ)). unwrap_or o [])
-    (slice_get-get_or names owner [] inside
-    ∙ ap (λ (t : List ℕ). Some t) (sym (get_or_append_left names more [] owner inside))
-    ∙ sym
-    (slice_get-get_or (names ++ more) owner [] (omega (arith, length-append names more))))
-
 found : (p : List ℕ → Bool) (xs : List (List ℕ)) → list_any p xs ≡ true → position_or_len p xs < length xs
 found p [] any = absurd cc
-found p (x ∷ xs) any = by_test (p x) (found p xs) any
-  where
-    by_test : (b : Bool) → (list_any p xs ≡ true → position_or_len p xs < length xs)
-        → (b || list_any p xs) ≡ true
-        → cond (not b) (1 + position_or_len p xs) 0 < length (x ∷ xs)
-    by_test true rest any = omega arith
-    by_test false rest any = omega (arith, rest any)
+found p (x ∷ xs) any = grind (arith, (found p xs))
 
 -- a name that is put among the names, if it is new, has its number there
 owner_inside : (names : List (List ℕ)) (name : List ℕ)
@@ -72,43 +53,21 @@ names_grow names name = by_test (list_any (bytes_eq name) names)
 access_kept : (names more : List (List ℕ)) (owner : ℕ) (a : _) → owner < length names
     → event_text names (access_event owner a) ≡ event_text (names ++ more) (access_event owner a)
 access_kept names more owner a inside =
-    let e : name_of names owner ≡ name_of (names ++ more) owner = name_kept names more owner inside in
-    grind arith
+    grind (
+      arith,
+      slice_get-get_or names owner [] inside,
+      get_or_append_left names more [] owner inside,
+      slice_get-get_or (names ++ more) owner [] (omega (arith, length-append names more)),
+    )
 
 -- of the events that are written without an owner
 event_kept : (names other : List (List ℕ)) (e : Event) → FitsEvent e → event_text names e ≡ event_text other e
-event_kept names other (KernelAlloc order) fits = refl
-event_kept names other (KernelFree frame) fits = refl
-event_kept names other (Map owner page) fits = absurd fits
-event_kept names other (Unmap owner page) fits = absurd fits
-event_kept names other (Write owner page index value) fits = absurd fits
-event_kept names other (Read owner page index) fits = absurd fits
-event_kept names other (Drain cpu) fits = refl
-event_kept names other (Online block zone) fits = refl
-event_kept names other (Begin items) fits = refl
-event_kept names other (DrainFor op cpu) fits = refl
-event_kept names other (Migrate op) fits = refl
-event_kept names other (Commit op) fits = refl
-event_kept names other (Cancel op) fits = refl
-event_kept names other (UndoAfter serial) fits = refl
-event_kept names other (Probe address) fits = refl
-event_kept names other (Remove block) fits = refl
-event_kept names other (SetAuto auto) fits = refl
-
-work_kept : (names other : List (List ℕ)) (w : Work) → FitsWork w
-    → shown_work Escaped names w ≡ shown_work Escaped other w
-work_kept names other (work.Event e) fits = event_kept names other e fits
-work_kept names other (work.Plan items turns) fits = refl
-work_kept names other (work.Echo echo) fits = refl
-work_kept names other (work.Cat path) fits = refl
-work_kept names other work.Seal fits = refl
+event_kept names other e fits = grind arith
 
 request_kept : (names more : List (List ℕ)) (r : Request) → FitsRequest r
     → shown_work Escaped (names_with names r) (work_of names r)
     ≡ shown_work Escaped (names_with names r ++ more) (work_of names r)
-request_kept names more (plain w) fits = work_kept names (names ++ more) w fits
-request_kept names more (named name a) fits =
-    access_kept (insert_key bytes_eq names name) more (owner_of names name) a (owner_inside names name)
+request_kept names more r fits = grind (arith, access_kept, owner_inside, event_kept)
 
 request_grows : (names : List (List ℕ)) (r : Request)
     → (more : List (List ℕ)) × (names_with names r ≡ names ++ more)

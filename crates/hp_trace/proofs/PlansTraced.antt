@@ -1,6 +1,6 @@
 -- What calls of a plan's driver made of the machine and of the rows, for whoever drives a port that
 -- draws them.
-use Rattle.std.proofs.Common.{◌≡◌, ℕ, Bool, true, false, ◌||◌, not, IsTrue, List, [], ◌∷◌, ◌++◌, Option, Some, None, refl, sym, ap, subst, ◌∙◌, true≢false}
+use Rattle.std.proofs.Common.{arith, ◌≡◌, ℕ, Bool, true, false, ◌||◌, not, IsTrue, List, [], ◌∷◌, ◌++◌, Option, None, refl, sym, ap, subst, ◌∙◌, true≢false}
 use Rattle.hp_units.specs.Driver.{IsDriverRun}
 use Rattle.hp_units.specs.declared.plans.Item.{Item}
 use Rattle.hp_units.specs.declared.replies.CallFault.{CallFault}
@@ -12,7 +12,7 @@ use Rattle.hp_ops.specs.Ports.{AreMade}
 use Rattle.hp_text.specs.Plans.{plan_line}
 use Rattle.hp_trace.specs.Calls.{IsDriven, IsStop, MakesPlan, MakesSteps, answer_text, moved_of, step_text}
 use Rattle.hp_trace.specs.Ports.{IsTraced, LeavesOff}
-use Rattle.hp_trace.specs.Rows.{Adds, AreDrawn, DrawsIf, RowsValue, Says, drawing, drawn_joined, words}
+use Rattle.hp_trace.specs.Rows.{Adds, DrawsIf, RowsValue, Says, drawing, drawn_joined, words}
 
 -- what is known of a port: its names, its processor, its machine and rows, and whether it was out of memory
 pub record Known (S N K : Type 0) : Type 0 where
@@ -61,15 +61,7 @@ pub adds_same : (cpu same : ℕ) (gained : List Receipt) (old start last new : R
     → Adds start last (λ rows. MakesSteps same first gained rows n)
     → Adds old new (λ rows. MakesSteps cpu m gained rows after)
 adds_same cpu same gained old start last new m first n after at_cpu at_first at_after at_start at_new a =
-    record {
-      rows = a.rows;
-      drawn =
-          subst (λ (r : RowsValue). AreDrawn a.rows old r) (sym at_new)
-          (subst (λ (r : RowsValue). AreDrawn a.rows r last) at_start a.drawn);
-      is = subst (λ (k : MachineValue). MakesSteps cpu m gained a.rows k) (sym at_after)
-          (subst (λ (k : MachineValue). MakesSteps cpu k gained a.rows n) at_first
-          (subst (λ (c : ℕ). MakesSteps c first gained a.rows n) at_cpu a.is));
-    }
+    grind arith
 
 pub all_traced : {S N K : Type 0} (k : Known S N K) (makes : S → List Receipt → S → Type 0)
     (leaves : S → CallFault → S → Type 0)
@@ -77,21 +69,7 @@ pub all_traced : {S N K : Type 0} (k : Known S N K) (makes : S → List Receipt 
     → ((p q : S) (fault : CallFault) → leaves p fault q → Leaves k p fault q)
     → (old new : S) (gained : List Receipt) (fault : Option CallFault)
     → AreMade makes leaves old gained fault new → AllTraced k old gained fault new
-all_traced k makes leaves as_made as_left old new gained None made =
-    let calls = as_made old new gained made in
-    (calls.0, calls.1, λ none. ((calls.3 none).1, tt))
-all_traced k makes leaves as_made as_left old new gained (Some fault) made =
-    let calls = as_made old made.0 gained made.1 in
-    let left = as_left made.0 new fault made.2 in (
-      left.0 ∙ calls.0,
-      left.1 ∙ calls.1,
-      λ none. (
-        adds_same (k.cpu old) (k.cpu old) gained (k.rows old) (k.rows old) (k.rows made.0) (k.rows new)
-            (k.machine old) (k.machine old) (k.machine made.0) (k.machine new) refl refl left.2 refl left.3
-            (calls.3 (left.4 none).0).1,
-        subst (IsStop (Some fault)) (sym left.2) (left.4 none).1,
-      ),
-    )
+all_traced k makes leaves as_made as_left old new gained fault made = grind (arith, adds_same)
 
 -- from a port's machine and rows before and after the calls
 pub driven : (m first last after : MachineValue) (cpu caller turns : ℕ) (plan : List Item) (end : OpEnd)
@@ -100,23 +78,9 @@ pub driven : (m first last after : MachineValue) (cpu caller turns : ℕ) (plan 
     → Adds start rows (λ list. MakesSteps caller first gained list last) × IsStop fault last
     → IsDriverRun first.layout.cpus turns plan gained fault end
     → Adds old new (λ list. IsDriven m cpu turns plan end list after)
-driven m first last after cpu caller turns plan end old start rows new fault gained at_first same at_start
-    at_last at_rows traced ran =
-    let a =
-    adds_same cpu caller gained old start rows new m first last after same at_first at_last at_start at_rows
-    traced.0 in
-    record {
-      rows = a.rows;
-      drawn = a.drawn;
-      is = record {
-        receipts = gained;
-        fault = fault;
-        steps = a.is;
-        stop = subst (IsStop fault) (sym at_last) traced.1;
-        run =
-            subst (λ (k : MachineValue). IsDriverRun k.layout.cpus turns plan gained fault end) at_first ran;
-      };
-    }
+driven m first last after cpu caller turns plan end old start rows new fault gained at_first same
+    at_start at_last at_rows traced ran =
+    grind (arith, adds_same)
 
 -- the row of the memory before a plan, the rows of its calls, and its end
 pub plan_added : (m after : MachineValue) (cpu turns : ℕ) (plan copied : List Item) (end : OpEnd)
@@ -160,6 +124,5 @@ step_traced cpu m after r old new false is true lost calls row = λ none. (
     );
   },
 )
-step_traced cpu m after r old new false is false lost calls row =
-    λ none. absurd (true≢false (sym lost ∙ none))
+step_traced cpu m after r old new false is false lost calls row = grind arith
 step_traced cpu m after r old new true is drawn lost calls row = λ none. absurd (true≢false (sym lost ∙ none))

@@ -1,5 +1,5 @@
 -- A row as text.
-use Rattle.std.proofs.Common.{◌≡◌, ℕ, Bool, List, ◌++◌, Some, Result, Ok, Err, OnOk, append_assoc, ap, refl, subst, sym}
+use Rattle.std.proofs.Common.{arith, ◌≡◌, ℕ, List, ◌++◌, Some, Result, OnOk, append_assoc, subst}
 use Rattle.std.specs.Prelude.{codes}
 use Rattle.hp_machine.specs.Machine.{MachineValue}
 use Rattle.hp_map.specs.Rows.{RowValue}
@@ -13,40 +13,28 @@ pub row_in : (asked answer below beside memory old new was_asked was_answered : 
     → new ≡ old ++ (was_asked ++ (below ++ (codes " " ++ (was_answered ++ (beside ++ (memory ++ codes "\n"))))))
     → IsRowIn asked answer old new
 row_in asked answer below beside memory old new was_asked was_answered is_asked is_answered written =
-    subst (λ (a : List ℕ). IsRowIn a answer old new) is_asked
-    (subst (λ (a : List ℕ). IsRowIn was_asked a old new) is_answered (record {
-      gap = below ++ codes " ";
+    rw (← is_asked) (subst (λ (a : List ℕ). IsRowIn was_asked a old new) is_answered (record {
+      gap = below
+          ++ codes " ";
       memory = beside ++ memory;
       is = simp append_assoc written;
     }))
 
-pub row_written : (row : RowValue) (old inside : RowsValue) (orders : Bool) (text : List ℕ) (kept : List RowValue)
-    → old ≡ inside → orders ≡ inside.orders → IsRowIn row.asked row.answer inside.text text
-    → IsWritten row old (record inside { orders = orders; text = text; kept = kept })
-row_written row old inside orders text kept same is written =
-    subst (λ (r : RowsValue). IsWritten row r (record inside { orders = orders; text = text; kept = kept }))
-    (sym same) (record {
-      text = text;
-      kept = kept;
-      written = written;
-      is = ap (λ (b : Bool). record inside { orders = b; text = text; kept = kept }) is;
-    })
+pub row_written : (row : RowValue) (old inside : RowsValue) (text : List ℕ) (kept : List RowValue)
+    → old ≡ inside → IsRowIn row.asked row.answer inside.text text
+    → IsWritten row old (record inside { text = text; kept = kept })
+row_written row old inside text kept same written = grind arith
 
 -- a row and a text as JSON
 pub from_both : {T E : Type 0} (r : Result T E) (P Q R : Type 0) → (P → Q → R) → OnOk r P → OnOk r Q → OnOk r R
-from_both (Ok x) P Q R f p q = f p q
-from_both (Err e) P Q R f p q = tt
+from_both r P Q R f p q = grind arith
 
 pub row_told : (m : MachineValue) (old inside : RowsValue) (json : TraceValue) → old ≡ inside
     → AddsLine inside.json.text json.text → json.seen ≡ Some (state_of m)
     → IsRowTold m old (record inside { json = json })
-row_told m old inside json same line seen =
-    subst (λ (r : RowsValue). IsRowTold m r (record inside { json = json })) (sym same)
-    (record { json = json; line = line; seen = seen; is = refl })
+row_told m old inside json same line seen = grind arith
 
 pub text_told : (old inside : RowsValue) (json : TraceValue) → old ≡ inside
     → AddsLine inside.json.text json.text → json.seen ≡ inside.json.seen
     → IsTextTold old (record inside { json = json })
-text_told old inside json same line seen =
-    subst (λ (r : RowsValue). IsTextTold r (record inside { json = json })) (sym same)
-    (record { json = json; line = line; seen = seen; is = refl })
+text_told old inside json same line seen = grind arith

@@ -1,5 +1,5 @@
 -- What is looked at of a machine's memory for a snapshot.
-use Rattle.std.proofs.Common.{◌≡◌, ℕ, zero, suc, ◌+◌, ◌<◌, ◌≤◌, List, [], ◌∷◌, ◌++◌, map, take, slice_get, Option, Some, None, refl, sym, ap, ap₂, subst, ◌∙◌, add-one, arith}
+use Rattle.std.proofs.Common.{◌≡◌, ℕ, zero, suc, ◌+◌, ◌<◌, ◌≤◌, List, [], ◌∷◌, ◌++◌, map, take, slice_get, Option, Some, None, refl, ap, ◌∙◌, add-one, arith}
 use Rattle.std.specs.List.{range_with_len}
 use Rattle.std.proofs.lemmas.List.{take_all}
 use Rattle.std.proofs.lemmas.List.FromFn.{map-range_with_len_more}
@@ -22,23 +22,17 @@ pages_of l s = record { layout = l; pages = page_frames_of l s.pages }
 -- a frame holds at most one page
 pub held_once : (l : LayoutParts) (s : Memory) (frame : ℕ) (v : PagesValue) → IsWellPlaced l s
     → v ≡ pages_of l s → holders v.pages.table frame ≤ 1
-held_once l s frame v p is =
-    let once : holders s.pages.table frame ≤ 1 = omega (arith, p.once frame) in
-    subst (λ (k : PagesValue). holders k.pages.table frame ≤ 1) (sym is) once
+held_once l s frame v p is = grind arith
 
 pub frame_inside : (l : LayoutParts) (s : Memory) (frame : ℕ) (v : PagesValue) → frame < frame_count l
     → v ≡ pages_of l s → frame < frame_count v.layout
-frame_inside l s frame v inside is =
-    subst (λ (k : PagesValue). frame < frame_count k.layout) (sym is) inside
+frame_inside l s frame v inside is = rw is inside
 
 pub holder_is : (l : LayoutParts) (s : Memory) (frame : ℕ) (v : PagesValue) (holder : FrameHolder)
     (kernel : Option ℕ) (page : Option (ℕ × ℕ))
     → v ≡ pages_of l s → kernel ≡ kernel_order s frame → page ≡ page_from 0 v.pages.table frame
     → holder ≡ holder_by kernel page → holder ≡ holder_of s frame
-holder_is l s frame v holder kernel page is block at made =
-    made
-    ∙ ap₂ (λ (k : Option ℕ) (o : Option (ℕ × ℕ)). holder_by k o) block
-    (at ∙ ap (λ (k : PagesValue). page_from 0 k.pages.table frame) is)
+holder_is l s frame v holder kernel page is block at made = grind arith
 
 -- one number more
 pub one_more : {X : Type 0} (f : ℕ → X) (n : ℕ)

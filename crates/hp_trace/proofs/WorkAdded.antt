@@ -1,5 +1,5 @@
 -- Rows that were drawn are those that a line's work makes.
-use Rattle.std.proofs.Common.{◌≡◌, ℕ, true, List, [], ◌∷◌, length, inl, inr, refl, ap, subst, ◌∙◌}
+use Rattle.std.proofs.Common.{arith, ◌≡◌, ℕ, true, List, [], ◌∷◌, length, inl, inr, refl, subst}
 use Rattle.hp_units.specs.declared.events.Event.{Event}
 use Rattle.hp_units.specs.declared.replies.CallFault.TheVariants.{HistoryFull}
 use Rattle.hp_units.specs.declared.replies.Receipt.{Receipt}
@@ -42,8 +42,7 @@ full_added m after cpu event asked old new full same drawn = record {
 pub untaken_added : (m : MachineValue) (cpu : ℕ) (fault : ControlFault) (asked : List ℕ) (old new : RowsValue)
     → AreDrawn (noted m asked (write_fault_line fault)) old new
     → Adds old new (λ rows. MakesWork m cpu (asks.not_taken fault) asked rows m)
-untaken_added m cpu fault asked old new drawn =
-    record { rows = noted m asked (write_fault_line fault); drawn = drawn; is = (refl, refl) }
+untaken_added m cpu fault asked old new drawn = grind arith
 
 -- ---- a seal
 
@@ -51,8 +50,4 @@ pub seal_added : (m after : MachineValue) (records shown : List Record) (asked :
     → after ≡ sealed m → shown ≡ records → records ≡ m.history
     → AreDrawn (noted after asked (sealed_line (length shown))) old new
     → Adds old new (λ rows. MakesSeal m asked rows after)
-seal_added m after records shown asked old new same at is drawn = record {
-  rows = noted after asked (sealed_line (length shown));
-  drawn = drawn;
-  is = (same, ap (λ (rs : List Record). noted after asked (sealed_line (length rs))) (at ∙ is));
-}
+seal_added m after records shown asked old new same at is drawn = grind arith

@@ -33,7 +33,6 @@ without_text t = record {
   view = t.view;
   rows = record {
     form = t.rows.form;
-    orders = t.rows.orders;
     text = [];
     kept = t.rows.kept;
     log = t.rows.log;

@@ -1,5 +1,5 @@
 -- The rows of a trace: what was asked, what was answered, and the memory after it.
-use Rattle.std.specs.Prelude.{ℕ, ◌≡◌, Bool, List, [], ◌∷◌, ◌++◌, map, Option, None, Some}
+use Rattle.std.specs.Prelude.{ℕ, ◌≡◌, List, [], ◌∷◌, ◌++◌, map, Option, None, Some}
 use Rattle.std.proofs.Common.{subst}
 use Rattle.std.specs.Str.Lines.{lines}
 use Rattle.hp_machine.specs.Machine.{MachineValue}
@@ -14,20 +14,17 @@ use Rattle.hp_trace_json.specs.Parts.{state_of}
 use Rattle.hp_trace_json.specs.Traces.{TraceValue, no_trace}
 use Rattle.hp_trace.specs.declared.rows.Form.{Form}
 use Rattle.hp_trace.specs.declared.rows.Form.TheVariants.{Kept, Logged, Told, Unseen, Written}
-use Rattle.hp_trace.specs.declared.view.View.{View}
 
--- what becomes of rows, and whether they show free frames by orders; the text so far, the rows that are
--- kept, the log, and the rows as JSON
+-- what becomes of rows; the text so far, the rows that are kept, the log, and the rows as JSON
 pub record RowsValue : Type 0 where
   pub form : Form
-  pub orders : Bool
   pub text : List ℕ
   pub kept : List RowValue
   pub log : LogValue
   pub json : TraceValue
 
-abbrev pub no_rows : Form → View → RowsValue
-no_rows form v = record { form = form; orders = v.orders; text = []; kept = []; log = no_log; json = no_trace }
+abbrev pub no_rows : Form → RowsValue
+no_rows form = record { form = form; text = []; kept = []; log = no_log; json = no_trace }
 
 -- lines as rows without memory blocks
 abbrev pub line_rows : (texts : List (List ℕ)) → List RowValue
@@ -78,7 +75,7 @@ AddsRow Told row old new = new ≡ old
 pub record IsRow (form : Form) (m : MachineValue) (asked answer : List ℕ) (moved : Option Move)
     (old new : RowsValue) : Type 0 where
   pub blocks : List BlockValue
-  pub picture : IsPicture m.layout m.state old.orders blocks
+  pub picture : IsPicture m.layout m.state blocks
   pub added : AddsRow form (row_with asked answer moved blocks) old new
 
 -- the events to the machine's state more

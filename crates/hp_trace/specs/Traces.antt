@@ -45,7 +45,7 @@ abbrev pub start_text : View → List ℕ
 start_text v = if nat_le v.from 1 then codes "   0 boot" else codes "     before line " ++ decimal v.from
 
 abbrev pub IsStart : (form : Form) → View → MachineValue → (rows : RowsValue) → Type 0
-IsStart form v m rows = DrawsIf form m (start_text v) [] None (no_rows form v) rows
+IsStart form v m rows = DrawsIf form m (start_text v) [] None (no_rows form) rows
 
 -- how many of n lines come before the first that may be shown
 abbrev pub skipped : View → (n : ℕ) → ℕ

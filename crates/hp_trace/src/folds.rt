@@ -1,6 +1,4 @@
 //! The memory blocks of a row as text, in lines of limited width.
-ghost use Rattle.std.specs.Prelude.{◌≡◌, IfOk};
-
 use crate::view::View;
 use hp_map::BlockPicture;
 use std::alloc::{AllocError, Global};
@@ -18,9 +16,7 @@ pub(crate) struct RowLayout {
 
 impl RowLayout {
     /// Returns how the rows of a view are written, with all memory blocks.
-    pub(crate) fn new(view: View) -> RowLayout
-        ensures { result.orders ≡ view.orders }
-    {
+    pub(crate) fn new(view: View) -> RowLayout {
         RowLayout {
             room: view.width.saturating_sub(55).max(1),
             orders: view.orders,
@@ -35,9 +31,7 @@ impl RowLayout {
         alloc: Global,
         is_first: bool,
         blocks: &[BlockPicture],
-    ) -> Result<RowLayout, AllocError>
-        ensures { IfOk result (λ row_layout. row_layout.orders ≡ self.orders) }
-    {
+    ) -> Result<RowLayout, AllocError> {
         if !is_first {
             return Ok(self);
         }

@@ -53,7 +53,6 @@ impl Model for Rows {
 
     ghost view = { λ r. record {
       form = r.form;
-      orders = r.row_layout.orders;
       text = string_bytes r.text;
       kept = r.kept.items;
       log = r.log;
@@ -64,7 +63,7 @@ impl Model for Rows {
 impl Rows {
     /// Makes an empty list of rows.
     pub(crate) fn new(alloc: Global, form: Form, view: View) -> Rows
-        ensures { result ≡ no_rows form view }
+        ensures { result ≡ no_rows form }
     {
         Rows {
             form,

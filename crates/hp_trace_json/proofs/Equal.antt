@@ -1,5 +1,5 @@
 -- Keys that are equal, or are not.
-use Rattle.std.proofs.Common.{◌≡◌, ◌≢◌, ℕ, ◌==◌, ◌&&◌, inl, inr, Bool, true, false, List, MatchBool, nat_eq, refl, sym, ap, subst, ◌∙◌}
+use Rattle.std.proofs.Common.{arith, ◌≡◌, ◌≢◌, ℕ, ◌==◌, ◌&&◌, Bool, true, false, List, MatchBool, nat_eq, sym, ap, subst, ◌∙◌}
 use Rattle.std.specs.Cmp.Lexicographic.{pointwise}
 use Rattle.std.proofs.lemmas.Bool.{eq-eqb, ne_eqb, cases_eq}
 use Rattle.std.proofs.lemmas.Bool.Decides.{Decides-eqb}
@@ -12,13 +12,10 @@ pub is_other : (key n k : ℕ) → key ≡ n → k ≢ n → (key == k) ≡ fals
 is_other key n k same other = ne_eqb key k (λ e. other (sym e ∙ same))
 
 and_true : (a b : Bool) → a ≡ true → b ≡ true → (a && b) ≡ true
-and_true true true first last = refl
-and_true false b first last = first
-and_true true false first last = last
+and_true a b first last = cc
 
 and_false : (a b : Bool) → b ≡ false → (a && b) ≡ false
-and_false true b last = last
-and_false false b last = refl
+and_false a b last = grind arith
 
 false_and : (a b : Bool) → a ≡ false → (a && b) ≡ false
 false_and a b first = ap (λ (x : Bool). x && b) first
@@ -33,23 +30,14 @@ pub first_other : (a b m k n : ℕ) → a ≡ m → k ≢ m → ((a == k) && (b 
 first_other a b m k n first other = false_and (a == k) (b == n) (is_other a m k first other)
 
 pub are_words : (a b d m n k : ℕ) → a ≡ m → b ≡ n → d ≡ k → (((a == m) && (b == n)) && (d == k)) ≡ true
-are_words a b d m n k first second third =
-    and_true ((a == m) && (b == n)) (d == k) (are_keys a b m n first second) (is_key d k third)
+are_words a b d m n k first second third = grind (arith, and_true, are_keys, is_key)
 
 pub last_word : (a b d m n k other : ℕ) → d ≡ k → other ≢ k → (((a == m) && (b == n)) && (d == other)) ≡ false
-last_word a b d m n k other last differs =
-    and_false ((a == m) && (b == n)) (d == other) (is_other d k other last differs)
+last_word a b d m n k other last differs = grind (arith, and_false, is_other)
 
 pub other_word : (a b d m n o p i : ℕ) → a ≡ m → b ≡ n → (o ≡ m → p ≡ n → ⊥)
     → (((a == o) && (b == p)) && (d == i)) ≡ false
-other_word a b d m n o p i first last other = elim (cases_eq o m) [
-  | inl same ↦
-      false_and ((a == o) && (b == p)) (d == i)
-      (last_other a b o n p last (λ e. other same e))
-  | inr differs ↦
-      false_and ((a == o) && (b == p)) (d == i)
-      (false_and (a == o) (b == p) (is_other a m o first differs))
-]
+other_word a b d m n o p i first last other = grind (arith, cases_eq, false_and, last_other, is_other)
 
 pub same_numbers : (xs ys : List ℕ) (r : Bool) → r ≡ pointwise nat_eq xs ys → r ≡ true → xs ≡ ys
 same_numbers xs ys r is hit =

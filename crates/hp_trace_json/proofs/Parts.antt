@@ -1,5 +1,5 @@
 -- How entries of pages and words are joined.
-use Rattle.std.proofs.Common.{◌≡◌, ℕ, List, Option, Some, subst}
+use Rattle.std.proofs.Common.{arith, ◌≡◌, ℕ, List, Option, Some}
 use Rattle.hp_plain.specs.Image.{Pictured}
 use Rattle.hp_trace_json.specs.declared.words.WordNow.{WordNow}
 use Rattle.hp_trace_json.specs.Changes.{NoOwnersPages, NoOwnersWords, NoWords, OwnersPagesTold, OwnersWordsTold, PagesWordsTold, SetsFrame, SetsWord, is_page, is_word}
@@ -41,7 +41,4 @@ words_join was now owner =
 pub words_at_as : (owner page : ℕ) (was now other next : List ℕ) (count most : ℕ) (told : List WordNow)
     → was ≡ other → now ≡ next → count ≡ most → PagesWordsTold owner page was now count told
     → PagesWordsTold owner page other next most told
-words_at_as owner page was now other next count most told first second third given =
-    subst (λ (l : List ℕ). PagesWordsTold owner page l next most told) first
-    (subst (λ (l : List ℕ). PagesWordsTold owner page was l most told) second
-    (subst (λ (n : ℕ). PagesWordsTold owner page was now n told) third given))
+words_at_as owner page was now other next count most told first second third given = grind arith

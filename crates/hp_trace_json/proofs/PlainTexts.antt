@@ -1,5 +1,5 @@
 -- Plain characters, added one after another.
-use Rattle.std.proofs.Common.{ℕ, List, [], ◌∷◌, ◌++◌, sym, ap, ◌∙◌, append_assoc}
+use Rattle.std.proofs.Common.{arith, ℕ, List, [], ◌∷◌, ◌++◌, sym, append_assoc}
 use Rattle.std.proofs.lemmas.List.{append-nil}
 use Rattle.std.specs.List.{AllByRecursion}
 use Rattle.hp_trace_json.specs.Ascii.{AddsPlain, IsPlain}
@@ -13,8 +13,4 @@ pub plain_none : (old : List ℕ) → AddsPlain old old
 plain_none old = ([], sym (append-nil old), tt)
 
 pub plain_more : (old now new : List ℕ) → AddsPlain old now → AddsPlain now new → AddsPlain old new
-plain_more old now new first last = (
-  first.0 ++ last.0,
-  last.1 ∙ (ap (λ l. l ++ last.0) first.1 ∙ append_assoc old first.0 last.0),
-  all_both first.0 last.0 first.2 last.2,
-)
+plain_more old now new first last = grind (arith, append_assoc, all_both)

@@ -4,9 +4,7 @@ use Rattle.std.proofs.lemmas.List.{take-append-drop, drop-drop}
 use Rattle.hp_trace_json.specs.Splices.{IsSplice, is_last_end, is_last_start}
 
 whole : (xs : List ℕ) (at n : ℕ) → take at xs ++ (take n (drop at xs) ++ drop (at + n) xs) ≡ xs
-whole xs at n =
-    ap (λ (l : List ℕ). take at xs ++ (take n (drop at xs) ++ l)) (sym (drop-drop n at xs))
-    ∙ (ap (λ (l : List ℕ). take at xs ++ l) (take-append-drop n (drop at xs)) ∙ take-append-drop at xs)
+whole xs at n = rw (← drop-drop n at xs, take-append-drop n (drop at xs), take-append-drop at xs)
 
 pub splices : (was now put : List ℕ) (at end gone : ℕ) → is_last_start was now at
     → is_last_end was now at end → gone ≡ length was - end - at

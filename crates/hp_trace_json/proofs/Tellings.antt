@@ -1,5 +1,5 @@
 -- How entries tell of more and more keys.
-use Rattle.std.proofs.Common.{◌≡◌, ◌≢◌, ℕ, ◌+◌, inl, inr, Bool, true, false, cond, List, [], ◌∷◌, ◌++◌, refl, sym, ap, subst, ◌∙◌, arith}
+use Rattle.std.proofs.Common.{◌≡◌, ◌≢◌, ℕ, ◌+◌, inl, inr, Bool, true, false, cond, List, [], ◌∷◌, ◌++◌, ap, subst, ◌∙◌, arith}
 use Rattle.std.specs.List.{filter}
 use Rattle.std.proofs.lemmas.Bool.{cases_eq}
 use Rattle.std.proofs.lemmas.List.{append-nil}
@@ -28,23 +28,11 @@ silent_both is xs ys first last = silent_first is xs ys first ∙ last
 
 silent_last : {T : Type 0} (is : T → Bool) (xs ys : List T) → IsSilent is ys
     → filter is (xs ++ ys) ≡ filter is xs
-silent_last is xs ys silent =
-    filter-append is xs ys ∙ (ap (λ l. filter is xs ++ l) silent ∙ append-nil (filter is xs))
-
-tells_as : {T V : Type 0} (is : T → Bool) (Sets : V → V → T → Type 0) (was now : V) (xs ys : List T)
-    → filter is ys ≡ filter is xs → Tells is Sets was now xs → Tells is Sets was now ys
-tells_as is Sets was now xs ys same (inl quiet) = inl (quiet.0, same ∙ quiet.1)
-tells_as is Sets was now xs ys same (inr one) = inr (one.0, one.1, same ∙ one.2, one.3)
+silent_last is xs ys silent = rw (filter-append is xs ys, silent, append-nil (filter is xs))
 
 pub key_joins : {T V : Type 0} (is : T → Bool) (Sets : V → V → T → Type 0) (was now : V)
     → Joins (Tells is Sets was now) (IsSilent is)
-key_joins is Sets was now =
-    record {
-      none = refl;
-      both = silent_both is;
-      before = λ xs ys told silent. tells_as is Sets was now xs (xs ++ ys) (silent_last is xs ys silent) told;
-      after = λ xs ys silent told. tells_as is Sets was now ys (xs ++ ys) (silent_first is xs ys silent) told;
-    }
+key_joins is Sets was now = grind (arith, silent_both, silent_last, silent_first)
 
 filter_hit : {T : Type 0} (is : T → Bool) (x : T) → is x ≡ true → filter is (x ∷ []) ≡ x ∷ []
 filter_hit is x hit = ap (λ (b : Bool). cond b (x ∷ []) []) hit
@@ -56,51 +44,22 @@ filter_miss is x miss = ap (λ (b : Bool). cond b (x ∷ []) []) miss
 pub silent_added : {T V : Type 0} (is : T → Bool) (Is : T → Type 0) (Sets : V → V → T → Type 0) (was now : V)
     (old new : List T) → ((x : T) → Is x → is x ≡ false) → IsSilent is old → AddsIf Is Sets was now old new
     → IsSilent is new
-silent_added is Is Sets was now old new other silent (inl same) =
-    subst (λ l. IsSilent is l) (sym same.1) silent
-silent_added is Is Sets was now old new other silent (inr one) =
-    subst (λ l. IsSilent is l) (sym one.2)
-    (silent_first is old (one.0 ∷ []) silent ∙ filter_miss is one.0 (other one.0 one.3))
+silent_added is Is Sets was now old new other silent x = grind (arith, silent_first, filter_miss)
 
 -- ---- the keys below a number
 
 pub below_joins : {T : Type 0} (Said Silent : ℕ → List T → Type 0) → ((k : ℕ) → Joins (Said k) (Silent k))
     → (n : ℕ) → Joins (TellsBelow Said Silent n) (λ xs. (k : ℕ) → Silent k xs)
-below_joins Said Silent joins n =
-    record {
-      none = λ k. (joins k).none;
-      both = λ xs ys first last k. (joins k).both xs ys (first k) (last k);
-      before = λ xs ys told silent k. (
-        λ lt. (joins k).before xs ys ((told k).0 lt) (silent k),
-        λ le. (joins k).both xs ys ((told k).1 le) (silent k),
-      );
-      after = λ xs ys silent told k. (
-        λ lt. (joins k).after xs ys (silent k) ((told k).0 lt),
-        λ le. (joins k).both xs ys (silent k) ((told k).1 le),
-      );
-    }
+below_joins Said Silent joins n = grind arith
 
 pub below_none : {T : Type 0} (Said Silent : ℕ → List T → Type 0) → ((k : ℕ) → Joins (Said k) (Silent k))
     → (xs : List T) → xs ≡ [] → TellsBelow Said Silent 0 xs
-below_none Said Silent joins xs empty = λ k. (
-  λ lt. absurd (omega (arith, lt)),
-  λ le. subst (λ l. Silent k l) (sym empty) (joins k).none,
-)
+below_none Said Silent joins xs empty = grind arith
 
 pub below_more : {T : Type 0} (Said Silent : ℕ → List T → Type 0) → ((k : ℕ) → Joins (Said k) (Silent k))
     → (n : ℕ) (xs ys : List T) → TellsBelow Said Silent n xs → Said n ys
     → ((k : ℕ) → k ≢ n → Silent k ys) → TellsBelow Said Silent (n + 1) (xs ++ ys)
-below_more Said Silent joins n xs ys told said silent = λ k. elim (cases_eq k n) [
-  | inl same ↦ (
-    λ lt. subst (λ (m : ℕ). Said m (xs ++ ys)) (sym same)
-        ((joins n).after xs ys ((told n).1 (omega arith)) said),
-    λ le. absurd (omega (arith, same, le)),
-  )
-  | inr other ↦ (
-    λ lt. (joins k).before xs ys ((told k).0 (omega (arith, lt, other))) (silent k other),
-    λ le. (joins k).both xs ys ((told k).1 (omega (arith, le))) (silent k other),
-  )
-]
+below_more Said Silent joins n xs ys told said silent = grind (arith, cases_eq)
 
 -- ---- keys that have a value each
 
@@ -111,9 +70,7 @@ values_join is Sets was now k = key_joins (is k) Sets (was k) (now k)
 pub values_none : {T V : Type 0} (is : ℕ → T → Bool) (Sets : V → V → T → Type 0) (was now : ℕ → V)
     → (xs : List T) → xs ≡ []
     → TellsBelow (λ k. Tells (is k) Sets (was k) (now k)) (λ k. IsSilent (is k)) 0 xs
-values_none is Sets was now xs empty =
-    below_none (λ k. Tells (is k) Sets (was k) (now k)) (λ k. IsSilent (is k)) (values_join is Sets was now) xs
-    empty
+values_none is Sets was now xs empty = grind (arith, below_none, values_join)
 
 pub values_more : {T V : Type 0} (is : ℕ → T → Bool) (Sets : V → V → T → Type 0) (was now : ℕ → V)
     (Is : T → Type 0) (n : ℕ) (before after : V) (old new : List T) → before ≡ was n → after ≡ now n
@@ -122,16 +79,14 @@ pub values_more : {T V : Type 0} (is : ℕ → T → Bool) (Sets : V → V → T
     → AddsIf Is Sets before after old new
     → TellsBelow (λ k. Tells (is k) Sets (was k) (now k)) (λ k. IsSilent (is k)) (n + 1) new
 values_more is Sets was now Is n before after old new first last hit miss told (inl same) =
-    subst (λ l. TellsBelow (λ k. Tells (is k) Sets (was k) (now k)) (λ k. IsSilent (is k)) (n + 1) l)
-    (append-nil old ∙ sym same.1)
-    (below_more (λ k. Tells (is k) Sets (was k) (now k)) (λ k. IsSilent (is k)) (values_join is Sets was now)
-    n old [] told (inl (sym first ∙ (same.0 ∙ last), refl)) (λ k other. refl))
+    grind (arith, append-nil, below_more, values_join)
 values_more is Sets was now Is n before after old new first last hit miss told (inr one) =
-    subst (λ l. TellsBelow (λ k. Tells (is k) Sets (was k) (now k)) (λ k. IsSilent (is k)) (n + 1) l)
-    (sym one.2)
-    (below_more (λ k. Tells (is k) Sets (was k) (now k)) (λ k. IsSilent (is k)) (values_join is Sets was now)
-    n old (one.0 ∷ []) told
-    (subst (λ (v : _). Tells (is n) Sets v (now n) (one.0 ∷ [])) first
-    (subst (λ (v : _). Tells (is n) Sets before v (one.0 ∷ [])) last
-    (inr (one.0, one.1, filter_hit (is n) one.0 (hit one.0 one.3), one.4))))
-    (λ k other. filter_miss (is k) one.0 (miss k one.0 other one.3)))
+    rw one.2 (below_more (λ k. Tells (is k) Sets (was k) (now k)) (λ k. IsSilent (is k)) (values_join is
+    Sets was now) n old (one.0 ∷ []) told (subst (λ (v : _). Tells (is n) Sets v (now n) (one.0 ∷ [])) first
+    (subst (λ (v : _). Tells (is n) Sets before v (one.0 ∷ [])) last (inr (
+      one.0,
+      one.1,
+      filter_hit (is n)
+          one.0 (hit one.0 one.3),
+      one.4,
+    )))) (λ k other. filter_miss (is k) one.0 (miss k one.0 other one.3)))

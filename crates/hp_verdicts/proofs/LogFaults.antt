@@ -1,5 +1,5 @@
 -- All faults of a log, one event on; and that a log without any is lawful.
-use Rattle.std.proofs.Common.{◌≡◌, ℕ, zero, suc, ◌+◌, ◌<◌, ◌≤◌, ◌⊎◌, List, [], ◌∷◌, ◌++◌, length, take, get_or, Option, Some, refl, sym, ◌∙◌, ap, subst, add-one, inl, inr, arith}
+use Rattle.std.proofs.Common.{◌≡◌, ℕ, zero, suc, ◌+◌, ◌<◌, ◌≤◌, ◌⊎◌, List, [], ◌∷◌, ◌++◌, length, take, Some, refl, sym, ◌∙◌, ap, subst, add-one, inl, inr, arith}
 use Rattle.std.specs.Prelude.{slice_get}
 use Rattle.std.proofs.Math.Seq.{take-length, take-append_seam}
 use Rattle.std.proofs.lemmas.List.{take-append-le, take_more}
@@ -37,17 +37,7 @@ step_kept : (m : MachineSize) (log : List LogEvent) (e x : LogEvent) (k : ℕ) (
     → k ≤ length log
     → ((some : List NumberedFault) → FaultsTo m log k some → FaultsTo m (log ++ e ∷ []) k some)
     → Step m log x k faults → Step m (log ++ e ∷ []) x k faults
-step_kept m log e x k faults le on (inl h) = inl (
-  subst (λ (l : List LogEvent). MayFollow m l x) (sym (take-append-le k log (e ∷ []) le)) h.0,
-  on faults h.1,
-)
-step_kept m log e x k faults le on (inr h) = inr (
-  h.0,
-  h.1,
-  h.2,
-  subst (λ (l : List LogEvent). Explains m l x h.0) (sym (take-append-le k log (e ∷ []) le)) h.3,
-  on h.1 h.4,
-)
+step_kept m log e x k faults le on xx = grind (arith, take-append-le)
 
 -- an event more leaves the faults of those before it
 pub faults_kept : (m : MachineSize) (log : List LogEvent) (e : LogEvent) (k : ℕ) (faults : List NumberedFault)
@@ -63,37 +53,13 @@ faults_kept m log e (suc k) faults le h =
 pub lawful_more : (m : MachineSize) (log : List LogEvent) (e : LogEvent) (all : List NumberedFault)
     → FaultsTo m log (length log) all → MayFollow m log e
     → FaultsTo m (log ++ e ∷ []) (length (log ++ e ∷ [])) all
-lawful_more m log e all h may =
-    subst (λ (n : ℕ). FaultsTo m (log ++ e ∷ []) n all) (sym (length_push log e)) (
-      e,
-      last_item log e,
-      inl (
-        subst (λ (l : List LogEvent). MayFollow m l e) (sym (take-append_seam log (e ∷ []))) may,
-        faults_kept m log e (length log) all (omega arith) h,
-      ),
-    )
+lawful_more m log e all h may = grind (arith, length_push, last_item, take-append_seam, faults_kept)
 
 pub fault_more : (m : MachineSize) (log : List LogEvent) (e : LogEvent) (all : List NumberedFault) (f : Fault)
     (n : ℕ) → length log ≡ n
     → FaultsTo m log (length log) all → Explains m log e f
     → FaultsTo m (log ++ e ∷ []) (length (log ++ e ∷ [])) (all ++ record { number = n; fault = f } ∷ [])
-fault_more m log e all f n is h why =
-    subst (λ (n : ℕ). FaultsTo m (log ++ e ∷ []) (length (log ++ e ∷ [])) (all ++ numbered n f ∷ [])) is
-    (subst
-    (λ (n : ℕ). FaultsTo m (log ++ e ∷ []) n (all ++ numbered (length log) f ∷ [])) (sym (length_push log e)) (
-      e,
-      last_item log e,
-      inr (
-        f,
-        all,
-        refl,
-        subst (λ (l : List LogEvent). Explains m l e f) (sym (take-append_seam log (e ∷ []))) why,
-        faults_kept m log e (length log) all (omega arith) h,
-      ),
-    ))
-  where
-    numbered : ℕ → Fault → NumberedFault
-    numbered n f = record { number = n; fault = f }
+fault_more m log e all f n is h why = grind (arith, length_push, last_item, take-append_seam, faults_kept)
 
 -- ---- no faults
 
@@ -138,13 +104,8 @@ lawful_to_none m log (suc k) all h is =
 
 pub lawful_of_none : (m : MachineSize) (log : List LogEvent) (all : List NumberedFault)
     → FaultsTo m log (length log) all → all ≡ [] → IsLawful m log
-lawful_of_none m log all h none =
-    subst (λ (l : List LogEvent). IsLawful m l) (take-length log)
-    (none_to_lawful m log (length log)
-    (subst (λ (fs : List NumberedFault). FaultsTo m log (length log) fs) none h))
+lawful_of_none m log all h none = grind (arith, take-length, none_to_lawful)
 
 pub none_of_lawful : (m : MachineSize) (log : List LogEvent) (all : List NumberedFault)
     → FaultsTo m log (length log) all → IsLawful m log → all ≡ []
-none_of_lawful m log all h is =
-    lawful_to_none m log (length log) all h
-    (subst (λ (l : List LogEvent). IsLawful m l) (sym (take-length log)) is)
+none_of_lawful m log all h is = grind (arith, lawful_to_none, take-length)

@@ -1,5 +1,5 @@
 -- The report on a log.
-use Rattle.std.specs.Prelude.{◌≡◌, ℕ, ◌+◌, Bool, true, false, not, List, length, take}
+use Rattle.std.specs.Prelude.{◌≡◌, ℕ, ◌+◌, Bool, false, not, List, length, take}
 use Rattle.std.specs.List.{filter}
 use Rattle.hp_verdicts.specs.Names.{LogEvent, Law, Once, InUse, Present, Empty, Movable, GoingOnline, GoingOffline, Online, Offline, Fault, Malformed, Unlawful, NumberedFault}
 use Rattle.hp_judge.specs.Tables.{Tables, Follows}

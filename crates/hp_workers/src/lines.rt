@@ -63,8 +63,8 @@ impl Ends {
     }
 }
 
-/// Runs one line by a seat. `calls` counts the seat's calls and seals. A volume that a seal hands
-/// out is appended to `volumes`.
+/// Runs one line through a seat. `calls` counts the seat's calls and seals. A volume that a seal
+/// hands out is appended to `volumes`.
 pub(crate) fn run_line<'a, L: Job, G: Gate, R: Wait>(
     rt: &'a R,
     alloc: Global,
@@ -85,7 +85,7 @@ pub(crate) fn run_line<'a, L: Job, G: Gate, R: Wait>(
     }
 }
 
-/// Seals by a seat, with the gate around it as around a call.
+/// Seals through a seat, with the gate around it as around a call.
 fn seal<L: Job, G: Gate, R: Wait>(
     rt: &R,
     alloc: Global,
@@ -105,7 +105,7 @@ fn seal<L: Job, G: Gate, R: Wait>(
     end
 }
 
-/// Seals by a seat and keeps the volume, for which it makes room before.
+/// Makes room for a volume, then seals through a seat and keeps the volume.
 fn take_volume<L: Job, R: Wait>(
     rt: &R,
     alloc: Global,
@@ -128,7 +128,7 @@ fn take_volume<L: Job, R: Wait>(
     }
 }
 
-/// Does a line's work by calls of a seat.
+/// Does a line's work with calls of a seat.
 fn run_calls<'a, L: Job, G: Gate, R: Wait>(
     rt: &'a R,
     alloc: Global,

@@ -1,6 +1,8 @@
 //! Scenarios, and the report of a check on each.
-use hp_call_lines::{call_lines, halves_at, has_comment, is_blank, keys_at, nests_deeper};
-use hp_check::{Finding, Key, check, fault_count, write_report};
+use hp_check::{
+    Finding, Key, call_lines, check, fault_count, halves_at, has_comment, is_blank, keys_at,
+    nests_deeper, write_report,
+};
 use std::alloc::{AllocError, Global};
 use std::test::Fail;
 
@@ -89,7 +91,7 @@ const CHECKED: &[Checked] = &[
     ),
 ];
 
-/// Texts that are no JSON, for a reason that is likely to be seen.
+/// Texts that are no JSON, most of them for a common reason that the report names.
 const HINTED: &[Checked] = &[
     (
         "",
@@ -114,7 +116,7 @@ const HINTED: &[Checked] = &[
     ),
 ];
 
-/// Lines with a word at fault.
+/// Texts with a small error each, such as a capital letter or a leading zero.
 const SLIPPED: Checked = (
     "{\"layout\":{\"order\":1,\"pageblocks\":1,\"blocks\":2,\"cpus\":2,\"batch\":1,\"high\":1,\
          \"owners\":2,\"pages\":2,\"words\":1,\"history\":40,\"boot\":[\"normal\",\"movable\"]},\n\
@@ -142,7 +144,8 @@ const SLIPPED: Checked = (
      calls 12 (line 6): `0 \\u001b[31m\\nwalk`: its second word is no verb\nfaults: 12, warnings: 0\n",
 );
 
-/// Lines of scripts after the first, and the report on them. The begin may have any later serial.
+/// Lines of scripts after one line of setup, and the report on them. The begin may get any later
+/// serial.
 const SCRIPTED: Checked = (
     "{\"layout\":{\"order\":1,\"pageblocks\":1,\"blocks\":2,\"cpus\":2,\"batch\":1,\"high\":1,\
      \"owners\":2,\"pages\":2,\"words\":1,\"history\":40,\"boot\":[\"normal\",\"movable\"]},\n\
@@ -155,7 +158,8 @@ const SCRIPTED: Checked = (
      calls 8 (line 3): warning: no line before begins operation 1\nfaults: 0, warnings: 5\n",
 );
 
-/// Keys of the whole and of the layout that come twice. Only those of the whole are reported.
+/// Keys that come twice, in the scenario and in its layout. The report has only those of the
+/// scenario.
 const REPEATED: Checked = (
     "{\"layout\":{\"order\":2,\"order\":1,\"pageblocks\":1,\"blocks\":2,\"cpus\":2,\"batch\":1,\"high\":1,\
          \"owners\":2,\"pages\":2,\"words\":1,\"history\":40,\"boot\":[\"normal\",\"movable\"]},\n\
@@ -195,7 +199,7 @@ pub(crate) fn first_other(alloc: Global, rows: &[Checked]) -> Result<Option<usiz
     Ok(None)
 }
 
-/// Returns those texts. Each function that names the table pays for it in its proof.
+/// Returns the table. Keeps proofs from evaluating it in each function that uses it.
 fn checked() -> &'static [Checked] {
     CHECKED
 }
@@ -208,7 +212,7 @@ fn each_text_has_its_report(rt: HostRuntime) -> Result<(), Fail> {
     Ok(())
 }
 
-/// Returns whether the lines of scripts have their report.
+/// Returns whether the report on lines of scripts is the expected one.
 pub(crate) fn are_scripts_checked(alloc: Global, checked: Checked) -> Result<bool, AllocError> {
     let (text, expected) = checked;
     let after_one = report_after(alloc, 1, text)?;
@@ -221,13 +225,14 @@ fn scripts_have_their_report(rt: HostRuntime) -> Result<(), Fail> {
     Ok(())
 }
 
-/// Returns whether this is the report on this many lists in one another.
+/// Returns whether the report on `count` nested lists is the expected one.
 fn is_said(alloc: Global, count: usize, expected: &str) -> Result<bool, AllocError> {
     let text = "[".repeat(alloc, count)?;
     has_report(alloc, &text, expected)
 }
 
-/// Returns whether the report names the depth of lists in one another that the reader does not take.
+/// Returns whether the report names the greatest depth that the reader accepts, if a text is
+/// deeper.
 fn is_depth_said(alloc: Global) -> Result<bool, AllocError> {
     let deep = "line 1, column 128: not JSON: more than 127 objects and lists in one another\n\
                 faults: 1, warnings: 0\n";
@@ -241,7 +246,7 @@ fn depth_is_said(rt: HostRuntime) -> Result<(), Fail> {
     Ok(())
 }
 
-/// Returns whether a walk over a text sees what it should.
+/// Returns whether each function that looks through a text finds what it should.
 fn is_seen() -> bool {
     is_blank(b" \t\r\n")
         && has_comment(b"{} # x")
@@ -268,7 +273,8 @@ fn are_warnings(findings: &[Finding]) -> bool {
     true
 }
 
-/// Returns whether one of the texts has this many faults, and is or is not without faults.
+/// Returns whether the report on one of the texts has this many faults, and only warnings if
+/// `is_whole`.
 fn counts(alloc: Global, place: usize, faults: usize, is_whole: bool) -> Result<bool, AllocError> {
     let Some((text, _report)) = checked().get(place) else {
         return Ok(false);
@@ -277,7 +283,7 @@ fn counts(alloc: Global, place: usize, faults: usize, is_whole: bool) -> Result<
     Ok(fault_count(&found) == faults && are_warnings(&found) == is_whole)
 }
 
-/// Returns whether faults are counted, in a text of faults and in one of warnings.
+/// Returns whether faults are counted, in a text with faults and in one with only warnings.
 fn are_counted(alloc: Global) -> Result<bool, AllocError> {
     Ok(counts(alloc, 5, 6, false)? && counts(alloc, 7, 0, true)?)
 }
@@ -289,14 +295,14 @@ fn faults_are_counted(rt: HostRuntime) -> Result<(), Fail> {
     Ok(())
 }
 
-/// Two lists at the key `calls`, of which the last one counts: two entries in one line, and a third
+/// Two lists at the key `calls`, of which the last one counts: two entries on one line, and a third
 /// two lines below.
 const TWICE: &[u8] = b"{\"calls\": [1],\n\"calls\": [\"a\", {},\n\n[2,\n3]]}";
 
-/// The lines of its entries.
+/// The lines of these entries.
 const LINES_OF_TWICE: &[u64] = &[2, 2, 4];
 
-/// Returns whether they are found.
+/// Returns whether the entries are found on these lines.
 fn are_lines_of_twice(alloc: Global) -> Result<bool, AllocError> {
     let lines = call_lines(alloc, TWICE)?;
     Ok(lines.as_slice() == LINES_OF_TWICE)

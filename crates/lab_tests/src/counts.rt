@@ -1,11 +1,11 @@
-//! Where a search begins, and how many interleavings are known before any call.
+//! Where a search begins, and how many interleavings there are, without making a call.
 use super::explorations::scenario;
 use hp_questions::{front_of, interleavings_line, start_of};
 use hp_scenario::Scenario;
 use std::alloc::{AllocError, Global};
 use std::test::Fail;
 
-/// The lines of a scenario, how many of them are the setup, and what is said of the others.
+/// The lines of a scenario, the length of the setup, and what is printed for the others.
 const COUNTED: &[(&str, u64, &str)] = &[
     (
         "0 drain 0;1 drain 0;0 drain 1;1 drain 1;0 drain 0",
@@ -30,20 +30,21 @@ const COUNTED: &[(&str, u64, &str)] = &[
     ("0 drain 0;1 seal", 1, ""),
 ];
 
-/// The scenario of these lines; none where it is refused.
+/// Reads the scenario of these lines; returns `None` if it is refused.
 fn read(alloc: Global, lines: &str) -> Result<Option<Scenario>, AllocError> {
     let bytes = scenario(alloc, 40, lines)?;
     Ok(Scenario::read(alloc, bytes.as_bytes()).ok())
 }
 
-/// Whether this is said of how many interleavings a scenario has after so many lines, at most 10.
+/// Returns whether `text` is printed for a scenario after `setup` lines of setup, with a limit of
+/// 10.
 fn says_of(alloc: Global, read: &Scenario, setup: u64, text: &str) -> Result<bool, AllocError> {
     let cpus = read.layout.cpus();
     let line = interleavings_line(alloc, cpus, setup, read.lines.as_slice(), 10)?;
     Ok(line.as_str() == text)
 }
 
-/// Whether this is said of the scenario of these lines.
+/// Returns whether `text` is printed for the scenario of these lines.
 fn says(alloc: Global, lines: &str, setup: u64, text: &str) -> Result<bool, AllocError> {
     match read(alloc, lines)? {
         Some(read) => says_of(alloc, &read, setup, text),
@@ -59,7 +60,7 @@ fn interleavings_are_known_before_any_call(rt: HostRuntime) -> Result<(), Fail> 
     Ok(())
 }
 
-/// Whether a search after one line of setup begins with its record and two scripts.
+/// Returns whether a search after one line of setup begins with one record and two scripts.
 fn begins_after_one(alloc: Global, scenario: &Scenario) -> bool {
     match start_of(alloc, scenario, 1) {
         Ok(start) => start.machine.last_serial() == 1 && start.scripts.len() == 2,
@@ -67,7 +68,7 @@ fn begins_after_one(alloc: Global, scenario: &Scenario) -> bool {
     }
 }
 
-/// Whether this is so of a scenario of three lines, of which the first alone is the setup.
+/// Returns whether the first of three lines is taken as the setup.
 fn has_one_line_of_setup(alloc: Global) -> Result<bool, AllocError> {
     match read(alloc, "0 drain 0;1 drain 0;0 drain 1")? {
         Some(read) => {

@@ -1,9 +1,9 @@
-//! The text of findings that no scenario of `checks` has.
+//! Reports on mistakes that no scenario of `checks` has.
 use crate::checks::{Checked, are_scripts_checked, first_other, has_report};
 use std::alloc::{AllocError, Global};
 use std::test::Fail;
 
-/// Parts of a layout that are out of their ranges, beside those above, and what is no list.
+/// Parts of a layout that are out of range, besides those of `checks`, and values that are no list.
 const LIMITED: &[Checked] = &[
     (
         "{\"layout\":{\"order\":11,\"pageblocks\":3,\"blocks\":0,\"cpus\":1,\"batch\":1,\"high\":1,\
@@ -24,8 +24,8 @@ const LIMITED: &[Checked] = &[
     ),
 ];
 
-/// Texts that are no lines, and what the report says of each: a number with a zero in front at the
-/// last place of each verb, words that are likely to be meant for a verb, and other letters in a name.
+/// Texts that are no lines, with the hint of the report: a leading zero at the last place of each
+/// verb, words close to a verb, and wrong letters in a name.
 const WANTED: &[Checked] = &[
     (
         "0 kalloc 01",
@@ -127,8 +127,8 @@ const WANTED: &[Checked] = &[
     ),
 ];
 
-/// Texts at whose end the reader of JSON stops, and what the report says: a comma too many, a
-/// character that is odd there, and neither.
+/// Texts that end where the JSON reader stops, with the hint of the report: an extra comma, an
+/// unexpected character, or neither.
 const STOPPED: &[Checked] = &[
     (
         "[1, ]",
@@ -171,8 +171,8 @@ const STOPPED: &[Checked] = &[
     ),
 ];
 
-/// Lines that hardly do what is wanted, beside those above: files, addresses and operations. The
-/// address 0x81 begins no memory block.
+/// Lines that probably do not do what is meant, besides those of `checks`: files, addresses and
+/// operations. No memory block begins at address 0x81.
 const DOUBTED: Checked = (
     "{\"layout\":{\"order\":1,\"pageblocks\":1,\"blocks\":2,\"cpus\":2,\"batch\":1,\"high\":1,\
      \"owners\":2,\"pages\":2,\"words\":1,\"history\":40,\"boot\":[\"normal\",\"movable\"]},\n\
@@ -193,8 +193,7 @@ const DOUBTED: Checked = (
      calls 14 (line 4): warning: no line before begins operation 0\nfaults: 0, warnings: 11\n",
 );
 
-/// Calls and plans that find the history full make no records: the begin has serial 3, and no plan
-/// made one before it.
+/// Calls and plans that find the history full leave no records, so the begin has serial 3.
 const FILLED: Checked = (
     "{\"layout\":{\"order\":1,\"pageblocks\":1,\"blocks\":2,\"cpus\":2,\"batch\":1,\"high\":1,\
      \"owners\":2,\"pages\":2,\"words\":1,\"history\":2,\"boot\":[\"normal\",\"movable\"]},\n\
@@ -205,8 +204,8 @@ const FILLED: Checked = (
      calls 9 (line 3): warning: no line before begins operation 4\nfaults: 0, warnings: 3\n",
 );
 
-/// An `echo` that takes memory offline is a plan of 1024 turns: a history of 1027 records has no room
-/// for them, with two processors. One that brings memory online is one call.
+/// An `echo` that takes memory offline is a plan of 1024 turns. With two processors a history of
+/// 1027 records has no room for it. An `echo` that brings memory online is one call.
 const ECHOED: Checked = (
     "{\"layout\":{\"order\":1,\"pageblocks\":1,\"blocks\":2,\"cpus\":2,\"batch\":1,\"high\":1,\
      \"owners\":2,\"pages\":2,\"words\":1,\"history\":1027,\"boot\":[\"normal\",\"movable\"]},\n\
@@ -221,7 +220,7 @@ const ECHOED: Checked = (
      faults: 0, warnings: 5\n",
 );
 
-/// The same with room for the turns of an `echo`, and no record more: the report says nothing.
+/// The same with room for exactly the records of such an `echo`: the report is empty.
 const ROOMY: Checked = (
     "{\"layout\":{\"order\":1,\"pageblocks\":1,\"blocks\":2,\"cpus\":2,\"batch\":1,\"high\":1,\
      \"owners\":2,\"pages\":2,\"words\":1,\"history\":1028,\"boot\":[\"normal\",\"movable\"]},\n\
@@ -229,8 +228,8 @@ const ROOMY: Checked = (
     "faults: 0, warnings: 0\n",
 );
 
-/// Characters that cannot be seen: in a key, in texts that are no lines, and in words and paths of
-/// control files.
+/// Invisible characters: in a key, in texts that are no lines, and in words and paths of control
+/// files.
 const UNSEEN: &[Checked] = &[
     (
         "{\"lay\u{ad}out\":1,\"calls\":[\"0\u{a0}seal\",\"0 seal\u{200b}\",\"0 map d\u{200b}b 0\"]}",
@@ -269,12 +268,13 @@ fn other_texts_have_their_report(rt: HostRuntime) -> Result<(), Fail> {
     Ok(())
 }
 
-/// A scenario up to its one call.
+/// The text of a scenario before its one call.
 const ONE_CALL: &str =
     "{\"layout\":{\"order\":1,\"pageblocks\":1,\"blocks\":1,\"cpus\":1,\"batch\":1,\
     \"high\":1,\"owners\":1,\"pages\":1,\"words\":1,\"history\":1,\"boot\":[\"normal\"]},\"calls\":[\"";
 
-/// Returns whether the report says this of a text that is the one entry of `calls`, and no line.
+/// Returns whether the report on a scenario with this one entry in `calls`, which is no line, is
+/// `said`.
 fn is_wanted(alloc: Global, call: &str, said: &str) -> Result<bool, AllocError> {
     let head = ONE_CALL;
     let text = format!(in alloc; "{head}{call}\"]}}")?;
@@ -284,7 +284,7 @@ fn is_wanted(alloc: Global, call: &str, said: &str) -> Result<bool, AllocError> 
     has_report(alloc, &text, &expected)
 }
 
-/// Returns the place of the first text on which the report says something else.
+/// Returns the place of the first text with another hint.
 fn first_unwanted(alloc: Global, rows: &[Checked]) -> Result<Option<usize>, AllocError> {
     for (place, (call, said)) in rows.iter().enumerate() {
         if !is_wanted(alloc, call, said)? {
@@ -294,7 +294,7 @@ fn first_unwanted(alloc: Global, rows: &[Checked]) -> Result<Option<usize>, Allo
     Ok(None)
 }
 
-/// Returns the place of the first text that is no JSON on which the report says something else.
+/// Returns the place of the first text with another report.
 fn first_unstopped(alloc: Global, rows: &[Checked]) -> Result<Option<usize>, AllocError> {
     for (place, (text, said)) in rows.iter().enumerate() {
         let expected = format!(in alloc; "{said}\nfaults: 1, warnings: 0\n")?;

@@ -7,13 +7,13 @@ use hp_search::{EndsForm, PartFault, explore_text};
 use std::alloc::{AllocError, Global};
 use std::test::Fail;
 
-/// An offline against calls of another processor, and the lines that are run first.
+/// The lines of an offline against calls of another processor, after a setup.
 const RACE: &str = "0 map db 0;0 write db 0 0 7;0 kalloc 0;0 begin off 1;0 migrate 0;0 commit 0;\
      1 map web 0;1 write web 0 0 9;1 read web 0 0";
 
 const SETUP: u64 = 3;
 
-/// The text of a part of a scenario; empty where it has none.
+/// Returns the text of one part of a scenario; empty if it is refused.
 fn part_of(alloc: Global, input: &[u8], number: ShardId, limit: u64) -> String {
     match part_text(alloc, input, SETUP, limit, number, &mut Silent) {
         Ok(finding) => finding.text,
@@ -21,7 +21,7 @@ fn part_of(alloc: Global, input: &[u8], number: ShardId, limit: u64) -> String {
     }
 }
 
-/// The text of one of so many parts of the race; empty where it has none.
+/// Returns the text of part `number` of `of` of the race; empty if there is no such part.
 fn part(alloc: Global, number: u64, of: u64, limit: u64) -> Result<String, AllocError> {
     let Some(number) = ShardId::new(number, of) else {
         return Ok(String::new(alloc));
@@ -30,13 +30,13 @@ fn part(alloc: Global, number: u64, of: u64, limit: u64) -> Result<String, Alloc
     Ok(part_of(alloc, scenario.as_bytes(), number, limit))
 }
 
-/// Writes the text of one of so many parts.
+/// Appends the text of part `number` of `of`.
 fn push_part(out: &mut String, alloc: Global, number: u64, of: u64) -> Result<(), AllocError> {
     let part = part(alloc, number, of, 100)?;
     out.push_str(&part)
 }
 
-/// The text of all of so many parts, the last first.
+/// Returns the text of all `of` parts, the last first.
 fn parts(alloc: Global, of: u64) -> Result<String, AllocError> {
     let mut text = String::new(alloc);
     for number in 0..of {
@@ -45,7 +45,7 @@ fn parts(alloc: Global, of: u64) -> Result<String, AllocError> {
     Ok(text)
 }
 
-/// Whether the text of parts has this sum in a form.
+/// Returns whether the sum of the parts in `text` is `whole`, in this form.
 fn has_sum(alloc: Global, text: &str, form: EndsForm, whole: &str) -> bool {
     match sum_text(alloc, text.as_bytes(), form) {
         Ok(sum) => sum.is_found && sum.text.as_str() == whole,
@@ -53,7 +53,7 @@ fn has_sum(alloc: Global, text: &str, form: EndsForm, whole: &str) -> bool {
     }
 }
 
-/// Whether the text of parts adds up to the exploration of the race in a form.
+/// Returns whether the parts in `text` add up to the exploration of the race.
 fn adds_up(alloc: Global, text: &str, form: EndsForm) -> Result<bool, AllocError> {
     let scenario = scenario(alloc, 40, RACE)?;
     match explore_text(alloc, scenario.as_bytes(), SETUP, 100, form, None, &mut Silent) {
@@ -62,13 +62,13 @@ fn adds_up(alloc: Global, text: &str, form: EndsForm) -> Result<bool, AllocError
     }
 }
 
-/// Whether so many parts do.
+/// Returns whether the race's `of` parts add up to its exploration.
 fn parts_of_it_add_up(alloc: Global, of: u64, form: EndsForm) -> Result<bool, AllocError> {
     let text = parts(alloc, of)?;
     adds_up(alloc, &text, form)
 }
 
-/// How many parts there are, and the form of their sum.
+/// The number of parts, and the form of their sum.
 const SUMS: &[(u64, EndsForm)] = &[
     (1, EndsForm::Words),
     (3, EndsForm::Objects),
@@ -85,7 +85,7 @@ fn parts_add_up(rt: HostRuntime) -> Result<(), Fail> {
     Ok(())
 }
 
-/// Why a text has no sum; none where it has one.
+/// Returns why the parts in a text have no sum, or `None` if they have one.
 fn fault_of(alloc: Global, text: &str) -> Option<PartFault> {
     match sum_text(alloc, text.as_bytes(), EndsForm::Words) {
         Ok(_sum) => None,
@@ -93,7 +93,7 @@ fn fault_of(alloc: Global, text: &str) -> Option<PartFault> {
     }
 }
 
-/// A text, what takes its place in three parts, the third first, and why that has no sum.
+/// A text of the three parts, what replaces it, and why the result has no sum.
 type Refused = (&'static str, &'static str, Option<PartFault>);
 
 const NO_PART: Option<PartFault> = Some(PartFault::NotPart { line: 1 });
@@ -110,7 +110,7 @@ const REFUSED: &[Refused] = &[
     ("]}\n", ", 0]}\n", Some(PartFault::NotOfPart { line: 2 })),
 ];
 
-/// Whether a text has no sum when it is so changed.
+/// Returns whether the changed text is refused with the expected fault, or not refused for `None`.
 fn is_refused(alloc: Global, text: &str, row: &Refused) -> Result<bool, AllocError> {
     let (old, new, fault) = row;
     let changed = text.replace(alloc, old, new)?;
@@ -126,7 +126,8 @@ fn texts_without_a_sum_are_refused(rt: HostRuntime) -> Result<(), Fail> {
     Ok(())
 }
 
-/// The first of so many parts to a limit, how often it is in a text, and why that has no sum.
+/// The number of parts, the limit, how many times the first part is repeated, and why that has no
+/// sum.
 type First = (u64, u64, usize, PartFault);
 
 const FIRST: &[First] = &[
@@ -136,7 +137,7 @@ const FIRST: &[First] = &[
     (2, 100, 0, PartFault::NotPart { line: 1 }),
 ];
 
-/// Whether that text has no sum.
+/// Returns whether the repeated first part is refused with this fault.
 fn is_first_refused(alloc: Global, first: &First) -> Result<bool, AllocError> {
     let (of, limit, times, fault) = first;
     let one = part(alloc, 1, *of, *limit)?;

@@ -7,7 +7,7 @@ use hp_search::{EndsForm, LabFault, explore_text};
 use std::alloc::{AllocError, Global};
 use std::test::Fail;
 
-/// The lines of a scenario, how many of them are run first, its line at fault, and why.
+/// The lines of a scenario, the length of the setup, the wrong line, and what is wrong with it.
 type Misfit = (&'static str, u64, u64, Unfit);
 
 const MISFITS: &[Misfit] = &[
@@ -27,7 +27,7 @@ const MISFITS: &[Misfit] = &[
     ),
 ];
 
-/// Whether a scenario is not explored, for this fault.
+/// Returns whether an exploration is refused with this fault.
 fn is_refused(alloc: Global, scenario: &str, setup: u64, fault: LabFault) -> bool {
     let form = EndsForm::Words;
     match explore_text(alloc, scenario.as_bytes(), setup, 9, form, None, &mut Silent) {
@@ -36,7 +36,8 @@ fn is_refused(alloc: Global, scenario: &str, setup: u64, fault: LabFault) -> boo
     }
 }
 
-/// Whether lines, with room for so many records, are not explored, for this fault.
+/// Returns whether an exploration of lines, with room for `history` records, is refused with this
+/// fault.
 fn has_fault(
     alloc: Global,
     history: u64,
@@ -47,7 +48,7 @@ fn has_fault(
     Ok(is_refused(alloc, &text, 0, fault))
 }
 
-/// Whether a scenario is not explored, for its line at fault.
+/// Returns whether an exploration is refused because of its wrong line.
 fn has_misfit(alloc: Global, misfit: &Misfit) -> Result<bool, AllocError> {
     let (lines, setup, line, why) = misfit;
     let fault = LabFault::NotForScript {
@@ -58,7 +59,7 @@ fn has_misfit(alloc: Global, misfit: &Misfit) -> Result<bool, AllocError> {
     Ok(is_refused(alloc, &text, *setup, fault))
 }
 
-/// The place of the first row whose scenario has another fault, or is explored.
+/// Returns the place of the first row that has another fault or none.
 fn first_other(alloc: Global, rows: &[Misfit]) -> Result<Option<usize>, AllocError> {
     for (place, row) in rows.iter().enumerate() {
         if !has_misfit(alloc, row)? {

@@ -1,4 +1,5 @@
-//! What a walk over schedules keeps: where processors are, ends with their counts, and numbers.
+//! What a walk over schedules stores: positions in scripts, ends with their counts, rows and
+//! numbers.
 ghost use Rattle.std.specs.Prelude.{◌≡◌, IfOk, length};
 
 use hp_schedules::{
@@ -11,7 +12,7 @@ use indexmap::IndexMap;
 use std::alloc::{AllocError, Global};
 use std::test::Fail;
 
-/// A call that takes a frame, as the only processor's first.
+/// Returns the record of a call that takes a frame, the first of the only processor.
 fn taken() -> Record
     ensures { result.cpu ≡ 0 }
 {
@@ -23,7 +24,7 @@ fn taken() -> Record
     }
 }
 
-/// A script of one line.
+/// Returns one script of one line.
 fn one_line(alloc: Global) -> Result<Vec<CallScript>, AllocError>
     ensures { IfOk result (λ scripts. length scripts.items ≡ 1) }
 {
@@ -34,7 +35,8 @@ fn one_line(alloc: Global) -> Result<Vec<CallScript>, AllocError>
     Ok(scripts)
 }
 
-/// Whether the script is over after its call, and asks for one again once that is taken back.
+/// Makes the script's call and takes it back. Returns whether the script is finished in between,
+/// and asks for the call again at the end.
 fn goes_on_and_back(alloc: Global, scripts: &[CallScript]) -> Result<bool, AllocError>
     requires { length scripts.now ≡ 1 }
 {
@@ -50,7 +52,7 @@ fn goes_on_and_back(alloc: Global, scripts: &[CallScript]) -> Result<bool, Alloc
     Ok(is_over && began == Serial(0) && asks_again)
 }
 
-/// Whether a script of one line is one call, undoes nothing, and is over once it is made.
+/// Returns whether a script of one line has one call, undoes nothing, and is finished after it.
 fn are_walked(alloc: Global) -> Result<bool, AllocError> {
     let scripts = one_line(alloc)?;
     let is_one = call_count(alloc, scripts.as_slice())? == Some(1);
@@ -64,7 +66,7 @@ fn a_position_goes_on_and_back(rt: HostRuntime) -> Result<(), Fail> {
     Ok(())
 }
 
-/// Whether a tally counts all that it has once more, and adds up both.
+/// Adds the tally's counts to it once more, and gathers both. Returns whether they are added up.
 fn counts_again(alloc: Global, tally: &mut Tally) -> Result<bool, AllocError> {
     let shares: Vec<Share> = tally.since(0).iter().copied().collect(alloc)?;
     if !fit_in(shares.as_slice(), tally.room()) {
@@ -76,7 +78,7 @@ fn counts_again(alloc: Global, tally: &mut Tally) -> Result<bool, AllocError> {
     Ok(is_longer && tally.trail_len() == 1 && tally.total() == 2 && tally.room() == 3)
 }
 
-/// Whether a tally of at most five schedules counts one, and once more.
+/// Returns whether a tally with a limit of five counts a schedule, and then counts it again.
 fn is_counted(alloc: Global) -> Result<bool, AllocError> {
     let mut tally = Tally::new(alloc, 5);
     tally.note(alloc, 1, &[taken()], Vec::new(alloc))?;
@@ -92,7 +94,7 @@ fn a_tally_counts(rt: HostRuntime) -> Result<(), Fail> {
     Ok(())
 }
 
-/// Whether a row of shares stands where it was put.
+/// Returns whether a row of shares is found at its number.
 fn is_kept(alloc: Global) -> Result<bool, AllocError> {
     let mut rows = Rows::new(alloc);
     rows.push(&[Share { end: 7, count: 2 }])?;
@@ -103,7 +105,7 @@ fn is_kept(alloc: Global) -> Result<bool, AllocError> {
     Ok(is_there && rows.len() == 1)
 }
 
-/// Whether a key is found by its digest.
+/// Returns whether a number is found under the hash that it was stored under.
 fn is_learned(alloc: Global) -> Result<bool, AllocError> {
     let mut latest = IndexMap::new(alloc);
     let digest = mixed(key_digest(&[3]), 4);
@@ -117,7 +119,7 @@ fn rows_and_digests_are_kept(rt: HostRuntime) -> Result<(), Fail> {
     Ok(())
 }
 
-/// Whether a processor's exchange has a number of its own, and none once it is taken back.
+/// Returns whether a processor's exchange gets a number, which is gone when it is taken back.
 fn are_exchanged(alloc: Global) -> Result<bool, AllocError> {
     let mut exchanges = Exchanges::start(alloc, 1)?;
     exchanges.go_on(alloc, Cpu(0), &taken())?;
@@ -132,8 +134,8 @@ fn exchanges_have_numbers(rt: HostRuntime) -> Result<(), Fail> {
     Ok(())
 }
 
-/// Whether a record ends a schedule of its processor with its reply, which is closed, of the only
-/// part and no operation's work.
+/// Returns whether one record is a complete schedule: it has one reply, belongs to the only part,
+/// leaves no operation open, and is no operation's own work.
 fn is_ended(alloc: Global, records: &[Record]) -> Result<bool, AllocError>
     requires { length records.now ≡ 1 }
 {

@@ -1,4 +1,4 @@
-//! Scenarios as the text that reads them.
+//! Scenarios that are written as the text that they are read from.
 use super::replays::LAST;
 use hp_questions::{Unbegun, unbegun_lines};
 use hp_scenario::{Line, Scenario};
@@ -8,7 +8,7 @@ use indexmap::IndexSet;
 use std::alloc::{AllocError, Global};
 use std::test::Fail;
 
-/// A plan, a file that is read, one that is written, and a seal.
+/// A plan, a `cat`, an `echo`, and a seal.
 const LINES: &str =
     "{\"layout\": {\"order\": 0, \"pageblocks\": 4, \"blocks\": 3, \"cpus\": 1, \"batch\": 1, \
      \"high\": 2,\n\"owners\": 1, \"pages\": 2, \"words\": 1, \"history\": 5,\n\
@@ -20,14 +20,15 @@ const NO_LINES: &str =
      \"high\": 2,\n\"owners\": 1, \"pages\": 2, \"words\": 1, \"history\": 5,\n\
      \"boot\": [\"movable\"]},\n\"calls\": [\n\n]}\n";
 
-/// Scripts of which the second uses 0 before its own begin, and the third after the setup's.
+/// Scripts that use operation 0: the second before its own begin, the third after a begin in the
+/// setup.
 const SCRIPTS: &str =
     "{\"layout\": {\"order\": 0, \"pageblocks\": 4, \"blocks\": 1, \"cpus\": 3, \"batch\": 1, \
      \"high\": 2, \"owners\": 1, \"pages\": 2, \"words\": 1, \"history\": 9, \"boot\": [\"movable\"]}, \
      \"calls\": [\"1 commit 0\", \"2 plan 1 off 0\", \"1 drain 0\", \"1 cancel 0\", \"1 begin off 0\", \
      \"2 commit 0\", \"0 migrate 1\", \"1 commit 0\"]}";
 
-/// Whether a scenario is written as this text.
+/// Returns whether a scenario is written as this text.
 fn is_spelled_so(alloc: Global, scenario: &Scenario, text: &str) -> Result<bool, AllocError> {
     let mut out = String::new(alloc);
     let lines = scenario.lines.as_slice();
@@ -35,7 +36,7 @@ fn is_spelled_so(alloc: Global, scenario: &Scenario, text: &str) -> Result<bool,
     Ok(out.as_str() == text)
 }
 
-/// Whether a scenario is written as this text that it is read from.
+/// Returns whether the scenario in a text is written as that text.
 fn is_spelled(alloc: Global, text: &str) -> Result<bool, AllocError> {
     match Scenario::read(alloc, text.as_bytes()) {
         Ok(scenario) => is_spelled_so(alloc, &scenario, text),
@@ -51,7 +52,7 @@ fn scenarios_are_read_as_they_are_written(rt: HostRuntime) -> Result<(), Fail> {
     Ok(())
 }
 
-/// A line and two calls with a mark before each of the two.
+/// Writes lines, then calls with a mark before and after them.
 fn write_parts(
     out: &mut String,
     names: &IndexSet<Text>,
@@ -75,14 +76,14 @@ fn drain(cpu: Cpu, serial: Serial) -> Record {
     }
 }
 
-/// Calls as lines, where owners have names.
+/// Writes calls as lines, with the names of owners.
 fn lines_of(alloc: Global, names: &IndexSet<Text>, calls: &[Record]) -> Result<String, AllocError> {
     let mut out = String::new(alloc);
     write_parts(&mut out, names, &[], calls)?;
     Ok(out)
 }
 
-/// Two calls as lines.
+/// Writes two calls as lines.
 fn two_lines(alloc: Global) -> Result<String, AllocError> {
     let calls = [drain(Cpu(0), Serial(1)), drain(Cpu(7), Serial(2))];
     lines_of(alloc, &IndexSet::new(alloc), &calls)
@@ -95,7 +96,8 @@ fn calls_are_written_as_lines(rt: HostRuntime) -> Result<(), Fail> {
     Ok(())
 }
 
-/// Whether this line of a processor alone is told; none for line 0.
+/// Returns whether the only finding is this line of this processor, or there is none if `line` is
+/// 0.
 fn tells(found: &[Unbegun], cpu: Cpu, line: u64) -> bool {
     match found {
         [] => line == 0,
@@ -104,14 +106,15 @@ fn tells(found: &[Unbegun], cpu: Cpu, line: u64) -> bool {
     }
 }
 
-/// Whether this line of processor 1 alone works on no operation; none for line 0.
+/// Returns whether this line of processor 1 is the only one that works on no operation, or none
+/// does if `line` is 0.
 fn tells_line(alloc: Global, read: &Scenario, setup: u64, line: u64) -> Result<bool, AllocError> {
     let cpus = read.layout.cpus();
     let found = unbegun_lines(alloc, cpus, setup, read.lines.as_slice())?;
     Ok(tells(&found, Cpu(1), line))
 }
 
-/// Whether this is so of those scripts, after so many lines.
+/// Returns whether `tells_line` holds for `SCRIPTS` after `setup` lines of setup.
 fn has_unbegun(alloc: Global, setup: u64, line: u64) -> Result<bool, AllocError> {
     match Scenario::read(alloc, SCRIPTS.as_bytes()) {
         Ok(scenario) => tells_line(alloc, &scenario, setup, line),

@@ -11,7 +11,7 @@ use hp_units::{Class, Frame, Layout, Mobility, Order, Pageblock, Zone};
 use std::alloc::{AllocError, Global};
 use std::test::Fail;
 
-/// The free areas of two pageblocks, of which the first is one free block of zone Normal.
+/// Returns the free areas of two pageblocks. The first is one free block of zone Normal.
 pub(crate) fn one_free_pageblock(alloc: Global, layout: &Layout) -> Result<Buddy, AllocError>
     requires { layout.now ≡ two_blocks }
     ensures layout { IfOk result (λ b. b.layout ≡ two_blocks) }
@@ -24,7 +24,7 @@ pub(crate) fn one_free_pageblock(alloc: Global, layout: &Layout) -> Result<Buddy
     Ok(copy)
 }
 
-/// Those of the tests' layout.
+/// Returns these free areas for the tests' layout.
 fn small_buddy(alloc: Global) -> Result<Buddy, Fail>
     ensures layout { IfOk result (λ b. b.layout ≡ two_blocks) }
     ensures apart { IfOk result (λ b. AreApart b.layout b.areas) }
@@ -34,7 +34,7 @@ fn small_buddy(alloc: Global) -> Result<Buddy, Fail>
     Ok(buddy)
 }
 
-/// Whether the first block is the only one of its list, and its pageblock movable.
+/// Returns whether the first block is alone on its list, and its pageblock is movable.
 fn is_whole(buddy: &Buddy) -> bool
     requires { buddy.now.layout ≡ two_blocks }
 {
@@ -44,7 +44,8 @@ fn is_whole(buddy: &Buddy) -> bool
         && buddy.kind(Pageblock(0)).mobility == Mobility::Movable
 }
 
-/// Takes a frame and gives it back: whether the block is whole then, and a frame is stolen from it.
+/// Takes a frame and gives it back. Returns whether the block is whole again, and its first frame
+/// can be stolen.
 fn is_joined_and_stolen(buddy: &mut Buddy, tape: &mut Tape) -> bool
     requires layout { buddy.old.layout ≡ two_blocks }
     requires apart { AreApart buddy.old.layout buddy.old.areas }
@@ -67,7 +68,7 @@ fn splits_joins_and_steals(rt: HostRuntime) -> Result<(), Fail> {
     Ok(())
 }
 
-/// Isolates the pageblock and removes it, if it is found whole: whether it was isolated, and its
+/// Isolates the pageblock and removes it if it is whole. Returns whether it was isolated, and its
 /// first frame is gone.
 fn is_isolated_and_removed(buddy: &mut Buddy, tape: &mut Tape) -> bool
     requires layout { buddy.old.layout ≡ two_blocks }
@@ -92,7 +93,8 @@ fn isolates_and_removes(rt: HostRuntime) -> Result<(), Fail> {
     Ok(())
 }
 
-/// Whether a block of areas without a free one comes back, as one that had left its list.
+/// Undoes the delta of a block that left its list. Returns whether the block is back on the empty
+/// list.
 fn is_back(buddy: &mut Buddy) -> bool
     requires layout { buddy.old.layout ≡ two_blocks }
     requires areas { buddy.old.areas ≡ empty_areas two_blocks }

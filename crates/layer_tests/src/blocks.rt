@@ -10,7 +10,7 @@ use hp_units::{Auto, Block, Row, Serial, State, Wish, Zone};
 use std::alloc::Global;
 use std::test::Fail;
 
-/// The rows of two memory blocks, as a layout begins.
+/// Returns the rows of two memory blocks in a new layer.
 fn small_blocks(alloc: Global) -> Result<Blocks, Fail>
     ensures { IfOk result
         (λ b. b ≡ record { layout = two_blocks; blocks = empty_blocks two_blocks }) }
@@ -21,7 +21,8 @@ fn small_blocks(alloc: Global) -> Result<Blocks, Fail>
     Ok(copy)
 }
 
-/// Whether the second memory block is claimed, and what added ones become is set and taken back.
+/// Claims the second memory block, and sets what added blocks become and undoes that. Returns
+/// whether the rows show each.
 fn is_claimed_and_set(blocks: &mut Blocks, tape: &mut Tape) -> bool
     requires blocks { blocks.old ≡ record { layout = two_blocks; blocks = empty_blocks two_blocks } }
     requires room { HasRoom tape.old 3 }

@@ -7,7 +7,7 @@ use hp_units::{Frame, Order};
 use std::alloc::Global;
 use std::test::Fail;
 
-/// The kernel's blocks of four frames, as a table begins.
+/// Returns a new table of kernel blocks for four frames.
 fn small_kernel(alloc: Global) -> Result<KernelBlocks, Fail>
     ensures { IfOk result (λ kernel. kernel ≡ replicate 4 None) }
 {
@@ -16,7 +16,8 @@ fn small_kernel(alloc: Global) -> Result<KernelBlocks, Fail>
     Ok(copy)
 }
 
-/// Whether a block of two frames is found where it was set, and none is once that is taken back.
+/// Sets a block of two frames and undoes that. Returns whether the block is found in between, and
+/// no longer at the end.
 fn is_set_and_taken_back(kernel: &mut KernelBlocks, tape: &mut Tape) -> bool
     requires none { kernel.old ≡ replicate 4 None }
     requires room { HasRoom tape.old 1 }

@@ -7,7 +7,7 @@ use std::alloc::Global;
 
 pub(crate) const BOOT: &[Boot] = &[Boot::Offline, Boot::Offline];
 
-/// Two memory blocks of two frames of two words, and one owner with two pages.
+/// Returns a layout of two memory blocks of two frames of two words, and one owner with two pages.
 pub(crate) fn two_blocks(alloc: Global) -> Result<Layout, LayoutFault>
     ensures { IfOk result (λ layout. layout ≡ two_blocks) }
 {

@@ -1,5 +1,5 @@
-//! Layers made at both ends of a limit. That they ask for memory as often is counted by
-//! refusals/check_refusals.py.
+//! Layers made at both ends of a limit. refusals/check_refusals.py counts that they allocate the
+//! same number of times.
 ghost use Rattle.std.specs.Prelude.{◌≡◌, IfOk};
 
 use crate::layouts::BOOT;
@@ -9,7 +9,8 @@ use hp_units::{Class, Cpu, Layout, LayoutFault, Order, Parts, Pool};
 use std::alloc::Global;
 use std::test::Fail;
 
-/// Two memory blocks of a pageblock of an order each, and so many processors.
+/// Returns a layout of two memory blocks of one pageblock each, with this greatest order and number
+/// of processors.
 fn two_pageblocks(alloc: Global, order: u64, cpus: u64) -> Result<Layout, LayoutFault>
     ensures order { IfOk result (λ layout. layout.order ≡ order) }
     ensures cpus { IfOk result (λ layout. layout.cpus ≡ cpus) }

@@ -6,7 +6,7 @@ use hp_units::Frame;
 use std::alloc::{AllocError, Global};
 use std::test::Fail;
 
-/// Two lists of four frames: the first one has frames 3, 2 and 0.
+/// Returns two lists over four frames; the first holds frames 3, 2 and 0.
 fn three_listed(alloc: Global) -> Result<Links, AllocError>
     ensures { IfOk result (λ links. links ≡ three_listed) }
 {
@@ -30,7 +30,7 @@ fn unlinked_and_back(links: &mut Links, frame: Frame)
     }
 }
 
-/// Whether the three frames stand one after another, and there are no more.
+/// Returns whether the first list holds frames 3, 2 and 0 in this order.
 fn are_in_order(links: &Links) -> bool
     requires { links.now ≡ three_listed }
 {

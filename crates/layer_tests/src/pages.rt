@@ -11,7 +11,7 @@ use hp_units::{Frame, Owner, Page};
 use std::alloc::{AllocError, Global};
 use std::test::Fail;
 
-/// The pages of four frames, none mapped.
+/// Returns the pages of four frames, none mapped.
 fn small_pages(alloc: Global) -> Result<Pages, Fail>
     ensures layout { IfOk result (λ p. p.layout ≡ two_blocks) }
     ensures pages { IfOk result (λ p. p.pages ≡ no_pages) }
@@ -37,7 +37,7 @@ fn map_page(pages: &mut Pages, tape: &mut Tape)
     pages.map(Owner(0), Page(1), Frame(2), tape);
 }
 
-/// Whether the mapped page is found by its number and by its frame, and has zeros.
+/// Returns whether the mapped page is found by its number and by its frame, and holds zeros.
 fn is_found(pages: &Pages) -> bool
     requires layout { pages.now.layout ≡ two_blocks }
     requires pages { pages.now.pages ≡ second_page None }
@@ -49,7 +49,8 @@ fn is_found(pages: &Pages) -> bool
         && pages.read(Owner(0), Page(1), 1) == 0
 }
 
-/// Whether the page is found where it was mapped, and has the words that were written.
+/// Maps the second page and writes a word. Returns whether the page is found where it was mapped,
+/// with that word.
 fn is_mapped_and_written(
     alloc: Global,
     pages: &mut Pages,
@@ -70,7 +71,8 @@ fn is_mapped_and_written(
     Ok(is_found && matches!(pages.words(Owner(0), Page(1)), Some([0, 7])))
 }
 
-/// Whether a word of 2^40 is noted with the word before it, in the page and in an equal delta.
+/// Writes a word of 2^40. Returns whether the tape notes it with the word before it, and the page
+/// holds it.
 fn is_large_word_noted(
     alloc: Global,
     pages: &mut Pages,
@@ -98,8 +100,8 @@ fn is_large_word_noted(
     Ok(is_noted && pages.read(Owner(0), Page(1), 1) == large)
 }
 
-/// Moves the page to the last frame and unmaps it there, and takes back that the buffers of both
-/// frames changed places: whether no frame holds a page.
+/// Moves the page to the last frame and unmaps it, then undoes the exchange of the two frames'
+/// buffers. Returns whether the page was at the last frame and no frame holds one now.
 fn is_moved_and_unmapped(pages: &mut Pages, tape: &mut Tape) -> bool
     requires layout { pages.old.layout ≡ two_blocks }
     requires pages { pages.old.pages ≡ second_page (Some (0 ∷ 7 ∷ [])) }

@@ -13,13 +13,13 @@ use hp_units::{Cpu, Frame, Pool, Zone};
 use std::alloc::Global;
 use std::test::Fail;
 
-/// A processor's lists beside free areas.
+/// Processors' lists, and the free areas that refill them.
 struct Small {
     cpus: Cpus,
     buddy: Buddy,
 }
 
-/// Empty lists of one processor, beside one free pageblock of zone Normal.
+/// Returns the empty lists of one processor, and one free pageblock of zone Normal.
 fn small_memory(alloc: Global) -> Result<Small, Fail>
     ensures layout { IfOk result (λ m. m.cpus.layout ≡ two_blocks) }
     ensures together { IfOk result (λ m. AreTogether m.cpus m.buddy) }
@@ -31,7 +31,7 @@ fn small_memory(alloc: Global) -> Result<Small, Fail>
     Ok(Small { cpus, buddy })
 }
 
-/// Takes a frame of the movable pool of zone Normal.
+/// Takes a frame from the movable pool of zone Normal.
 fn take(cpus: &mut Cpus, buddy: &mut Buddy, tape: &mut Tape) -> Option<Frame>
     requires layout { cpus.old.layout ≡ two_blocks }
     requires together { AreTogether cpus.old buddy.old }
@@ -43,7 +43,7 @@ fn take(cpus: &mut Cpus, buddy: &mut Buddy, tape: &mut Tape) -> Option<Frame>
     cpus.take_one(Cpu(0), Pool::Nm, buddy, tape)
 }
 
-/// Puts a frame of zone Normal: whether it is the only one of its list.
+/// Puts a frame of zone Normal on its list. Returns whether it is alone there.
 fn puts(cpus: &mut Cpus, buddy: &mut Buddy, frame: Frame, tape: &mut Tape) -> bool
     requires layout { cpus.old.layout ≡ two_blocks }
     requires together { AreTogether cpus.old buddy.old }
@@ -56,7 +56,7 @@ fn puts(cpus: &mut Cpus, buddy: &mut Buddy, frame: Frame, tape: &mut Tape) -> bo
     cpus.front(Cpu(0), Pool::Nm) == Some(frame) && cpus.len(Cpu(0), Pool::Nm) == 1
 }
 
-/// Drains the lists, if they are short: whether all are empty.
+/// Drains the lists if each has at most one frame. Returns whether all are empty.
 fn drains(cpus: &mut Cpus, buddy: &mut Buddy, tape: &mut Tape) -> bool
     requires layout { cpus.old.layout ≡ two_blocks }
     requires together { AreTogether cpus.old buddy.old }
@@ -72,7 +72,7 @@ fn drains(cpus: &mut Cpus, buddy: &mut Buddy, tape: &mut Tape) -> bool
     cpus.len(cpu, Pool::Nm) == 0
 }
 
-/// Whether a frame is taken, put on its list, and drained.
+/// Takes a frame, puts it on its list and drains that. Returns whether each works.
 fn goes_round(cpus: &mut Cpus, buddy: &mut Buddy, alloc: Global) -> Result<bool, Fail>
     requires layout { cpus.old.layout ≡ two_blocks }
     requires together { AreTogether cpus.old buddy.old }
@@ -97,7 +97,8 @@ fn frames_go_in_and_out(rt: HostRuntime) -> Result<(), Fail> {
     Ok(())
 }
 
-/// Whether a frame comes back to an empty list, as one that had left it.
+/// Undoes the delta of a frame that left its list. Returns whether the frame is back on the empty
+/// list.
 fn is_back(cpus: &mut Cpus) -> bool
     requires layout { cpus.old.layout ≡ two_blocks }
     requires cached { cpus.old.cached ≡ empty_cached two_blocks }

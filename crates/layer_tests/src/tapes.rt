@@ -5,7 +5,7 @@ use hp_units::{
 use std::alloc::{AllocError, Global};
 use std::test::Fail;
 
-/// Whether a tape and its copy have one delta, which is taken back.
+/// Returns whether a tape and its copy have one delta, and `latest` takes it off the tape.
 fn is_copied_and_back(alloc: Global, tape: &mut Tape) -> Result<bool, AllocError> {
     let copy = tape.copy(alloc)?;
     tape.trim();

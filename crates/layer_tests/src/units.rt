@@ -7,7 +7,7 @@ use hp_units::{
 use std::alloc::{AllocError, Global};
 use std::test::Fail;
 
-/// Whether a layout has the parts of two memory blocks.
+/// Returns whether a layout has the parts of two memory blocks.
 fn has_parts(layout: &Layout) -> bool {
     let parts = [
         layout.order(),
@@ -29,7 +29,7 @@ fn has_parts(layout: &Layout) -> bool {
         && layout.block_bytes() == 2 * 2 * 8
 }
 
-/// Whether frames have their buddies, pageblocks and memory blocks.
+/// Returns whether frames have the right buddy, block, pageblock and memory block.
 fn has_numbers(layout: &Layout) -> bool {
     buddy(Frame(4), Order(1)) == Frame(6)
         && Frame(13).ancestor(Order(2)) == Frame(12)
@@ -44,7 +44,7 @@ fn layout_has_its_parts(rt: HostRuntime) -> Result<(), Fail> {
     Ok(())
 }
 
-/// Whether classes and pools go together by their zone.
+/// Returns whether classes and pools have the zone and the number that they should.
 fn go_by_zone(pool: Pool, isolated: Kind) -> bool {
     pool.class() == Class::usable(pool.zone(), Mobility::Unmovable.other())
         && pool.index() == 2
@@ -52,12 +52,12 @@ fn go_by_zone(pool: Pool, isolated: Kind) -> bool {
         && Class::numbered(Class::isolated(Zone::Movable).index()) == Class::IsoM
 }
 
-/// The row of a block that operation 5 takes offline.
+/// Returns the row of a block that operation 5 is taking offline.
 fn going() -> Row {
     Row::online(Zone::Normal).claimed(Serial(5), Wish::Off)
 }
 
-/// Whether rows show what they are.
+/// Returns whether rows of each state report that state.
 fn are_shown() -> bool {
     Wish::Off.is_off()
         && Row::online(Zone::Normal).is_online()
@@ -80,7 +80,7 @@ fn classes_pools_and_rows(rt: HostRuntime) {
     assert!(rt; go_by_zone(pool, isolated) && are_shown());
 }
 
-/// Whether a copy is made of the words 7 and 8.
+/// Returns whether a copy of the words is 7 and 8.
 fn is_copied(alloc: Global, words: &Option<Words>) -> Result<bool, AllocError> {
     let copy = Words::copy_if_any(alloc, words)?;
     match &copy {
@@ -89,7 +89,7 @@ fn is_copied(alloc: Global, words: &Option<Words>) -> Result<bool, AllocError> {
     }
 }
 
-/// Whether a word is changed, and the words are copied.
+/// Changes a word, and returns whether a copy has it.
 fn is_changed(alloc: Global) -> Result<bool, AllocError> {
     let mut words = Words::new(alloc, vec![in alloc; 7, 9]?)?;
     words.set(1, 8);
@@ -97,7 +97,8 @@ fn is_changed(alloc: Global) -> Result<bool, AllocError> {
     is_copied(alloc, &some)
 }
 
-/// Whether a migration works for its operation, and a commit is a step only where it was done.
+/// Returns whether a migration counts as its operation's own work, and a commit as a step only if
+/// it was done.
 fn are_marked(op: Serial, migrate: &Event, commit: &Event) -> bool {
     mark_of(migrate) == Mark::Works { op }
         && mark_of(commit) == Mark::Other
@@ -106,12 +107,12 @@ fn are_marked(op: Serial, migrate: &Event, commit: &Event) -> bool {
         && !is_step(commit, &Reply::Refused(Refusal::NoOp))
 }
 
-/// A block is claimed.
+/// Returns the refusal for a block that an operation holds.
 fn busy() -> Refusal {
     Refusal::Busy { block: Block(2) }
 }
 
-/// Whether refusals and replies are told apart.
+/// Returns whether equal refusals and replies are the same, and others are not.
 fn are_told() -> bool {
     !busy().same(Refusal::NoOp) && Reply::Refused(busy()).same(&Reply::Refused(busy()))
 }

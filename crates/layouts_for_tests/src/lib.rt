@@ -10,14 +10,14 @@ ghost use Rattle.hp_units.specs.Arithmetic.{frame_count, pageblock_count};
 use hp_units::{Boot, Layout, LayoutFault, Parts};
 use std::alloc::Global;
 
-/// Four memory blocks of which the third is movable, and the last offline at boot.
+/// Four memory blocks: the third is in zone Movable, and the last is offline at boot.
 pub const LAST_OFFLINE: &[Boot] = &[Boot::Normal, Boot::Normal, Boot::Movable, Boot::Offline];
 
-/// The same, and the last absent at boot.
+/// The same blocks, but the last is absent at boot.
 pub const LAST_ABSENT: &[Boot] = &[Boot::Normal, Boot::Normal, Boot::Movable, Boot::Absent];
 
-/// Four memory blocks of one pageblock of four frames, two processors, two owners of eight pages of
-/// two words, and a limit of records.
+/// Returns a layout of four memory blocks of one pageblock of four frames, two processors, two
+/// owners with eight pages of two words, and room for `history` records.
 pub fn four_blocks(alloc: Global, boot: &[Boot], history: u64) -> Result<Layout, LayoutFault>
     ensures order { IfOk result (λ layout. layout.order ≡ 2) }
     ensures frames { IfOk result (λ layout. frame_count layout ≡ 16) }

@@ -9,7 +9,7 @@ use hp_verdicts::{AllowedKinds, JudgeFault, JudgeOptions, SizeFault};
 use std::alloc::{AllocError, Global};
 use std::test::Fail;
 
-/// Draws a log of JSON, of memory blocks of eight frames each.
+/// Draws a JSON log of memory blocks of eight frames each.
 fn drawn(alloc: Global, log: &str, report: &mut Report) -> Result<bool, JudgeFault>
     requires { report.old.failures ≡ 0 }
 {

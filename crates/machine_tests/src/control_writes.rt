@@ -1,10 +1,10 @@
-//! What bytes that are written to a control file ask for, and how a fault is named.
+//! What bytes written to a control file ask for.
 use hp_requests::{BlockFile, ControlFault, File, Request, file_at, parse_write};
 use hp_units::{Auto, Block, Event, Item, Plan, Wish, Zone};
 use std::alloc::Global;
 use std::test::Fail;
 
-/// Whether a path is that of a block's file `online`.
+/// Returns whether a path is a block's file `online`.
 fn is_online_of(path: &str, block: u32) -> bool {
     match file_at(path) {
         Some(
@@ -23,7 +23,7 @@ fn paths_are_files(rt: HostRuntime) {
     assert!(rt; !is_online_of("memory03/online", 3));
 }
 
-/// Whether bytes for a path ask for an event.
+/// Returns whether bytes written to a path ask for an event.
 fn asks(alloc: Global, path: &str, bytes: &[u8], event: &Event) -> bool {
     match parse_write(alloc, path, bytes) {
         Ok(Request::Event(asked)) => asked.same(event),
@@ -32,7 +32,8 @@ fn asks(alloc: Global, path: &str, bytes: &[u8], event: &Event) -> bool {
     }
 }
 
-/// Whether words ask for block 3 to go online, for a probe, and for what added blocks become.
+/// Returns whether words ask for block 3 to go online, for a probe, and for what added blocks
+/// become.
 fn words_ask(alloc: Global, online: &Event, probe: &Event, auto: &Event) -> bool {
     asks(alloc, "memory3/state", b"online\n", online)
         && asks(alloc, "memory3/online", b"1", online)
@@ -55,7 +56,7 @@ fn words_become_events(rt: HostRuntime) {
     assert!(rt; words_ask(rt.alloc(), &online, &probe, &auto));
 }
 
-/// Whether bytes for a path ask for a plan.
+/// Returns whether bytes written to a path ask for a plan.
 fn asks_for_plan(alloc: Global, path: &str, bytes: &[u8], plan: &Plan) -> bool {
     match parse_write(alloc, path, bytes) {
         Ok(Request::Plan(asked)) => asked.same(plan),

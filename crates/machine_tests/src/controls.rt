@@ -1,5 +1,5 @@
-//! What each control file shows, and paths and bytes that no line of a scenario can have. Those that
-//! a line can have are refused in runs/paths.txt.
+//! What each control file shows, and paths and bytes that no line of a scenario can contain. Those
+//! that a line can contain are refused in runs/paths.txt.
 use crate::looks::{Look, finds_in_four_blocks};
 use hp_control::{buddyinfo, read_file, read_text};
 use hp_machine::Machine;
@@ -7,7 +7,7 @@ use hp_requests::{ControlFault, parse_write};
 use layouts_for_tests::LAST_ABSENT;
 use std::alloc::{AllocError, Global};
 
-/// What a test looks for: the files at boot, and paths and bytes that ask for nothing.
+/// What a test checks: the files at boot, or paths and bytes that ask for nothing.
 #[derive(Clone, Copy)]
 enum Case {
     Booted,
@@ -27,7 +27,7 @@ impl Look for Case {
     }
 }
 
-/// Whether a file reads as the text.
+/// Returns whether a file reads as the text.
 fn has_text(alloc: Global, machine: &Machine, path: &str, wanted: &str) -> bool {
     match read_text(alloc, machine, path) {
         Ok(text) => text.as_str() == wanted,
@@ -35,7 +35,7 @@ fn has_text(alloc: Global, machine: &Machine, path: &str, wanted: &str) -> bool 
     }
 }
 
-/// Whether the bytes of a file are those of the text.
+/// Returns whether a file reads as the bytes of the text.
 fn has_bytes(alloc: Global, machine: &Machine, path: &str, wanted: &str) -> bool {
     match read_file(alloc, machine, path) {
         Ok(bytes) => bytes.as_slice() == wanted.as_bytes(),
@@ -43,7 +43,7 @@ fn has_bytes(alloc: Global, machine: &Machine, path: &str, wanted: &str) -> bool
     }
 }
 
-/// Whether each file of a table reads as the text beside it.
+/// Returns whether each file of a table reads as the text beside it.
 fn are_shown(alloc: Global, machine: &Machine, table: &[(&str, &str)]) -> bool {
     for (path, wanted) in table {
         if !has_bytes(alloc, machine, path, wanted) || !has_text(alloc, machine, path, wanted) {
@@ -53,7 +53,7 @@ fn are_shown(alloc: Global, machine: &Machine, table: &[(&str, &str)]) -> bool {
     true
 }
 
-/// What the files show where the last block is absent.
+/// What the files show if the last block is absent.
 const BOOTED: &[(&str, &str)] = &[
     ("block_size_bytes", "40\n"),
     ("auto_online_blocks", "offline\n"),
@@ -67,7 +67,7 @@ const BOOTED: &[(&str, &str)] = &[
     ),
 ];
 
-/// Whether the file of free blocks has so many bytes.
+/// Returns whether `buddyinfo` has this many bytes.
 fn has_length(alloc: Global, machine: &Machine, bytes: usize) -> bool {
     match buddyinfo(alloc, machine) {
         Ok(text) => text.len() == bytes,
@@ -80,7 +80,7 @@ fn files_are_read(rt: HostRuntime) {
     assert!(rt; finds_in_four_blocks(rt.alloc(), LAST_ABSENT, &Case::Booted));
 }
 
-/// Paths of no file, and what is written to them.
+/// Paths of no file, and bytes written to them.
 const NO_FILES: &[(&str, &[u8])] = &[
     ("", b"online"),
     ("memory 3/state", b"online"),
@@ -89,10 +89,10 @@ const NO_FILES: &[(&str, &[u8])] = &[
     ("probe ", b"0x40"),
 ];
 
-/// Files that are only read, and what is written to them.
+/// Files that are only read, and bytes written to them.
 const READ_ONLY: &[(&str, &[u8])] = &[("buddyinfo", b""), ("memory2/removable", b"\xff")];
 
-/// Files, and bytes that ask for nothing there.
+/// Files, and bytes written to them that ask for nothing.
 const BAD_TEXTS: &[(&str, &[u8])] = &[
     ("memory3/state", b""),
     ("memory3/state", b"\n"),
@@ -109,8 +109,8 @@ const BAD_TEXTS: &[(&str, &[u8])] = &[
     ("probe", b"0x\xff"),
 ];
 
-/// Whether bytes for a path are refused with a fault, and the path, where there is no such file, is
-/// not read.
+/// Returns whether bytes written to a path are refused with this fault, and a path of no file is
+/// not read either.
 fn is_refused(
     alloc: Global,
     machine: &Machine,
@@ -125,7 +125,7 @@ fn is_refused(
     is_file || read_text(alloc, machine, path).err() == Some(fault)
 }
 
-/// Whether each row of a table is refused with a fault.
+/// Returns whether each row of a table is refused with this fault.
 fn are_refused(
     alloc: Global,
     machine: &Machine,

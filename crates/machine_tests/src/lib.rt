@@ -1,11 +1,10 @@
-//! Tests of what stands around a machine: each public function once, on a small layout.
+//! Tests of what surrounds a machine: each public function once, on a small layout.
 //!
-//! Each module tests a crate or two through what they make public: `memories` hp_memory and
-//! hp_states, `plans` a plan's driver (hp_ops), `controls`, `control_writes`, `scenarios`, `texts`,
-//! `maps` and `traces` what is read and written.
-//! `looks` has the one owner of a machine for those that only look at one; the layout is that of
-//! layouts_for_tests. The machine's own tests are history_tests. Run the tests by `rt test` in this
-//! folder.
+//! Each module tests a crate or two through their public functions: `memories` hp_memory and
+//! hp_states, `plans` the driver of a plan (hp_ops), `controls`, `control_writes`, `scenarios`,
+//! `texts`, `maps` and `traces` what is read and written. `looks` boots the machine for tests that
+//! only look at one; the layout is that of layouts_for_tests. The machine's own tests are
+//! history_tests. Run the tests by `rt test` in this folder.
 #![tactic(auto)]
 
 #[cfg(test)]

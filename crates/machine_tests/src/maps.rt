@@ -1,5 +1,5 @@
-//! The pictures of a machine's memory blocks: at boot, after a kernel's blocks, a page and a Begin,
-//! and with free blocks of each order.
+//! Pictures of a machine's memory blocks: at boot, after kernel blocks, a page and a Begin, and
+//! with free blocks of each order.
 use crate::looks::{Look, finds_at_boot, finds_in_four_blocks};
 use hp_machine::Machine;
 use hp_map::{BlockPicture, FreeBlock, KernelBlock, Place, frames_in, picture_of, places_of};
@@ -8,8 +8,9 @@ use layouts_for_tests::LAST_ABSENT;
 use std::alloc::{AllocError, Global};
 use std::test::Fail;
 
-/// A memory block that is wanted: its head, cells, cells by orders and kinds, its free blocks
-/// (place, order, whether isolated), the kernel's (place, order), and what is counted of it.
+/// The expected picture of a memory block: its head, its cells, its cells with orders, its
+/// pageblocks' kinds; its free blocks (place, order, whether isolated), its kernel blocks (place,
+/// order), and its counts.
 type Wanted = (
     [&'static str; 4],
     &'static [(u32, u32, bool)],
@@ -17,9 +18,9 @@ type Wanted = (
     &'static str,
 );
 
-/// Five memory blocks of two pageblocks: the kernel has a block of two frames and a single one,
-/// processors' lists a frame each, an owner a page, and a plan is begun that takes one memory block
-/// offline and brings two online.
+/// Five memory blocks of two pageblocks. The kernel has a block of two frames and one of one frame,
+/// each processor's list has a frame, an owner has a page, and a plan has begun that takes one
+/// memory block offline and brings two online.
 const BEGUN: &[Wanted] = &[
     (
         ["0:N", "KKK1|....", "KKK1|(2.)", "UUUU|MMMM"],
@@ -61,15 +62,16 @@ const BOOT: &[(&str, &str)] = &[
     ("3:absent", "    "),
 ];
 
-/// What is counted of memory blocks of 1,024 frames: of one of which the kernel has a frame, of one
-/// that is free, and of one with a page that is to go offline.
+/// The counts of memory blocks of 1,024 frames: one with a kernel frame, one that is free, and one
+/// that has a page and is to go offline.
 const COUNTED: &[&str] = &[
     "0:N[1024: .*1023 K*1 (0)*1 (1)*1 (2)*1 (3)*1 (4)*1 (5)*1 (6)*1 (7)*1 (8)*1 (9)*1]",
     "1:N[1024: .*1024 (10)*1]",
     "2:M>off[1024: :*1023 a*1 {0}*1 {1}*1 {2}*1 {3}*1 {4}*1 {5}*1 {6}*1 {7}*1 {8}*1 {9}*1]",
 ];
 
-/// What a free block of each order from 2 on has between its brackets: its order, and so many marks.
+/// What a free block of each order from 2 on has between its brackets: its order, and the number of
+/// marks.
 const INNER: &[(&str, u32)] = &[
     ("2", 1),
     ("3", 5),
@@ -81,7 +83,7 @@ const INNER: &[(&str, u32)] = &[
     ("9", 509),
 ];
 
-/// What a test looks for.
+/// What a test checks.
 #[derive(Clone, Copy)]
 enum Drawn {
     Boot,
@@ -101,7 +103,7 @@ impl Look for Drawn {
 
 // ---- at boot
 
-/// Whether memory blocks are drawn with these heads and cells, one after another.
+/// Returns whether memory blocks are drawn with these heads and cells, in order.
 fn are_drawn(blocks: &[BlockPicture], wanted: &[(&str, &str)]) -> bool {
     if blocks.len() != wanted.len() {
         return false;
@@ -114,7 +116,7 @@ fn are_drawn(blocks: &[BlockPicture], wanted: &[(&str, &str)]) -> bool {
     true
 }
 
-/// Whether a machine's memory is drawn so.
+/// Returns whether a machine's memory is drawn with these heads and cells.
 fn draws(alloc: Global, machine: &Machine, wanted: &[(&str, &str)]) -> bool {
     match picture_of(alloc, machine, false) {
         Ok(blocks) => are_drawn(&blocks, wanted),
@@ -122,7 +124,7 @@ fn draws(alloc: Global, machine: &Machine, wanted: &[(&str, &str)]) -> bool {
     }
 }
 
-/// Whether the first frame of a machine is free, and there are so many.
+/// Returns whether a machine has `count` frames, and the first is free.
 fn starts_free(alloc: Global, machine: &Machine, count: usize) -> bool {
     match places_of(alloc, machine) {
         Ok(places) => places.len() == count && places.get(0).copied() == Some(Place::Free),
@@ -132,7 +134,7 @@ fn starts_free(alloc: Global, machine: &Machine, count: usize) -> bool {
 
 // ---- after a kernel's blocks, a page and a Begin
 
-/// Whether free blocks are these.
+/// Returns whether the free blocks are the expected ones.
 fn are_free(blocks: &[FreeBlock], wanted: &[(u32, u32, bool)]) -> bool {
     if blocks.len() != wanted.len() {
         return false;
@@ -146,7 +148,7 @@ fn are_free(blocks: &[FreeBlock], wanted: &[(u32, u32, bool)]) -> bool {
     true
 }
 
-/// Whether the kernel's blocks are these.
+/// Returns whether the kernel blocks are the expected ones.
 fn are_kernel(blocks: &[KernelBlock], wanted: &[(u32, u32)]) -> bool {
     if blocks.len() != wanted.len() {
         return false;
@@ -159,7 +161,7 @@ fn are_kernel(blocks: &[KernelBlock], wanted: &[(u32, u32)]) -> bool {
     true
 }
 
-/// Whether a memory block has these texts.
+/// Returns whether a memory block has these texts.
 fn has_texts(block: &BlockPicture, wanted: &[&'static str; 4]) -> bool {
     let [head, cells, ordered, kinds] = *wanted;
     block.head() == head
@@ -168,7 +170,7 @@ fn has_texts(block: &BlockPicture, wanted: &[&'static str; 4]) -> bool {
         && block.kinds() == kinds
 }
 
-/// Whether a memory block is written so, with and without orders, and counted so.
+/// Returns whether a memory block is written, with and without orders, and counted as expected.
 fn is_written(alloc: Global, block: &BlockPicture, wanted: &Wanted) -> Result<bool, AllocError> {
     let [head, cells, ordered, _] = wanted.0;
     let mut out = String::new(alloc);
@@ -180,7 +182,7 @@ fn is_written(alloc: Global, block: &BlockPicture, wanted: &Wanted) -> Result<bo
     Ok(out.as_str() == text.as_str())
 }
 
-/// Whether a memory block is the wanted one.
+/// Returns whether a memory block has the expected picture.
 fn is_wanted(alloc: Global, block: &BlockPicture, wanted: &Wanted) -> bool {
     has_texts(block, &wanted.0)
         && are_free(block.free(), wanted.1)
@@ -188,7 +190,7 @@ fn is_wanted(alloc: Global, block: &BlockPicture, wanted: &Wanted) -> bool {
         && is_written(alloc, block, wanted).unwrap_or(false)
 }
 
-/// Whether memory blocks are the wanted ones.
+/// Returns whether the memory blocks have the pictures of `BEGUN`.
 fn are_wanted(alloc: Global, blocks: &[BlockPicture]) -> bool {
     if blocks.len() != BEGUN.len() {
         return false;
@@ -201,12 +203,12 @@ fn are_wanted(alloc: Global, blocks: &[BlockPicture]) -> bool {
     true
 }
 
-/// Whether a machine does what an event asks for.
+/// Makes a call, and returns whether it left a record.
 fn does(alloc: Global, machine: &mut Machine, cpu: Cpu, event: &Event) -> bool {
     machine.call(alloc, cpu, event).is_ok()
 }
 
-/// A Begin with these wishes for these memory blocks.
+/// Returns a Begin with these wishes for these memory blocks.
 fn begin(alloc: Global, wishes: &[(u32, Wish)]) -> Result<Event, AllocError> {
     let mut items = Vec::new(alloc);
     for (block, wish) in wishes {
@@ -219,7 +221,7 @@ fn begin(alloc: Global, wishes: &[(u32, Wish)]) -> Result<Event, AllocError> {
     Ok(Event::Begin { plan })
 }
 
-/// Whether the five memory blocks are drawn as wanted.
+/// Makes the calls that lead to `BEGUN`, and returns whether the five memory blocks are drawn so.
 fn draws_begun(alloc: Global, machine: &mut Machine) -> Result<bool, AllocError> {
     let two = Event::KernelAlloc { order: Order(1) };
     let one = Event::KernelAlloc { order: Order(0) };
@@ -241,7 +243,8 @@ fn draws_begun(alloc: Global, machine: &mut Machine) -> Result<bool, AllocError>
 
 // ---- free blocks of each order
 
-/// The cells of a memory block of which the first frame is not free: one free block of each order.
+/// Returns the cells of a memory block whose first frame is in use: a free block of each order
+/// follows.
 fn all_orders(alloc: Global, first: &str, marks: [&str; 3]) -> Result<String, AllocError> {
     let [open, mark, close] = marks;
     let mut out = format!(in alloc; "{first}{mark}{open}{close}")?;
@@ -256,7 +259,7 @@ fn all_orders(alloc: Global, first: &str, marks: [&str; 3]) -> Result<String, Al
     Ok(out)
 }
 
-/// The cells of a memory block that is free.
+/// Returns the cells of a memory block that is free.
 fn one_block(alloc: Global) -> Result<String, AllocError> {
     let mut out = String::from_str(alloc, "(10")?;
     for _ in 0..1020 {
@@ -266,7 +269,7 @@ fn one_block(alloc: Global) -> Result<String, AllocError> {
     Ok(out)
 }
 
-/// Whether memory blocks are counted so.
+/// Returns whether memory blocks have the counts of `COUNTED`.
 fn are_counted(alloc: Global, blocks: &[BlockPicture]) -> Result<bool, AllocError> {
     for (block, wanted) in blocks.iter().zip(COUNTED) {
         let mut out = String::new(alloc);
@@ -278,7 +281,7 @@ fn are_counted(alloc: Global, blocks: &[BlockPicture]) -> Result<bool, AllocErro
     Ok(true)
 }
 
-/// Whether three memory blocks are drawn by these orders.
+/// Returns whether three memory blocks are drawn with these orders.
 fn are_ordered(alloc: Global, blocks: &[BlockPicture]) -> Result<bool, AllocError> {
     let kernel = all_orders(alloc, "K", ["(", ".", ")"])?;
     let whole = one_block(alloc)?;
@@ -293,7 +296,8 @@ fn are_ordered(alloc: Global, blocks: &[BlockPicture]) -> Result<bool, AllocErro
     })
 }
 
-/// Whether the three memory blocks of 1,024 frames are drawn as wanted.
+/// Makes the calls, and returns whether the three memory blocks of 1,024 frames are drawn as
+/// expected.
 fn draws_orders(alloc: Global, machine: &mut Machine) -> Result<bool, AllocError> {
     let one = Event::KernelAlloc { order: Order(0) };
     let map = Event::Map {
@@ -308,7 +312,8 @@ fn draws_orders(alloc: Global, machine: &mut Machine) -> Result<bool, AllocError
     Ok(is_done && are_ordered(alloc, &blocks)? && are_counted(alloc, &blocks)?)
 }
 
-/// Whether a machine with memory blocks of these pageblocks is drawn so.
+/// Boots a machine with memory blocks of this size, and returns whether it is drawn as the test
+/// expects.
 fn finds(alloc: Global, size: (u64, u64, u64), boot: &[Boot], look: &Drawn) -> Result<bool, Fail> {
     let parts = Parts {
         order: size.0,

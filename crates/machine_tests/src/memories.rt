@@ -1,4 +1,4 @@
-//! A step of a memory in layers that is taken back, and the numbers of the states.
+//! A step of a memory that is taken back, and the numbers of states.
 use hp_memory::Memory;
 use hp_states::Codes;
 use hp_tape::Tape;
@@ -7,13 +7,13 @@ use layouts_for_tests::{LAST_OFFLINE, four_blocks};
 use std::alloc::{AllocError, Global};
 use std::test::Fail;
 
-/// A memory of the four blocks.
+/// Boots a memory of four blocks.
 fn booted(alloc: Global) -> Result<Memory, Fail> {
     let layout = four_blocks(alloc, LAST_OFFLINE, 9)?;
     Ok(Memory::boot(alloc, &layout)?)
 }
 
-/// Takes a block, and takes that back.
+/// Takes a kernel block, and undoes that step.
 fn stepped_and_back(
     alloc: Global,
     memory: &mut Memory,
@@ -27,7 +27,7 @@ fn stepped_and_back(
     Ok(reply)
 }
 
-/// Whether the first block is what a step answered.
+/// Returns whether the reply is frame 0.
 fn is_first(answered: Result<Reply, AllocError>) -> bool {
     match answered {
         Ok(reply) => reply.same(&Reply::Frame(Frame(0))),
@@ -35,8 +35,8 @@ fn is_first(answered: Result<Reply, AllocError>) -> bool {
     }
 }
 
-/// Whether the state after a step that was taken back has the number 0, as before, and that after a
-/// step the number 1.
+/// Returns whether the state after a step that was undone has number 0, as before it, and the state
+/// after a step number 1.
 fn are_numbered(
     alloc: Global,
     codes: &mut Codes,
@@ -52,7 +52,7 @@ fn are_numbered(
     Ok(was_first && is_first && before == 0 && again == 0 && after == 1)
 }
 
-/// Whether that holds with codes and a tape of its own.
+/// Returns whether `are_numbered` holds with an empty table and tape.
 fn goes_back(alloc: Global, memory: &mut Memory) -> Result<bool, AllocError> {
     let mut tape = Tape::with_room(alloc, 0)?;
     let mut codes = Codes::new(alloc);

@@ -1,10 +1,10 @@
-//! The driver of a plan. Runs through a port are tested with machines and seats.
+//! The driver of a plan. Its runs through a port are tested with machines and seats.
 use hp_ops::Driver;
 use hp_units::{Block, Event, Item, Plan, Reply, Serial, Wish};
 use std::alloc::Global;
 use std::test::Fail;
 
-/// The plan that takes block 2 offline.
+/// Returns the plan that takes block 2 offline.
 fn offline(alloc: Global) -> Result<Plan, Fail> {
     let items = vec![in alloc;
         Item {
@@ -15,7 +15,7 @@ fn offline(alloc: Global) -> Result<Plan, Fail> {
     Ok(Plan::new(alloc, items)?)
 }
 
-/// Whether a driver whose operation is open asks for a drain.
+/// Returns whether a driver asks for a drain once its operation has begun.
 fn drains_once_it_has_begun(alloc: Global) -> Result<bool, Fail> {
     let plan = offline(alloc)?;
     let mut driver = Driver::new(2, 9);

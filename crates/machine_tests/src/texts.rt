@@ -1,4 +1,4 @@
-//! Each writer once, and a state with a page.
+//! Each writer of text once, and a state with a page.
 use crate::looks::{Look, finds_in_four_blocks};
 use hp_machine::Machine;
 use hp_plain::Image;
@@ -63,7 +63,7 @@ const MAPPED: &str =
     "state\nblock 0 online normal\nblock 1 online normal\nblock 2 online movable\nblock 3 offline\n\
      NM 2: 0 4\nMM 1: 10\ncpu 0 MM: 9\npage db 0 at 8: 0 0\n";
 
-/// Whether an event of processor 0 gets this reply.
+/// Makes a call of processor 0, and returns whether it gets this reply.
 fn is_answered(alloc: Global, machine: &mut Machine, event: &Event, reply: &Reply) -> bool {
     match machine.answer(alloc, Cpu(0), event) {
         Ok((_, answered)) => answered.same(reply),
@@ -71,7 +71,8 @@ fn is_answered(alloc: Global, machine: &mut Machine, event: &Event, reply: &Repl
     }
 }
 
-/// Maps the first owner's first page twice; whether the first was done and the second refused.
+/// Maps the first owner's first page twice. Returns whether the first call is done and the second
+/// refused.
 fn maps_once(alloc: Global, machine: &mut Machine) -> bool {
     let event = Event::Map {
         owner: Owner(0),
@@ -82,7 +83,7 @@ fn maps_once(alloc: Global, machine: &mut Machine) -> bool {
         && is_answered(alloc, machine, &event, &refused)
 }
 
-/// The names of owners, of which `db` is the only one.
+/// Returns a table of owners' names that has only `db`.
 fn one_name(alloc: Global) -> Result<IndexSet<Text>, AllocError> {
     let name = Text::new(String::from_str(alloc, "db")?);
     let mut names = IndexSet::new(alloc);
@@ -90,21 +91,21 @@ fn one_name(alloc: Global) -> Result<IndexSet<Text>, AllocError> {
     Ok(names)
 }
 
-/// Whether a state whose only owner is called `db` has the text of the mapped page.
+/// Returns whether the text of a state has the mapped page of `db`.
 fn has_the_page(alloc: Global, image: &Image, names: &IndexSet<Text>) -> Result<bool, AllocError> {
     let mut out = String::new(alloc);
     write_state(&mut out, alloc, image, names)?;
     Ok(out.as_str() == MAPPED)
 }
 
-/// Whether the text of a machine's state is that of the mapped page.
+/// Returns whether the text of a machine's state has the mapped page.
 fn shows_the_page(alloc: Global, machine: &Machine) -> Result<bool, AllocError> {
     let names = one_name(alloc)?;
     let image = machine.image(alloc)?;
     has_the_page(alloc, &image, &names)
 }
 
-/// The text of a state with a page.
+/// Checks the text of a state with one mapped page.
 #[derive(Clone, Copy)]
 struct Mapped;
 

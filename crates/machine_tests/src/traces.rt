@@ -1,5 +1,5 @@
-//! Scenarios traced as text: a plan, a hostile text, narrow rows, free blocks by their orders, and
-//! long texts. docs/lab_traces.py compares traces with what `hotplug serial` prints.
+//! Traces as text: a plan, a hostile text, narrow rows, free blocks by their orders, and long
+//! texts. docs/lab_traces.py compares traces with what `hotplug serial` prints.
 use hp_scenario::Scenario;
 use hp_trace::{View, trace};
 use std::alloc::{AllocError, Global};
@@ -25,7 +25,8 @@ plan: done
 offline
 ";
 
-/// A text that is long, looks like a memory block, and has characters that a terminal obeys.
+/// A text that is long, looks like a memory block, and has control characters that a terminal
+/// obeys.
 const HOSTILE: &[u8] =
     br#"{"layout":{"order":2,"pageblocks":1,"blocks":3,"cpus":1,"batch":2,"high":2,
 "owners":1,"pages":4,"words":1,"history":9,"boot":["normal","movable","offline"]},
@@ -38,13 +39,13 @@ const ESCAPED: &str =
 echo: fault BadText
 ";
 
-/// The same memory as in `SCENARIO`, with a line that changes nothing of what is drawn.
+/// The memory of `SCENARIO`, with lines that change nothing in the picture.
 const NARROW: &[u8] =
     br#"{"layout":{"order":2,"pageblocks":1,"blocks":3,"cpus":1,"batch":2,"high":2,
 "owners":1,"pages":4,"words":1,"history":9,"boot":["normal","movable","offline"]},
 "calls":["0 map db 0","0 write db 0 0 7","0 plan 4 off 1","0 seal"]}"#;
 
-/// In 80 columns the memory blocks take two lines, so the other rows have only those that changed.
+/// In 80 columns the memory blocks need two lines, so later rows have only the blocks that changed.
 const FOLDED: &str = "   0 boot                                               0:N[....] 1:M[....]
                                                         2:off[----]
    1 0 map db 0               1: done                   1:M[a0..]
@@ -60,7 +61,7 @@ plan: done
 sealed 7
 ";
 
-/// The same with free frames by the orders of their blocks.
+/// The same with free frames drawn by the orders of their blocks.
 const ORDERED: &str = "   0 boot                                               0:N[(2.)] 1:M[(2.)]
                                                         2:off[----]
    1 0 map db 0               1: done                   1:M[a0()]
@@ -76,7 +77,7 @@ plan: done
 sealed 7
 ";
 
-/// A frame whose number makes an answer of 26 characters, one more than its columns have.
+/// A frame number that makes an answer of 26 characters, one more than fits its columns.
 const LONG: &[u8] = br#"{"layout":{"order":10,"pageblocks":4,"blocks":4,"cpus":1,"batch":2,"high":2,
 "owners":1,"pages":4,"words":1,"history":9,"boot":["offline","offline","absent","normal"]},
 "calls":["0 kalloc 3","0 begin off 3"]}"#;
@@ -89,7 +90,7 @@ const LONG_ANSWER: &str =
                                                         =
 ";
 
-/// In 80 columns with orders, counts go on in further lines.
+/// In 80 columns with orders, counts continue on further lines.
 const COUNTS: &str = "   0 boot                                               0:off[4096: -*4096]
                                                         1:off[4096: -*4096]
                                                         2:absent[4096:  *4096]
@@ -102,7 +103,7 @@ const COUNTS: &str = "   0 boot                                               0:
                                                         =
 ";
 
-/// In 70 columns, from the last line on: a count of absent frames begins with a space.
+/// In 70 columns, from the last line on. A count of absent frames begins with a space.
 const ABSENT: &str = "     before line 2                                      0:off[4096:
                                                         -*4096]
                                                         1:off[4096:
@@ -115,7 +116,7 @@ const ABSENT: &str = "     before line 2                                      0:
                                                         =
 ";
 
-/// From the third line on, with the memory before it.
+/// From the third line on, with a row for the memory before it.
 const LATER: &str =
     "     before line 3                                      0:N[....] 1:M[a0..] 2:off[----]
    3 0 plan 4 off 1                                     0:N[....] 1:M[a0..] 2:off[----]
@@ -137,7 +138,7 @@ fn is_traced(alloc: Global, scenario: &[u8], view: View, text: &str) -> bool {
     }
 }
 
-/// Returns whether the trace of a scenario is this text.
+/// Returns whether the trace of a scenario that was read is this text.
 fn is_traced_as(alloc: Global, scenario: &Scenario, view: View, text: &str) -> bool {
     match trace(alloc, scenario, view) {
         Ok(traced) => traced.as_str() == text,
@@ -166,7 +167,7 @@ fn texts_are_escaped(rt: HostRuntime) -> Result<(), Fail> {
     Ok(())
 }
 
-/// All lines from one on, in rows of this many columns.
+/// Returns a view of all lines from `from` on, in rows of `width` columns.
 fn in_columns(from: u64, width: u64, orders: bool) -> View {
     View {
         from,

@@ -1,4 +1,4 @@
-//! Records that are replayed, and sealed records that follow one another.
+//! Replays of records, and audits of sealed records.
 use crate::calls::make_call;
 use crate::same::expect_same_machines;
 use hp_history::{Course, Volume};
@@ -10,19 +10,19 @@ use hp_units::Layout;
 use refused_values::{Case, Outcome, Trouble, expect};
 use std::alloc::Global;
 
-/// Lines whose records are sealed, and more lines.
+/// Lines whose records are sealed in two volumes, and lines after the last seal.
 pub const CALLS: &str = concat!(
     r#""0 map db 0","0 write db 0 1 7","0 kalloc 1","0 seal","0 begin off 2","0 drainfor 4 0","#,
     r#""0 migrate 4","0 cancel 4","0 undo 3","0 seal","0 unmap db 0","0 kfree 0""#,
 );
 
-/// Runs the lines of a scenario on a machine, and replays what they left.
+/// Runs the lines of a scenario on a machine, and audits the records that they left.
 pub fn run(case: &mut Case<'_>, scenario: &Scenario) -> Outcome {
     let mut machine = Machine::boot(case.alloc, &scenario.layout)?;
     run_audited(case.alloc, &mut machine, scenario.lines.as_slice())
 }
 
-/// Runs the lines, and replays what they left.
+/// Runs the lines and audits the records that they left.
 fn run_audited(alloc: Global, machine: &mut Machine, lines: &[Line]) -> Outcome {
     let mut volumes = Vec::new(alloc);
     for line in lines {
@@ -34,7 +34,7 @@ fn run_audited(alloc: Global, machine: &mut Machine, lines: &[Line]) -> Outcome 
     audit(alloc, machine, &volumes)
 }
 
-/// Seals the history, and keeps what that hands out.
+/// Seals the history and appends the volume.
 fn make_seal(alloc: Global, machine: &mut Machine, volumes: &mut Vec<Volume>) -> Outcome {
     volumes.reserve(1)?;
     let volume = machine.seal(alloc)?;
@@ -42,7 +42,8 @@ fn make_seal(alloc: Global, machine: &mut Machine, volumes: &mut Vec<Volume>) ->
     Ok(())
 }
 
-/// Wants all records to lead to the machine's state, and the machine to be as its copy after that.
+/// Checks that all records lead to the machine's state, and that the audit does not change the
+/// machine.
 fn audit(alloc: Global, machine: &Machine, volumes: &[Volume]) -> Outcome {
     let copy = machine.copy(alloc)?;
     lead_on(alloc, machine, volumes)?;
@@ -51,7 +52,7 @@ fn audit(alloc: Global, machine: &Machine, volumes: &[Volume]) -> Outcome {
     expect_same_machines(alloc, machine, &copy)
 }
 
-/// Wants the volumes to lead to the machine's base, and its records from there to its state.
+/// Checks that the volumes lead to the machine's base, and its records from there to its state.
 fn lead_on(alloc: Global, machine: &Machine, volumes: &[Volume]) -> Outcome {
     let base = audit_chain(alloc, machine.layout(), volumes)?;
     machine.stays_sound();
@@ -60,7 +61,7 @@ fn lead_on(alloc: Global, machine: &Machine, volumes: &[Volume]) -> Outcome {
     expect(base.same(machine.base()) && end.same(&image))
 }
 
-/// Wants the records of the first volume to lead to the base of the second.
+/// Checks that the records of the first volume lead to the base of the second.
 fn replay_first(alloc: Global, volumes: &[Volume]) -> Outcome {
     let [first, second] = volumes else {
         return Err(Trouble::Wrong);
@@ -70,7 +71,7 @@ fn replay_first(alloc: Global, volumes: &[Volume]) -> Outcome {
     expect(image.same(&second.base))
 }
 
-/// Wants a course at boot to have the state of an Image at boot, and to have begun with it.
+/// Checks that the base of a course at boot, and its state, are an Image at boot.
 fn start_anew(alloc: Global, layout: &Layout) -> Outcome {
     let boot = Image::boot(alloc, layout)?;
     let course = Course::boot(alloc, layout)?;

@@ -1,6 +1,6 @@
-//! Calls of a machine. Where one is out of memory, the machine has to be as its copy, which has not
-//! made the call yet, and the call is made again. Its answer, and the machine after it, have to be
-//! those of the copy that makes the same call.
+//! Calls of a machine. If a call runs out of memory, the machine must equal its copy, which has not
+//! made the call, and the call is made again. The answer, and the machine afterwards, must be those
+//! of the copy when it makes the same call.
 use crate::same::{expect_same_machines, expect_same_states, same_receipts, same_records};
 use hp_history::Volume;
 use hp_machine::Machine;
@@ -9,13 +9,13 @@ use hp_units::{CallFault, Cpu, Event, OpEnd, Plan, Receipt, Reply};
 use refused_values::{Case, Outcome, Trouble, expect};
 use std::alloc::Global;
 
-/// Makes a call, and wants what a copy of the machine makes of it.
+/// Makes a call, and checks it against the same call on a copy of the machine.
 pub fn call(case: &mut Case<'_>, machine: &mut Machine, cpu: Cpu, event: &Event) -> Outcome {
     let mut twin = machine.copy(case.alloc)?;
     call_as_twin(case, machine, &mut twin, cpu, event)
 }
 
-/// Makes a call, and wants what another machine makes of it.
+/// Makes a call, and checks it against the same call on `twin`.
 fn call_as_twin(
     case: &mut Case<'_>,
     machine: &mut Machine,
@@ -28,7 +28,8 @@ fn call_as_twin(
     expect_same_machines(case.alloc, twin, machine)
 }
 
-/// The receipt of a call. Where the call is out of memory, the machine has to be as it was.
+/// Makes a call, and returns its receipt. If the call runs out of memory, checks that the machine
+/// is as before and makes it again.
 fn receipt_of(
     case: &mut Case<'_>,
     machine: &mut Machine,
@@ -46,7 +47,7 @@ fn receipt_of(
     }
 }
 
-/// Wrong, unless a call has this receipt.
+/// Checks that a call has this receipt.
 pub fn expect_receipt(
     alloc: Global,
     machine: &mut Machine,
@@ -58,7 +59,7 @@ pub fn expect_receipt(
     expect(same_receipts(receipt, &wanted))
 }
 
-/// Carries out a plan, and wants the end and the state that it leads to on a copy.
+/// Carries out a plan, and checks its end and the state after it against a copy of the machine.
 pub fn plan(
     case: &mut Case<'_>,
     machine: &mut Machine,
@@ -72,7 +73,8 @@ pub fn plan(
     expect_same_states(case.alloc, &twin, machine)
 }
 
-/// The end of a plan. Where it is out of memory, what was before has to be restored.
+/// Carries out a plan, and returns its end. If it runs out of memory, restores the state before it
+/// and carries it out again.
 fn end_of(
     case: &mut Case<'_>,
     machine: &mut Machine,
@@ -90,7 +92,7 @@ fn end_of(
     }
 }
 
-/// Wrong, unless a plan has this end.
+/// Checks that a plan has this end.
 fn expect_end(
     alloc: Global,
     machine: &mut Machine,
@@ -108,7 +110,7 @@ fn expect_end(
     }
 }
 
-/// The end of a plan that a processor of a machine carries out.
+/// Carries out a plan as a processor of a machine, and returns its end.
 fn driven(
     alloc: Global,
     machine: &mut Machine,
@@ -124,8 +126,8 @@ fn driven(
     }
 }
 
-/// Notes a plan that was out of memory, after which a machine has to be as before, or its state
-/// where it left an operation, which is cancelled.
+/// Notes a plan that ran out of memory, and checks that the machine is as before. If the plan left
+/// an operation, cancels it first; then only the state must be as before.
 fn restore(
     case: &mut Case<'_>,
     machine: &mut Machine,
@@ -152,20 +154,21 @@ fn restore(
     }
 }
 
-/// Seals the history, and wants the records that the machine had, and its state kept.
+/// Seals the history. Checks that the volume has the machine's records, and its state is kept.
 pub fn seal(case: &mut Case<'_>, machine: &mut Machine) -> Outcome {
     let before = machine.copy(case.alloc)?;
     seal_after(case, machine, &before)?;
     expect_same_states(case.alloc, &before, machine)
 }
 
-/// Seals the history, and wants the records that the machine had.
+/// Seals the history, and checks that the volume has the machine's records.
 fn seal_after(case: &mut Case<'_>, machine: &mut Machine, before: &Machine) -> Outcome {
     let volume = volume_of(case, machine, before)?;
     expect(is_sealed(before, &volume, machine))
 }
 
-/// What a seal hands out. Where it is out of memory, the machine has to be as it was.
+/// Seals the history, and returns the volume. If the seal runs out of memory, checks that the
+/// machine is as before and seals again.
 fn volume_of(case: &mut Case<'_>, machine: &mut Machine, before: &Machine) -> Outcome<Volume> {
     match machine.seal(case.alloc) {
         Ok(volume) => Ok(volume),
@@ -177,7 +180,8 @@ fn volume_of(case: &mut Case<'_>, machine: &mut Machine, before: &Machine) -> Ou
     }
 }
 
-/// Whether a volume has the records that a machine had, and the machine goes on without them.
+/// Returns whether a volume has the base and records that a machine had, and the machine has no
+/// records now.
 fn is_sealed(before: &Machine, volume: &Volume, machine: &Machine) -> bool {
     volume.before == before.sealed()
         && volume.base.same(before.base())
@@ -187,7 +191,7 @@ fn is_sealed(before: &Machine, volume: &Volume, machine: &Machine) -> bool {
         && machine.sealed() == before.last_serial()
 }
 
-/// Makes the call of each line, whose answers nobody wants.
+/// Makes the call of each line, and ignores the replies.
 pub fn call_all(alloc: Global, machine: &mut Machine, lines: &[Line]) -> Outcome {
     for line in lines {
         let Work::Event(event) = &line.work else {
@@ -198,7 +202,7 @@ pub fn call_all(alloc: Global, machine: &mut Machine, lines: &[Line]) -> Outcome
     Ok(())
 }
 
-/// Makes a call whose answer nobody wants.
+/// Makes a call, and ignores the reply.
 pub fn make_call(alloc: Global, machine: &mut Machine, cpu: Cpu, event: &Event) -> Outcome {
     match machine.answer(alloc, cpu, event) {
         Ok(_) => Ok(()),
@@ -206,7 +210,7 @@ pub fn make_call(alloc: Global, machine: &mut Machine, cpu: Cpu, event: &Event) 
     }
 }
 
-/// Whether a call answers that the history is full, and changes nothing.
+/// Makes a call. Returns whether it reports a full history and leaves no record.
 pub fn is_full(machine: &mut Machine, alloc: Global, cpu: Cpu, event: &Event) -> bool {
     let count = machine.history().len();
     match machine.answer(alloc, cpu, event) {

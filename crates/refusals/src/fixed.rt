@@ -1,5 +1,5 @@
-//! Calls that take no memory. All that they need is made before; then a line is written, after
-//! which every request for memory may be refused.
+//! Calls that need no memory. All that they need is prepared first; then a line is printed, after
+//! which every allocation may be refused.
 ghost use Rattle.std.specs.Prelude.{◌<◌, length};
 
 use crate::calls::{is_full, make_call};
@@ -15,13 +15,14 @@ use refused_values::values::{begin, machine_of, note, two_words};
 use refused_values::{Case, Outcome, expect};
 use std::alloc::Global;
 
-/// Makes a machine that two owners have a page of, after which its history is full, and goes on.
+/// Makes a machine in which two owners have a page and the history is full, and makes the calls on
+/// it.
 pub fn run(case: &Case<'_>) -> Outcome {
     let mut machine = machine_of(case.alloc, 2)?;
     with_pages(case, &mut machine)
 }
 
-/// Maps the pages, makes the machine's state and a tape that has room for a delta, and goes on.
+/// Maps the pages, makes an image of the state and a tape with room for one delta, and continues.
 fn with_pages(case: &Case<'_>, machine: &mut Machine) -> Outcome {
     map_page(case.alloc, machine, Cpu(0), Owner(0))?;
     map_page(case.alloc, machine, Cpu(1), Owner(1))?;
@@ -39,7 +40,7 @@ fn map_page(alloc: Global, machine: &mut Machine, cpu: Cpu, owner: Owner) -> Out
     make_call(alloc, machine, cpu, &event)
 }
 
-/// Makes an event that holds a plan, and words, says so, and makes the calls.
+/// Makes an event that holds a plan, and words; prints that all is set up, and makes the calls.
 fn with_event(case: &Case<'_>, machine: &mut Machine, image: &Image, tape: &mut Tape) -> Outcome
     requires { length tape.old.deltas < tape.old.room }
 {
@@ -57,7 +58,7 @@ fn with_event(case: &Case<'_>, machine: &mut Machine, image: &Image, tape: &mut 
     )
 }
 
-/// Numbers of a layout.
+/// Returns whether functions of a layout give the right numbers.
 fn is_counted(layout: &Layout) -> bool {
     layout.frames() == 16
         && layout.boot().len() == 4
@@ -67,7 +68,7 @@ fn is_counted(layout: &Layout) -> bool {
         && block_of(layout, Frame(9)) == Block(2)
 }
 
-/// Readers of a machine.
+/// Returns whether functions that read a machine give what it holds.
 fn is_read(machine: &Machine) -> bool {
     machine.front(Class::Nm, Order(2)) == Some(Frame(0))
         && machine.list_len(Class::Nm, Order(2)) == 2
@@ -84,7 +85,7 @@ fn is_read(machine: &Machine) -> bool {
         && machine.base().list(Class::Mm, Order(2)) == [Frame(8)].as_slice()
 }
 
-/// Readers of a state.
+/// Returns whether functions that read an image give what it holds.
 fn is_image(image: &Image) -> bool {
     image.same(image)
         && image.list(Class::Nm, Order(2)).len() == 2
@@ -96,7 +97,7 @@ fn is_image(image: &Image) -> bool {
         && image.row(Block(0)).is_some()
 }
 
-/// A delta is noted and taken back.
+/// Notes a delta and takes it back. Returns whether the tape shows each.
 fn is_noted(tape: &mut Tape) -> bool
     requires { length tape.old.deltas < tape.old.room }
 {
@@ -107,7 +108,8 @@ fn is_noted(tape: &mut Tape) -> bool
         && tape.len() == 0
 }
 
-/// A call where the history is full, by the machine and by a port.
+/// Makes a call when the history is full, directly and through a port. Returns whether both report
+/// that.
 fn is_refused(alloc: Global, machine: &mut Machine) -> bool {
     let undo = Event::UndoAfter { serial: Serial(0) };
     if !is_full(machine, alloc, Cpu(0), &undo) {

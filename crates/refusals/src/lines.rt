@@ -1,4 +1,4 @@
-//! The lines of a situation, each of them a call that may be out of memory.
+//! Runs the lines of a situation, each of which is a call that may run out of memory.
 use crate::calls::{call, plan, seal};
 use hp_control::{buddyinfo, read_file, read_text};
 use hp_machine::Machine;
@@ -8,7 +8,7 @@ use hp_units::{Cpu, Event, Serial};
 use refused_values::{Case, Outcome, Trouble, expect};
 use std::alloc::Global;
 
-/// Runs the lines of a scenario on a machine, and goes back.
+/// Runs the lines of a scenario on a machine, then undoes them.
 pub fn run(case: &mut Case<'_>, scenario: &Scenario) -> Outcome {
     let mut machine = Machine::boot(case.alloc, &scenario.layout)?;
     for line in scenario.lines.as_slice() {
@@ -17,7 +17,7 @@ pub fn run(case: &mut Case<'_>, scenario: &Scenario) -> Outcome {
     go_back(case, &mut machine)
 }
 
-/// Undoes all calls since the last seal, which leads to the base.
+/// Undoes all calls since the last seal, and checks that the state is the base again.
 fn go_back(case: &mut Case<'_>, machine: &mut Machine) -> Outcome {
     let serial = Serial(machine.sealed());
     call(case, machine, Cpu(0), &Event::UndoAfter { serial })?;
@@ -36,7 +36,7 @@ fn run_line(case: &mut Case<'_>, machine: &mut Machine, line: &Line) -> Outcome 
     }
 }
 
-/// Writes to a control file.
+/// Carries out an `echo`: a write to a control file.
 fn echo(case: &mut Case<'_>, machine: &mut Machine, cpu: Cpu, asked: &Echo) -> Outcome {
     match asked.request() {
         Ok(request) => {
@@ -48,13 +48,13 @@ fn echo(case: &mut Case<'_>, machine: &mut Machine, cpu: Cpu, asked: &Echo) -> O
     }
 }
 
-/// Wrong, unless a write of a word's bytes is read as this request.
+/// Checks that the bytes of a word, written to the file, are parsed as this request.
 fn expect_written(alloc: Global, asked: &Echo, request: &Request) -> Outcome {
     let other = parse_write(alloc, asked.path(), asked.word().as_bytes())?;
     expect(same_requests(request, &other))
 }
 
-/// Wrong, unless an echo of a word is read as this request.
+/// Checks that an `echo` of a word is parsed as this request.
 fn expect_echoed(alloc: Global, asked: &Echo, request: &Request) -> Outcome {
     match echo_answer(alloc, asked.path(), asked.word())? {
         Ok(other) => expect(same_requests(request, &other)),
@@ -62,7 +62,7 @@ fn expect_echoed(alloc: Global, asked: &Echo, request: &Request) -> Outcome {
     }
 }
 
-/// Makes the call, or carries out the plan, that a request asks for.
+/// Makes the call that a request asks for, or carries out its plan.
 fn ask(case: &mut Case<'_>, machine: &mut Machine, cpu: Cpu, request: &Request) -> Outcome {
     match request {
         Request::Event(event) => call(case, machine, cpu, event),
@@ -70,7 +70,7 @@ fn ask(case: &mut Case<'_>, machine: &mut Machine, cpu: Cpu, request: &Request) 
     }
 }
 
-/// Whether two requests are the same.
+/// Returns whether two requests are the same.
 fn same_requests(one: &Request, other: &Request) -> bool {
     match (one, other) {
         (Request::Event(event), Request::Event(wanted)) => event.same(wanted),
@@ -79,7 +79,7 @@ fn same_requests(one: &Request, other: &Request) -> bool {
     }
 }
 
-/// Reads a control file, in each way that there is.
+/// Reads a control file with each of the functions that read one.
 fn cat(alloc: Global, machine: &Machine, path: &str) -> Outcome {
     let bytes = read_file(alloc, machine, path)?;
     expect_text(alloc, machine, path, &bytes)?;
@@ -87,13 +87,13 @@ fn cat(alloc: Global, machine: &Machine, path: &str) -> Outcome {
     expect_bytes(alloc, machine, path, &bytes)
 }
 
-/// Wrong, unless the text of a control file has these bytes.
+/// Checks that a control file reads as these bytes, as text.
 fn expect_text(alloc: Global, machine: &Machine, path: &str, bytes: &[u8]) -> Outcome {
     let text = read_text(alloc, machine, path)?;
     expect(text.as_str().as_bytes() == bytes)
 }
 
-/// Wrong, unless a control file has these bytes once more; `buddyinfo` in its own reader.
+/// Checks that a control file reads as these bytes again. Reads `buddyinfo` by its own function.
 fn expect_bytes(alloc: Global, machine: &Machine, path: &str, bytes: &[u8]) -> Outcome {
     let shown = if path == "buddyinfo" {
         buddyinfo(alloc, machine)?

@@ -1,10 +1,10 @@
-//! Calls that may be out of memory, each in a situation in which it has another answer.
+//! Calls that may run out of memory, in situations in which they give different answers.
 //!
 //! `refusals CASE` runs a case, `refusals names` prints the names of all, and `refusals` runs them
-//! in turn. Where a call is out of memory the case compares what was before with what is after,
-//! makes the call again, and wants the answer of ample memory. So the one line on standard output,
-//! and the status 0, are the same whichever request for memory is refused. Standard error has how
-//! many calls were out of memory.
+//! in turn. If a call runs out of memory, the case compares what was before with what is after,
+//! makes the call again, and checks that its answer is the one with ample memory. So the one line
+//! on standard output, and status 0, are the same whichever allocation is refused. Standard error
+//! has how many calls ran out of memory.
 #![tactic(auto)]
 
 mod audits;
@@ -25,7 +25,7 @@ use std::process::ExitCode;
 use std::sync::Wait;
 use std::thread::Threads;
 
-/// How often a case is run again that was out of memory.
+/// How often a case is run again if it runs out of memory.
 const TURNS: u32 = 5;
 
 /// Runs a case.
@@ -48,7 +48,7 @@ fn run_case<R: Threads + Wait + Sync>(rt: &R, case: &mut Case<'_>, name: &str) -
     }
 }
 
-/// Reads the scenario of a situation, and runs it.
+/// Reads the scenario of a case, and runs it.
 fn run_situation<R: Threads + Wait + Sync>(rt: &R, case: &mut Case<'_>, name: &str) -> Outcome {
     let Some(calls) = calls_of(name) else {
         return Err(Trouble::Wrong);
@@ -57,7 +57,7 @@ fn run_situation<R: Threads + Wait + Sync>(rt: &R, case: &mut Case<'_>, name: &s
     run_scenario(rt, case, name, &scenario)
 }
 
-/// Runs the scenario of a situation.
+/// Runs the case with this name on its scenario.
 fn run_scenario<R: Threads + Wait + Sync>(
     rt: &R,
     case: &mut Case<'_>,
@@ -90,7 +90,7 @@ fn print_names(rt: &HostRuntime) {
     }
 }
 
-/// Does what the words ask for, the first of which is the program's name.
+/// Does what the arguments ask for; the first is the program's name.
 fn run<R: Threads + Wait + Sync>(rt: &R, host: &HostRuntime, case: &mut Case<'_>) -> Outcome {
     let Ok(words) = env::args(host) else {
         return Err(Trouble::OutOfMemory);
@@ -106,7 +106,7 @@ fn run<R: Threads + Wait + Sync>(rt: &R, host: &HostRuntime, case: &mut Case<'_>
     }
 }
 
-/// Runs again what was out of memory.
+/// Runs the program again while it runs out of memory, at most `TURNS` times.
 fn run_again<R: Threads + Wait + Sync>(rt: &R, host: &HostRuntime, case: &mut Case<'_>) -> Outcome {
     for _turn in 0..TURNS {
         match run(rt, host, case) {

@@ -1,7 +1,7 @@
-//! Steps and an undo that take no memory, since there is room for all that they note and record;
-//! and calls that go back on a machine whose tables are full, which ask for memory once, for their
-//! record. What they need is made before; then a line is written, after which requests for memory
-//! may be refused.
+//! Steps and an undo that need no memory, since there is room for all that they note and record;
+//! and calls that go back on a machine whose tables are full, which allocate once, for their
+//! record. What they need is prepared first; then a line is printed, after which allocations may be
+//! refused.
 use crate::calls::call_all;
 use hp_machine::Machine;
 use hp_scenario::{Line, Scenario, Work};
@@ -10,36 +10,35 @@ use refused_values::memories::Noted;
 use refused_values::{Case, Outcome, Trouble, expect};
 use std::alloc::Global;
 
-/// Lines of three steps, which may take memory, since the words of pages are made in them; and of
-/// steps that take none. A commit and a cancel are not among these: they make a list of their
-/// blocks.
+/// Lines of three steps that may allocate, since they make the words of pages, and of steps that do
+/// not. Commits and cancels are left out: they make a list of their blocks.
 pub const STEPS: &str = concat!(
     r#""0 map db 0","0 write db 0 1 7","0 map web 0","0 kalloc 0","0 kalloc 1","0 kfree 2","#,
     r#""0 read db 0 1","0 write db 0 0 9","0 online 3 normal","0 begin off 2","0 drainfor 10 0","#,
     r#""0 migrate 10","0 migrate 10","0 unmap db 0","0 drain 0","0 kalloc 3""#,
 );
 
-/// How many steps may take memory.
+/// The number of steps that may allocate.
 const FIRST: usize = 3;
 
-/// Lines of five records, one of which an undo needs room for beside them.
+/// Lines that make five records. An undo after them finds room for its own record.
 pub const RECORDED: &str = r#""0 map db 0","0 kalloc 1","0 unmap db 0","0 kfree 0","0 kalloc 0""#;
 
-/// An undo that leaves a map in the net, and lines before it.
+/// Lines, then an undo that leaves a map in the net.
 pub const UNDONE: &str =
     r#""0 map db 0","0 write db 0 1 7","0 kalloc 1","0 unmap db 0","0 undo 2""#;
 
-/// A cancel that restores what was before its begin, with a map in the net, and lines before it.
+/// Lines, then a cancel that restores the state before its begin, with a map left in the net.
 pub const CANCELLED: &str =
     r#""0 map db 0","0 write db 0 1 7","0 begin off 2","0 migrate 3","0 cancel 3""#;
 
-/// How many steps both leave.
+/// The number of steps that both leave.
 const LEFT: u64 = 2;
 
-/// More than all the steps note.
+/// Room for more deltas than all steps note.
 const ROOM: usize = 500;
 
-/// Makes the steps of a scenario, the last of them with no memory on a tape that has room.
+/// Makes the steps of a scenario. The later ones allocate nothing, since the tape has room.
 pub fn steps(case: &Case<'_>, scenario: &Scenario) -> Outcome {
     let lines = scenario.lines.as_slice();
     if lines.len() < FIRST {
@@ -56,14 +55,14 @@ pub fn steps(case: &Case<'_>, scenario: &Scenario) -> Outcome {
     }
 }
 
-/// How much the steps of the lines note with ample memory.
+/// Returns how many deltas the steps of the lines note.
 fn noted_of(alloc: Global, layout: &Layout, lines: &[Line]) -> Outcome<usize> {
     let mut noted = Noted::boot(alloc, layout, 0)?;
     noted.step_all(alloc, 0, lines)
 }
 
-/// Makes the calls of lines, and undoes all their records, where the history has room for one more:
-/// then no step may be undone, and the free lists are those of boot.
+/// Makes the calls of lines, and undoes all of them when the history has room for one more record.
+/// Checks that no step is left to undo, and the free lists are those at boot.
 pub fn undo(case: &Case<'_>, scenario: &Scenario) -> Outcome {
     let mut machine = Machine::boot(case.alloc, &scenario.layout)?;
     call_all(case.alloc, &mut machine, scenario.lines.as_slice())?;
@@ -71,7 +70,8 @@ pub fn undo(case: &Case<'_>, scenario: &Scenario) -> Outcome {
     expect(is_undone(case.alloc, &mut machine))
 }
 
-/// Whether all records of a machine are undone.
+/// Undoes all steps of a machine. Returns whether none is left, and the free lists are those at
+/// boot.
 fn is_undone(alloc: Global, machine: &mut Machine) -> bool {
     let all = Event::UndoAfter { serial: Serial(0) };
     machine.answer(alloc, Cpu(0), &all).is_ok()
@@ -80,8 +80,8 @@ fn is_undone(alloc: Global, machine: &mut Machine) -> bool {
         && machine.front(Class::Mm, Order(2)) == Some(Frame(8))
 }
 
-/// Makes the calls of a scenario, the last of which goes back, on a copy of the machine: there is
-/// no room in the tables of a copy.
+/// Makes the calls of a scenario, the last of them, an undo or a cancel, on a copy of the machine:
+/// the tables of a copy have no room to spare.
 pub fn go_back(case: &Case<'_>, scenario: &Scenario) -> Outcome {
     let Some((last, first)) = scenario.lines.as_slice().split_last() else {
         return Err(Trouble::Wrong);
@@ -93,7 +93,7 @@ pub fn go_back(case: &Case<'_>, scenario: &Scenario) -> Outcome {
     expect_back(case.alloc, &mut copy, last)
 }
 
-/// Wrong, unless the call of a line goes back to the steps that are to be left.
+/// Makes the call of a line, and checks that it goes back to the steps that are to be left.
 fn expect_back(alloc: Global, machine: &mut Machine, line: &Line) -> Outcome {
     let Work::Event(event) = &line.work else {
         return Err(Trouble::Wrong);

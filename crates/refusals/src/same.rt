@@ -1,12 +1,11 @@
-//! Whether two machines, records or volumes are the same.
+//! Comparisons of machines, records and volumes.
 use hp_history::Volume;
 use hp_machine::Machine;
 use hp_units::{Receipt, Record};
 use refused_values::{Outcome, expect};
 use std::alloc::Global;
 
-/// Wrong, unless two machines have the same state, base, records and number of steps that may be
-/// undone.
+/// Checks that two machines have the same state, base, records and number of steps to undo.
 pub fn expect_same_machines(alloc: Global, one: &Machine, other: &Machine) -> Outcome {
     expect_same_states(alloc, one, other)?;
     expect(
@@ -17,14 +16,14 @@ pub fn expect_same_machines(alloc: Global, one: &Machine, other: &Machine) -> Ou
     )
 }
 
-/// Wrong, unless two machines have the same state.
+/// Checks that two machines have the same state.
 pub fn expect_same_states(alloc: Global, one: &Machine, other: &Machine) -> Outcome {
     let left = one.image(alloc)?;
     let right = other.image(alloc)?;
     expect(left.same(&right))
 }
 
-/// Whether records are the same, in the same order.
+/// Returns whether records are the same, in the same order.
 pub fn same_records(some: &[Record], others: &[Record]) -> bool {
     if some.len() != others.len() {
         return false;
@@ -37,7 +36,7 @@ pub fn same_records(some: &[Record], others: &[Record]) -> bool {
     true
 }
 
-/// Whether two records are the same.
+/// Returns whether two records are the same.
 fn same_record(one: &Record, other: &Record) -> bool {
     one.serial == other.serial
         && one.cpu == other.cpu
@@ -45,12 +44,12 @@ fn same_record(one: &Record, other: &Record) -> bool {
         && one.reply.same(&other.reply)
 }
 
-/// Whether two receipts are the same.
+/// Returns whether two receipts are the same.
 pub fn same_receipts(one: &Receipt, other: &Receipt) -> bool {
     one.serial == other.serial && one.event.same(&other.event) && one.reply.same(&other.reply)
 }
 
-/// Whether two volumes are the same.
+/// Returns whether two volumes are the same.
 pub fn same_volumes(one: &Volume, other: &Volume) -> bool {
     one.before == other.before
         && one.base.same(&other.base)

@@ -1,5 +1,5 @@
-//! A machine that its processors share, and its close. Where a call is out of memory all comes
-//! back, and it is made again.
+//! A machine that its processors share, and its close. If a call runs out of memory, everything
+//! comes back, and the call is made again.
 ghost use Rattle.std.specs.Prelude.{◌≡◌};
 ghost use Rattle.hp_shared.specs.Shared.{IsFresh};
 
@@ -22,8 +22,8 @@ pub const CALLS: &str = concat!(
     r#""1 seal","0 cancel 3""#,
 );
 
-/// Shares a machine, has its seats make the calls of a scenario, and closes it; another machine
-/// makes the same calls.
+/// Shares a machine, makes the calls of a scenario through its seats, and closes it. Checks each
+/// call against another machine that makes the same calls.
 pub fn run<R: Wait>(rt: &R, case: &mut Case<'_>, scenario: &Scenario) -> Outcome {
     let mut twin = Machine::boot(case.alloc, &scenario.layout)?;
     let machine = Machine::boot(case.alloc, &scenario.layout)?;
@@ -42,7 +42,7 @@ pub fn run<R: Wait>(rt: &R, case: &mut Case<'_>, scenario: &Scenario) -> Outcome
     )
 }
 
-/// Shares a machine. Out of memory, it comes back as it was, and is shared again.
+/// Shares a machine. If memory runs out, the machine comes back as it was and is shared again.
 fn share<L: Job, R: Wait>(
     rt: &R,
     case: &mut Case<'_>,
@@ -74,7 +74,7 @@ fn share<L: Job, R: Wait>(
     }
 }
 
-/// Has the seats run lines, and closes.
+/// Runs the lines through the seats, and closes.
 fn run_all<L: Job, R: Wait>(
     rt: &R,
     case: &mut Case<'_>,
@@ -90,7 +90,7 @@ fn run_all<L: Job, R: Wait>(
     is_closed
 }
 
-/// Has each line run by the seat of its processor, and by the other machine.
+/// Runs each line through the seat of its processor and on the other machine.
 fn run_lines<L: Job, R: Wait>(
     rt: &R,
     case: &mut Case<'_>,
@@ -112,7 +112,8 @@ fn run_lines<L: Job, R: Wait>(
     Ok(())
 }
 
-/// A call of a seat, which keeps the receipt that the other machine gives.
+/// Makes a call through a seat. Checks that the seat's receipt is the one that the other machine
+/// gives.
 fn run_call<L: Job, R: Wait>(
     rt: &R,
     case: &mut Case<'_>,
@@ -130,7 +131,8 @@ fn run_call<L: Job, R: Wait>(
     expect_receipt(case.alloc, twin, seat.cpu(), event, kept)
 }
 
-/// The reply to a call of a seat, which keeps no receipt where it is out of memory.
+/// Makes a call through a seat, and returns the reply. If it runs out of memory, checks that there
+/// is no new receipt and makes it again.
 fn reply_of<L: Job, R: Wait>(
     rt: &R,
     case: &mut Case<'_>,
@@ -149,7 +151,7 @@ fn reply_of<L: Job, R: Wait>(
     }
 }
 
-/// A seal of a seat, whose volume is that of the other machine, and is kept.
+/// Seals through a seat, and keeps the volume. Checks that it is the other machine's.
 fn run_seal<L: Job, R: Wait>(
     rt: &R,
     case: &mut Case<'_>,
@@ -165,7 +167,7 @@ fn run_seal<L: Job, R: Wait>(
     is_same
 }
 
-/// What a seal of a seat hands out, made again where it is out of memory.
+/// Seals through a seat, and returns the volume. Seals again if memory runs out.
 fn volume_of<L: Job, R: Wait>(
     rt: &R,
     case: &mut Case<'_>,
@@ -181,13 +183,13 @@ fn volume_of<L: Job, R: Wait>(
     }
 }
 
-/// Wrong, unless a seal of a machine hands out this volume.
+/// Seals a machine, and checks that the volume is this one.
 fn expect_volume(alloc: Global, machine: &mut Machine, volume: &Volume) -> Outcome {
     let wanted = machine.seal(alloc)?;
     expect(same_volumes(volume, &wanted))
 }
 
-/// Closes the machine. Out of memory, all comes back and it is closed again.
+/// Closes the machine. If memory runs out, everything comes back and it is closed again.
 fn closes<L: Job>(
     case: &mut Case<'_>,
     shared: Shared<L>,
@@ -220,7 +222,7 @@ fn closes_again<L: Job>(case: &mut Case<'_>, refused: CloseRefused<L>, twin: &Ma
     }
 }
 
-/// Wrong, unless a closed machine is as one that made the same calls.
+/// Checks that a closed machine equals one that made the same calls.
 fn expect_closed(alloc: Global, closed: &Closed, twin: &Machine) -> Outcome {
     expect(closed.records == twin.last_serial() && closed.volumes.len() == 2)?;
     expect_same_machines(alloc, &closed.machine, twin)

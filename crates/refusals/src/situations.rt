@@ -1,5 +1,5 @@
-//! The cases by name, and the scenarios that they run. In a situation of a call the last of the
-//! lines is the one that counts.
+//! The cases by name, with the scenarios that they run. If a case is about one call, it is the last
+//! line.
 use crate::{audits, rooms, seats};
 use hp_scenario::Scenario;
 use refused_values::{Outcome, memories};
@@ -11,7 +11,8 @@ const LAYOUT: &str = concat!(
     r#""words":2,"history":100,"boot":["normal","normal","movable","offline","absent"]}"#,
 );
 
-/// The cases by name, with the lines of their scenarios. A case that has none makes what it needs itself.
+/// The cases by name, with the lines of their scenarios; empty if a case makes what it needs
+/// itself.
 const CASES: &[(&str, &str)] = &[
     ("layouts", ""),
     ("copies", ""),
@@ -109,12 +110,12 @@ const CASES: &[(&str, &str)] = &[
     ),
 ];
 
-/// The cases by name, with the lines of their scenarios.
+/// Returns the table of cases.
 pub fn cases() -> &'static [(&'static str, &'static str)] {
     CASES
 }
 
-/// The lines of the scenario of a case.
+/// Returns the lines of a case's scenario, or `None` if there is no such case.
 pub fn calls_of(name: &str) -> Option<&'static str> {
     for (known, calls) in cases() {
         if *known == name {
@@ -124,7 +125,7 @@ pub fn calls_of(name: &str) -> Option<&'static str> {
     None
 }
 
-/// The scenario of these lines.
+/// Reads the scenario of these lines.
 pub fn scenario_of(alloc: Global, calls: &str) -> Outcome<Scenario> {
     let text = format!(in alloc; "{{\"layout\":{LAYOUT},\"calls\":[{calls}]}}")?;
     Ok(Scenario::read(alloc, text.as_bytes())?)

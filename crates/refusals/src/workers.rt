@@ -1,5 +1,5 @@
-//! Workers in threads. Where one is out of memory all seats come back, and the machine closes with
-//! as many records as receipts.
+//! Workers in threads. If one runs out of memory, all seats come back, and the machine closes with
+//! one receipt per record.
 ghost use Rattle.std.specs.Prelude.{◌≡◌};
 ghost use Rattle.hp_scenario.specs.Scripts.{AreForRun};
 ghost use Rattle.hp_shared.specs.Shared.{IsFresh};
@@ -19,7 +19,7 @@ use std::sync::Wait;
 use std::sync::ledger::Blank;
 use std::thread::Threads;
 
-/// Lines of both processors, whose answers do not depend on one another.
+/// Lines of both processors. Their replies do not depend on the order of the processors.
 const CALLS: &str = concat!(
     r#""0 map db 0","0 write db 0 1 7","0 plan 8 off 2","0 read db 0 1","0 seal","#,
     r#""1 echo online memory3/state","1 map web 0","1 write web 0 0 5","1 read web 0 0""#,
@@ -28,7 +28,7 @@ const CALLS: &str = concat!(
 /// The end of a line that was done.
 const DONE: LineEnd = LineEnd::Reply(Reply::Done);
 
-/// Makes a machine, and has workers run the lines.
+/// Makes a machine, and runs the lines in workers.
 pub fn run<R: Threads + Wait + Sync>(rt: &R, alloc: Global) -> Outcome {
     let scenario = scenario_of(alloc, CALLS)?;
     let machine = Machine::boot(alloc, &scenario.layout)?;
@@ -40,7 +40,7 @@ pub fn run<R: Threads + Wait + Sync>(rt: &R, alloc: Global) -> Outcome {
     run_scripts::<Brand, R>(rt, alloc, records, sealed, fulls, machine, scripts)
 }
 
-/// Has workers run a script for each processor, and closes.
+/// Runs each processor's script in a worker, and closes.
 fn run_scripts<L: Job + Send + Sync, R: Threads + Wait + Sync>(
     rt: &R,
     alloc: Global,
@@ -64,7 +64,7 @@ fn run_scripts<L: Job + Send + Sync, R: Threads + Wait + Sync>(
     }
 }
 
-/// Has workers run a script for each seat, and closes.
+/// Runs each seat's script in a worker, and closes.
 fn run_seats<L: Job + Send + Sync, R: Threads + Wait + Sync>(
     rt: &R,
     alloc: Global,
@@ -81,7 +81,8 @@ fn run_seats<L: Job + Send + Sync, R: Threads + Wait + Sync>(
     close_after(alloc, shared, end)
 }
 
-/// Closes after a run: with as many records as receipts, whether a line was out of memory or not.
+/// Closes after a run, and checks that there is one receipt per record, even if a line ran out of
+/// memory.
 fn close_after<L: Job>(alloc: Global, shared: Shared<L>, end: RunEnd<L>) -> Outcome {
     let RunEnd {
         seats,
@@ -102,7 +103,7 @@ fn close_after<L: Job>(alloc: Global, shared: Shared<L>, end: RunEnd<L>) -> Outc
     is_right
 }
 
-/// The number of all seats' receipts.
+/// Returns the number of receipts of all seats.
 fn count_receipts<L: Job>(seats: &[Seat<L>]) -> u64 {
     let mut count = 0u64;
     for seat in seats {
@@ -111,7 +112,8 @@ fn count_receipts<L: Job>(seats: &[Seat<L>]) -> u64 {
     count
 }
 
-/// The number of records of a machine that is closed. Out of memory, the whole case is run again.
+/// Closes a machine, and returns its number of records. If memory runs out, the whole case is run
+/// again.
 fn close_all<L: Job>(
     alloc: Global,
     shared: Shared<L>,
@@ -127,7 +129,7 @@ fn close_all<L: Job>(
     }
 }
 
-/// Whether a line of any worker was out of memory.
+/// Returns whether any worker's line ran out of memory.
 fn is_any_refused(lists: &Vec<Ends>) -> bool {
     for ends in lists {
         for end in ends.as_slice() {
@@ -139,7 +141,7 @@ fn is_any_refused(lists: &Vec<Ends>) -> bool {
     false
 }
 
-/// Whether a line was out of memory.
+/// Returns whether a line ran out of memory.
 fn is_refused(end: LineEnd) -> bool {
     match end {
         LineEnd::Fault(fault) => matches!(fault, CallFault::OutOfMemory),
@@ -149,7 +151,7 @@ fn is_refused(end: LineEnd) -> bool {
     }
 }
 
-/// Whether the lines ended as they do with ample memory.
+/// Returns whether the lines ended as they do with ample memory.
 fn are_right(lists: &Vec<Ends>) -> bool {
     let [first, second] = lists.as_slice() else {
         return false;

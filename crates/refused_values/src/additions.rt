@@ -1,5 +1,5 @@
-//! Parts that are added to a state. Where one is out of memory, the state has to be as it was, and
-//! the part is added again.
+//! Parts that are added to a state. If memory runs out, the state must be as before, and the part
+//! is added again.
 ghost use Rattle.std.specs.Prelude.{◌≡◌};
 ghost use Rattle.hp_units.specs.Arithmetic.{frame_count};
 
@@ -9,7 +9,7 @@ use hp_plain::{Image, Part};
 use hp_units::{Class, Cpu, Frame, Order, Owner, Page, Pool};
 use std::alloc::{AllocError, Global};
 
-/// A part that is added.
+/// The kind of a part to add.
 #[derive(Clone, Copy)]
 enum Addition {
     /// A free block.
@@ -20,7 +20,7 @@ enum Addition {
     Page,
 }
 
-/// Adds a part of each kind to a state that has none.
+/// Adds a part of each kind to an empty state.
 pub fn run(case: &mut Case<'_>) -> Outcome {
     let layout = layout_of(case.alloc, 10)?;
     let mut image = Image::empty(case.alloc, &layout)?;
@@ -34,8 +34,7 @@ fn add_all(case: &mut Case<'_>, image: &mut Image) -> Outcome {
     add(case, image, Addition::Page)
 }
 
-/// Adds a part. Where it is out of memory, the state has to be as it was, and the part is added
-/// again.
+/// Adds a part. If memory runs out, checks that the state is as before and adds it again.
 fn add(case: &mut Case<'_>, image: &mut Image, addition: Addition) -> Outcome {
     let before = image.copy(case.alloc)?;
     match put(case.alloc, image, addition) {
@@ -48,7 +47,7 @@ fn add(case: &mut Case<'_>, image: &mut Image, addition: Addition) -> Outcome {
     }
 }
 
-/// Puts a part there, which then has to be there.
+/// Adds a part, and checks that it is there.
 fn put(alloc: Global, image: &mut Image, addition: Addition) -> Outcome {
     let layout = image.layout();
     if layout.order() != 2 || layout.frames() != 16 || layout.cpus() != 2 {
@@ -61,7 +60,7 @@ fn put(alloc: Global, image: &mut Image, addition: Addition) -> Outcome {
     expect(is_there(image, addition))
 }
 
-/// Puts a part in a state of sixteen frames.
+/// Adds a part to a state of sixteen frames.
 fn put_small(alloc: Global, image: &mut Image, addition: Addition) -> Result<(), AllocError>
     requires order { image.old.layout.order ≡ 2 }
     requires frames { frame_count image.old.layout ≡ 16 }
@@ -90,7 +89,7 @@ fn put_small(alloc: Global, image: &mut Image, addition: Addition) -> Result<(),
     }
 }
 
-/// Whether a part is there.
+/// Returns whether the part is there.
 fn is_there(image: &Image, addition: Addition) -> bool {
     match addition {
         Addition::Free => image.list(Class::Nm, Order(1)) == [Frame(4)].as_slice(),

@@ -1,5 +1,5 @@
-//! Layers of the smallest shape and of the largest. Their requests for memory are counted outside,
-//! from the line on that says that all is set up.
+//! Makes layers of the smallest and of the largest shape. refusals/check_refusals.py counts their
+//! allocations, from the line on that reports that all is set up.
 use crate::trouble::{Case, Outcome};
 use crate::values::layout_with;
 use hp_buddy::Buddy;

@@ -5,14 +5,14 @@ use hp_machine::Machine;
 use hp_map::{BlockPicture, Place, picture_of, places_of};
 use std::alloc::Global;
 
-/// Looks for the places of all frames at boot, and for their picture.
+/// Checks the places of all frames at boot, and their picture.
 pub fn run(alloc: Global) -> Outcome {
     let machine = machine_of(alloc, 10)?;
     expect_places(alloc, &machine)?;
     expect_picture(alloc, &machine)
 }
 
-/// Wrong, unless twelve frames are free, and four offline.
+/// Checks that twelve frames are free and four offline.
 fn expect_places(alloc: Global, machine: &Machine) -> Outcome {
     let places = places_of(alloc, machine)?;
     expect(
@@ -22,7 +22,7 @@ fn expect_places(alloc: Global, machine: &Machine) -> Outcome {
     )
 }
 
-/// How many frames are in this place.
+/// Returns how many frames are in this place.
 fn count_of(places: &[Place], wanted: Place) -> u32 {
     let mut count = 0u32;
     for place in places {
@@ -33,7 +33,7 @@ fn count_of(places: &[Place], wanted: Place) -> u32 {
     count
 }
 
-/// Wrong, unless the memory blocks are drawn as at boot.
+/// Checks that the memory blocks are drawn as at boot.
 fn expect_picture(alloc: Global, machine: &Machine) -> Outcome {
     let blocks = picture_of(alloc, machine, true)?;
     expect(match blocks.as_slice() {
@@ -47,7 +47,7 @@ fn expect_picture(alloc: Global, machine: &Machine) -> Outcome {
     })
 }
 
-/// Whether a memory block is drawn with this head and these cells.
+/// Returns whether a memory block is drawn with this head and these cells.
 fn is_drawn(block: &BlockPicture, head: &str, cells: &str) -> bool {
     block.head() == head && block.ordered() == cells
 }

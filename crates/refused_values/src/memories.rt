@@ -1,5 +1,5 @@
-//! Steps of a memory. Where one is out of memory, the memory and its tape have to be as they were,
-//! and the step is made again.
+//! Steps of a memory. If a step runs out of memory, the memory and its tape must be as before, and
+//! the step is made again.
 use crate::trouble::{Case, Outcome, Trouble, expect};
 use hp_memory::{ImageStep, Memory, step_of_image};
 use hp_plain::Image;
@@ -8,7 +8,7 @@ use hp_tape::Tape;
 use hp_units::{Cpu, Event, Layout, Order, Reply, Serial};
 use std::alloc::{AllocError, Global};
 
-/// Lines of every event that a memory knows.
+/// Lines of every event that `Memory::step` carries out.
 pub const CALLS: &str = concat!(
     r#""0 map db 0","0 write db 0 1 7","0 read db 0 1","0 kalloc 0","0 kalloc 1","0 kfree 0","#,
     r#""0 map web 0","0 begin off 2 normal 3","0 drainfor 8 0","0 migrate 8","0 migrate 8","#,
@@ -16,16 +16,16 @@ pub const CALLS: &str = concat!(
     r#""0 online 2 movable","0 remove 2","0 kalloc 3""#,
 );
 
-/// The serial of the step that is made of a value too.
+/// The serial of the step that is also made on an Image.
 const LAST: Serial = Serial(100);
 
-/// A memory, and the tape on which its steps are noted.
+/// A memory, and the tape that its steps are noted on.
 pub struct Noted {
     memory: Memory,
     tape: Tape,
 }
 
-/// A function of its own, so that no proof of a caller takes the fields apart.
+/// Keeps callers from proving again how each field is dropped.
 impl Drop for Noted {
     fn drop(self) {
         let Noted {
@@ -35,7 +35,7 @@ impl Drop for Noted {
     }
 }
 
-/// What a step answered, and how much it noted.
+/// The reply of a step, and how many deltas it noted.
 #[derive(Clone, Copy, Drop)]
 struct Made {
     reply: Reply,
@@ -43,21 +43,21 @@ struct Made {
 }
 
 impl Noted {
-    /// The memory of a layout at boot, and a tape with so much room.
+    /// Boots a memory of a layout, with a tape of `room` deltas.
     pub fn boot(alloc: Global, layout: &Layout, room: usize) -> Outcome<Noted> {
         let memory = Memory::boot(alloc, layout)?;
         let tape = Tape::with_room(alloc, room)?;
         Ok(Noted { memory, tape })
     }
 
-    /// The same memory, and a tape of its own that has no room yet.
+    /// Returns a copy of the memory with an empty tape.
     fn copy(&self, alloc: Global) -> Outcome<Noted> {
         let memory = self.memory.copy(alloc)?;
         let tape = Tape::with_room(alloc, 0)?;
         Ok(Noted { memory, tape })
     }
 
-    /// Makes a step.
+    /// Makes a step, and returns its reply and how much it noted.
     fn step(&mut self, alloc: Global, serial: Serial, cpu: Cpu, event: &Event) -> Outcome<Made> {
         let before = self.tape.len();
         match self.memory.step(alloc, serial, cpu, event, &mut self.tape) {
@@ -69,7 +69,7 @@ impl Noted {
         }
     }
 
-    /// Wrong, unless a step answers and notes as much as another.
+    /// Makes a step, and checks that its reply and the number of deltas are those of another.
     fn expect_step(
         &mut self,
         alloc: Global,
@@ -84,7 +84,7 @@ impl Noted {
         }
     }
 
-    /// Makes a step for each line, whose serials come after `last`, and answers how much is noted.
+    /// Makes a step for each line, with serials after `last`. Returns how many deltas are noted.
     pub fn step_all(&mut self, alloc: Global, last: u64, lines: &[Line]) -> Outcome<usize> {
         let mut serial = last;
         for line in lines {
@@ -99,20 +99,20 @@ impl Noted {
         Ok(self.tape.len())
     }
 
-    /// Wrong, unless two memories have the same state.
+    /// Checks that two memories have the same state.
     fn expect_same(&self, alloc: Global, other: &Noted) -> Outcome {
         let image = other.memory.image(alloc)?;
         expect_at(alloc, &self.memory, &image)
     }
 }
 
-/// Wrong, unless a memory has this state.
+/// Checks that a memory has this state.
 fn expect_at(alloc: Global, memory: &Memory, wanted: &Image) -> Outcome {
     let image = memory.image(alloc)?;
     expect(image.same(wanted))
 }
 
-/// Makes the steps of a scenario, a memory anew from the state that they lead to, and one more step.
+/// Makes the steps of a scenario, a new memory from the state after them, and one more step.
 pub fn run(case: &mut Case<'_>, scenario: &Scenario) -> Outcome {
     let mut noted = Noted::boot(case.alloc, &scenario.layout, 0)?;
     let mut serial = 0u64;
@@ -124,7 +124,7 @@ pub fn run(case: &mut Case<'_>, scenario: &Scenario) -> Outcome {
     step_image(case.alloc, &mut noted)
 }
 
-/// Makes the step of a line, and wants what another memory makes of it.
+/// Makes the step of a line, and checks it against a copy of the memory.
 fn make_step(case: &mut Case<'_>, noted: &mut Noted, serial: Serial, line: &Line) -> Outcome {
     let Work::Event(event) = &line.work else {
         return Err(Trouble::Wrong);
@@ -137,8 +137,8 @@ fn make_step(case: &mut Case<'_>, noted: &mut Noted, serial: Serial, line: &Line
     noted.expect_same(case.alloc, &twin)
 }
 
-/// What a step answers and notes. Where it is out of memory, the memory and its tape have to be as
-/// they were.
+/// Makes a step. If memory runs out, checks that the memory and its tape are as before and makes it
+/// again.
 fn made_by(
     case: &mut Case<'_>,
     noted: &mut Noted,
@@ -159,7 +159,7 @@ fn made_by(
     }
 }
 
-/// Wants a step of the memory's state, as a value, to be that of the memory.
+/// Makes a step on an Image of the memory and on the memory, and checks that both agree.
 fn step_image(alloc: Global, noted: &mut Noted) -> Outcome {
     let event = Event::KernelAlloc { order: Order(1) };
     let made = step_of(alloc, &noted.memory, &event)?;
@@ -172,7 +172,7 @@ fn step_image(alloc: Global, noted: &mut Noted) -> Outcome {
     }
 }
 
-/// The step of the memory's state as a value.
+/// Makes a step on an Image of the memory.
 fn step_of(alloc: Global, memory: &Memory, event: &Event) -> Outcome<ImageStep> {
     memory.is_placed();
     let image = memory.image(alloc)?;
@@ -180,7 +180,7 @@ fn step_of(alloc: Global, memory: &Memory, event: &Event) -> Outcome<ImageStep> 
     Ok(step_of_image(alloc, &image, LAST, Cpu(0), event)?)
 }
 
-/// Wants a memory that is made of a memory's state to have this state too.
+/// Makes a memory from an Image of another, and checks that its state is that Image.
 fn make_anew(alloc: Global, memory: &Memory) -> Outcome {
     memory.is_placed();
     let image = memory.image(alloc)?;

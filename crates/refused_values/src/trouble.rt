@@ -1,36 +1,36 @@
-//! Why a case did not end, and how often calls were out of memory.
+//! Why a case stopped, and how many calls ran out of memory.
 use hp_replays::{ChainFault, ReplayFault};
 use hp_requests::ControlFault;
 use hp_scenario::ScenarioFault;
 use hp_units::{CallFault, Serial};
 use std::alloc::{AllocError, AllocFailed, Global};
 
-/// Why a case did not end.
+/// Why a case stopped.
 #[derive(Clone, Copy, Drop)]
 pub enum Trouble {
-    /// A call was out of memory.
+    /// A call ran out of memory.
     OutOfMemory,
-    /// A plan was out of memory, and left an operation.
+    /// A plan ran out of memory, and left an operation.
     Left { op: Serial },
-    /// An answer, or a state, is not what it should be.
+    /// A reply, or a state, is not what it should be.
     Wrong,
 }
 
-/// What was made, or, where that is nothing, that all is as with ample memory; or why it is not.
+/// The value of a check that passed, or why it did not pass.
 pub type Outcome<T = ()> = Result<T, Trouble>;
 
 /// What a case is run with.
 #[derive(Drop)]
 pub struct Case<'a> {
-    /// Where memory comes from.
+    /// The allocator.
     pub alloc: Global,
-    /// How many calls were out of memory so far.
+    /// How many calls ran out of memory so far.
     pub refusals: u32,
     host: &'a HostRuntime,
 }
 
 impl<'a> Case<'a> {
-    /// A case that met nothing yet.
+    /// Creates a case in which no call has run out of memory.
     pub fn new(host: &'a HostRuntime) -> Case<'a> {
         Case {
             alloc: host.alloc(),
@@ -39,13 +39,13 @@ impl<'a> Case<'a> {
         }
     }
 
-    /// Notes a call that was out of memory.
+    /// Counts a call that ran out of memory.
     pub fn note(&mut self) {
         self.refusals = self.refusals.saturating_add(1);
     }
 
-    /// Notes a call that was out of memory, after which what it was made on has to be as before. A
-    /// call that had another fault is wrong.
+    /// Counts a call that ran out of memory, and returns `is_kept`: whether all was as before. Any
+    /// other trouble is `Wrong`.
     pub fn refused(&mut self, trouble: Trouble, is_kept: Outcome) -> Outcome {
         match trouble {
             Trouble::Wrong => Err(Trouble::Wrong),
@@ -56,13 +56,13 @@ impl<'a> Case<'a> {
         }
     }
 
-    /// Says that all is made that the calls need, after which requests for memory may be refused.
+    /// Prints that all is prepared that the calls need. After this line allocations may be refused.
     pub fn say_set_up(&self) {
         let _said = eprintln!(self.host; "set up");
     }
 }
 
-/// Wrong, unless something holds.
+/// Returns `Wrong` if the condition is false.
 pub fn expect(is_so: bool) -> Outcome {
     if is_so { Ok(()) } else { Err(Trouble::Wrong) }
 }

@@ -1,4 +1,4 @@
-//! Layouts, copies, empty layers, and states as values.
+//! Layouts, copies, empty layers, and Images.
 ghost use Rattle.std.specs.Prelude.{◌≡◌, ◌<◌, IfOk, length};
 
 use crate::trouble::{Outcome, Trouble, expect};
@@ -18,13 +18,14 @@ use std::alloc::{AllocError, Global};
 
 const BOOT: &[Boot] = &[Boot::Normal, Boot::Normal, Boot::Movable, Boot::Offline];
 
-/// Four memory blocks of one pageblock of four frames, and room for so many records.
+/// Returns a layout of four memory blocks of one pageblock of four frames, with room for `history`
+/// records.
 pub fn layout_of(alloc: Global, history: u64) -> Outcome<Layout> {
     layout_with(alloc, 2, 2, history)
 }
 
-/// Four memory blocks of one pageblock, with a greatest order, a number of processors and room for
-/// so many records.
+/// Returns a layout of four memory blocks of one pageblock, with this greatest order, number of
+/// processors and room for records.
 pub fn layout_with(alloc: Global, order: u64, cpus: u64, history: u64) -> Outcome<Layout> {
     let parts = Parts {
         order,
@@ -46,25 +47,25 @@ pub fn layout_with(alloc: Global, order: u64, cpus: u64, history: u64) -> Outcom
     }
 }
 
-/// A machine of that layout.
+/// Boots a machine of that layout.
 pub fn machine_of(alloc: Global, history: u64) -> Outcome<Machine> {
     let layout = layout_of(alloc, history)?;
     Ok(Machine::boot(alloc, &layout)?)
 }
 
-/// A layout, and its copy.
+/// Makes a layout and a copy, and checks both.
 pub fn layouts(alloc: Global) -> Outcome {
     let layout = layout_of(alloc, 10)?;
     let copy = layout.copy(alloc)?;
     expect(is_small(&layout) && is_small(&copy))
 }
 
-/// Whether a layout is that of four memory blocks and ten records.
+/// Returns whether a layout has four memory blocks and room for ten records.
 fn is_small(layout: &Layout) -> bool {
     layout.frames() == 16 && layout.history() == 10 && layout.boot() == BOOT
 }
 
-/// Copies of what a call can hold.
+/// Copies what a call can hold, and checks the copies.
 pub fn copies(alloc: Global) -> Outcome {
     copy_plan(alloc)?;
     copy_event(alloc)?;
@@ -72,7 +73,7 @@ pub fn copies(alloc: Global) -> Outcome {
     copy_text(alloc)
 }
 
-/// A plan that takes the third block offline.
+/// Returns a plan that takes the third block offline.
 fn offline(alloc: Global) -> Outcome<Plan> {
     let item = Item {
         block: Block(2),
@@ -81,48 +82,48 @@ fn offline(alloc: Global) -> Outcome<Plan> {
     Ok(Plan::new(alloc, vec![in alloc; item]?)?)
 }
 
-/// Wants a copy of a plan to be the same.
+/// Copies a plan, and checks that the copy is the same.
 fn copy_plan(alloc: Global) -> Outcome {
     let plan = offline(alloc)?;
     let copy = plan.copy(alloc)?;
     expect(copy.same(&plan))
 }
 
-/// The event that begins to take the third block offline.
+/// Returns the event that begins to take the third block offline.
 pub fn begin(alloc: Global) -> Outcome<Event> {
     let plan = offline(alloc)?;
     Ok(Event::Begin { plan })
 }
 
-/// Wants a copy of an event to be the same.
+/// Copies an event, and checks that the copy is the same.
 fn copy_event(alloc: Global) -> Outcome {
     let event = begin(alloc)?;
     let copy = event.copy(alloc)?;
     expect(event.same(&copy))
 }
 
-/// Two words.
+/// Returns two words.
 pub fn two_words(alloc: Global) -> Result<Words, AllocError>
     ensures { IfOk result (λ words. length words ≡ 2) }
 {
     Words::new(alloc, vec![in alloc; 7, 9]?)
 }
 
-/// Wants a copy of a page's words to have them.
+/// Copies a page's words, and checks the copy.
 fn copy_words(alloc: Global) -> Outcome {
     let words = two_words(alloc)?;
     let copy = words.copy(alloc)?;
     expect(copy.as_slice() == [7, 9].as_slice())
 }
 
-/// Wants a copy of a text to have its bytes.
+/// Copies a text, and checks the copy.
 fn copy_text(alloc: Global) -> Outcome {
     let text = Text::new(String::from_str(alloc, "memory2/state")?);
     let copy = text.copy(alloc)?;
     expect(copy.as_str() == "memory2/state")
 }
 
-/// A tape with more room each time; what is noted stays where there is none to be had.
+/// Reserves room on a tape. Checks that its delta is kept even if memory runs out.
 pub fn tapes(alloc: Global) -> Outcome {
     let mut tape = Tape::with_room(alloc, 1)?;
     note(&mut tape);
@@ -141,7 +142,7 @@ pub fn note(tape: &mut Tape)
     });
 }
 
-/// The layers of an empty machine, one after another.
+/// Makes the layers of an empty machine, one after another.
 pub fn layers(alloc: Global) -> Outcome {
     let layout = layout_of(alloc, 10)?;
     make_layers(alloc, &layout)
@@ -157,7 +158,7 @@ fn make_layers(alloc: Global, layout: &Layout) -> Outcome {
     Ok(())
 }
 
-/// States as values: that at boot is that of its copy, and not the empty one.
+/// Makes Images: checks that a copy of the one at boot is the same, and the empty one is not.
 pub fn images(alloc: Global) -> Outcome {
     let layout = layout_of(alloc, 10)?;
     let image = Image::boot(alloc, &layout)?;
@@ -165,7 +166,7 @@ pub fn images(alloc: Global) -> Outcome {
     expect_not_empty(alloc, &layout, &image)
 }
 
-/// Wants a copy of a state to be the same, with the free lists of boot.
+/// Copies an Image, and checks that the copy is the same, with the free lists of boot.
 fn copy_image(alloc: Global, image: &Image) -> Outcome {
     let copy = image.copy(alloc)?;
     expect(
@@ -175,7 +176,7 @@ fn copy_image(alloc: Global, image: &Image) -> Outcome {
     )
 }
 
-/// Wants the empty state to be another one, with no free block.
+/// Makes an empty Image, and checks that it differs and has no free block.
 fn expect_not_empty(alloc: Global, layout: &Layout, image: &Image) -> Outcome {
     let empty = Image::empty(alloc, layout)?;
     expect(!image.same(&empty) && empty.list(Class::Nm, Order(2)).is_empty())

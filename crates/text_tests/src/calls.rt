@@ -1,4 +1,4 @@
-//! Each call as the line that makes it, and the row of a memory block.
+//! Each call as the line that makes it, and the line of a memory block.
 use hp_text::{write_call, write_row};
 use hp_units::{
     Auto, Block, Claim, Cpu, Event, Frame, Item, Order, Owner, Page, Plan, Row, Serial, State,
@@ -8,13 +8,13 @@ use indexmap::IndexSet;
 use std::alloc::{AllocError, Global};
 use std::test::Fail;
 
-/// The lines of the calls below, after one another.
+/// The lines of all calls below, in order.
 const LINES: &str =
     "1 kalloc 2;1 kfree 8;1 map web 3;1 unmap db 3;1 write db 3 1 7;1 read db 3 1;1 drain 0;1 \
      online 3 movable;1 begin off 2 normal 3 movable 4;1 drainfor 5 0;1 migrate 5;1 commit 5;1 \
      cancel 5;1 undo 4;1 echo 0x80 probe;1 remove 3;1 echo online_kernel auto_online_blocks;";
 
-/// Writes a call of processor 1 and a semicolon.
+/// Writes a call of processor 1, and a semicolon.
 fn write_one(out: &mut String, names: &IndexSet<Text>, event: Event) -> Result<(), AllocError> {
     write_call(out, names, Cpu(1), &event)?;
     out.push_str(";")
@@ -42,7 +42,7 @@ fn write_accesses(out: &mut String, names: &IndexSet<Text>) -> Result<(), AllocE
     write_one(out, names, Event::Drain { cpu: Cpu(0) })
 }
 
-/// A Begin of three blocks.
+/// Returns a Begin of three blocks.
 fn begin(alloc: Global) -> Result<Event, AllocError> {
     let mut items = Vec::new(alloc);
     for (block, wish) in [(2, Wish::Off), (3, Wish::Normal), (4, Wish::Movable)] {
@@ -72,7 +72,7 @@ fn write_operations(
     write_one(out, names, Event::UndoAfter { serial: Serial(4) })
 }
 
-/// Writes the calls that add and take away blocks.
+/// Writes the calls that add and remove blocks.
 fn write_blocks(out: &mut String, names: &IndexSet<Text>) -> Result<(), AllocError> {
     write_one(out, names, Event::Probe { address: 128 })?;
     write_one(out, names, Event::Remove { block: Block(3) })?;
@@ -80,13 +80,13 @@ fn write_blocks(out: &mut String, names: &IndexSet<Text>) -> Result<(), AllocErr
     write_one(out, names, Event::SetAuto { auto })
 }
 
-/// Adds the name of an owner.
+/// Adds an owner's name.
 fn add_name(names: &mut IndexSet<Text>, alloc: Global, name: &str) -> Result<(), AllocError> {
     let _ = names.insert_full(Text::new(String::from_str(alloc, name)?))?;
     Ok(())
 }
 
-/// The names of two owners.
+/// Returns the names of two owners.
 fn two_names(alloc: Global) -> Result<IndexSet<Text>, AllocError> {
     let mut names = IndexSet::new(alloc);
     add_name(&mut names, alloc, "db")?;
@@ -94,14 +94,14 @@ fn two_names(alloc: Global) -> Result<IndexSet<Text>, AllocError> {
     Ok(names)
 }
 
-/// Writes all those calls.
+/// Writes all calls.
 fn write_lines(out: &mut String, alloc: Global, names: &IndexSet<Text>) -> Result<(), AllocError> {
     write_accesses(out, names)?;
     write_operations(out, alloc, names)?;
     write_blocks(out, names)
 }
 
-/// All those calls.
+/// Returns the text of all calls.
 fn lines(alloc: Global) -> Result<String, AllocError> {
     let names = two_names(alloc)?;
     let mut out = String::new(alloc);
@@ -116,7 +116,7 @@ fn each_call_has_its_line(rt: HostRuntime) -> Result<(), Fail> {
     Ok(())
 }
 
-/// The line of a block that an operation holds.
+/// Returns the line of a block that an operation holds.
 fn held(alloc: Global) -> Result<String, AllocError> {
     let mut out = String::new(alloc);
     let row = Row {

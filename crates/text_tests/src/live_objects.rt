@@ -3,7 +3,7 @@ use hp_live::{LineAnswer, Session, write_object};
 use layouts_for_tests::{LAST_ABSENT, four_blocks};
 use std::alloc::Global;
 
-/// Lines, and their objects.
+/// Lines, and the objects that reply to them.
 const OBJECTS: &[(&str, &str)] = &[
     (
         "0 drain 0",
@@ -28,7 +28,7 @@ const OBJECTS: &[(&str, &str)] = &[
     ),
 ];
 
-/// The object of a plan with its calls.
+/// The object of a plan, with its calls.
 const PLAN: &str = "{\"line\":2,\"text\":\"plan: done\\n\",\"calls\":[\
 {\"serial\":2,\"call\":\"begin off 2\",\"answer\":\"opened 2\"},\
 {\"serial\":3,\"call\":\"drainfor 2 0\",\"answer\":\"done\"},\
@@ -44,7 +44,7 @@ fn is_object(alloc: Global, number: u64, answer: &LineAnswer, wanted: &str) -> b
     }
 }
 
-/// Returns whether each line is answered by the object beside it.
+/// Gives the session each line, and returns whether the reply is the object beside it.
 fn are_objects(session: &mut Session, alloc: Global, rows: &[(&str, &str)]) -> bool {
     let mut answer = LineAnswer::new(alloc);
     let mut number = 0u64;
@@ -60,7 +60,7 @@ fn are_objects(session: &mut Session, alloc: Global, rows: &[(&str, &str)]) -> b
     true
 }
 
-/// Does the same with a session of four memory blocks.
+/// Does the same with a new session of four memory blocks.
 fn are_written(alloc: Global, rows: &[(&str, &str)]) -> bool {
     let Ok(layout) = four_blocks(alloc, LAST_ABSENT, 100) else {
         return false;

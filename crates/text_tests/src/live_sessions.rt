@@ -1,4 +1,4 @@
-//! Sessions, beside what `hotplug serial` writes for the same lines.
+//! Sessions compared with what `hotplug serial` writes for the same lines.
 use hp_commands::serve_serial;
 use hp_live::{LineAnswer, Session};
 use hp_streams::Counted;
@@ -26,7 +26,7 @@ const LINES: &[&str] = &[
     "0 seal",
 ];
 
-/// The same with texts that are no lines between them. Their names are new.
+/// The same lines with texts between them that are no lines. The names in those texts are new.
 const WITH_OTHERS: &[&str] = &[
     "",
     "0 map web 3",
@@ -39,7 +39,7 @@ const WITH_OTHERS: &[&str] = &[
     "1 unmap web 3",
 ];
 
-/// Answers texts, and appends what is written for them.
+/// Gives the session each text, and appends what it writes for them.
 fn write_answers(
     session: &mut Session,
     alloc: Global,
@@ -67,8 +67,8 @@ fn serves(alloc: Global, scenario: &str, wanted: &str) -> bool {
     result == Ok(()) && written.as_slice() == wanted.as_bytes()
 }
 
-/// Returns whether a session's texts and its state are what `hotplug serial` writes for its
-/// scenario.
+/// Returns whether a session writes for these texts, with its state at the end, what `hotplug
+/// serial` writes for its scenario.
 fn is_served(session: &mut Session, alloc: Global, texts: &[&str]) -> bool {
     let mut joined = String::new(alloc);
     let mut scenario = String::new(alloc);
@@ -78,7 +78,7 @@ fn is_served(session: &mut Session, alloc: Global, texts: &[&str]) -> bool {
         && serves(alloc, scenario.as_str(), joined.as_str())
 }
 
-/// Does the same with a session of four memory blocks and a limit of records.
+/// Does the same with a new session of four memory blocks and a limit of records.
 fn are_served(alloc: Global, history: u64, texts: &[&str]) -> bool {
     let Ok(layout) = four_blocks(alloc, LAST_ABSENT, history) else {
         return false;
@@ -89,14 +89,14 @@ fn are_served(alloc: Global, history: u64, texts: &[&str]) -> bool {
     is_served(&mut session, alloc, texts)
 }
 
-/// Returns whether a text is answered like this.
+/// Gives the session a text, and returns whether the answer is `wanted`.
 fn is_answered(session: &mut Session, alloc: Global, text: &str, wanted: &str) -> bool {
     let mut answer = LineAnswer::new(alloc);
     session.answer(alloc, text, &mut answer).is_ok() && answer.text() == wanted
 }
 
-/// Returns whether the name in a text that is no line takes no owner's number: the layout has two
-/// owners, and the second name of a line is one.
+/// Returns whether a name in a text that is no line gets no owner's number. The layout has two
+/// owners; after such a text a second name is still accepted, and a third is not.
 fn keeps_numbers(alloc: Global) -> bool {
     let Ok(layout) = four_blocks(alloc, LAST_ABSENT, 100) else {
         return false;

@@ -1,7 +1,8 @@
-//! Parts of pictures, most as hp_svg drew them when its text was proved to be that of a definition.
+//! Parts of pictures. Most are as hp_svg drew them when its text was proved to be that of a
+//! definition.
 use crate::pictures::{Block, ROWS, Row, Words};
 
-/// More names than letters, the first of which is longer than its room in a legend.
+/// More names than letters. The first name is longer than its place in a legend.
 pub(crate) const NAMES: &[Words] = &[
     "a name longer than this",
     "b",
@@ -46,7 +47,7 @@ pub(crate) const MARKED: &[Row] = &[(
     )],
 )];
 
-/// A row whose cells are too narrow for most letters and orders, if a cell is 3 wide.
+/// A row whose cells are too narrow for most letters and orders, if a cell is 3 pixels wide.
 pub(crate) const NARROW: &[Row] = &[(
     "narrow cells",
     "",
@@ -60,15 +61,15 @@ pub(crate) const NARROW: &[Row] = &[(
     )],
 )];
 
-/// Memory blocks of which only two have room side by side, if a cell is 255 wide.
+/// Memory blocks of which only two fit side by side, if a cell is 255 pixels wide.
 pub(crate) const THREE: &[Block] = &[
     ("0:N", "aa", &[], &[], "MM"),
     ("1:M", ".a", &[(0, 0, false)], &[], "UU"),
     ("2:M", "..", &[(0, 1, false)], &[], "UM"),
 ];
 
-/// Rows with those blocks, one of them with texts that need lines of their own, and with a page
-/// that moved to the second strip.
+/// Two rows with the blocks of `THREE`, the second with texts that need lines of their own and a
+/// page that moved to the second strip; then a row of only text.
 pub(crate) const FOLDED: &[Row] = &[
     ("", "", None, THREE),
     (
@@ -80,7 +81,7 @@ pub(crate) const FOLDED: &[Row] = &[
     ("words", "", None, &[]),
 ];
 
-/// Rows with the kernel's blocks of orders 0 to 2, the first row of text alone.
+/// Rows with kernel blocks of orders 0 to 2. The first row is only text.
 pub(crate) const KERNEL: &[Row] = &[
     ("the 2 calls above 1021 times more", "", None, &[]),
     (
@@ -95,7 +96,7 @@ pub(crate) const KERNEL: &[Row] = &[
     ),
 ];
 
-/// The meaning of each character, with its colours, and the first name squeezed.
+/// The meaning of each character with its colours; the first name is squeezed.
 pub(crate) const LEGEND: &str =
     "<rect x='8' y='8' width='12' height='12' fill='#7fbf7b'/><text x='26' y='18'>free</text>\n\
      <rect x='168' y='8' width='12' height='12' fill='url(#isolated)'/><text x='186' y='18'>free \
@@ -180,7 +181,7 @@ pub(crate) const LEGEND: &str =
      <rect x='8' y='136' width='12' height='12' fill='#009988'/><text x='10' y='145' \
      font-size='8' fill='#ffffff'>z</text><text x='26' y='146'>page of z</text>\n";
 
-/// A letter where it has room, an order where that has, and no lines between cells.
+/// Letters and orders only in cells wide enough for them, and no lines between cells.
 pub(crate) const NARROW_ROW: &str =
     "<text x='8' y='10'>narrow cells</text><text x='336' y='10'> 0:N</text><rect x='384' y='0' \
      width='6' height='12' fill='#0072b2'/><rect x='390' y='0' width='9' height='12' \
@@ -193,10 +194,10 @@ pub(crate) const NARROW_ROW: &str =
      stroke='#14532d'/><text x='412' y='9' font-size='8' fill='#052e16' stroke='#ffffff' \
      stroke-width='2' paint-order='stroke'>3</text>\n";
 
-/// The meaning of the letter of an owner who has no name.
+/// The meaning of an owner's letter if the owner has no name.
 pub(crate) const UNNAMED: &str = "<text x='346' y='18'>page of owner b</text>\n";
 
-/// A row below one of two strips, in lines of its own, and all after it.
+/// A row in lines of its own, below a row of two strips, and all after it.
 pub(crate) const FOLDED_ROWS: &str =
     "<text x='8' y='44'>a text that is 30 letters long</text><text x='188' y='58'>one of 26 \
      letters, as here</text><text x='336' y='72'> 0:N</text><rect x='384' y='62' width='510' \
@@ -231,8 +232,8 @@ pub(crate) const FOLDED_ROWS: &str =
 /// The size of a picture without rows.
 pub(crate) const EMPTY: &str = "width='820' height='76' viewBox='0 0 820 76'";
 
-/// A line of text alone above a row; outlines of the kernel's blocks, and orders beside the letter of
-/// its cells.
+/// A line of text above a row; outlines of kernel blocks, with orders beside the letter of the
+/// cells.
 pub(crate) const KERNEL_ROWS: &str =
     "<text x='188' y='10'>the 2 calls above 1021 times more</text>\n\
      <text x='8' y='24'>kernel</text><text x='336' y='24'> 0:N</text><rect x='384' y='14' \
@@ -250,13 +251,13 @@ pub(crate) const KERNEL_ROWS: &str =
      fill='none' stroke='#fbbf24'/><text x='473' y='23' font-size='8' fill='#fbbf24' \
      stroke='#3d3d3d' stroke-width='2' paint-order='stroke'>2</text>";
 
-/// The first frame of each block, whose cells and pageblocks have no room for more numbers.
+/// The first frame of each block. Its cells and pageblocks are too narrow for more numbers.
 pub(crate) const KERNEL_NUMBERS: &str =
     "<text x='384' y='60'>block 0</text><text x='384' y='72'>frame 0</text>\n\
      <text x='464' y='60'>block 1</text><text x='464' y='72'>frame 4</text>\n\
      <text x='544' y='60'>block 2</text><text x='544' y='72'>frame 8</text>\n";
 
-/// The size at a quarter, a third and four times the scale.
+/// The size at a scale of a quarter, a third and four times.
 pub(crate) const QUARTER: &str = "width='205' height='38' viewBox='0 0 820 150'";
 
 pub(crate) const THIRD: &str = "width='271' height='50' viewBox='0 0 820 150'";

@@ -14,19 +14,19 @@ use std::test::Fail;
 
 pub(crate) type Words = &'static str;
 
-/// Free blocks: the place, the order, and whether it is isolated.
+/// Free blocks: the place, the order, and whether they are isolated.
 pub(crate) type Free = &'static [(u32, u32, bool)];
 
-/// Blocks of the kernel: the place and the order.
+/// Kernel blocks: the place and the order.
 pub(crate) type Kernel = &'static [(u32, u32)];
 
-/// The head, the cells, the free blocks, those of the kernel, and the kinds of a block.
+/// A memory block: its head, cells, free blocks, kernel blocks, and pageblocks' kinds.
 pub(crate) type Block = (Words, Words, Free, Kernel, Words);
 
-/// What is asked in a row, its answer, the two frames of a page that moved, and the memory blocks.
+/// A row: the call, the answer, the two frames of a page that moved, and the memory blocks.
 pub(crate) type Row = (Words, Words, Option<(u32, u32)>, &'static [Block]);
 
-/// A text of characters that XML spells otherwise, or has not.
+/// Characters that XML escapes, and one that it does not allow.
 const WORDS: &str = "<&>\"\t";
 
 /// Memory blocks with each kind of cell, free blocks, and pageblocks of each mobility.
@@ -50,15 +50,15 @@ const BOOT: &[Block] = &[
 /// A memory block that is offline.
 const OFFLINE: &[Block] = &[("0:N", "----|----", &[], &[], "    |    ")];
 
-/// A row with each kind of cell, one of words, and one whose page moved, to a frame after a bar.
+/// A row with each kind of cell, one of only text, and one whose page moved to a frame after a bar.
 pub(crate) const ROWS: &[Row] = &[
     ("   0 boot", "1: done", None, BOOT),
     (WORDS, "", None, &[]),
     ("   1 0 migrate 1", "2: moved 0 5", Some((0, 5)), OFFLINE),
 ];
 
-/// A row with each kind of cell, one of words and one whose page moved, as a picture, which another
-/// program wrote, by hand, from the rules of LAB.md.
+/// The picture of `ROWS`. It was written by another program, which was written by hand from the
+/// rules in LAB.md.
 const PICTURE: &str =
     "<svg xmlns='http://www.w3.org/2000/svg' width='820' height='150' viewBox='0 0 820 150' \
      font-family='monospace' font-size='10' xml:space='preserve'><title>Trace of a \
@@ -135,12 +135,12 @@ const PICTURE: &str =
      font-size='8'>8</text><text x='544' y='88' font-size='8'>12</text>\n\
      </svg>\n";
 
-/// A text.
+/// Returns a `Text`.
 fn text(alloc: Global, from: &str) -> Result<Text, AllocError> {
     Ok(Text::new(String::from_str(alloc, from)?))
 }
 
-/// A free block of each triple.
+/// Returns a free block for each triple.
 fn free_blocks(alloc: Global, from: &[(u32, u32, bool)]) -> Result<Vec<FreeBlock>, AllocError> {
     let mut free = Vec::new(alloc);
     for (at, order, is_isolated) in from {
@@ -153,7 +153,7 @@ fn free_blocks(alloc: Global, from: &[(u32, u32, bool)]) -> Result<Vec<FreeBlock
     Ok(free)
 }
 
-/// A block of the kernel for each pair.
+/// Returns a kernel block for each pair.
 fn kernel_blocks(alloc: Global, from: &[(u32, u32)]) -> Result<Vec<KernelBlock>, AllocError> {
     let mut kernel = Vec::new(alloc);
     for (at, order) in from {
@@ -165,7 +165,7 @@ fn kernel_blocks(alloc: Global, from: &[(u32, u32)]) -> Result<Vec<KernelBlock>,
     Ok(kernel)
 }
 
-/// A memory block without orders in its cells.
+/// Returns a memory block without orders in its cells.
 fn block(alloc: Global, from: &Block) -> Result<BlockPicture, AllocError> {
     let (head, cells, free, kernel, kinds) = from;
     let head = text(alloc, head)?;
@@ -177,7 +177,7 @@ fn block(alloc: Global, from: &Block) -> Result<BlockPicture, AllocError> {
     Ok(BlockPicture::new(head, cells, ordered, free, kernel, kinds))
 }
 
-/// Those memory blocks.
+/// Returns the memory blocks.
 fn blocks(alloc: Global, from: &[Block]) -> Result<Vec<BlockPicture>, AllocError> {
     let mut blocks = Vec::new(alloc);
     for each in from {
@@ -186,7 +186,7 @@ fn blocks(alloc: Global, from: &[Block]) -> Result<Vec<BlockPicture>, AllocError
     Ok(blocks)
 }
 
-/// A page that moved between these frames.
+/// Returns the move of a page between two frames, if there is one.
 fn page(frames: Option<(u32, u32)>) -> Option<Move> {
     let (from, to) = frames?;
     Some(Move {
@@ -195,7 +195,7 @@ fn page(frames: Option<(u32, u32)>) -> Option<Move> {
     })
 }
 
-/// A row.
+/// Returns a row.
 fn row(alloc: Global, from: &Row) -> Result<RowPicture, AllocError> {
     let (asked, answer, frames, from) = from;
     let asked = text(alloc, asked)?;
@@ -204,7 +204,7 @@ fn row(alloc: Global, from: &Row) -> Result<RowPicture, AllocError> {
     Ok(RowPicture::new(asked, answer, page(*frames), blocks))
 }
 
-/// Those rows.
+/// Returns the rows.
 fn rows(alloc: Global, from: &[Row]) -> Result<Vec<RowPicture>, AllocError> {
     let mut rows = Vec::new(alloc);
     for each in from {
@@ -213,7 +213,7 @@ fn rows(alloc: Global, from: &[Row]) -> Result<Vec<RowPicture>, AllocError> {
     Ok(rows)
 }
 
-/// The names of owners.
+/// Returns the names of owners.
 fn names(alloc: Global, from: &[Words]) -> Result<IndexSet<Text>, AllocError> {
     let mut names = IndexSet::new(alloc);
     for name in from {
@@ -222,8 +222,7 @@ fn names(alloc: Global, from: &[Words]) -> Result<IndexSet<Text>, AllocError> {
     Ok(names)
 }
 
-/// The picture of rows, where the owners have these names and a cell is this wide, at `scale`
-/// percent.
+/// Draws rows with these owners' names, this width of a cell, and a scale in per cent.
 fn picture(
     alloc: Global,
     from: &[Words],
@@ -322,24 +321,24 @@ fn pictures_are_scaled(rt: HostRuntime) -> Result<(), Fail> {
     Ok(())
 }
 
-/// A word that a control file does not take.
+/// A scenario with a word that the control file does not accept.
 const PLAIN: &[u8] = br#"{"layout":{"order":2,"pageblocks":1,"blocks":3,"cpus":1,"batch":2,"high":2,
 "owners":1,"pages":4,"words":1,"history":9,"boot":["normal","movable","offline"]},
 "calls":["0 echo word memory1/state"]}"#;
 
-/// Another, which looks like a memory block, and like the end of one with a space.
+/// The same with a word that looks like a memory block, and like the end of one with a space.
 const BRACKETS: &[u8] =
     br#"{"layout":{"order":2,"pageblocks":1,"blocks":3,"cpus":1,"batch":2,"high":2,
 "owners":1,"pages":4,"words":1,"history":9,"boot":["normal","movable","offline"]},
 "calls":["0 echo 0:N[....]][\t1:M[aa] memory1/state"]}"#;
 
-/// Another, with what a terminal obeys, a line end and brackets.
+/// The same with control characters that a terminal obeys, a line end, and brackets.
 const HOSTILE: &[u8] =
     br#"{"layout":{"order":2,"pageblocks":1,"blocks":3,"cpus":1,"batch":2,"high":2,
 "owners":1,"pages":4,"words":1,"history":9,"boot":["normal","movable","offline"]},
 "calls":["0 echo \u001b[31m\n\u009b]0:N[....] memory1/state"]}"#;
 
-/// All lines, in rows that may take any width.
+/// All lines, in rows of any width.
 const ALL: View = View {
     from: 1,
     to: u64::MAX,
@@ -348,14 +347,14 @@ const ALL: View = View {
     orders: false,
 };
 
-/// The picture of a scenario.
+/// Draws the trace of a scenario.
 fn scenario_picture(alloc: Global, scenario: &[u8]) -> Option<String> {
     let scenario = Scenario::read(alloc, scenario).ok()?;
     let rows = trace_rows(alloc, &scenario, ALL).ok()?;
     picture_of(alloc, &IndexSet::new(alloc), 8, 100, &rows).ok()
 }
 
-/// How many rectangles a picture has.
+/// Returns the number of rectangles in the picture of a scenario.
 fn boxes(alloc: Global, scenario: &[u8]) -> Option<usize> {
     let picture = scenario_picture(alloc, scenario)?;
     Some(picture.as_str().matches("<rect").count())

@@ -144,7 +144,8 @@ fn same_end(end: &Ending, other: &Ending) -> bool {
         && same_schedules(end.first.as_slice(), other.first.as_slice())
 }
 
-/// Returns whether two lists have the same ends of all 20 interleavings of three calls and three.
+/// Returns whether two lists have the same ends, and count all 20 interleavings of three calls with
+/// three.
 fn same_ends(ends: &[Ending], others: &[Ending]) -> bool {
     total_of(ends) == 20
         && ends.len() == others.len()
@@ -173,7 +174,8 @@ fn three_parts(
     Ok(lists)
 }
 
-/// Returns whether a search in three threads finds the ends that the sum of three parts has.
+/// Returns whether a search in three threads finds the same ends as three parts whose results are
+/// merged.
 fn jobs_and_parts_find_the_same<R: Threads + Sync>(
     rt: &R,
     alloc: Global,

@@ -2,9 +2,9 @@
 //! searches, in one or several threads; and of the commands, on streams that move pieces or fail.
 //!
 //! Each module tests a crate or two from outside: `seats`, `closes` and `locks` hp_shared;
-//! `workers` hp_workers, with a gate of its own; `explorations` hp_schedules, hp_explore and
-//! hp_explore; `runs`, `pieces` and `ends` hp_commands, on the streams of `streams`.
-//! runs/check_runs.py compares what the commands write for many scenarios.
+//! `workers` hp_workers, with a gate of its own; `explorations` hp_schedules and hp_explore;
+//! `runs`, `pieces` and `ends` hp_commands, on the streams of `streams`. runs/check_runs.py
+//! compares what the commands write for many scenarios.
 //!
 //! Run them by `rt test` in this folder. They are one crate: linking a crate of tests with all
 //! crates below it costs as much as some thirty functions.

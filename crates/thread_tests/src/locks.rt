@@ -1,4 +1,4 @@
-//! A shared machine that is taken from its lock, and put under a lock again.
+//! A shared machine that is taken out of its lock, and put under a lock again.
 ghost use Rattle.std.specs.Prelude.{◌≡◌};
 ghost use Rattle.hp_shared.specs.Shared.{IsFresh};
 
@@ -12,9 +12,8 @@ use std::sync::Wait;
 use std::sync::ledger::Blank;
 use std::test::Fail;
 
-/// Takes a machine from its lock, tries to close it with only its first seat, and then closes it
-/// with both. Returns why the first close was refused, and how many records there were then and at
-/// the end.
+/// Takes a machine out of its lock, and closes it with only its first seat, then with both. Returns
+/// why the first close was refused, and how many records there were then and at the end.
 fn closed_at_last<L: Job>(
     alloc: Global,
     shared: Shared<L>,
@@ -39,7 +38,7 @@ fn closed_with<L: Job>(
     Some((fault, before, closed.records))
 }
 
-/// Puts a machine that came back under a lock, takes it from there, and closes it with one more
+/// Puts a machine that came back under a lock, takes it out again, and closes it with one more
 /// seat.
 fn closed_again<L: Job>(alloc: Global, refused: NotClosed<L>, seat: Seat<L>) -> Option<Closed> {
     let mut back = refused.share();
@@ -65,7 +64,7 @@ fn mapped_and_closed<L: Job, R: Wait>(
     closed_at_last(alloc, shared, seats, second)
 }
 
-/// Plays this on a machine.
+/// Runs `mapped_and_closed` on a shared machine made from `machine`.
 fn closes_on<L: Job, R: Wait>(
     rt: &R,
     alloc: Global,
@@ -85,7 +84,7 @@ fn closes_on<L: Job, R: Wait>(
     mapped_and_closed(rt, alloc, shared, seats)
 }
 
-/// Plays this on a machine at its start.
+/// Boots a machine and runs `closes_on` on it.
 fn closes<R: Wait>(rt: &R, alloc: Global) -> Result<Option<(CloseFault, u64, u64)>, Fail> {
     let layout = layout(alloc)?;
     let machine = Machine::boot(alloc, &layout)?;

@@ -125,7 +125,7 @@ fn mapped_and_moved<L: Job + Send + Sync, R: Threads + Wait + Sync>(
     Some((end, records))
 }
 
-/// Plays this on a machine.
+/// Runs `mapped_and_moved` on a shared machine made from `machine`.
 fn plays_on<L: Job + Send + Sync, R: Threads + Wait + Sync>(
     rt: &R,
     alloc: Global,
@@ -145,7 +145,7 @@ fn plays_on<L: Job + Send + Sync, R: Threads + Wait + Sync>(
     mapped_and_moved(rt, alloc, shared, seats)
 }
 
-/// Plays this on a machine at its start.
+/// Boots a machine and runs `plays_on` on it.
 fn plays<R: Threads + Wait + Sync>(rt: &R, alloc: Global) -> Result<Option<(OpEnd, u64)>, Fail> {
     let layout = layout(alloc)?;
     let machine = Machine::boot(alloc, &layout)?;

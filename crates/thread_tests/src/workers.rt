@@ -36,7 +36,7 @@ const NO_WORD: LineEnd = LineEnd::Reply(Reply::Word(0));
 /// A map by the first processor, and two reads of its page by the second.
 const READS_AFTER_A_MAP: &str = r#""0 map db 0","1 read db 0 0","1 read db 0 0""#;
 
-/// The ends of two processors' lines, how many records there are, and the state.
+/// The ends of both processors' lines, the number of records, and the state.
 struct Outcome {
     ends: Vec<Ends>,
     records: u64,
@@ -197,7 +197,7 @@ fn a_page_is_written_between_the_calls_of_a_plan(rt: HostRuntime) -> Result<(), 
     Ok(())
 }
 
-/// For each call of a plan, when its steps are undone before that call: how many steps that takes
+/// For each call of a plan, if its steps are undone just before it: how many steps the undo takes
 /// back, and how many records there are in the end.
 const UNDONE: &[(u64, u64)] = &[(0, 8), (1, 4), (2, 5), (3, 6), (4, 7), (4, 8)];
 
@@ -231,7 +231,7 @@ fn offline(alloc: Global) -> Result<Plan, AllocError> {
     Plan::new(alloc, vec![in alloc; item]?)
 }
 
-/// Returns the state after the page is mapped, on one thread, and after the plan if `is_planned`.
+/// Returns the state after the page is mapped in one thread, and after the plan if `is_planned`.
 fn state_of(alloc: Global, is_planned: bool) -> Result<Image, Fail> {
     let scenario = scenario_of(alloc, r#""0 map db 0""#)?;
     let mut machine = Machine::boot(alloc, &scenario.layout)?;

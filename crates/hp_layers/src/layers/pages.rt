@@ -128,7 +128,7 @@ impl Layers {
         }
     }
 
-    /// Returns why a word cannot be read or written, if so.
+    /// Returns why a word cannot be read or written, or `None` if it can.
     #[inline(always)]
     fn word_refusal(&self, owner: Owner, page: Page, index: u32) -> Option<Refusal>
         requires one { AreOfOneLayout self.now }

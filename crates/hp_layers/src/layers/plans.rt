@@ -32,7 +32,7 @@ impl Layers {
         self.claim_refusal(plan)
     }
 
-    /// Returns why the blocks of a plan cannot be claimed, if so.
+    /// Returns why the blocks of a plan cannot be claimed, or `None` if they can.
     #[tactic(auto, using(crate::proofs::Plans::none_claimed))]
     fn claim_refusal(&self, plan: &[Item]) -> Option<Refusal>
         requires one { AreOfOneLayout self.now }
@@ -45,7 +45,8 @@ impl Layers {
         self.state_refusal(plan)
     }
 
-    /// Returns why a block of a plan is in the wrong state or cannot change, if so.
+    /// Returns why a block of a plan has the wrong state or cannot change, or `None` if all can
+    /// change.
     fn state_refusal(&self, plan: &[Item]) -> Option<Refusal>
         requires one { AreOfOneLayout self.now }
         requires within { names_no_block self.now.layout plan.now ≡ false }
@@ -57,7 +58,7 @@ impl Layers {
         self.change_refusal(plan)
     }
 
-    /// Returns why the blocks of a plan cannot change, if so.
+    /// Returns why the blocks of a plan cannot change, or `None` if they can.
     fn change_refusal(&self, plan: &[Item]) -> Option<Refusal>
         requires one { AreOfOneLayout self.now }
         requires within { names_no_block self.now.layout plan.now ≡ false }

@@ -1,4 +1,4 @@
-//! Texts of an unusual form. Those that are refused stand in refusals/hostile.py.
+//! Texts of an unusual form. Those that are refused are in refusals/hostile.py.
 use super::{LAYOUT, text_of};
 use hp_scenario::{Calls, Next, Scenario, ScenarioFault};
 use std::alloc::{AllocError, Global};
@@ -6,13 +6,13 @@ use std::test::Fail;
 
 const CALLS: &str = r#""0 kalloc 1","0 map db 3","1 undo 0""#;
 
-/// A scenario with a text in place of another that stands in it.
+/// Returns the scenario's text with `new` in place of `old`.
 fn changed(alloc: Global, old: &str, new: &str) -> Result<String, Fail> {
     let text = text_of(alloc, LAYOUT, CALLS)?;
     Ok(text.replace(alloc, old, new)?)
 }
 
-/// Parts of a scenario, and what means the same in their place.
+/// Parts of a scenario, and others of the same meaning.
 const SAME: &[(&str, &str)] = &[
     ("", ""),
     (
@@ -26,7 +26,7 @@ const SAME: &[(&str, &str)] = &[
     ("\"calls\":[", " \"calls\"\t:\r\n [ "),
 ];
 
-/// Whether what was read is a scenario of three lines and one name, of blocks up to 2^2 frames.
+/// Returns whether a scenario with three lines and one name was read, with blocks up to 2^2 frames.
 fn is_the_scenario(read: Result<Scenario, ScenarioFault>) -> bool {
     match read {
         Ok(scenario) => {
@@ -54,7 +54,7 @@ fn reads_other_forms(rt: HostRuntime) -> Result<(), Fail> {
     Ok(())
 }
 
-/// Whether a text is a scenario in its usual form of one line and one name.
+/// Returns whether a text is a scenario in its usual form, with one line and one name.
 fn is_one_line(alloc: Global, text: &str) -> bool {
     match Calls::open(alloc, text.as_bytes()) {
         Ok(Some(opened)) => {
@@ -65,7 +65,7 @@ fn is_one_line(alloc: Global, text: &str) -> bool {
     }
 }
 
-/// Whether a scenario goes on with a line.
+/// Reads the next line, and returns whether there is one.
 fn goes_on(alloc: Global, calls: &mut Calls<'_>) -> bool {
     match calls.next(alloc) {
         Ok(next) => matches!(next, Next::Another(_)),
@@ -73,7 +73,7 @@ fn goes_on(alloc: Global, calls: &mut Calls<'_>) -> bool {
     }
 }
 
-/// Whether a scenario ends.
+/// Reads on, and returns whether there is no further line.
 fn ends(alloc: Global, calls: &mut Calls<'_>) -> bool {
     match calls.next(alloc) {
         Ok(next) => matches!(next, Next::End),
@@ -81,7 +81,7 @@ fn ends(alloc: Global, calls: &mut Calls<'_>) -> bool {
     }
 }
 
-/// Whether a scenario has one name, and blocks up to 2^2 frames.
+/// Returns whether a scenario has one name, and blocks up to 2^2 frames.
 fn is_named(calls: &Calls<'_>) -> bool {
     calls.names().len() == 1 && calls.layout().order() == 2
 }

@@ -1,4 +1,4 @@
-//! The readers of a layout's parts, and the test of a line.
+//! The readers of a layout's parts, and the test whether a text is a line.
 use super::LAYOUT;
 use hp_scenario::{boot_at, boots_at, is_line, only32, only64, parts_with, zone_from};
 use hp_units::{Boot, Zone};
@@ -6,7 +6,7 @@ use serde_json::Value;
 use std::alloc::{AllocError, Global};
 use std::test::Fail;
 
-/// Whether the layout's parts are read as they are written.
+/// Returns whether the parts of a layout are read as written.
 fn are_parts_read(alloc: Global, layout: &Value) -> bool {
     let Ok(boot) = boots_at(alloc, layout, "boot") else {
         return false;
@@ -21,7 +21,7 @@ fn are_parts_read(alloc: Global, layout: &Value) -> bool {
     }
 }
 
-/// Whether the word at `boot` is read, where there is one.
+/// Returns whether the value at `boot` is read as expected.
 fn is_boot_read(value: &Value, boot: Option<Boot>) -> bool {
     match value.get("boot") {
         Some(word) => boot_at(word) == boot,
@@ -38,7 +38,7 @@ fn parts_are_read(rt: HostRuntime) -> Result<(), Fail> {
     Ok(())
 }
 
-/// Whether a line is told from what is none.
+/// Returns whether a line is accepted, and a text that is none is not.
 fn are_lines_told(alloc: Global) -> Result<bool, AllocError> {
     Ok(is_line(alloc, "0 map db 1")? && !is_line(alloc, "0 map DB 1")?)
 }

@@ -4,7 +4,7 @@ use hp_scenario::{Line, Script, Work};
 use hp_units::{Cpu, Event};
 use std::test::Fail;
 
-/// Whether a line drains a processor's lists.
+/// Returns whether a line drains this processor's lists.
 fn is_drain_of(line: &Line, drained: u32) -> bool {
     match &line.work {
         Work::Event(Event::Drain { cpu: Cpu(cpu) }) => *cpu == drained,
@@ -12,7 +12,7 @@ fn is_drain_of(line: &Line, drained: u32) -> bool {
     }
 }
 
-/// Whether scripts are one line, and drains of both processors.
+/// Returns whether the first script has one line, and the second drains both processors.
 fn are_one_line_and_drains(scripts: &[Script]) -> bool {
     match scripts {
         [first, second] => {

@@ -1,4 +1,4 @@
-//! What lines are read as. Texts of other shapes are refused in refusals/hostile.py.
+//! How lines are read. Texts of other shapes are refused in refusals/hostile.py.
 use super::scenario;
 use hp_scenario::{Line, Work};
 use hp_units::{Block, Cpu, Event, Serial};
@@ -9,7 +9,7 @@ const CALLS: &str = r#""0 kalloc 1","0 kfree 0","0 undo 0""#;
 const PLANS_AND_FILES: &str =
     r#""0 plan 5 off 2 movable 3","1 echo offline memory2/state","0 cat buddyinfo","0 remove 3","7 seal""#;
 
-/// Whether lines are three, of which the last undoes all.
+/// Returns whether there are three lines, the last of which undoes everything.
 fn are_three_and_undo(lines: &[Line]) -> bool {
     match lines {
         [_first, _second, undo] => {
@@ -26,7 +26,7 @@ fn reads_a_scenario(rt: HostRuntime) -> Result<(), Fail> {
     Ok(())
 }
 
-/// Whether lines are a plan of two blocks and an echo, both as a text says.
+/// Returns whether the lines are a plan of two blocks with 5 turns, and an `echo` to memory2/state.
 fn are_plan_and_echo(plan: &Line, echo: &Line) -> bool {
     let is_plan = matches!(&plan.work, Work::Plan { plan, turns: 5 } if plan.as_slice().len() == 2);
     let is_echo = matches!(&echo.work, Work::Echo(echo)
@@ -34,7 +34,7 @@ fn are_plan_and_echo(plan: &Line, echo: &Line) -> bool {
     is_plan && echo.cpu == Cpu(1) && is_echo
 }
 
-/// Whether lines are a file that is read, a block that is removed, and a seal.
+/// Returns whether the lines are a `cat`, a `remove`, and a seal of processor 7.
 fn are_cat_remove_and_seal(cat: &Line, remove: &Line, seal: &Line) -> bool {
     let is_cat = matches!(&cat.work, Work::Cat { path } if path.as_str() == "buddyinfo");
     let is_remove =
@@ -42,7 +42,7 @@ fn are_cat_remove_and_seal(cat: &Line, remove: &Line, seal: &Line) -> bool {
     is_cat && is_remove && matches!(&seal.work, Work::Seal) && seal.cpu == Cpu(7)
 }
 
-/// Whether lines are those five, in order.
+/// Returns whether these five lines come in order.
 fn are_plans_and_files(lines: &[Line]) -> bool {
     match lines {
         [plan, echo, cat, remove, seal] => {

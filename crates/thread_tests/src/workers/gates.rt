@@ -1,5 +1,5 @@
-//! A gate that lets workers pass points in one order. A wait ends after a limit of turns at the
-//! latest, and the gate then notes that it did.
+//! A gate that lets workers pass points in one order. A wait gives up after a limit of turns, and
+//! the gate then records that.
 use hp_units::Cpu;
 use hp_workers::Gate;
 use std::sync::atomic::{AtomicBool, AtomicU64, Ordering};
@@ -29,7 +29,7 @@ impl<'a> InOrder<'a> {
         }
     }
 
-    /// Waits until `passed` points were passed.
+    /// Waits until `passed` points have been passed.
     fn wait_for(&self, passed: u64) {
         for turn in 0..100_000_000u32 {
             if self.passed.load(Ordering::SeqCst) >= passed {
@@ -52,7 +52,7 @@ impl<'a> InOrder<'a> {
         }
     }
 
-    /// Returns whether all points were passed, and no wait reached its limit.
+    /// Returns whether all points were passed, and no wait gave up.
     pub fn was_met(&self) -> bool {
         let passed = self.passed.load(Ordering::SeqCst);
         passed == self.points.len() as u64 && !self.missed.load(Ordering::SeqCst)

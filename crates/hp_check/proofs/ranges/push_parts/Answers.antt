@@ -14,4 +14,5 @@ returns c =
     (c.unless.ensures ∙ ap (λ (b : Bool). then_some (not b) (Pageblocks c.args.parts.now.pageblocks))
     c.is_pageblock_count.ensures.is)
     c.outside-2.ensures c.frames_out.ensures c.outside-3.ensures c.outside-4.ensures c.unless-2.ensures
-    c.outside-5.ensures c.outside-6.ensures c.outside-7.ensures c.outside-8.ensures c.unless-3.ensures) added) c.push_each.ensures
+    c.outside-5.ensures c.outside-6.ensures c.outside-7.ensures c.outside-8.ensures c.unless-3.ensures) added)
+    c.push_each.ensures

@@ -1,23 +1,16 @@
-use Rattle.std.proofs.Common.{List, sym, ap, ◌∙◌}
+use Rattle.std.proofs.Common.{List, ap}
 use Rattle.std.specs.List.{list_all}
 use Rattle.serde_json.specs.View.{view}
-use Rattle.hp_check.specs.Adds.{IsShape}
 use Rattle.hp_check.specs.Shape.{is_there}
 use Rattle.hp_check.specs.declared.finding.Key.{Key}
-use Rattle.hp_check.proofs.Added.{none_added, of_test, test_added, tests_added}
+use Rattle.hp_check.proofs.Added.{of_test, test_added, tests_added}
 use Rattle.hp_check.proofs.shape.push_missing.Goals as goal
-
-pub loop-key-preserved-then-is_there : goal.loop-key-preserved-then-is_there
-loop-key-preserved-then-is_there c =
-    test_added (is_there (view c.args.value.now)) c.keys_of-keys.result.now c.loop-key.key-index _
-    c.loop-key-test.true c.loop-key.invariant
-    (of_test (sym c.if-is_there.true ∙ c.is_there.ensures) (none_added IsShape _))
 
 pub loop-key-preserved : goal.loop-key-preserved
 loop-key-preserved c =
     test_added (is_there (view c.args.value.now)) c.keys_of-keys.result.now c.loop-key.key-index _
     c.loop-key-test.true c.loop-key.invariant
-    (of_test (sym c.if-is_there.false ∙ c.is_there.ensures) c.in_ok-push.ensures)
+    (of_test c.is_there-is_there.ensures c.in_ok-push_unless.ensures)
 
 pub returns : goal.returns
 returns c =

@@ -1,30 +1,20 @@
-use Rattle.std.proofs.Common.{ℕ, List, sym, ap, ◌∙◌}
+use Rattle.std.proofs.Common.{ℕ, List, ap, ◌∙◌}
 use Rattle.std.specs.List.{list_all}
 use Rattle.serde_json.specs.Find.{get}
 use Rattle.serde_json.specs.View.{view}
-use Rattle.hp_check.specs.Adds.{IsShape}
 use Rattle.hp_check.specs.Shape.{if_there, is_number, is_number_at}
 use Rattle.hp_check.specs.declared.finding.Key.{Key}
-use Rattle.hp_check.proofs.Added.{none_added, of_test, test_added, tests_added}
+use Rattle.hp_check.proofs.Added.{of_test, test_added, tests_added}
 use Rattle.hp_check.proofs.shape.push_numbers.Goals as goal
-
-pub loop-key-preserved-then-may_be_number : goal.loop-key-preserved-then-may_be_number
-loop-key-preserved-then-may_be_number c =
-    let value = view c.args.layout.now in
-    test_added (is_number_at value) c.number_keys-keys.result.now c.loop-key.key-index _
-    c.loop-key-test.true c.loop-key.invariant
-    (of_test (sym c.if-may_be_number.true ∙ c.may_be_number.ensures
-    ∙ ap (if_there is_number) (c.get.ensures ∙ ap (λ (n : List ℕ). get n value) c.name.ensures))
-    (none_added IsShape _))
 
 pub loop-key-preserved : goal.loop-key-preserved
 loop-key-preserved c =
     let value = view c.args.layout.now in
     test_added (is_number_at value) c.number_keys-keys.result.now c.loop-key.key-index _
     c.loop-key-test.true c.loop-key.invariant
-    (of_test (sym c.if-may_be_number.false ∙ c.may_be_number.ensures
+    (of_test (c.may_be_number-is_fine.ensures
     ∙ ap (if_there is_number) (c.get.ensures ∙ ap (λ (n : List ℕ). get n value) c.name.ensures))
-    c.in_ok-push.ensures)
+    c.in_ok-push_unless.ensures)
 
 pub returns : goal.returns
 returns c =

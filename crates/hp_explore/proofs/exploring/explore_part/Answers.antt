@@ -1,12 +1,13 @@
 -- The walk begins where the machine stands with no ends, and ends with all, or with the first ones.
-use Rattle.std.proofs.Common.{[], ◌≡◌, ℕ, Bool, true, false, List, ap, sym, subst, ◌∙◌, arith}
+use Rattle.std.proofs.Common.{[], ◌≡◌, ◌⊎◌, ℕ, Bool, true, false, List, ap, sym, subst, ◌∙◌, arith, inl, inr}
 use Rattle.std.specs.Prelude.{sum_by}
 use Rattle.std.proofs.lemmas.Result.{err_from_is_err_and}
 use Rattle.hp_schedules.specs.Ends.{AreCounted, AreInOrder}
 use Rattle.hp_schedules.specs.Parts.{EndsInPart, IsCompleteInPart, PartValue}
 use Rattle.hp_explore.specs.Faults.{IsCausePartWithin}
-use Rattle.hp_explore.specs.Frames.{IsDone}
-use Rattle.hp_explore.specs.Fronts.{AreFirstInPart}
+use Rattle.hp_explore.specs.Frames.{IsDone, IsEndedBy}
+use Rattle.hp_explore.specs.Fronts.{AreFirstInPart, counted}
+use Rattle.hp_schedules.specs.Orders.{HasMoreThan}
 use Rattle.hp_schedules.specs.Schedules.{Setting}
 use Rattle.hp_explore.specs.Settings.{setting}
 use Rattle.hp_states.specs.Walks.{IsPartWalkedThrough}
@@ -29,18 +30,27 @@ whole w g part true same this done all =
 whole w g part false same this done all = absurd cc
 
 -- or the first ones are counted
-first : (w : Walk) (g : Setting) (part : PartValue) (limit : ℕ) (is_whole : Bool) → w.path.setting ≡ g
-    → w.part ≡ part → w.tally.limit ≡ limit → IsDone w is_whole → is_whole ≡ false
-    → AreFirstInPart g part limit w.tally.ends
-first w g part limit true same this most done some = absurd cc
-first w g part limit false same this most done some =
-    subst (λ (n : ℕ). AreFirstInPart g part n w.tally.ends) most
-    (subst (λ (k : PartValue). AreFirstInPart g k w.tally.limit w.tally.ends) this
-    (subst (λ (h : Setting). AreFirstInPart h w.part w.tally.limit w.tally.ends) same done))
+first : (w : Walk) (g : Setting) (part : PartValue) (is_whole : Bool) → w.path.setting ≡ g
+    → w.part ≡ part → IsDone w is_whole → is_whole ≡ false
+    → AreFirstInPart g part (counted w.tally.ends) w.tally.ends
+first w g part true same this done some = absurd cc
+first w g part false same this done some =
+    subst (λ (k : PartValue). AreFirstInPart g k (counted w.tally.ends) w.tally.ends) this
+    (subst (λ (h : Setting). AreFirstInPart h w.part (counted w.tally.ends) w.tally.ends) same done.first)
+
+-- which are as many as the limit, or the watch ended the walk
+stopped : (w : Walk) (limit : ℕ) (ended : Type 0) (is_whole : Bool) → w.tally.limit ≡ limit
+    → IsEndedBy ended w → IsDone w is_whole → is_whole ≡ false → (counted w.tally.ends ≡ limit) ⊎ ended
+stopped w limit ended true most by done some = absurd cc
+stopped w limit ended false most by done some =
+    elim done.cause [
+      | inl full ↦ inl (full ∙ most)
+      | inr stop ↦ inr (by stop)
+    ]
 
 ordered : (w : Walk) (is_whole : Bool) → IsDone w is_whole → AreInOrder w.tally.ends
 ordered w true done = done.ordered
-ordered w false done = done.walked.ordered
+ordered w false done = done.first.walked.ordered
 
 pub returns-clause-ok : goal.returns-clause-ok
 returns-clause-ok o c =
@@ -74,20 +84,29 @@ returns-clause-room o c =
 pub returns-clause-first : goal.returns-clause-first
 returns-clause-first o c =
     let g = setting c.args.machine.now c.args.scripts.now in
-    λ some. subst (AreFirstInPart g c.args.part c.args.limit) (sym c.into_ends.ensures.is)
-    (first c.run.new.self g c.args.part c.args.limit c.in_ok-is_whole.is_whole
+    λ some. subst (λ (ends : List Ending). AreFirstInPart g c.args.part (counted ends) ends)
+    (sym c.into_ends.ensures.is)
+    (first c.run.new.self g c.args.part c.in_ok-is_whole.is_whole
     (c.in_ok-is_whole.ensures.same.0 ∙ c.in_ok-walk.ensures.setting)
-    (c.in_ok-is_whole.ensures.same.2 ∙ c.in_ok-walk.ensures.part)
-    (c.in_ok-is_whole.ensures.same.1 ∙ c.in_ok-walk.ensures.limit) c.in_ok-is_whole.ensures.done some)
+    (c.in_ok-is_whole.ensures.same.2 ∙ c.in_ok-walk.ensures.part) c.in_ok-is_whole.ensures.done some)
 
 pub returns-clause-many : goal.returns-clause-many
 returns-clause-many o c =
     let g = setting c.args.machine.now c.args.scripts.now in
-    λ some. first_exceed g c.args.part c.args.limit c.run.new.self.tally.ends
-    (first c.run.new.self g c.args.part c.args.limit c.in_ok-is_whole.is_whole
+    λ some. subst (λ (ends : List Ending). HasMoreThan (IsCompleteInPart g c.args.part) (counted ends))
+    (sym c.into_ends.ensures.is)
+    (first_exceed g c.args.part (counted c.run.new.self.tally.ends) c.run.new.self.tally.ends
+    (first c.run.new.self g c.args.part c.in_ok-is_whole.is_whole
     (c.in_ok-is_whole.ensures.same.0 ∙ c.in_ok-walk.ensures.setting)
-    (c.in_ok-is_whole.ensures.same.2 ∙ c.in_ok-walk.ensures.part)
-    (c.in_ok-is_whole.ensures.same.1 ∙ c.in_ok-walk.ensures.limit) c.in_ok-is_whole.ensures.done some)
+    (c.in_ok-is_whole.ensures.same.2 ∙ c.in_ok-walk.ensures.part) c.in_ok-is_whole.ensures.done some))
+
+pub returns-clause-stopped : goal.returns-clause-stopped
+returns-clause-stopped o c =
+    λ some. subst (λ (ends : List Ending).
+    (counted ends ≡ c.args.limit) ⊎ o.W.Watch.has_ended c.run.new.watch) (sym c.into_ends.ensures.is)
+    (stopped c.run.new.self c.args.limit (o.W.Watch.has_ended c.run.new.watch) c.in_ok-is_whole.is_whole
+    (c.in_ok-is_whole.ensures.same.1 ∙ c.in_ok-walk.ensures.limit) c.in_ok-is_whole.ensures.ended
+    c.in_ok-is_whole.ensures.done some)
 
 pub returns-clause-within : goal.returns-clause-within
 returns-clause-within o c =

@@ -5,7 +5,7 @@ use Rattle.hp_explore.proofs.Levels.{near_cause}
 use Rattle.hp_explore.proofs.finding.nearest_below.Goals as goal
 
 pub returns-in_err-schedule-clause-err : goal.returns-in_err-schedule-clause-err
-returns-in_err-schedule-clause-err c =
+returns-in_err-schedule-clause-err g c =
     let p = err_from_is_err_and c.from_residual.result c.from_residual.ensures.1 in
     rw (p.1, p.2)
     (near_cause (setting c.args.machine.now c.args.scripts.now) c.args.wanted.now c.loop-budget.budget

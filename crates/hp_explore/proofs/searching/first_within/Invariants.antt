@@ -5,10 +5,10 @@ use Rattle.hp_explore.specs.Searches.{IsSearching, turns_of}
 use Rattle.hp_explore.proofs.searching.first_within.Given as goal
 
 abbrev pub decreases-turns : goal.decreases-turns
-decreases-turns l = turns_of l.search
+decreases-turns o l = turns_of l.search
 
 abbrev pub invariant-turns : goal.invariant-turns
-invariant-turns l = record {
+invariant-turns o l = record {
   searching : IsSearching l.wanted l.budget l.search;
   same : l.search.path.setting ≡ setting l.machine l.scripts;
 }

@@ -1,8 +1,6 @@
 -- A block is all free where each of its frames is in a free block, since free buddies are joined.
-use Rattle.std.proofs.Common.{◌≡◌, ◌+◌, ◌↔◌, length, sym, subst}
+use Rattle.std.proofs.Common.{◌+◌, length}
 use Rattle.hp_units.specs.History.{value_of}
-use Rattle.hp_laws.specs.Consequences.{IsLowestInUse}
-use Rattle.hp_laws.proofs.Names.{NotFree, Refused, Reply}
 use Rattle.hp_laws.proofs.EventSteps.{value-placed}
 use Rattle.hp_laws.proofs.ConsequencesCommits.{all_free-none}
 use Rattle.hp_laws.proofs.ConsequencesReplies.{commit_done, commit_refused, commit_some}
@@ -24,7 +22,5 @@ returns-clause-tests c l s op layout p = all_free-none l s op layout p
 
 pub returns-clause-history : goal.returns-clause-history
 returns-clause-history c l base before op frame h r layout p legal event low =
-    subst (λ (reply : Reply). (reply ≡ Refused (NotFree frame))
-    ↔ IsLowestInUse l (value_of l base h) op frame) (sym (commit_step l base before op h r legal event))
-    (commit_refused l (value_of l base h) (before + length h + 1) r.cpu op frame layout
-    (value-placed l base h layout p) low)
+    rw (commit_step l base before op h r legal event) (commit_refused l (value_of l base h)
+    (before + length h + 1) r.cpu op frame layout (value-placed l base h layout p) low)

@@ -1,6 +1,6 @@
 -- The serials of the steps rise, and each step is rooted in the history.
-use Rattle.std.proofs.Common.{ap, ◌+◌, arith, length}
-use Rattle.hp_units.specs.History.{net_of, run, value_of}
+use Rattle.std.proofs.Common.{◌+◌, arith, length}
+use Rattle.hp_units.specs.History.{net_of, value_of}
 use Rattle.hp_laws.proofs.Earlier.{each_prefix, numbered_net, rooted_net}
 use Rattle.hp_laws.proofs.laws.earlier_states.Goals as goal
 
@@ -10,5 +10,4 @@ returns-clause-prefix c l base before k h legal le =
 
 pub returns-clause-state : goal.returns-clause-state
 unfolding value_of
-returns-clause-state c l base before k h r legal at =
-    ap (run l base) ((rooted_net l base before h legal).comes k r at)
+returns-clause-state c l base before k h r legal at = rw ((rooted_net l base before h legal).comes k r at)

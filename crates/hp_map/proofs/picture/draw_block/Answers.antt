@@ -5,7 +5,7 @@ use Rattle.hp_map.proofs.picture.draw_block.Goals as goal
 
 pub returns : goal.returns
 returns c =
-    picture_is c.args.machine.now.layout c.args.machine.now.state c.args.places.now.items c.args.shows_orders
-    c.args.block _ _ _ _ _ _ _ c.new.ensures
+    picture_is c.args.machine.now.layout c.args.machine.now.state c.args.places.now.items c.args.block
+    _ _ _ _ _ _ _ c.new.ensures
     (c.in_ok-cells.ensures ∙ ap (λ l. cells_text l c.args.places.now.items c.args.block) c.layout.ensures)
-    c.in_ok-ordered.ensures c.in_ok-free.ensures c.in_ok-kernel.ensures c.in_ok-kinds.ensures
+    c.in_ok-free.ensures c.in_ok-kernel.ensures

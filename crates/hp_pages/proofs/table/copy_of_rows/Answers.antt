@@ -5,8 +5,7 @@ use Rattle.hp_pages.proofs.table.copy_of_rows.Goals as goal
 
 pub returns-in_err-copy : goal.returns-in_err-copy
 returns-in_err-copy c =
-    let p = err_from_is_err_and c.from_residual.result c.from_residual.ensures.1 in
-    rw p.1 tt
+    rw (err_from_is_err_and c.from_residual.result c.from_residual.ensures.1).1 tt
 
 pub returns-in_err-copy-2 : goal.returns-in_err-copy-2
 returns-in_err-copy-2 c =

@@ -3,8 +3,7 @@ use Rattle.hp_pages.proofs.table.empty_rows.Goals as goal
 
 pub returns-in_err-rows : goal.returns-in_err-rows
 returns-in_err-rows c =
-    let p = err_from_is_err_and c.from_residual.result c.from_residual.ensures.1 in
-    rw p.1 tt
+    rw (err_from_is_err_and c.from_residual.result c.from_residual.ensures.1).1 tt
 
 pub returns-in_err-empty : goal.returns-in_err-empty
 returns-in_err-empty c =

@@ -1,4 +1,4 @@
-use Rattle.std.proofs.Common.{ℕ, arith, ◌≡◌, ◌<◌, IfSome, Option, None, length, get_or, sym, subst}
+use Rattle.std.proofs.Common.{ℕ, arith, ◌≡◌, ◌<◌, IfSome, Option, None, length, get_or, sym}
 use Rattle.std.proofs.lemmas.List.{get_or_read}
 use Rattle.hp_units.specs.Placement.{IsKernelAt}
 use Rattle.hp_placement.specs.Placing.{kernel_counts, kernel_covered}
@@ -15,8 +15,7 @@ returns-then-not-place_entry c placed =
     let is : get_or kernel number None ≡ entry =
     sym (get_or_read kernel number entry low c.index-kernel-number.is None) in
     let here : IfSome entry (IsKernelAt c.args.layout.now c.args.rows.now number) =
-    subst (λ (e : Option ℕ). IfSome e (IsKernelAt c.args.layout.now c.args.rows.now number)) is
-    (placed number) in
+    rw (← is) (placed number) in
     twice_as (kernel_counts kernel)
     (λ frame. total-numbered (λ (first : ℕ) (e : Option ℕ). kernel_covered frame first e) 0 kernel)
     (so_far_twice c.loop-number.invariant entry low is (c.if-not-place_entry.ensures here))

@@ -1,10 +1,7 @@
-use Rattle.std.proofs.Common.{ℕ, arith, ◌≡◌, ◌∙◌, ◌+◌, ◌^◌, ◌<◌, ◌≤◌, ◌/◌, List, [], ap, below_more, get_or, subst, sym, true}
+use Rattle.std.proofs.Common.{ℕ, arith, ◌≡◌, ◌∙◌, ◌+◌, ◌^◌, ◌<◌, ◌≤◌, ◌/◌, List, [], below_more, get_or, subst, true}
 use Rattle.std.proofs.lemmas.Nat.{pow_pos}
 use Rattle.hp_units.specs.Arithmetic.{frame_count}
 use Rattle.hp_units.specs.FreeAreas.{is_on}
-use Rattle.hp_units.specs.Memory.{free_list}
-use Rattle.hp_plain.specs.Names.{Class}
-use Rattle.hp_placement.specs.Placing.{IsListJoined}
 use Rattle.hp_placement.proofs.PlacedHeads.{heads_below}
 use Rattle.hp_plain.proofs.PlacedLists.{list_numbered}
 use Rattle.hp_plain.proofs.placement.are_joined_by.Goals as goal
@@ -21,17 +18,13 @@ set-requires c frame on =
 pub loop-number-preserved : goal.loop-number-preserved
 loop-number-preserved c =
     let number : ℕ = c.loop-number.number in
-    let frames = c.free_list-frames.result.now in
-    let list : frames ≡ get_or c.args.areas.now.lists number [] =
-    c.free_list-frames.ensures
-    ∙ ap (λ (class : Class). free_list c.args.areas.now class (number / 5)) c.numbered.ensures
-    ∙ sym (list_numbered c.args.areas.now number) in
+    let list : c.free_list-frames.result.now ≡ get_or c.args.areas.now.lists number [] =
+    rw (c.free_list-frames.ensures, c.numbered.ensures, ← list_numbered c.args.areas.now number) in
     record {
       long = c.set.ensures.length ∙ c.loop-number.invariant.long;
       below =
           heads_below c.loop-number.heads c.set.new.self c.free_list-frames.result.now c.loop-number.number
           c.set.ensures.set c.loop-number.invariant.below;
       joined =
-          below_more _ _ c.loop-number.invariant.joined (subst (λ (xs : List ℕ).
-          IsListJoined xs (number / 5)) list c.if-not-is_joined.ensures);
+          below_more _ _ c.loop-number.invariant.joined (rw (← list) c.if-not-is_joined.ensures);
     }

@@ -1,6 +1,5 @@
-use Rattle.std.proofs.Common.{ℕ, List, [], ◌++◌, refl, subst}
-use Rattle.hp_talk.specs.Talks.{Hears, desk}
-use Rattle.hp_talk.specs.declared.hearing.Pause.TheVariants.{Broken, More, Quit}
+use Rattle.std.proofs.Common.{[], refl}
+use Rattle.hp_talk.specs.Talks.{desk}
 use Rattle.hp_talk.proofs.Heard.{block_broken, more_broken, quit_broken, quit_sent}
 use Rattle.hp_talk.proofs.talking.hear_block.Goals as goal
 
@@ -10,9 +9,7 @@ returns-in-Err-clause-heard g c = λ line whole holds input left read.
     let e = desk c.hear.new.talk (g.W.Sink.contents c.hear.new.writer) c.hear.new.out.items in
     more_broken g.T.Talk.replies (desk c.args.talk.now sent []) e line c.args.block.now c.hear.new.held
     (g.W.Sink.contents c.send.new.writer) input left read
-    (subst (λ (w : List ℕ). Hears g.T.Talk.replies More (desk c.args.talk.now sent w)
-    (line ++ c.args.block.now) e c.hear.new.held) c.requires.out (c.in-More.ensures.heard line whole holds))
-    c.in-Err.ensures.err
+    (rw (← c.requires.out) (c.in-More.ensures.heard line whole holds)) c.in-Err.ensures.err
 
 pub returns-in-Ok-send-clause-heard : goal.returns-in-Ok-send-clause-heard
 returns-in-Ok-send-clause-heard g c = λ line whole holds input left read.
@@ -20,9 +17,7 @@ returns-in-Ok-send-clause-heard g c = λ line whole holds input left read.
     let e = desk c.hear.new.talk (g.W.Sink.contents c.hear.new.writer) c.hear.new.out.items in
     quit_sent g.T.Talk.replies (desk c.args.talk.now sent []) e line c.args.block.now c.hear.new.held
     (g.W.Sink.contents c.send-in-Quit.new.writer) input left read
-    (subst (λ (w : List ℕ). Hears g.T.Talk.replies Quit (desk c.args.talk.now sent w)
-    (line ++ c.args.block.now) e c.hear.new.held) c.requires.out (c.in-Quit.ensures.heard line whole holds))
-    c.in-Ok-send.ensures.ok
+    (rw (← c.requires.out) (c.in-Quit.ensures.heard line whole holds)) c.in-Ok-send.ensures.ok
 
 pub returns-in-Err-send-clause-heard : goal.returns-in-Err-send-clause-heard
 returns-in-Err-send-clause-heard g c = λ line whole holds input left read.
@@ -30,9 +25,7 @@ returns-in-Err-send-clause-heard g c = λ line whole holds input left read.
     let e = desk c.hear.new.talk (g.W.Sink.contents c.hear.new.writer) c.hear.new.out.items in
     quit_broken g.T.Talk.replies (desk c.args.talk.now sent []) e line c.args.block.now c.hear.new.held
     (g.W.Sink.contents c.send-in-Quit.new.writer) input left read
-    (subst (λ (w : List ℕ). Hears g.T.Talk.replies Quit (desk c.args.talk.now sent w)
-    (line ++ c.args.block.now) e c.hear.new.held) c.requires.out (c.in-Quit.ensures.heard line whole holds))
-    c.in-Err-send.ensures.err
+    (rw (← c.requires.out) (c.in-Quit.ensures.heard line whole holds)) c.in-Err-send.ensures.err
 
 pub returns-in-Broken-clause-heard : goal.returns-in-Broken-clause-heard
 returns-in-Broken-clause-heard g c = λ line whole holds input left read.
@@ -41,5 +34,4 @@ returns-in-Broken-clause-heard g c = λ line whole holds input left read.
     let f = desk c.hear.new.talk (g.W.Sink.contents c.hear.new.writer) [] in
     block_broken g.T.Talk.replies (desk c.args.talk.now sent []) e f line c.args.block.now c.hear.new.held
     input left read refl refl
-    (subst (λ (w : List ℕ). Hears g.T.Talk.replies Broken (desk c.args.talk.now sent w)
-    (line ++ c.args.block.now) e c.hear.new.held) c.requires.out (c.in-Broken.ensures.heard line whole holds))
+    (rw (← c.requires.out) (c.in-Broken.ensures.heard line whole holds))

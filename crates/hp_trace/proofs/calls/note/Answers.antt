@@ -1,6 +1,5 @@
-use Rattle.std.proofs.Common.{◌≡◌, ◌++◌, ℕ, List, OnOk, ap, subst, ◌∙◌}
+use Rattle.std.proofs.Common.{◌≡◌, ◌++◌, ℕ, List, ap, ◌∙◌}
 use Rattle.hp_trace.specs.Calls.{remark_text}
-use Rattle.hp_trace.specs.Rows.{AreDrawn, noted}
 use Rattle.hp_trace.proofs.calls.note.Goals as goal
 
 pub returns : goal.returns
@@ -8,5 +7,4 @@ returns c =
     let text : c.as_str.result.now ≡ remark_text c.args.remark =
     c.as_str.ensures.value ∙ c.in_ok-write_remark.ensures
     ∙ ap (λ (t : List ℕ). t ++ remark_text c.args.remark) c.new-out.ensures.bytes in
-    subst (λ (t : List ℕ). OnOk c.note.result (AreDrawn (noted c.args.machine.now c.args.asked.now t)
-    c.args.rows.now c.note.new.self)) text c.note.ensures
+    rw (← text) c.note.ensures

@@ -1,4 +1,4 @@
-use Rattle.std.proofs.Common.{◌≡◌, ◌+◌, ℕ, List, ap, arith, subst, sym, ◌++◌, ◌∙◌}
+use Rattle.std.proofs.Common.{◌≡◌, ◌+◌, List, ap, arith, subst, sym, ◌++◌, ◌∙◌}
 use Rattle.hp_trace_json.specs.declared.frames.PageNow.{PageNow}
 use Rattle.hp_trace_json.specs.Changes.{NoOwnersPages, OwnersPagesTold, PagesTold}
 use Rattle.hp_trace_json.proofs.Tellings.{below_more, below_none}
@@ -25,5 +25,4 @@ returns c =
     c.owners-number-end.ensures.is ∙ ap (λ l. l.owners) c.layout.ensures in
     let all : c.loop-number.number ≡ c.args.now.now.layout.owners =
     omega (arith, end, c.loop-number-test.false, c.loop-number.auto.number-end) in
-    subst (λ (n : ℕ). PagesTold c.args.was.now c.args.now.now n c.loop-number.told.items) all
-    c.loop-number.invariant
+    rw (← all) c.loop-number.invariant

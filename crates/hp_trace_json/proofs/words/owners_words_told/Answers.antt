@@ -1,4 +1,4 @@
-use Rattle.std.proofs.Common.{◌≡◌, ◌+◌, ℕ, List, Some, ap, arith, subst, sym, ◌++◌, ◌∙◌}
+use Rattle.std.proofs.Common.{◌≡◌, ◌+◌, List, Some, ap, arith, subst, sym, ◌++◌, ◌∙◌}
 use Rattle.hp_trace_json.specs.declared.words.WordNow.{WordNow}
 use Rattle.hp_trace_json.specs.Changes.{NoOwnersWords, NoWords, OwnersWordsTold, PagesWordsTold, is_word}
 use Rattle.hp_trace_json.specs.Parts.{words_in}
@@ -47,6 +47,4 @@ returns-clause-told c =
     c.pages-number-end.ensures.is ∙ ap (λ l. l.pages) c.layout.ensures in
     let all : c.loop-number.number ≡ c.args.now.now.layout.pages =
     omega (arith, end, c.loop-number-test.false, c.loop-number.auto.number-end) in
-    subst
-    (λ (n : ℕ). OwnersWordsTold c.args.was.now c.args.now.now c.args.owner n c.loop-number.told.items) all
-    c.loop-number.invariant.0
+    rw (← all) c.loop-number.invariant.0

@@ -1,5 +1,5 @@
-use Rattle.std.proofs.Common.{◌≡◌, ℕ, arith, subst}
-use Rattle.hp_trace_json.specs.Changes.{PagesWordsTold, SetsWord, is_word}
+use Rattle.std.proofs.Common.{◌≡◌, arith}
+use Rattle.hp_trace_json.specs.Changes.{SetsWord, is_word}
 use Rattle.hp_trace_json.specs.Parts.{word_of}
 use Rattle.hp_trace_json.proofs.Equal.{are_words, last_word, other_word}
 use Rattle.hp_trace_json.proofs.Tellings.{silent_added, silent_none, values_more, values_none}
@@ -32,6 +32,4 @@ loop-index-preserved c =
 pub returns-clause-told : goal.returns-clause-told
 returns-clause-told c =
     let all : c.loop-index.index ≡ c.args.count = omega (arith, c.loop-index-test.false) in
-    subst
-    (λ (n : ℕ). PagesWordsTold c.args.owner c.args.page c.args.was.now c.args.now.now n c.loop-index.told.items)
-    all c.loop-index.invariant.0
+    rw (← all) c.loop-index.invariant.0

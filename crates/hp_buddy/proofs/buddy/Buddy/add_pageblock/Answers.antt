@@ -1,7 +1,6 @@
-use Rattle.std.proofs.Common.{subst, sym, ap, ◌∙◌, ◌*◌}
-use Rattle.hp_units.specs.LayoutParts.{LayoutParts}
+use Rattle.std.proofs.Common.{ap, ◌∙◌, ◌*◌}
 use Rattle.hp_units.specs.Arithmetic.{pageblock_size}
-use Rattle.hp_buddy.specs.Buddy.{BuddyValue, AreApart}
+use Rattle.hp_buddy.specs.Buddy.{BuddyValue}
 use Rattle.hp_buddy.proofs.Gives.{Gives}
 use Rattle.hp_buddy.proofs.Blocks.{block_added}
 use Rattle.hp_buddy.proofs.buddy.Buddy.add_pageblock.Goals as goal
@@ -19,8 +18,7 @@ gives c =
 
 pub returns-clause-apart : goal.returns-clause-apart
 returns-clause-apart c =
-    subst (λ (l : LayoutParts). AreApart l c.push_back.new.self.areas) (sym c.push_back.ensures.layout)
-    (gives (goal.at.returns-clause-apart c).After-push_back).apart
+    rw c.push_back.ensures.layout (gives (goal.at.returns-clause-apart c).After-push_back).apart
 
 pub returns-clause-places : goal.returns-clause-places
 returns-clause-places c = (gives (goal.at.returns-clause-places c).After-push_back).places

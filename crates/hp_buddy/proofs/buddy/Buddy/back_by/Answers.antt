@@ -1,7 +1,7 @@
 -- Each delta by its own lemma.
-use Rattle.std.proofs.Common.{ℕ, ap, sym, ◌∙◌, ◌+◌, ◌*◌}
+use Rattle.std.proofs.Common.{ℕ, ap, sym, ◌∙◌}
 use Rattle.std.proofs.lemmas.List.{length-set}
-use Rattle.hp_units.specs.Memory.{class_index, with_kind}
+use Rattle.hp_units.specs.Memory.{with_kind}
 use Rattle.hp_tape.specs.declared.deltas.Delta.{Delta}
 use Rattle.hp_tape.specs.declared.deltas.Delta.TheVariants.{Link, Unlink}
 use Rattle.hp_tape.specs.declared.deltas.ListId.{ListId}
@@ -37,8 +37,7 @@ relink_after-requires-clause-after_on c =
     c.in-Area-list.class c.in-Area-list.order c.in-Unlink.frame c.list_number-number.result
     c.in-Unlink.after
     (record { is = c.self.view_is; kept = c.self.invariant }) c.in-Unlink.is c.in-Area-list.is c.requires.fits
-    (c.list_number-number.ensures
-    ∙ ap (λ (n : ℕ). 5 * n + class_index c.in-Area-list.class) c.from.ensures)
+    (rw (c.list_number-number.ensures, c.from.ensures))
 
 pub returns-in-Area-list-clause-back : goal.returns-in-Area-list-clause-back
 returns-in-Area-list-clause-back c =
@@ -47,8 +46,7 @@ returns-in-Area-list-clause-back c =
     c.in-Unlink.list c.in-Area-list.class c.in-Area-list.order c.in-Unlink.frame c.list_number-number.result
     c.in-Unlink.after
     (record { is = c.self.view_is; kept = c.self.invariant }) c.in-Unlink.is c.in-Area-list.is
-    (c.list_number-number.ensures
-    ∙ ap (λ (n : ℕ). 5 * n + class_index c.in-Area-list.class) c.from.ensures) c.relink_after.ensures
+    (rw (c.list_number-number.ensures, c.from.ensures)) c.relink_after.ensures
 
 pub invariant_of-self : goal.invariant_of-self
 invariant_of-self c = kept-off _ c.self.invariant c.unlink.ensures.links

@@ -1,4 +1,4 @@
-use Rattle.std.proofs.Common.{List, ◌∙◌, ap}
+use Rattle.std.proofs.Common.{List}
 use Rattle.hp_units.specs.LayoutParts.{LayoutParts}
 use Rattle.hp_units.specs.declared.rows.Kind.{Kind}
 use Rattle.hp_links.specs.LinkedLists.{LinkedLists}
@@ -11,7 +11,5 @@ buddy_of l links kinds = record { layout = l; areas = record { lists = links.lis
 pub returns : goal.returns
 returns c =
     let b = c.self.inside in
-    ap (λ (l : LayoutParts). buddy_of l c.in_ok-links.links c.in_ok-kinds.kinds.items) c.in_ok-layout.ensures
-    ∙ (ap (λ (k : LinkedLists). buddy_of b.layout k c.in_ok-kinds.kinds.items) c.in_ok-links.ensures
-    ∙ (ap (buddy_of b.layout b.links) (c.in_ok-kinds.ensures.items ∙ c.as_slice.ensures.value)
-    ∙ c.self.view_is))
+    rw (c.in_ok-layout.ensures, c.in_ok-links.ensures, c.in_ok-kinds.ensures.items)
+    (rw c.as_slice.ensures.value c.self.view_is)

@@ -1,4 +1,4 @@
-use Rattle.std.proofs.Common.{◌≡◌, ℕ, ◌+◌, ◌*◌, List, [], ◌∷◌, slice_get, refl, ◌∙◌, ap}
+use Rattle.std.proofs.Common.{◌≡◌, ℕ, ◌+◌, ◌*◌, List, [], ◌∷◌, slice_get, refl, ap}
 use Rattle.hp_units.specs.Memory.{class_index, free_list}
 use Rattle.hp_links.specs.LinkedLists.{first, list_at}
 use Rattle.hp_buddy.specs.Buddy.{BuddyValue}
@@ -10,7 +10,6 @@ first-at (x ∷ xs) = refl
 
 pub returns : goal.returns
 returns c =
-    c.front.ensures
-    ∙ ap (λ (n : ℕ). first (list_at c.self.inside.links n)) c.list_number.ensures
-    ∙ first-at (list_at c.self.inside.links (5 * c.args.order + class_index c.args.class))
-    ∙ ap (λ (v : BuddyValue). slice_get (free_list v.areas c.args.class c.args.order) 0) c.self.view_is
+    rw (c.front.ensures, c.list_number.ensures)
+    (rw (first-at (list_at c.self.inside.links (5 * c.args.order + class_index c.args.class)))
+    (ap (λ (v : BuddyValue). slice_get (free_list v.areas c.args.class c.args.order) 0) c.self.view_is))

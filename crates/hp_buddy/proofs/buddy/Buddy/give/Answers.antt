@@ -1,14 +1,10 @@
 -- The buddies below the order that is joined up to are free, and the block joined is in no free
 -- block when they have left.
-use Rattle.std.proofs.Common.{◌≡◌, ◌≤◌, ◌<◌, ℕ, ◌+◌, ◌-◌, arith, subst, sym, ◌∙◌}
+use Rattle.std.proofs.Common.{◌≡◌, ℕ, ◌+◌, ◌-◌, arith, subst, sym}
 use Rattle.std.proofs.lemmas.Nat.{pow_pos}
-use Rattle.hp_units.specs.LayoutParts.{LayoutParts}
 use Rattle.hp_numbers.specs.Numbers.{ancestor}
-use Rattle.hp_units.specs.Arithmetic.{frame_count}
-use Rattle.hp_units.specs.Memory.{FreeAreas}
 use Rattle.hp_units.specs.FreeAreas.{give_block}
 use Rattle.hp_units.specs.Placement.{free_places}
-use Rattle.hp_buddy.specs.Buddy.{AreApart}
 use Rattle.hp_lemmas.proofs.Joins.{JoinsTo}
 use Rattle.hp_buddy.proofs.Splits.{IsLeft}
 use Rattle.hp_buddy.proofs.Gives.{Gives, give_block-gives}
@@ -58,15 +54,13 @@ left c =
 pub push_front-requires-clause-order : goal.push_front-requires-clause-order
 push_front-requires-clause-order c =
     let j = left (goal.at.push_front-requires-clause-order c).After-unlink_buddies in
-    subst (λ (l : LayoutParts). c.join_order-joined.result ≤ l.order) (sym c.unlink_buddies.ensures.layout)
-    j.rest.in_order
+    rw c.unlink_buddies.ensures.layout j.rest.in_order
 
 pub push_front-requires-clause-frame : goal.push_front-requires-clause-frame
 push_front-requires-clause-frame c =
     let j = left (goal.at.push_front-requires-clause-frame c).After-unlink_buddies in
     let some = pow_pos c.join_order-joined.result in
-    subst (λ (l : LayoutParts). c.ancestor.result < frame_count l) (sym c.unlink_buddies.ensures.layout)
-    (omega (arith, j.rest.within, c.ancestor.ensures))
+    rw c.unlink_buddies.ensures.layout (omega (arith, j.rest.within, c.ancestor.ensures))
 
 pub push_front-requires-clause-unfree : goal.push_front-requires-clause-unfree
 push_front-requires-clause-unfree c =
@@ -109,15 +103,12 @@ returns-clause-notes c =
 gives : (c : After-push_front)
     → Gives c.args.self.now.layout c.args.self.now.areas c.args.order c.args.frame c.push_front.new.self.areas
 gives c =
-    subst (λ (a : FreeAreas). Gives c.args.self.now.layout c.args.self.now.areas c.args.order c.args.frame a)
-    (sym (is c))
-    (give_block-gives c.args.self.now.layout c.args.self.now.areas c.args.zone c.args.frame c.args.order
-    c.requires.block c.requires.apart)
+    rw (is c) (give_block-gives c.args.self.now.layout c.args.self.now.areas c.args.zone c.args.frame
+    c.args.order c.requires.block c.requires.apart)
 
 pub returns-clause-apart : goal.returns-clause-apart
 returns-clause-apart c =
-    subst (λ (l : LayoutParts). AreApart l c.push_front.new.self.areas)
-    (sym (c.push_front.ensures.layout ∙ c.unlink_buddies.ensures.layout))
+    rw (c.push_front.ensures.layout, c.unlink_buddies.ensures.layout)
     (gives (goal.at.returns-clause-apart c).After-push_front).apart
 
 pub returns-clause-places : goal.returns-clause-places

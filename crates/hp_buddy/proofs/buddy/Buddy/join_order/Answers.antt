@@ -1,7 +1,5 @@
 -- An order whose buddy is free is joined.
-use Rattle.std.proofs.Common.{◌≡◌, ℕ, ◌+◌, ◌-◌, ◌∙◌, Bool, cond, arith, ap, sym, subst}
-use Rattle.hp_units.specs.LayoutParts.{IsLayout}
-use Rattle.hp_units.specs.FreeAreas.{join_order}
+use Rattle.std.proofs.Common.{◌≡◌, ◌-◌, ◌∙◌, arith, ap, sym}
 use Rattle.hp_buddy.specs.Buddy.{BuddyValue}
 use Rattle.hp_buddy.proofs.Calls.{frame_is_buddy}
 use Rattle.hp_buddy.proofs.Searches.{join_order-on}
@@ -21,12 +19,9 @@ returns-then-not-is_free-clause-joined c =
     let last = c.args.self.now.layout.order in
     let order = c.loop-order.order in
     let same : c.self.inside.layout.order ≡ last = ap (λ (v : BuddyValue). v.layout.order) c.self.view_is in
-    sym (c.loop-order.invariant
-    ∙ join_order-on a c.args.class c.args.frame order last c.ancestor-half.result c.buddy.result
-    c.is_free.result (omega (arith, c.order-last.ensures.is))
-    c.ancestor-half.ensures c.buddy.ensures c.is_free.ensures
-    ∙ ap (λ (b : Bool). cond b (join_order a c.args.class c.args.frame (order + 1) (last - (order + 1)))
-    order) c.if-not-is_free.true)
+    sym (rw c.loop-order.invariant (rw (join_order-on a c.args.class c.args.frame order last
+    c.ancestor-half.result c.buddy.result c.is_free.result (omega (arith, c.order-last.ensures.is))
+    c.ancestor-half.ensures c.buddy.ensures c.is_free.ensures) (rw c.if-not-is_free.true)))
 
 pub loop-order-preserved : goal.loop-order-preserved
 loop-order-preserved c =
@@ -34,12 +29,9 @@ loop-order-preserved c =
     let last = c.args.self.now.layout.order in
     let order = c.loop-order.order in
     let same : c.self.inside.layout.order ≡ last = ap (λ (v : BuddyValue). v.layout.order) c.self.view_is in
-    c.loop-order.invariant
-    ∙ join_order-on a c.args.class c.args.frame order last c.ancestor-half.result c.buddy.result
-    c.is_free.result (omega (arith, c.order-last.ensures.is))
-    c.ancestor-half.ensures c.buddy.ensures c.is_free.ensures
-    ∙ ap (λ (b : Bool). cond b (join_order a c.args.class c.args.frame (order + 1) (last - (order + 1)))
-    order) c.if-not-is_free.false
+    rw c.loop-order.invariant (rw (join_order-on a c.args.class c.args.frame order last c.ancestor-half.result
+    c.buddy.result c.is_free.result (omega (arith, c.order-last.ensures.is)) c.ancestor-half.ensures
+    c.buddy.ensures c.is_free.ensures) (rw c.if-not-is_free.false))
 
 pub ancestor-half-requires : goal.ancestor-half-requires
 ancestor-half-requires c = omega (arith, c.order-last.ensures.is, c.order-last.ensures.layout.order)
@@ -54,17 +46,13 @@ is_free-requires-clause-order c =
     omega (arith, c.order-last.ensures.is)
 
 pub loop-order-init : goal.loop-order-init
-loop-order-init c =
-    ap (λ (n : ℕ). join_order c.args.self.now.areas c.args.class c.args.frame n
-    (c.args.self.now.layout.order - n)) (sym c.first.view_is)
+loop-order-init c = rw (← c.first.view_is)
 
 pub returns-then-not-is_free-clause-layout : goal.returns-then-not-is_free-clause-layout
-returns-then-not-is_free-clause-layout c =
-    subst (λ (v : BuddyValue). IsLayout v.layout) c.self.view_is c.order-last.ensures.layout
+returns-then-not-is_free-clause-layout c = rw (← c.self.view_is) c.order-last.ensures.layout
 
 pub returns-clause-layout : goal.returns-clause-layout
-returns-clause-layout c =
-    subst (λ (v : BuddyValue). IsLayout v.layout) c.self.view_is c.order-last.ensures.layout
+returns-clause-layout c = rw (← c.self.view_is) c.order-last.ensures.layout
 
 pub returns-clause-joined : goal.returns-clause-joined
 returns-clause-joined c =
@@ -82,5 +70,4 @@ returns-clause-joined c =
       c.first.view_is,
     ) in
     is
-    ∙ sym (c.loop-order.invariant
-    ∙ ap (join_order c.args.self.now.areas c.args.class c.args.frame order) none)
+    ∙ sym (rw (c.loop-order.invariant, none))

@@ -1,7 +1,6 @@
 -- A free block that left its list is in no free block.
-use Rattle.std.proofs.Common.{◌≡◌, ◌*◌, Bool, cond, sym, ◌∙◌, ap, subst, arith}
+use Rattle.std.proofs.Common.{◌≡◌, ◌*◌, Bool, cond, sym, ◌∙◌, ap, arith}
 use Rattle.std.proofs.lemmas.Nat.{pow_pos}
-use Rattle.hp_units.specs.Memory.{FreeAreas}
 use Rattle.hp_buddy.specs.Moves.{free_one}
 use Rattle.hp_buddy.proofs.Moves.{IsOut, taken_out}
 use Rattle.hp_buddy.proofs.Calls.{notes-then}
@@ -11,10 +10,8 @@ use Rattle.hp_buddy.proofs.buddy.Buddy.move_block.Goals.{After-unlink_free}
 is_out : (c : After-unlink_free)
     → IsOut c.args.self.now.layout c.unlink_free.new.self.areas c.args.order c.args.frame
 is_out c =
-    subst (λ (a : FreeAreas). IsOut c.args.self.now.layout a c.args.order c.args.frame)
-    (sym c.unlink_free.ensures.areas)
-    (taken_out c.args.self.now.layout c.args.self.now.areas c.args.from c.args.order c.args.frame
-    c.requires.order (sym c.is_free.ensures ∙ c.if-is_free.true) c.requires.apart)
+    rw c.unlink_free.ensures.areas (taken_out c.args.self.now.layout c.args.self.now.areas c.args.from
+    c.args.order c.args.frame c.requires.order (sym c.is_free.ensures ∙ c.if-is_free.true) c.requires.apart)
 
 pub push_back-requires-clause-once : goal.push_back-requires-clause-once
 push_back-requires-clause-once c =

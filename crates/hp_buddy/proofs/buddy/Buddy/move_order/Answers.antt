@@ -1,14 +1,11 @@
 -- The blocks of a pageblock, one after another.
-use Rattle.std.proofs.Common.{◌≡◌, ◌≤◌, ◌<◌, ◌+◌, ◌*◌, ◌^◌, ℕ, sym, ◌∙◌, ap, subst, arith}
+use Rattle.std.proofs.Common.{◌≡◌, ◌≤◌, ◌+◌, ◌*◌, ◌^◌, ℕ, ◌∙◌, ap, subst, arith}
 use Rattle.std.proofs.lemmas.Nat.{pow_pos}
-use Rattle.hp_units.specs.LayoutParts.{LayoutParts}
 use Rattle.hp_units.specs.Arithmetic.{frame_count, pageblock_size}
-use Rattle.hp_units.specs.Memory.{FreeAreas}
 use Rattle.hp_tape.specs.Tapes.{NotesAreas}
-use Rattle.hp_buddy.specs.Buddy.{AreApart}
-use Rattle.hp_buddy.specs.Moves.{free_one, free_count, move_one}
+use Rattle.hp_buddy.specs.Moves.{free_one, free_count}
 use Rattle.hp_buddy.proofs.Apart.{has_order}
-use Rattle.hp_buddy.proofs.Moves.{move_first, move_first-moves}
+use Rattle.hp_buddy.proofs.Moves.{move_first-moves}
 use Rattle.hp_buddy.proofs.Calls.{notes-then, room_left}
 use Rattle.hp_buddy.proofs.Pageblocks.{frame_in, count-within, one-same, move_free-first}
 use Rattle.hp_buddy.proofs.Strides.{ends-within, stride, whole}
@@ -26,9 +23,7 @@ ends c =
     (omega (arith, c.blocks_of_order-count.ensures.is))
 
 place : (c : After-nth_block-frame) → c.nth_block-frame.result ≡ first c + c.loop-at.at * 2 ^ c.args.order
-place c =
-    c.nth_block-frame.ensures
-    ∙ ap (λ (n : ℕ). n + c.loop-at.at * 2 ^ c.args.order) c.first_frame-first.ensures
+place c = rw (c.nth_block-frame.ensures, c.first_frame-first.ensures)
 
 pub nth_block-frame-requires-clause-frame : goal.nth_block-frame-requires-clause-frame
 nth_block-frame-requires-clause-frame c =
@@ -49,16 +44,14 @@ move_block-requires-clause-frame c =
     let inside =
     frame_in l c.args.pageblock (c.loop-at.at * 2 ^ c.args.order) c.requires.pageblock
     (omega (arith, ends here, pow_pos c.args.order)) in
-    subst (λ (k : LayoutParts). c.nth_block-frame.result < frame_count k) (sym c.loop-at.invariant.layout)
-    (omega (arith, inside, place here))
+    rw c.loop-at.invariant.layout (omega (arith, inside, place here))
 
 pub move_block-requires-clause-apart : goal.move_block-requires-clause-apart
 move_block-requires-clause-apart c =
     let l = c.args.self.now.layout in
-    subst (λ (k : LayoutParts). AreApart k c.loop-at.self.areas) (sym c.loop-at.invariant.layout)
-    (subst (λ (a : FreeAreas). AreApart l a) (sym c.loop-at.invariant.areas)
-    (move_first-moves l c.args.self.now.areas c.args.from c.args.to c.args.order (c.args.pageblock
-    * pageblock_size l) (c.loop-at.at * 2 ^ c.args.order) c.requires.order c.requires.apart).apart)
+    rw (c.loop-at.invariant.layout, c.loop-at.invariant.areas)
+    (move_first-moves l c.args.self.now.areas c.args.from c.args.to c.args.order (c.args.pageblock *
+    pageblock_size l) (c.loop-at.at * 2 ^ c.args.order) c.requires.order c.requires.apart).apart
 
 pub move_block-requires-clause-room : goal.move_block-requires-clause-room
 move_block-requires-clause-room c =
@@ -94,12 +87,8 @@ loop-at-preserved c =
     (omega (arith, next, pow_pos c.args.order)) in
     record {
       areas =
-          c.move_block.ensures.areas
-          ∙ ap (λ (n : ℕ). move_one c.loop-at.self.areas c.args.from c.args.to c.args.order n) (place here)
-          ∙ ap (λ (b : FreeAreas). move_one b c.args.from c.args.to c.args.order (first here + at))
-          c.loop-at.invariant.areas
-          ∙ sym (stride l a c.args.from c.args.to c.args.pageblock c.args.order c.loop-at.at c.requires.order
-          c.requires.apart);
+          rw (c.move_block.ensures.areas, place here, c.loop-at.invariant.areas) (rw (← stride l a c.args.from
+          c.args.to c.args.pageblock c.args.order c.loop-at.at c.requires.order c.requires.apart));
       layout = c.move_block.ensures.layout ∙ c.loop-at.invariant.layout;
       notes =
           notes-then l c.loop-at.self.layout (2 * free_count a c.args.from c.args.order (first here) at)
@@ -122,11 +111,8 @@ returns-clause-areas c =
     let here = (goal.at.returns-clause-areas c).After-blocks_of_order-count in
     let l = c.args.self.now.layout in
     let a = c.args.self.now.areas in
-    c.loop-at.invariant.areas
-    ∙ ap (λ (n : ℕ). move_first a c.args.from c.args.to c.args.order (c.args.pageblock * pageblock_size l) n)
-    (last here c.loop-at.at (omega arith))
-    ∙ move_free-first l a c.args.from c.args.to c.args.pageblock c.args.order
-    (has_order l a c.args.order c.requires.apart c.requires.order)
+    rw (c.loop-at.invariant.areas, last here c.loop-at.at (omega arith)) (move_free-first l a c.args.from
+    c.args.to c.args.pageblock c.args.order (has_order l a c.args.order c.requires.apart c.requires.order))
 
 pub returns-clause-notes : goal.returns-clause-notes
 returns-clause-notes c =

@@ -1,12 +1,9 @@
 -- The orders of the layout, one after another.
-use Rattle.std.proofs.Common.{◌≡◌, ◌+◌, ◌*◌, sym, ◌∙◌, ap, subst, arith}
-use Rattle.hp_units.specs.LayoutParts.{LayoutParts}
+use Rattle.std.proofs.Common.{◌≡◌, ◌+◌, ◌*◌, ◌∙◌, ap, arith}
 use Rattle.hp_units.specs.Arithmetic.{pageblock_size}
-use Rattle.hp_units.specs.Memory.{FreeAreas}
-use Rattle.hp_units.specs.Isolation.{move_free}
 use Rattle.hp_tape.specs.Deltas.{FitsAreas, IsOfAreas, areas_undo}
 use Rattle.hp_tape.proofs.Leads.{notes-more}
-use Rattle.hp_buddy.specs.Buddy.{BuddyValue, AreApart}
+use Rattle.hp_buddy.specs.Buddy.{BuddyValue}
 use Rattle.hp_buddy.specs.Moves.{free_count}
 use Rattle.hp_buddy.proofs.Calls.{notes-then, room_left}
 use Rattle.hp_buddy.proofs.Pageblocks.{move_free_below-moves, order_count, below_next, free_total, total_next, total-le}
@@ -17,10 +14,9 @@ move_order-requires-clause-apart c =
     let l = c.args.self.now.layout in
     let same : c.self.inside.layout.order ≡ l.order =
     ap (λ (v : BuddyValue). v.layout.order) c.self.view_is in
-    subst (λ (k : LayoutParts). AreApart k c.loop-order.self.areas) (sym c.loop-order.invariant.layout)
-    (subst (λ (a : FreeAreas). AreApart l a) (sym c.loop-order.invariant.areas)
+    rw (c.loop-order.invariant.layout, c.loop-order.invariant.areas)
     (move_free_below-moves l c.args.self.now.areas c.args.from c.args.to c.args.pageblock c.loop-order.order
-    (omega (arith, c.order-order-end.ensures.is)) c.requires.apart).apart)
+    (omega (arith, c.order-order-end.ensures.is)) c.requires.apart).apart
 
 pub move_order-requires-clause-room : goal.move_order-requires-clause-room
 move_order-requires-clause-room c =
@@ -58,8 +54,7 @@ loop-order-preserved c =
       areas =
           below_next l a c.loop-order.self.areas c.move_order.new.self.areas c.args.from c.args.to
           c.args.pageblock c.loop-order.order c.loop-order.invariant.areas
-          (c.move_order.ensures.areas ∙ ap (λ (k : LayoutParts). move_free k c.loop-order.self.areas
-          c.args.from c.args.to c.args.pageblock c.loop-order.order) c.loop-order.invariant.layout);
+          (rw (c.move_order.ensures.areas, c.loop-order.invariant.layout));
       layout = c.move_order.ensures.layout ∙ c.loop-order.invariant.layout;
       notes =
           notes-then l c.loop-order.self.layout

@@ -2,7 +2,6 @@
 use Rattle.std.proofs.Common.{◌≡◌, ◌*◌, refl, sym, ◌∙◌, subst, arith}
 use Rattle.hp_units.specs.LayoutParts.{LayoutParts}
 use Rattle.hp_units.specs.Arithmetic.{pageblock_size}
-use Rattle.hp_units.specs.Memory.{FreeAreas}
 use Rattle.hp_units.specs.Isolation.{move_pageblock}
 use Rattle.hp_tape.specs.Bounds.{move_bound}
 use Rattle.hp_buddy.specs.Buddy.{AreApart}
@@ -24,8 +23,7 @@ is c =
 
 moves : (c : After-set_kind) → Moves c.args.self.now.layout c.args.self.now.areas c.set_kind.new.self.areas
 moves c =
-    subst (λ (a : FreeAreas). Moves c.args.self.now.layout c.args.self.now.areas a) (sym (is c))
-    (move_pageblock-moves c.args.self.now.layout c.args.zone c.args.isolated c.args.self.now.areas
+    rw (is c) (move_pageblock-moves c.args.self.now.layout c.args.zone c.args.isolated c.args.self.now.areas
     c.args.pageblock c.requires.apart)
 
 pub returns-clause-moved : goal.returns-clause-moved

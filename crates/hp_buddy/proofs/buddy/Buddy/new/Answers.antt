@@ -1,11 +1,10 @@
-use Rattle.std.proofs.Common.{rules, ◌≡◌, List, ℕ, ◌+◌, ◌*◌, ap, ◌∙◌, [], replicate, arith}
+use Rattle.std.proofs.Common.{rules, ◌≡◌, List, ℕ, replicate, arith}
 use Rattle.std.proofs.lemmas.Result.{err_from_is_err_and}
 use Rattle.hp_units.specs.LayoutParts.{LayoutParts}
 use Rattle.hp_units.specs.declared.rows.Kind.{Kind}
 use Rattle.hp_units.specs.Arithmetic.{pageblock_count}
 use Rattle.hp_units.specs.Boot.{empty_areas}
 use Rattle.hp_units.specs.Memory.{plain_kind}
-use Rattle.hp_links.specs.LinkedLists.{LinkedLists}
 use Rattle.hp_buddy.specs.Buddy.{BuddyValue}
 use Rattle.hp_buddy.proofs.Standing.{empty-apart}
 use Rattle.hp_buddy.proofs.buddy.Buddy.new.Goals as goal
@@ -13,8 +12,7 @@ use Rattle.hp_buddy.proofs.buddy.Buddy.new.Goals as goal
 pub returns-clause-apart : goal.returns-clause-apart
 returns-clause-apart c =
     empty-apart c.in_ok-layout.layout c.in_ok-links.links.lists c.in_ok-kinds.kinds.items
-    (ap (λ (k : LinkedLists). k.lists) c.in_ok-links.ensures
-    ∙ ap (λ (n : ℕ). replicate (5 * (n + 1)) []) c.order.ensures.is)
+    (rw (c.in_ok-links.ensures, c.order.ensures.is))
     (search rules)
 
 pub returns-in_err-layout-clause-value : goal.returns-in_err-layout-clause-value
@@ -63,10 +61,6 @@ pub returns-clause-value : goal.returns-clause-value
 returns-clause-value c =
     let l = c.in_ok-layout.layout in
     let kinds : c.in_ok-kinds.kinds.items ≡ replicate (pageblock_count l) plain_kind =
-    c.in_ok-kinds.ensures.items_if_clones_equal (λ y is. search rules)
-    ∙ (ap (λ (n : ℕ). replicate (n * c.pageblocks.result) c.plain.result) c.blocks-2.ensures.is
-    ∙ (ap (λ (n : ℕ). replicate (l.blocks * n) c.plain.result) c.pageblocks.ensures.is
-    ∙ ap (replicate (pageblock_count l)) c.plain.ensures)) in
-    ap (λ (links : LinkedLists). buddy_with l links.lists c.in_ok-kinds.kinds.items) c.in_ok-links.ensures
-    ∙ (ap (λ (n : ℕ). buddy_with l (replicate (5 * (n + 1)) []) c.in_ok-kinds.kinds.items) c.order.ensures.is
-    ∙ (ap (buddy_with l (replicate (5 * (l.order + 1)) [])) kinds ∙ ap empty_buddy c.in_ok-layout.ensures))
+    rw ((c.in_ok-kinds.ensures.items_if_clones_equal (λ y is. search rules)), c.blocks-2.ensures.is)
+    (rw (c.pageblocks.ensures.is, c.plain.ensures)) in
+    rw (c.in_ok-links.ensures, c.order.ensures.is, kinds, c.in_ok-layout.ensures)

@@ -1,6 +1,5 @@
-use Rattle.std.proofs.Common.{◌≡◌, ℕ, ◌+◌, ◌*◌, ◌/◌, Some, ◌∙◌, ap}
+use Rattle.std.proofs.Common.{◌≡◌, ◌+◌, ◌*◌, ◌∙◌}
 use Rattle.std.proofs.lemmas.Option.{same_Some}
-use Rattle.hp_units.specs.declared.rows.Class.{Class}
 use Rattle.hp_units.specs.Memory.{class_index}
 use Rattle.hp_buddy.proofs.Standing.{seen-place, seen-no_place, seen-on, seen-free, number_class, number_order}
 use Rattle.hp_buddy.proofs.buddy.Buddy.place.Goals as goal
@@ -24,8 +23,7 @@ returns-in-Some-clause-on c = λ class order on.
     c.list.view_is ∙ same_Some c.in-Some.list (5 * order + class_index class) found in
     let class_is : c.numbered.result ≡ class =
     c.numbered.ensures ∙ number_class class order c.list.inside.0 number in
-    ap (λ (k : Class). Some (k, c.list.inside.0 / 5)) class_is
-    ∙ ap (λ (n : ℕ). Some (class, n)) (number_order class order c.list.inside.0 number)
+    rw (class_is, number_order class order c.list.inside.0 number)
 
 pub returns-in-Some-clause-free : goal.returns-in-Some-clause-free
 returns-in-Some-clause-free c =

@@ -1,6 +1,4 @@
-use Rattle.std.proofs.Common.{ℕ, subst, sym, ap, ◌∙◌}
-use Rattle.hp_units.specs.Memory.{FreeAreas}
-use Rattle.hp_tape.specs.Tapes.{NotesAreas}
+use Rattle.std.proofs.Common.{ℕ, ap, ◌∙◌}
 use Rattle.hp_links.specs.LinkedLists.{last, list_at}
 use Rattle.hp_buddy.specs.Buddy.{BuddyValue}
 use Rattle.hp_buddy.proofs.Notes.{Seen, back-areas, frame-there, kept-with, list-there, order-small, seen-back, seen-unlisted}
@@ -18,13 +16,11 @@ returns-clause-notes c =
     let v = c.args.self.now in
     let seen : Seen v b.layout b.links b.kinds.items =
     record { is = c.self.view_is; kept = c.self.invariant } in
-    subst (λ (a : FreeAreas). NotesAreas v.layout 1 c.args.tape.now c.note.new.self a v.areas)
-    (sym (back-areas v b.layout b.links c.push_back.new.self b.kinds.items c.args.class c.args.order
-    c.args.frame c.list_number-2.result seen c.list_number-2.ensures c.push_back.ensures))
+    rw (back-areas v b.layout b.links c.push_back.new.self b.kinds.items c.args.class c.args.order
+    c.args.frame c.list_number-2.result seen c.list_number-2.ensures c.push_back.ensures)
     (seen-back v b.layout b.links b.kinds.items c.args.class c.args.order c.args.frame c.last-after.result
-    c.args.tape.now c.note.new.self c.link_delta.result seen
-    c.requires.order c.requires.frame c.requires.once c.requires.unfree
-    (c.last-after.ensures ∙ ap (λ (n : ℕ). last (list_at b.links n)) c.list_number.ensures)
+    c.args.tape.now c.note.new.self c.link_delta.result seen c.requires.order c.requires.frame c.requires.once
+    c.requires.unfree (c.last-after.ensures ∙ ap (λ (n : ℕ). last (list_at b.links n)) c.list_number.ensures)
     c.note.ensures.room c.note.ensures.noted c.link_delta.ensures)
 
 pub list_number-requires : goal.list_number-requires

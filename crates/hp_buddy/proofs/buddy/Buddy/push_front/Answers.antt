@@ -1,6 +1,4 @@
-use Rattle.std.proofs.Common.{subst, sym, ap}
-use Rattle.hp_units.specs.Memory.{FreeAreas}
-use Rattle.hp_tape.specs.Tapes.{NotesAreas}
+use Rattle.std.proofs.Common.{ap}
 use Rattle.hp_buddy.specs.Buddy.{BuddyValue}
 use Rattle.hp_buddy.proofs.Notes.{Seen, frame-there, front-areas, kept-with, list-there, order-small, seen-front, seen-unlisted}
 use Rattle.hp_buddy.proofs.buddy.Buddy.push_front.Goals as goal
@@ -17,13 +15,11 @@ returns-clause-notes c =
     let v = c.args.self.now in
     let seen : Seen v b.layout b.links b.kinds.items =
     record { is = c.self.view_is; kept = c.self.invariant } in
-    subst (λ (a : FreeAreas). NotesAreas v.layout 1 c.args.tape.now c.note.new.self a v.areas)
-    (sym (front-areas v b.layout b.links c.push_front.new.self b.kinds.items c.args.class c.args.order
-    c.args.frame c.list_number.result seen c.list_number.ensures c.push_front.ensures))
+    rw (front-areas v b.layout b.links c.push_front.new.self b.kinds.items c.args.class c.args.order
+    c.args.frame c.list_number.result seen c.list_number.ensures c.push_front.ensures)
     (seen-front v b.layout b.links b.kinds.items c.args.class c.args.order c.args.frame c.args.tape.now
-    c.note.new.self c.link_delta.result seen
-    c.requires.order c.requires.frame c.requires.unfree c.note.ensures.room c.note.ensures.noted
-    c.link_delta.ensures)
+    c.note.new.self c.link_delta.result seen c.requires.order c.requires.frame c.requires.unfree
+    c.note.ensures.room c.note.ensures.noted c.link_delta.ensures)
 
 pub list_number-requires : goal.list_number-requires
 list_number-requires c = order-small c.self.invariant c.self.view_is c.requires.order

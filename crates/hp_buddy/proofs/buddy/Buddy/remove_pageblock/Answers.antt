@@ -1,9 +1,6 @@
-use Rattle.std.proofs.Common.{◌≡◌, ◌<◌, subst, sym, ap, ◌∙◌, ◌*◌, arith, true}
+use Rattle.std.proofs.Common.{◌≡◌, subst, sym, ap, ◌∙◌, ◌*◌, arith}
 use Rattle.hp_units.specs.LayoutParts.{LayoutParts}
-use Rattle.hp_units.specs.Arithmetic.{pageblock_count, pageblock_size}
-use Rattle.hp_units.specs.declared.rows.Class.{Class}
-use Rattle.hp_units.specs.Memory.{free_list}
-use Rattle.hp_units.specs.FreeAreas.{is_on}
+use Rattle.hp_units.specs.Arithmetic.{pageblock_size}
 use Rattle.hp_buddy.specs.Buddy.{BuddyValue, AreApart}
 use Rattle.hp_buddy.proofs.Blocks.{Removes, block_removed}
 use Rattle.hp_buddy.proofs.Calls.{notes-then, room_left}
@@ -27,8 +24,7 @@ removes c =
     (c.args.pageblock * pageblock_size c.args.self.now.layout) c.args.pageblock c.plain.result
     (c.order.ensures.is ∙ ap (λ (v : BuddyValue). v.layout.order) c.self.view_is)
     c.first_frame-first.ensures (omega arith)
-    (subst (λ (k : Class). is_on (c.args.pageblock * pageblock_size c.args.self.now.layout) (free_list
-    c.args.self.now.areas k c.args.self.now.layout.order) ≡ true) (sym c.isolated.ensures) c.requires.free)
+    (rw c.isolated.ensures c.requires.free)
     c.unlink_free.ensures.areas c.set_kind.ensures.areas c.requires.apart
 
 pub returns-clause-apart : goal.returns-clause-apart
@@ -46,9 +42,7 @@ unlink_free-requires-clause-order c =
     omega (arith, c.order.ensures.is)
 
 pub set_kind-requires-clause-pageblock : goal.set_kind-requires-clause-pageblock
-set_kind-requires-clause-pageblock c =
-    subst (λ (l : LayoutParts). c.args.pageblock < pageblock_count l) (sym c.unlink_free.ensures.layout)
-    c.requires.pageblock
+set_kind-requires-clause-pageblock c = rw c.unlink_free.ensures.layout c.requires.pageblock
 
 pub set_kind-requires-clause-room : goal.set_kind-requires-clause-room
 set_kind-requires-clause-room c =

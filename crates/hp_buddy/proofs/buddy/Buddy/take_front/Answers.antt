@@ -1,8 +1,6 @@
 -- The front block leaves its list, and its halves come to theirs.
-use Rattle.std.proofs.Common.{◌+◌, ◌-◌, arith, ap, subst, sym, ◌∙◌}
-use Rattle.hp_units.specs.LayoutParts.{LayoutParts, IsLayout}
+use Rattle.std.proofs.Common.{◌+◌, ◌-◌, arith, ◌∙◌}
 use Rattle.hp_units.specs.Memory.{free_list}
-use Rattle.hp_buddy.specs.Buddy.{BuddyValue, AreApart, MayBeGiven}
 use Rattle.hp_buddy.proofs.Notes.{list-there, order-small}
 use Rattle.hp_buddy.proofs.Splits.{IsLeft}
 use Rattle.hp_buddy.proofs.Calls.{IsFront, seen-front_is, front_frame, front_free, front_taken, notes-then, room_left}
@@ -31,15 +29,12 @@ is_left c front =
 
 pub put_halves-requires-clause-apart : goal.put_halves-requires-clause-apart
 put_halves-requires-clause-apart c =
-    subst (λ (l : LayoutParts). AreApart l c.unlink_free.new.self.areas) (sym
-    c.unlink_free.ensures.layout) (is_left (goal.at.put_halves-requires-clause-apart c).After-unlink_free
+    rw c.unlink_free.ensures.layout (is_left (goal.at.put_halves-requires-clause-apart c).After-unlink_free
     (is_front (goal.at.put_halves-requires-clause-apart c).In-Some)).apart
 
 pub put_halves-requires-clause-block : goal.put_halves-requires-clause-block
 put_halves-requires-clause-block c =
-    subst (λ (l : LayoutParts). MayBeGiven l c.unlink_free.new.self.areas c.args.order c.in-Some.frame)
-    (sym c.unlink_free.ensures.layout)
-    (is_left (goal.at.put_halves-requires-clause-block c).After-unlink_free
+    rw c.unlink_free.ensures.layout (is_left (goal.at.put_halves-requires-clause-block c).After-unlink_free
     (is_front (goal.at.put_halves-requires-clause-block c).In-Some)).rest
 
 pub returns-in-Some-clause-taken : goal.returns-in-Some-clause-taken
@@ -65,8 +60,7 @@ front-requires c =
 
 pub put_halves-requires-clause-layout : goal.put_halves-requires-clause-layout
 put_halves-requires-clause-layout c =
-    subst (λ (l : LayoutParts). IsLayout l) (ap (λ (v : BuddyValue). v.layout) c.self.view_is
-    ∙ sym c.unlink_free.ensures.layout) c.self.invariant.layout
+    rw (c.unlink_free.ensures.layout, ← c.self.view_is) c.self.invariant.layout
 
 pub put_halves-requires-clause-room : goal.put_halves-requires-clause-room
 put_halves-requires-clause-room c =

@@ -1,4 +1,3 @@
-use Rattle.std.proofs.Common.{◌∙◌, ap}
 use Rattle.hp_units.specs.LayoutParts.{LayoutParts}
 use Rattle.hp_links.specs.LinkedLists.{LinkedLists}
 use Rattle.hp_cpus.specs.Cpus.{CpusValue}
@@ -8,7 +7,4 @@ abbrev cpus_of : LayoutParts → LinkedLists → CpusValue
 cpus_of l k = record { layout = l; cached = k.lists }
 
 pub returns : goal.returns
-returns c =
-    ap (λ (l : LayoutParts). cpus_of l c.in_ok-links.links) c.in_ok-layout.ensures
-    ∙ ap (cpus_of c.self.inside.layout) c.in_ok-links.ensures
-    ∙ c.self.view_is
+returns c = rw (c.in_ok-layout.ensures, c.in_ok-links.ensures) c.self.view_is

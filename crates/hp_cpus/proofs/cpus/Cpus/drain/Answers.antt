@@ -1,8 +1,7 @@
 -- The three lists, one after another.
-use Rattle.std.proofs.Common.{◌≡◌, ◌+◌, ◌*◌, ◌<◌, ℕ, List, length, sym, ◌∙◌, ap, subst, arith}
+use Rattle.std.proofs.Common.{◌≡◌, ◌+◌, ◌*◌, ℕ, length, ◌∙◌, arith}
 use Rattle.hp_units.specs.declared.rows.Pool.TheVariants.{Nu, Nm, Mm}
-use Rattle.hp_units.specs.LayoutParts.{LayoutParts}
-use Rattle.hp_tape.specs.Tapes.{HasRoom, NotesFree}
+use Rattle.hp_tape.specs.Tapes.{NotesFree}
 use Rattle.hp_cpus.specs.Cpus.{frames_of, list_of}
 use Rattle.hp_cpus.proofs.Besides.{notes-then, room_left}
 use Rattle.hp_cpus.proofs.Calls.{drained, other_list, three_lists}
@@ -16,11 +15,8 @@ second : (c : After-drain_pool)
 second c =
     let l = c.args.self.now.layout in
     let d = c.drain_pool.new in
-    ap (λ (m : LayoutParts). length (list_of d.self c.args.cpu Nm) * (m.order + 2))
-    c.drain_pool.ensures.layout
-    ∙ ap (λ (xs : List ℕ). length xs * (l.order + 2))
-    (other_list l (frames_of c.args.buddy.now.areas c.args.self.now) (frames_of d.buddy.areas d.self)
-    c.args.cpu Nu Nm c.drain_pool.ensures.drained (λ same. omega arith))
+    rw c.drain_pool.ensures.layout (rw (other_list l (frames_of c.args.buddy.now.areas c.args.self.now)
+    (frames_of d.buddy.areas d.self) c.args.cpu Nu Nm c.drain_pool.ensures.drained (λ same. omega arith)))
 
 third : (c : After-drain_pool-2)
     → length (list_of c.drain_pool-2.new.self c.args.cpu Mm) * (c.drain_pool-2.new.self.layout.order + 2)
@@ -30,13 +26,10 @@ third c =
     let d = c.drain_pool.new in
     let e = c.drain_pool-2.new in
     let one = frames_of d.buddy.areas d.self in
-    ap (λ (m : LayoutParts). length (list_of e.self c.args.cpu Mm) * (m.order + 2))
-    (c.drain_pool-2.ensures.layout ∙ c.drain_pool.ensures.layout)
-    ∙ ap (λ (xs : List ℕ). length xs * (l.order + 2))
-    (other_list d.self.layout one (frames_of e.buddy.areas e.self) c.args.cpu Nm Mm
-    c.drain_pool-2.ensures.drained (λ same. omega arith)
-    ∙ other_list l (frames_of c.args.buddy.now.areas c.args.self.now) one c.args.cpu Nu Mm
-    c.drain_pool.ensures.drained (λ same. omega arith))
+    rw (c.drain_pool-2.ensures.layout, c.drain_pool.ensures.layout)
+    (rw (other_list d.self.layout one (frames_of e.buddy.areas e.self) c.args.cpu Nm Mm
+    c.drain_pool-2.ensures.drained (λ same. omega arith)) (rw (other_list l (frames_of c.args.buddy.now.areas
+    c.args.self.now) one c.args.cpu Nu Mm c.drain_pool.ensures.drained (λ same. omega arith))))
 
 -- what the first two note
 two_notes : (c : After-drain_pool-2)
@@ -70,8 +63,7 @@ drain_pool-requires-clause-room c =
     )
 
 pub drain_pool-requires-2-clause-cpu : goal.drain_pool-requires-2-clause-cpu
-drain_pool-requires-2-clause-cpu c =
-    subst (λ (m : LayoutParts). c.args.cpu < m.cpus) (sym c.drain_pool.ensures.layout) c.requires.cpu
+drain_pool-requires-2-clause-cpu c = rw c.drain_pool.ensures.layout c.requires.cpu
 
 pub drain_pool-requires-2-clause-room : goal.drain_pool-requires-2-clause-room
 drain_pool-requires-2-clause-room c =
@@ -80,16 +72,14 @@ drain_pool-requires-2-clause-room c =
     let nu : ℕ = length (list_of v c.args.cpu Nu) in
     let nm : ℕ = length (list_of v c.args.cpu Nm) in
     let d = c.drain_pool.new in
-    subst (λ (n : ℕ). HasRoom d.tape n)
-    (sym (second (goal.at.drain_pool-requires-2-clause-room c).After-drain_pool))
-    (room_left v.layout (nu * each) (nm * each) c.args.tape.now d.tape
-    (frames_of c.args.buddy.now.areas v) (frames_of d.buddy.areas d.self) c.drain_pool.ensures.notes
+    rw (second (goal.at.drain_pool-requires-2-clause-room c).After-drain_pool)
+    (room_left v.layout (nu * each) (nm * each) c.args.tape.now d.tape (frames_of c.args.buddy.now.areas v)
+    (frames_of d.buddy.areas d.self) c.drain_pool.ensures.notes
     (omega (arith, c.requires.room, three_lists nu nm (length (list_of v c.args.cpu Mm)) each)))
 
 pub drain_pool-requires-3-clause-cpu : goal.drain_pool-requires-3-clause-cpu
 drain_pool-requires-3-clause-cpu c =
-    subst (λ (m : LayoutParts). c.args.cpu < m.cpus) (sym (c.drain_pool-2.ensures.layout
-    ∙ c.drain_pool.ensures.layout)) c.requires.cpu
+    rw (c.drain_pool-2.ensures.layout, c.drain_pool.ensures.layout) c.requires.cpu
 
 pub drain_pool-requires-3-clause-room : goal.drain_pool-requires-3-clause-room
 drain_pool-requires-3-clause-room c =
@@ -99,12 +89,10 @@ drain_pool-requires-3-clause-room c =
     let nm : ℕ = length (list_of v c.args.cpu Nm) in
     let mm : ℕ = length (list_of v c.args.cpu Mm) in
     let e = c.drain_pool-2.new in
-    subst (λ (n : ℕ). HasRoom e.tape n)
-    (sym (third (goal.at.drain_pool-requires-3-clause-room c).After-drain_pool-2))
-    (room_left v.layout (nu * each + nm * each) (mm * each) c.args.tape.now e.tape
-    (frames_of c.args.buddy.now.areas v) (frames_of e.buddy.areas e.self)
-    (two_notes (goal.at.drain_pool-requires-3-clause-room c).After-drain_pool-2
-    (second (goal.at.drain_pool-requires-3-clause-room c).After-drain_pool))
+    rw (third (goal.at.drain_pool-requires-3-clause-room c).After-drain_pool-2) (room_left v.layout
+    (nu * each + nm * each) (mm * each) c.args.tape.now e.tape (frames_of c.args.buddy.now.areas v)
+    (frames_of e.buddy.areas e.self) (two_notes (goal.at.drain_pool-requires-3-clause-room
+    c).After-drain_pool-2 (second (goal.at.drain_pool-requires-3-clause-room c).After-drain_pool))
     (omega (arith, c.requires.room, three_lists nu nm mm each)))
 
 pub returns-clause-layout : goal.returns-clause-layout

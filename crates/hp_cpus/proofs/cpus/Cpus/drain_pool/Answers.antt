@@ -13,11 +13,7 @@ use Rattle.hp_cpus.proofs.cpus.Cpus.drain_pool.Goals as goal
 use Rattle.hp_cpus.proofs.cpus.Cpus.drain_pool.Goals.{In-Some, In-None, After-give}
 
 pub pop-requires-clause-cpu : goal.pop-requires-clause-cpu
-pop-requires-clause-cpu c =
-    subst (λ (l : LayoutParts). c.args.cpu < l.cpus) (sym c.loop-given.invariant.layout) c.requires.cpu
-
-pub pop-requires-clause-within : goal.pop-requires-clause-within
-pop-requires-clause-within c = c.loop-given.invariant.together.within
+pop-requires-clause-cpu c = rw c.loop-given.invariant.layout c.requires.cpu
 
 pub pop-requires-clause-once : goal.pop-requires-clause-once
 pop-requires-clause-once c = listed_once c.loop-given.self c.loop-given.buddy c.loop-given.invariant.together
@@ -54,8 +50,7 @@ give-requires-clause-room c =
     let l = c.args.self.now.layout in
     let k = c.loop-given in
     let all : ℕ = length (list_of c.args.self.now c.args.cpu c.args.pool) in
-    let kept : c.pop.new.self.layout ≡ k.self.layout =
-    ap (λ (v : CpusValue). v.layout) c.in-Some.ensures.cached in
+    let kept : c.pop.new.self.layout ≡ k.self.layout = rw c.in-Some.ensures.cached in
     let room : HasRoom k.tape (l.order + 2) =
     turn_room l k._given all c.args.tape.now k.tape c.args.self.now k.self c.args.buddy.now.areas
     k.buddy.areas (omega (arith, c.len-given-end.ensures)) c.requires.room k.invariant.notes in
@@ -81,8 +76,7 @@ loop-given-preserved c =
     let d = c.pop.new.self in
     let t = turn (goal.at.loop-given-preserved c).After-give (out (goal.at.loop-given-preserved c).In-Some) in
     let size : length (list_of k.self c.args.cpu c.args.pool)
-    ≡ length (c.in-Some.frame ∷ list_of d c.args.cpu c.args.pool) =
-    ap length c.in-Some.ensures.popped in
+    ≡ length (c.in-Some.frame ∷ list_of d c.args.cpu c.args.pool) = rw c.in-Some.ensures.popped in
     record {
       drained =
           sym (drain_pool-more l (frames_of k.buddy.areas k.self) (frames_of c.give.new.buddy.areas d)
@@ -103,9 +97,7 @@ loop-given-preserved c =
 -- there are as many frames as turns
 never : (c : In-None) → ⊥
 never c =
-    let k = c.loop-given in
-    let size : length (list_of k.self c.args.cpu c.args.pool) ≡ 0 = ap length c.in-None.ensures.popped in
-    omega (arith, c.len-given-end.ensures, size, k.invariant.left)
+    omega (arith, c.len-given-end.ensures, ap length c.in-None.ensures.popped, c.loop-given.invariant.left)
 
 pub returns-in-None-clause-drained : goal.returns-in-None-clause-drained
 returns-in-None-clause-drained c = absurd (never (goal.at.returns-in-None-clause-drained c).In-None)
@@ -121,9 +113,8 @@ returns-in-None-clause-places c = absurd (never (goal.at.returns-in-None-clause-
 
 pub returns-clause-drained : goal.returns-clause-drained
 returns-clause-drained c =
-    let l = c.args.self.now.layout in
     let k = c.loop-given in
     let none : length (list_of k.self c.args.cpu c.args.pool) ≡ 0 =
     omega (arith, c.len-given-end.ensures, k.invariant.left) in
-    sym (drain_pool-none l (frames_of k.buddy.areas k.self) c.args.cpu c.args.pool
+    sym (drain_pool-none c.args.self.now.layout (frames_of k.buddy.areas k.self) c.args.cpu c.args.pool
     (nil_from_length (list_of k.self c.args.cpu c.args.pool) none)) ∙ k.invariant.drained

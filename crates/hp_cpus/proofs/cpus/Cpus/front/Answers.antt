@@ -1,4 +1,4 @@
-use Rattle.std.proofs.Common.{◌≡◌, ℕ, ◌+◌, ◌*◌, List, [], ◌∷◌, slice_get, refl, ◌∙◌, ap}
+use Rattle.std.proofs.Common.{◌≡◌, ℕ, ◌+◌, ◌*◌, List, [], ◌∷◌, slice_get, refl, ap}
 use Rattle.hp_units.specs.Memory.{pool_index}
 use Rattle.hp_links.specs.LinkedLists.{first, list_at}
 use Rattle.hp_cpus.specs.Cpus.{CpusValue, list_of}
@@ -10,7 +10,6 @@ first-at (x ∷ xs) = refl
 
 pub returns : goal.returns
 returns c =
-    c.front.ensures
-    ∙ ap (λ (n : ℕ). first (list_at c.self.inside.links n)) c.list_number.ensures
-    ∙ first-at (list_at c.self.inside.links (3 * c.args.cpu + pool_index c.args.pool))
-    ∙ ap (λ (v : CpusValue). slice_get (list_of v c.args.cpu c.args.pool) 0) c.self.view_is
+    rw (c.front.ensures, c.list_number.ensures)
+    (rw (first-at (list_at c.self.inside.links (3 * c.args.cpu + pool_index c.args.pool)))
+    (ap (λ (v : CpusValue). slice_get (list_of v c.args.cpu c.args.pool) 0) c.self.view_is))

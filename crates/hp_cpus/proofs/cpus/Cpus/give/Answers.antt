@@ -1,7 +1,4 @@
-use Rattle.std.proofs.Common.{subst}
-use Rattle.hp_units.specs.LayoutParts.{LayoutParts}
 use Rattle.hp_tape.specs.Bounds.{give_bound}
-use Rattle.hp_tape.specs.Tapes.{NotesAreas}
 use Rattle.hp_cpus.proofs.Besides.{notes-beside}
 use Rattle.hp_cpus.proofs.cpus.Cpus.give.Goals as goal
 
@@ -9,5 +6,4 @@ pub returns-clause-notes : goal.returns-clause-notes
 returns-clause-notes c =
     notes-beside c.args.self.now.layout (give_bound c.args.self.now.layout) c.args.tape.now c.give.new.tape
     c.args.self.now.cached c.give.new.self.areas c.args.buddy.now.areas
-    (subst (λ (l : LayoutParts). NotesAreas l (give_bound l) c.args.tape.now c.give.new.tape
-    c.give.new.self.areas c.args.buddy.now.areas) c.requires.together.layout c.give.ensures.notes)
+    (rw (← c.requires.together.layout) c.give.ensures.notes)

@@ -1,8 +1,7 @@
-use Rattle.std.proofs.Common.{ℕ, List, ◌*◌, ap, ◌∙◌, [], replicate}
+use Rattle.std.proofs.Common.{ℕ, List}
 use Rattle.std.proofs.lemmas.Result.{err_from_is_err_and}
 use Rattle.hp_units.specs.LayoutParts.{LayoutParts}
 use Rattle.hp_units.specs.Boot.{empty_cached}
-use Rattle.hp_links.specs.LinkedLists.{LinkedLists}
 use Rattle.hp_cpus.specs.Cpus.{CpusValue}
 use Rattle.hp_cpus.proofs.Together.{empty-together}
 use Rattle.hp_cpus.proofs.cpus.Cpus.new.Goals as goal
@@ -10,18 +9,15 @@ use Rattle.hp_cpus.proofs.cpus.Cpus.new.Goals as goal
 pub returns-clause-together : goal.returns-clause-together
 returns-clause-together c =
     empty-together c.in_ok-layout.layout c.in_ok-links.links.lists
-    (ap (λ (k : LinkedLists). k.lists) c.in_ok-links.ensures
-    ∙ ap (λ (n : ℕ). replicate (3 * n) []) c.cpus.ensures.is)
+    (rw (c.in_ok-links.ensures, c.cpus.ensures.is))
 
 pub returns-in_err-layout-clause-value : goal.returns-in_err-layout-clause-value
 returns-in_err-layout-clause-value c =
-    let p = err_from_is_err_and c.from_residual.result c.from_residual.ensures.1 in
-    rw p.1 tt
+    rw (err_from_is_err_and c.from_residual.result c.from_residual.ensures.1).1 tt
 
 pub returns-in_err-layout-clause-together : goal.returns-in_err-layout-clause-together
 returns-in_err-layout-clause-together c =
-    let p = err_from_is_err_and c.from_residual.result c.from_residual.ensures.1 in
-    rw p.1 tt
+    rw (err_from_is_err_and c.from_residual.result c.from_residual.ensures.1).1 tt
 
 pub returns-in_err-links-clause-value : goal.returns-in_err-links-clause-value
 returns-in_err-links-clause-value c =
@@ -41,7 +37,4 @@ empty_cpus l = record { layout = l; cached = empty_cached l }
 
 pub returns-clause-value : goal.returns-clause-value
 returns-clause-value c =
-    let l = c.in_ok-layout.layout in
-    ap (λ (links : LinkedLists). cpus_with l links.lists) c.in_ok-links.ensures
-    ∙ (ap (λ (n : ℕ). cpus_with l (replicate (3 * n) [])) c.cpus.ensures.is
-    ∙ ap empty_cpus c.in_ok-layout.ensures)
+    rw (c.in_ok-links.ensures, c.cpus.ensures.is, c.in_ok-layout.ensures)

@@ -6,7 +6,7 @@ use Rattle.hp_units.specs.LayoutParts.{LayoutParts}
 use Rattle.hp_units.specs.Memory.{FreeFrames, cached_list}
 use Rattle.hp_units.specs.ProcessorLists.{spilled}
 use Rattle.hp_tape.specs.Bounds.{batch_bound}
-use Rattle.hp_tape.specs.Tapes.{TapeValue, HasRoom, NotesFree}
+use Rattle.hp_tape.specs.Tapes.{TapeValue, HasRoom}
 use Rattle.hp_cpus.specs.Batches.{given_last}
 use Rattle.hp_cpus.specs.Cpus.{CpusValue, frames_of, list_of}
 use Rattle.hp_cpus.proofs.Counts.{list_of-same, times-cons}
@@ -47,8 +47,7 @@ is_in c =
 
 -- the processor is one of the layout
 low : (c : After-push_front) → c.args.cpu < c.push_front.new.self.layout.cpus
-low c =
-    subst (λ (w : CpusValue). c.args.cpu < w.layout.cpus) (sym c.push_front.ensures.cached) c.requires.cpu
+low c = rw c.push_front.ensures.cached c.requires.cpu
 
 -- the list is past its mark with the frame
 bound : (c : Then-len-high)
@@ -60,8 +59,7 @@ bound c =
     let xs : List ℕ = list_of v c.args.cpu c.args.pool in
     let same : c.self.inside.layout.high ≡ d.layout.high =
     ap (λ (w : CpusValue). w.layout.high) c.self.view_is in
-    let kept : d.layout.high ≡ v.layout.high =
-    ap (λ (w : CpusValue). w.layout.high) c.push_front.ensures.cached in
+    let kept : d.layout.high ≡ v.layout.high = rw c.push_front.ensures.cached in
     let size : length (list_of d c.args.cpu c.args.pool) ≡ length (c.args.frame ∷ xs) =
     ap length (ap (λ (w : CpusValue). list_of w c.args.cpu c.args.pool) c.push_front.ensures.cached
     ∙ list_of-same v c.args.cpu c.args.pool (c.args.frame ∷ xs) c.requires.cpu c.requires.together.lists) in
@@ -72,13 +70,10 @@ pub spill-requires-clause-room : goal.spill-requires-clause-room
 spill-requires-clause-room c =
     let v = c.args.self.now in
     let l = v.layout in
-    let kept : c.push_front.new.self.layout ≡ l =
-    ap (λ (w : CpusValue). w.layout) c.push_front.ensures.cached in
+    let kept : c.push_front.new.self.layout ≡ l = rw c.push_front.ensures.cached in
     let room : HasRoom c.args.tape.now (batch_bound l) =
-    subst (λ (n : ℕ). HasRoom c.args.tape.now n)
-    (bound (goal.at.spill-requires-clause-room c).Then-len-high) c.requires.room in
-    subst (λ (m : LayoutParts). HasRoom c.push_front.new.tape (m.batch * (m.order + 2))) (sym kept)
-    (room_left l 1 (l.batch * (l.order + 2)) c.args.tape.now c.push_front.new.tape
+    rw (← bound (goal.at.spill-requires-clause-room c).Then-len-high) c.requires.room in
+    rw kept (room_left l 1 (l.batch * (l.order + 2)) c.args.tape.now c.push_front.new.tape
     (frames_of c.args.buddy.now.areas v) (frames_of c.args.buddy.now.areas c.push_front.new.self)
     (c.push_front.ensures.notes c.args.buddy.now.areas) (omega (arith, room)))
 
@@ -90,15 +85,11 @@ returns-then-len-high-clause-notes c =
     let kept : d.layout ≡ l = ap (λ (w : CpusValue). w.layout) c.push_front.ensures.cached in
     let before = frames_of c.args.buddy.now.areas v in
     let after = frames_of c.spill.new.buddy.areas c.spill.new.self in
-    subst (λ (n : ℕ). NotesFree l n c.args.tape.now c.spill.new.tape after before)
-    (sym (bound (goal.at.returns-then-len-high-clause-notes c).Then-len-high))
+    rw (bound (goal.at.returns-then-len-high-clause-notes c).Then-len-high)
     (notes-then l d.layout 1 (d.layout.batch * (d.layout.order + 2)) (batch_bound l) c.args.tape.now
     c.push_front.new.tape c.spill.new.tape before (frames_of c.args.buddy.now.areas d) after kept
     (subst (λ (m : LayoutParts). 1 + m.batch * (m.order + 2) ≤ batch_bound l) (sym kept) (omega arith))
     (c.push_front.ensures.notes c.args.buddy.now.areas) c.spill.ensures.notes)
-
-pub push_front-requires-clause-nowhere : goal.push_front-requires-clause-nowhere
-push_front-requires-clause-nowhere c = omega (arith, c.requires.frame.nowhere)
 
 pub push_front-requires-clause-room : goal.push_front-requires-clause-room
 push_front-requires-clause-room c =
@@ -127,24 +118,18 @@ spill-requires-clause-long c =
 
 pub returns-then-len-high-clause-put : goal.returns-then-len-high-clause-put
 returns-then-len-high-clause-put c =
-    let v = c.args.self.now in
-    let l = v.layout in
+    let l = c.args.self.now.layout in
     let d = c.push_front.new.self in
-    let cpu = c.args.cpu in
     let pool = c.args.pool in
     let kept : d.layout ≡ l = ap (λ (w : CpusValue). w.layout) c.push_front.ensures.cached in
     let high : c.self.inside.layout.high ≡ l.high =
     ap (λ (w : CpusValue). w.layout.high) (c.self.view_is ∙ c.push_front.ensures.cached) in
     let fs = frames_of c.args.buddy.now.areas d in
-    c.spill.ensures.spilled ∙ ap (λ (m : LayoutParts). given_last m fs cpu pool m.batch) kept
-    ∙ sym (spilled-long l fs cpu pool
-    (omega (arith, c.if-len-high.true, c.high.ensures.is, c.len.ensures)))
-    ∙ ap (λ (w : CpusValue). spilled l (frames_of c.args.buddy.now.areas w) cpu pool)
-    c.push_front.ensures.cached
+    rw (c.spill.ensures.spilled, kept) (rw (← spilled-long l fs c.args.cpu pool
+    (omega (arith, c.if-len-high.true, c.high.ensures.is, c.len.ensures))) (rw c.push_front.ensures.cached))
 
 pub returns-then-len-high-clause-layout : goal.returns-then-len-high-clause-layout
-returns-then-len-high-clause-layout c =
-    c.spill.ensures.layout ∙ ap (λ (w : CpusValue). w.layout) c.push_front.ensures.cached
+returns-then-len-high-clause-layout c = rw (c.spill.ensures.layout, c.push_front.ensures.cached)
 
 pub returns-then-len-high-clause-places : goal.returns-then-len-high-clause-places
 returns-then-len-high-clause-places c =
@@ -153,15 +138,12 @@ returns-then-len-high-clause-places c =
 
 pub returns-else-len-high-clause-put : goal.returns-else-len-high-clause-put
 returns-else-len-high-clause-put c =
-    let v = c.args.self.now in
-    let l = v.layout in
+    let l = c.args.self.now.layout in
     let d = c.push_front.new.self in
     let high : c.self.inside.layout.high ≡ l.high =
     ap (λ (w : CpusValue). w.layout.high) (c.self.view_is ∙ c.push_front.ensures.cached) in
-    sym (spilled-short l (frames_of c.args.buddy.now.areas d) c.args.cpu c.args.pool
-    (omega (arith, c.if-len-high.false, c.high.ensures.is, c.len.ensures)))
-    ∙ ap (λ (w : CpusValue). spilled l (frames_of c.args.buddy.now.areas w) c.args.cpu c.args.pool)
-    c.push_front.ensures.cached
+    rw (← spilled-short l (frames_of c.args.buddy.now.areas d) c.args.cpu c.args.pool
+    (omega (arith, c.if-len-high.false, c.high.ensures.is, c.len.ensures))) (rw c.push_front.ensures.cached)
 
 pub returns-else-len-high-clause-layout : goal.returns-else-len-high-clause-layout
 returns-else-len-high-clause-layout c = ap (λ (w : CpusValue). w.layout) c.push_front.ensures.cached
@@ -176,10 +158,8 @@ returns-else-len-high-clause-notes c =
     let size : length (list_of c.push_front.new.self c.args.cpu c.args.pool) ≡ length (c.args.frame ∷ xs) =
     ap length (ap (λ (w : CpusValue). list_of w c.args.cpu c.args.pool) c.push_front.ensures.cached
     ∙ list_of-same v c.args.cpu c.args.pool (c.args.frame ∷ xs) c.requires.cpu c.requires.together.lists) in
-    subst (λ (n : ℕ). NotesFree l n c.args.tape.now c.push_front.new.tape
-    (frames_of c.args.buddy.now.areas c.push_front.new.self) (frames_of c.args.buddy.now.areas v))
-    (sym (cond-true (nat_le (length xs + 1) l.high) 1 (batch_bound l) (le-leb (length xs + 1) l.high
-    (omega (arith, c.if-len-high.false, c.high.ensures.is, c.len.ensures, size)))))
+    rw (cond-true (nat_le (length xs + 1) l.high) 1 (batch_bound l) (le-leb (length xs + 1) l.high
+    (omega (arith, c.if-len-high.false, c.high.ensures.is, c.len.ensures, size))))
     (c.push_front.ensures.notes c.args.buddy.now.areas)
 
 pub returns-else-len-high-clause-together : goal.returns-else-len-high-clause-together

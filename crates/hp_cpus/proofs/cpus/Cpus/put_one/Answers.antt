@@ -1,14 +1,13 @@
 -- The pageblock's kind says where the frame goes.
-use Rattle.std.proofs.Common.{◌≡◌, ◌<◌, ◌+◌, ℕ, length, nat_le, true, false, cond, sym, ◌∙◌, ap, subst}
+use Rattle.std.proofs.Common.{◌≡◌, ◌+◌, ℕ, length, nat_le, true, false, cond, sym, ◌∙◌, ap}
 use Rattle.std.proofs.lemmas.Bool.{cond-true, cond-false}
 use Rattle.hp_units.specs.declared.rows.Kind.{Kind}
 use Rattle.hp_units.specs.declared.rows.Pool.{Pool}
 use Rattle.hp_units.specs.declared.rows.Zone.{Zone}
 use Rattle.hp_units.specs.LayoutParts.{LayoutParts}
-use Rattle.hp_units.specs.Arithmetic.{pageblock_of, pageblock_count}
-use Rattle.hp_units.specs.Memory.{FreeAreas, FreeFrames, cached_list, kind_of, pool_of}
+use Rattle.hp_units.specs.Arithmetic.{pageblock_of}
+use Rattle.hp_units.specs.Memory.{FreeFrames, cached_list, kind_of, pool_of}
 use Rattle.hp_tape.specs.Bounds.{batch_bound, give_bound, put_one_bound}
-use Rattle.hp_tape.specs.Tapes.{HasRoom, NotesFree}
 use Rattle.hp_lemmas.proofs.Geometry.{pageblock_in}
 use Rattle.hp_cpus.specs.Cpus.{CpusValue, frames_of, list_of}
 use Rattle.hp_cpus.proofs.Calls.{put_one-isolated, put_one-cached}
@@ -20,9 +19,8 @@ bound-isolated : (l : LayoutParts) (fs : FreeFrames) (cpu : ℕ) (zone : Zone) (
     → at ≡ pageblock_of l f → kind ≡ kind_of fs.areas at → kind.isolated ≡ true
     → put_one_bound l fs cpu zone f ≡ give_bound l
 bound-isolated l fs cpu zone f at kind at_is is isolated =
-    let known : kind ≡ kind_of fs.areas (pageblock_of l f) = is ∙ ap (λ (n : ℕ). kind_of fs.areas n) at_is in
     cond-true (kind_of fs.areas (pageblock_of l f)).isolated _ _
-    (sym (ap (λ (k : Kind). k.isolated) known) ∙ isolated)
+    (sym (ap (λ (k : Kind). k.isolated) (is ∙ ap (λ (n : ℕ). kind_of fs.areas n) at_is)) ∙ isolated)
 
 bound-cached : (l : LayoutParts) (fs : FreeFrames) (cpu : ℕ) (zone : Zone) (f at : ℕ) (kind : Kind)
     (pool : Pool)
@@ -32,27 +30,22 @@ bound-cached : (l : LayoutParts) (fs : FreeFrames) (cpu : ℕ) (zone : Zone) (f 
     ≡ cond (nat_le (length (cached_list fs cpu pool) + 1) l.high) 1 (batch_bound l)
 bound-cached l fs cpu zone f at kind pool at_is is cached pool_is =
     let known : kind ≡ kind_of fs.areas (pageblock_of l f) = is ∙ ap (λ (n : ℕ). kind_of fs.areas n) at_is in
-    cond-false (kind_of fs.areas (pageblock_of l f)).isolated _ _
-    (sym (ap (λ (k : Kind). k.isolated) known) ∙ cached)
-    ∙ ap (λ (p : Pool). cond (nat_le (length (cached_list fs cpu p) + 1) l.high) 1 (batch_bound l))
-    (sym (pool_is ∙ ap (λ (k : Kind). pool_of zone k.mobility) known))
+    rw (cond-false (kind_of fs.areas (pageblock_of l f)).isolated _ _
+    (sym (ap (λ (k : Kind). k.isolated) known) ∙ cached)) (rw (← known, ← pool_is))
 
 place : (c : After-pageblock_of) → c.pageblock_of.result ≡ pageblock_of c.args.self.now.layout c.args.frame
 place c = c.pageblock_of.ensures ∙ ap (λ (v : CpusValue). pageblock_of v.layout c.args.frame) c.self.view_is
 
 pub kind-kind-requires : goal.kind-kind-requires
 kind-kind-requires c =
-    let l = c.args.self.now.layout in
-    subst (λ (m : LayoutParts). c.pageblock_of.result < pageblock_count m) (sym c.requires.together.layout)
-    (subst (λ (n : ℕ). n < pageblock_count l) (sym (place (goal.at.kind-kind-requires c).After-pageblock_of))
-    (pageblock_in l c.args.frame c.requires.frame.within))
+    rw (c.requires.together.layout, place (goal.at.kind-kind-requires c).After-pageblock_of)
+    (pageblock_in c.args.self.now.layout c.args.frame c.requires.frame.within)
 
 pub returns-then-kind-clause-put : goal.returns-then-kind-clause-put
 returns-then-kind-clause-put c =
-    ap (λ (a : FreeAreas). frames_of a c.args.self.now) c.give.ensures.given
-    ∙ sym (put_one-isolated c.args.self.now.layout (frames_of c.args.buddy.now.areas c.args.self.now)
-    c.args.cpu c.args.zone c.args.frame c.pageblock_of.result c.kind-kind.result
-    (place (goal.at.returns-then-kind-clause-put c).After-pageblock_of) c.kind-kind.ensures c.if-kind.true)
+    rw c.give.ensures.given (rw (← put_one-isolated c.args.self.now.layout (frames_of c.args.buddy.now.areas
+    c.args.self.now) c.args.cpu c.args.zone c.args.frame c.pageblock_of.result c.kind-kind.result
+    (place (goal.at.returns-then-kind-clause-put c).After-pageblock_of) c.kind-kind.ensures c.if-kind.true))
 
 pub returns-else-kind-clause-put : goal.returns-else-kind-clause-put
 returns-else-kind-clause-put c =
@@ -72,17 +65,13 @@ isolated c here =
 
 pub give-requires-clause-room : goal.give-requires-clause-room
 give-requires-clause-room c =
-    subst (λ (n : ℕ). HasRoom c.args.tape.now n) (isolated (goal.at.give-requires-clause-room c).Then-kind
-    (place (goal.at.give-requires-clause-room c).After-pageblock_of))
-    c.requires.room
+    rw (← isolated (goal.at.give-requires-clause-room c).Then-kind
+    (place (goal.at.give-requires-clause-room c).After-pageblock_of)) c.requires.room
 
 pub returns-then-kind-clause-notes : goal.returns-then-kind-clause-notes
 returns-then-kind-clause-notes c =
-    let v = c.args.self.now in
-    subst (λ (n : ℕ). NotesFree v.layout n c.args.tape.now c.give.new.tape
-    (frames_of c.give.new.buddy.areas v) (frames_of c.args.buddy.now.areas v))
-    (sym (isolated (goal.at.returns-then-kind-clause-notes c).Then-kind
-    (place (goal.at.returns-then-kind-clause-notes c).After-pageblock_of))) c.give.ensures.notes
+    rw (isolated (goal.at.returns-then-kind-clause-notes c).Then-kind
+    (place (goal.at.returns-then-kind-clause-notes c).After-pageblock_of)) c.give.ensures.notes
 
 cached : (c : After-of_mobility)
     → c.pageblock_of.result ≡ pageblock_of c.args.self.now.layout c.args.frame
@@ -97,14 +86,10 @@ cached c here =
 
 pub put_cached-requires-clause-room : goal.put_cached-requires-clause-room
 put_cached-requires-clause-room c =
-    subst (λ (n : ℕ). HasRoom c.args.tape.now n)
-    (cached (goal.at.put_cached-requires-clause-room c).After-of_mobility
+    rw (← cached (goal.at.put_cached-requires-clause-room c).After-of_mobility
     (place (goal.at.put_cached-requires-clause-room c).After-pageblock_of)) c.requires.room
 
 pub returns-else-kind-clause-notes : goal.returns-else-kind-clause-notes
 returns-else-kind-clause-notes c =
-    let v = c.args.self.now in
-    subst (λ (n : ℕ). NotesFree v.layout n c.args.tape.now c.put_cached.new.tape
-    (frames_of c.put_cached.new.buddy.areas c.put_cached.new.self) (frames_of c.args.buddy.now.areas v))
-    (sym (cached (goal.at.returns-else-kind-clause-notes c).After-of_mobility
-    (place (goal.at.returns-else-kind-clause-notes c).After-pageblock_of))) c.put_cached.ensures.notes
+    rw (cached (goal.at.returns-else-kind-clause-notes c).After-of_mobility
+    (place (goal.at.returns-else-kind-clause-notes c).After-pageblock_of)) c.put_cached.ensures.notes

@@ -1,13 +1,11 @@
 -- Each frame that was taken comes to the back of the list.
-use Rattle.std.proofs.Common.{◌≡◌, ◌<◌, ◌+◌, ◌*◌, ◌-◌, ℕ, None, sym, ◌∙◌, ap, subst, arith}
-use Rattle.hp_units.specs.declared.rows.Class.{Class}
+use Rattle.std.proofs.Common.{◌≡◌, ◌<◌, ◌+◌, ◌*◌, ◌-◌, None, sym, ◌∙◌, ap, subst, arith}
 use Rattle.hp_units.specs.LayoutParts.{LayoutParts}
 use Rattle.hp_units.specs.Memory.{class_of_pool}
 use Rattle.hp_units.specs.FreeAreas.{take_block}
 use Rattle.hp_tape.specs.Bounds.{take_bound}
-use Rattle.hp_tape.specs.Tapes.{TapeValue, HasRoom, NotesFree}
+use Rattle.hp_tape.specs.Tapes.{HasRoom, NotesFree}
 use Rattle.hp_buddy.specs.Buddy.{BuddyValue}
-use Rattle.hp_cpus.specs.Batches.{filled}
 use Rattle.hp_cpus.specs.Cpus.{CpusValue, frames_of}
 use Rattle.hp_cpus.proofs.Besides.{notes-beside, room_left}
 use Rattle.hp_cpus.proofs.Together.{IsOut, area-out, areas-apart, listed_once}
@@ -28,8 +26,7 @@ take-requires-clause-room c =
     let room : HasRoom k.tape (l.order + 2) =
     turn_room l k._taken l.batch c.args.tape.now k.tape c.args.self.now k.self c.args.buddy.now.areas
     k.buddy.areas (omega (arith, c.batch-taken-end.ensures.is)) c.requires.room k.invariant.notes in
-    subst (λ (m : LayoutParts). HasRoom k.tape (take_bound m))
-    (sym (k.invariant.together.layout ∙ k.invariant.layout)) (omega (arith, room))
+    rw (k.invariant.together.layout ∙ k.invariant.layout) (omega (arith, room))
 
 taken : (c : In-Some)
     → IsTaken c.args.self.now.layout (class_of_pool c.args.pool) c.loop-taken.buddy c.take.new.self
@@ -48,8 +45,7 @@ out c =
     c.in-Some.ensures.places
 
 pub push_back-requires-clause-cpu : goal.push_back-requires-clause-cpu
-push_back-requires-clause-cpu c =
-    subst (λ (l : LayoutParts). c.args.cpu < l.cpus) (sym c.loop-taken.invariant.layout) c.requires.cpu
+push_back-requires-clause-cpu c = rw c.loop-taken.invariant.layout c.requires.cpu
 
 pub push_back-requires-clause-frame : goal.push_back-requires-clause-frame
 push_back-requires-clause-frame c = (out (goal.at.push_back-requires-clause-frame c).In-Some).frame.within
@@ -124,19 +120,15 @@ loop-taken-preserved c =
 nothing : (c : In-None)
     → take_block c.args.self.now.layout c.loop-taken.buddy.areas (class_of_pool c.args.pool) 0 ≡ None
 nothing c =
-    subst (λ (k : Class). take_block c.args.self.now.layout c.loop-taken.buddy.areas k 0 ≡ None)
-    c.class.ensures
-    (subst (λ (l : LayoutParts). take_block l c.loop-taken.buddy.areas c.class.result 0 ≡ None)
-    (c.loop-taken.invariant.together.layout ∙ c.loop-taken.invariant.layout) c.in-None.ensures.taken)
+    rw (← c.class.ensures, ← c.loop-taken.invariant.layout, ← c.loop-taken.invariant.together.layout)
+    c.in-None.ensures.taken
 
 pub returns-in-None-clause-filled : goal.returns-in-None-clause-filled
 returns-in-None-clause-filled c =
     let l = c.args.self.now.layout in
     let k = c.loop-taken in
-    ap (λ (b : BuddyValue). frames_of b.areas k.self) c.in-None.ensures.none.0
-    ∙ sym (filled-none l (frames_of k.buddy.areas k.self) c.args.cpu c.args.pool (l.batch - k._taken)
-    (nothing (goal.at.returns-in-None-clause-filled c).In-None))
-    ∙ k.invariant.filled
+    rw c.in-None.ensures.none.0 (rw (← filled-none l (frames_of k.buddy.areas k.self) c.args.cpu c.args.pool
+    (l.batch - k._taken) (nothing (goal.at.returns-in-None-clause-filled c).In-None)) k.invariant.filled)
 
 pub returns-in-None-clause-notes : goal.returns-in-None-clause-notes
 returns-in-None-clause-notes c =
@@ -147,10 +139,8 @@ returns-in-None-clause-notes c =
     let at =
     few_turns l k._taken l.batch c.args.tape.now k.tape (frames_of k.buddy.areas k.self) before
     (omega (arith, c.batch-taken-end.ensures.is)) k.invariant.notes in
-    subst (λ (t : TapeValue). NotesFree l (l.batch * (l.order + 2)) c.args.tape.now t
-    (frames_of c.take.new.self.areas k.self) before) (sym c.in-None.ensures.none.1)
-    (subst (λ (b : BuddyValue). NotesFree l (l.batch * (l.order + 2)) c.args.tape.now k.tape
-    (frames_of b.areas k.self) before) (sym c.in-None.ensures.none.0) at)
+    rw c.in-None.ensures.none.1 (subst (λ (b : BuddyValue). NotesFree l (l.batch * (l.order + 2))
+    c.args.tape.now k.tape (frames_of b.areas k.self) before) (sym c.in-None.ensures.none.0) at)
 
 pub returns-clause-filled : goal.returns-clause-filled
 returns-clause-filled c =
@@ -158,6 +148,4 @@ returns-clause-filled c =
     let k = c.loop-taken in
     let same : c.self.inside.layout.batch ≡ l.batch = ap (λ (v : CpusValue). v.layout.batch) c.self.view_is in
     let over : l.batch - k._taken ≡ 0 = omega (arith, c.batch-taken-end.ensures.is) in
-    sym (ap (λ (n : ℕ). filled l (frames_of k.buddy.areas k.self) c.args.cpu c.args.pool n) over
-    ∙ filled-zero l (frames_of k.buddy.areas k.self) c.args.cpu c.args.pool)
-    ∙ k.invariant.filled
+    rw (← filled-zero l (frames_of k.buddy.areas k.self) c.args.cpu c.args.pool, ← over) k.invariant.filled

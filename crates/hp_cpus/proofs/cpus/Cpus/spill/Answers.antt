@@ -14,11 +14,7 @@ use Rattle.hp_cpus.proofs.cpus.Cpus.spill.Goals as goal
 use Rattle.hp_cpus.proofs.cpus.Cpus.spill.Goals.{In-Some, In-None, After-give}
 
 pub pop_last-requires-clause-cpu : goal.pop_last-requires-clause-cpu
-pop_last-requires-clause-cpu c =
-    subst (λ (l : LayoutParts). c.args.cpu < l.cpus) (sym c.loop-given.invariant.layout) c.requires.cpu
-
-pub pop_last-requires-clause-within : goal.pop_last-requires-clause-within
-pop_last-requires-clause-within c = c.loop-given.invariant.together.within
+pop_last-requires-clause-cpu c = rw c.loop-given.invariant.layout c.requires.cpu
 
 pub pop_last-requires-clause-once : goal.pop_last-requires-clause-once
 pop_last-requires-clause-once c =
@@ -56,15 +52,13 @@ give-requires-clause-room c =
     let l = c.args.self.now.layout in
     let k = c.loop-given in
     let same : c.self.inside.layout.batch ≡ l.batch = ap (λ (v : CpusValue). v.layout.batch) c.self.view_is in
-    let kept : c.pop_last.new.self.layout ≡ k.self.layout =
-    ap (λ (v : CpusValue). v.layout) c.in-Some.ensures.cached in
+    let kept : c.pop_last.new.self.layout ≡ k.self.layout = rw c.in-Some.ensures.cached in
     let room : HasRoom k.tape (l.order + 2) =
     turn_room l k._given l.batch c.args.tape.now k.tape c.args.self.now k.self c.args.buddy.now.areas
     k.buddy.areas (omega (arith, c.batch-given-end.ensures.is)) c.requires.room k.invariant.notes in
-    subst (λ (m : LayoutParts). HasRoom c.pop_last.new.tape (give_bound m)) (sym (kept ∙ k.invariant.layout))
-    (room_left k.self.layout 1 (give_bound l) k.tape c.pop_last.new.tape (frames_of k.buddy.areas k.self)
-    (frames_of k.buddy.areas c.pop_last.new.self) (c.in-Some.ensures.notes k.buddy.areas)
-    (omega (arith, room)))
+    rw (kept, k.invariant.layout) (room_left k.self.layout 1 (give_bound l) k.tape c.pop_last.new.tape
+    (frames_of k.buddy.areas k.self) (frames_of k.buddy.areas c.pop_last.new.self)
+    (c.in-Some.ensures.notes k.buddy.areas) (omega (arith, room)))
 
 turn : (c : After-give)
     → IsOut c.loop-given.self c.pop_last.new.self c.loop-given.buddy c.loop-given.buddy c.in-Some.frame
@@ -87,8 +81,7 @@ loop-given-preserved c =
     let t = turn (goal.at.loop-given-preserved c).After-give (out (goal.at.loop-given-preserved c).In-Some) in
     let size : length (list_of k.self c.args.cpu c.args.pool)
     ≡ length (list_of d c.args.cpu c.args.pool) + 1 =
-    ap length c.in-Some.ensures.popped
-    ∙ length-append (list_of d c.args.cpu c.args.pool) (c.in-Some.frame ∷ []) in
+    rw c.in-Some.ensures.popped (length-append (list_of d c.args.cpu c.args.pool) (c.in-Some.frame ∷ [])) in
     record {
       given =
           sym (given_last-more l (frames_of k.buddy.areas k.self) (frames_of c.give.new.buddy.areas d)
@@ -113,8 +106,7 @@ never c =
     let l = c.args.self.now.layout in
     let k = c.loop-given in
     let same : c.self.inside.layout.batch ≡ l.batch = ap (λ (v : CpusValue). v.layout.batch) c.self.view_is in
-    let size : length (list_of k.self c.args.cpu c.args.pool) ≡ 0 = ap length c.in-None.ensures.popped in
-    omega (arith, c.batch-given-end.ensures.is, size, k.invariant.long)
+    omega (arith, c.batch-given-end.ensures.is, ap length c.in-None.ensures.popped, k.invariant.long)
 
 pub returns-in-None-clause-spilled : goal.returns-in-None-clause-spilled
 returns-in-None-clause-spilled c = absurd (never (goal.at.returns-in-None-clause-spilled c).In-None)

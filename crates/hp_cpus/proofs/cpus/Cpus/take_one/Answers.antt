@@ -1,9 +1,8 @@
 -- The front frame of a list that has one, or of one that was filled.
-use Rattle.std.proofs.Common.{◌≡◌, ◌<◌, ◌+◌, ◌*◌, ℕ, length, sym, ◌∙◌, ap, subst, arith}
+use Rattle.std.proofs.Common.{◌≡◌, ◌<◌, ◌+◌, ◌*◌, length, sym, ◌∙◌, ap, subst, arith}
 use Rattle.std.proofs.lemmas.List.{nil_from_length}
 use Rattle.hp_units.specs.LayoutParts.{LayoutParts}
 use Rattle.hp_tape.specs.Bounds.{batch_bound}
-use Rattle.hp_tape.specs.Tapes.{NotesFree}
 use Rattle.hp_cpus.specs.Cpus.{CpusValue, frames_of, list_of, places_among}
 use Rattle.hp_cpus.proofs.Besides.{notes-then}
 use Rattle.hp_cpus.proofs.Refills.{refilled-empty, refilled-some}
@@ -37,10 +36,8 @@ pub returns-then-len-gt0-clause-notes : goal.returns-then-len-gt0-clause-notes
 returns-then-len-gt0-clause-notes c =
     let v = c.args.self.now in
     let areas = c.args.buddy.now.areas in
-    subst (λ (n : ℕ). NotesFree v.layout n c.args.tape.now c.pop.new.tape (frames_of areas c.pop.new.self)
-    (frames_of areas v))
-    (sym (bound-some v.layout (list_of v c.args.cpu c.args.pool)
-    (some (goal.at.returns-then-len-gt0-clause-notes c).Then-len-gt0))) (c.pop.ensures.notes areas)
+    rw (bound-some v.layout (list_of v c.args.cpu c.args.pool)
+    (some (goal.at.returns-then-len-gt0-clause-notes c).Then-len-gt0)) (c.pop.ensures.notes areas)
 
 pub returns-then-len-gt0-clause-together : goal.returns-then-len-gt0-clause-together
 returns-then-len-gt0-clause-together c =
@@ -85,12 +82,10 @@ returns-clause-notes c =
     let areas = c.refill.new.buddy.areas in
     let before = frames_of c.args.buddy.now.areas v in
     let after = frames_of areas c.pop-2.new.self in
-    subst (λ (n : ℕ). NotesFree l n c.args.tape.now c.pop-2.new.tape after before) (sym
-    (bound-none l (list_of v c.args.cpu c.args.pool) (none (goal.at.returns-clause-notes c).After-refill)))
+    rw (bound-none l (list_of v c.args.cpu c.args.pool) (none (goal.at.returns-clause-notes c).After-refill))
     (notes-then l c.refill.new.self.layout (l.batch * (l.order + 2)) 1 (batch_bound l) c.args.tape.now
     c.refill.new.tape c.pop-2.new.tape before (frames_of areas c.refill.new.self) after
-    c.refill.ensures.layout
-    (omega arith) c.refill.ensures.notes (c.pop-2.ensures.notes areas))
+    c.refill.ensures.layout (omega arith) c.refill.ensures.notes (c.pop-2.ensures.notes areas))
 
 pub returns-clause-together : goal.returns-clause-together
 returns-clause-together c = (second (goal.at.returns-clause-together c).After-pop-2).together

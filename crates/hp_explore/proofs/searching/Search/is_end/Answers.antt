@@ -4,7 +4,7 @@ use Rattle.hp_schedules.specs.Outcomes.{outcome}
 use Rattle.hp_explore.specs.Paths.{IsOver, PathValue, state_at}
 use Rattle.hp_schedules.specs.Schedules.{plays, schedule_of}
 use Rattle.hp_explore.specs.Searches.{SearchValue}
-use Rattle.hp_explore.proofs.SearchTurns.{end_told}
+use Rattle.hp_explore.proofs.SearchEnds.{end_told}
 use Rattle.hp_explore.proofs.searching.Search.is_end.Goals as goal
 
 pub returns : goal.returns

@@ -32,7 +32,7 @@ entered_here o c =
     (c.in_ok-entry.ensures.ok w.path.setting
     (arrival w.path w.part c.records.result.now c.memory.result.now c.positions.result.now.cursors.items
     w.tally.ends w.memo c.records.ensures c.memory.ensures c.positions.ensures c.is_played.ensures
-    c.requires.walked c.requires.on c.requires.memo c.requires.way))
+    c.requires.coming.walked c.requires.coming.on c.requires.coming.memo c.requires.coming.way))
 
 way_here : (o : Over) (c : In_ok-entry o)
     → IsOnWay c.args.self.now.path.setting c.args.self.now.path.news c.arrive.new.memo
@@ -42,10 +42,10 @@ way_here o c =
     (c.arrive.ensures.way p.setting
     (c.memory.ensures ∙ ap (memory_at p.setting) (sym c.records.ensures))
     (subst (λ (h : List Record). IsOnWay p.setting h c.args.self.now.memo) (sym c.records.ensures)
-    c.requires.way))
+    c.requires.coming.way))
 
 pub arrive-requires-clause-processors : goal.arrive-requires-clause-processors
-arrive-requires-clause-processors o c = c.requires.processors ∙ sym c.positions.ensures.many
+arrive-requires-clause-processors o c = c.requires.coming.processors ∙ sym c.positions.ensures.many
 
 pub arrive-requires-clause-arrival : goal.arrive-requires-clause-arrival
 arrive-requires-clause-arrival o c =
@@ -53,7 +53,7 @@ arrive-requires-clause-arrival o c =
       w.path.setting,
       arrival w.path w.part c.records.result.now c.memory.result.now c.positions.result.now.cursors.items
           w.tally.ends w.memo c.records.ensures c.memory.ensures c.positions.ensures c.is_played.ensures
-          c.requires.walked c.requires.on c.requires.memo c.requires.way,
+          c.requires.coming.walked c.requires.coming.on c.requires.coming.memo c.requires.coming.way,
     )
 
 pub returns-in-Counted-clause-kept : goal.returns-in-Counted-clause-kept
@@ -65,19 +65,19 @@ returns-in-Counted-clause-kept o c =
     let all =
     gone_back w.path.setting w.part (length w.tally.trail) w.tally c.arrive.new.tally w.path.news
     (frames_of w) (reverse c.reserve.new.self.items) c.take_back.ensures.back.0 c.take_back.new.path
-    c.take_back.new.memo w.processors (ap reverse c.in_ok-reserve.ensures.items) entered.1 c.requires.below
+    c.take_back.new.memo w.processors (ap reverse c.in_ok-reserve.ensures.items) entered.1 c.requires.coming.below
     entered.0 c.take_back.ensures.back.1
     (memo_same w.path.setting c.arrive.new.tally.ends c.arrive.new.memo c.take_back.new.memo
     c.take_back.ensures.same
     (memo_added w.path.setting w.tally.ends c.arrive.new.tally.ends c.arrive.new.memo entered.1.grown
-    (c.arrive.ensures.memo w.path.setting w.tally.ends c.requires.memo)))
-    c.requires.processors c.requires.short in
+    (c.arrive.ensures.memo w.path.setting w.tally.ends c.requires.coming.memo)))
+    c.requires.coming.processors c.requires.coming.short in
     record {
       walked = all.0;
       memo = all.1;
       way = c.take_back.ensures.way (way_here o (goal.at.returns-in-Counted-clause-kept o c).In_ok-entry);
       processors = all.2;
-      few = c.requires.few;
+      few = c.requires.coming.few;
       short = all.3;
     }
 
@@ -121,16 +121,16 @@ returns-in-Open-clause-kept o c =
           (walk_opens g w.part tally w.path.news c.in-Open.frame (frames_of w)
           (entered.1 ∙ ap (λ (t : TallyValue). level_at t) (sym entered.0)) entered.2
           (subst (λ (t : TallyValue). IsPartWalkedBefore g w.part (schedule_of w.path.news) t.ends)
-          (sym entered.0) c.requires.walked)
+          (sym entered.0) c.requires.coming.walked)
           (subst (λ (t : TallyValue). AreBelow g w.part t (length t.trail) w.path.news (frames_of w))
-          (sym entered.0) c.requires.below));
+          (sym entered.0) c.requires.coming.below));
       memo =
           subst (λ (t : TallyValue). IsMemo g t.ends c.arrive.new.memo) (sym entered.0)
-          (c.arrive.ensures.memo g w.tally.ends c.requires.memo);
+          (c.arrive.ensures.memo g w.tally.ends c.requires.coming.memo);
       way = way_here o (goal.at.returns-in-Open-clause-kept o c).In_ok-entry;
-      processors = c.requires.processors;
-      few = c.requires.few;
-      short = c.requires.short;
+      processors = c.requires.coming.processors;
+      few = c.requires.coming.few;
+      short = c.requires.coming.short;
     }
 
 pub returns-in-Open-clause-less : goal.returns-in-Open-clause-less
@@ -151,6 +151,6 @@ returns-in-Open-clause-less o c =
     (omega (
       arith,
       below_many w.path.setting w.part w.tally (length w.tally.trail) w.path.news (frames_of w)
-          c.requires.below,
-      c.requires.short,
+          c.requires.coming.below,
+      c.requires.coming.short,
     )))

@@ -71,8 +71,8 @@ returns-then-not-branch-clause-same o c = (
   refl,
 )
 
-pub come_to-requires : goal.come_to-requires
-come_to-requires o c =
+pub come_to-requires-clause-coming : goal.come_to-requires-clause-coming
+come_to-requires-clause-coming o c =
     let w = c.args.self.now in
     let forth =
     subst (λ (b : Bool). IsForth w.path c.args.frame.next b c.forward.new.self) c.if-not-branch.false

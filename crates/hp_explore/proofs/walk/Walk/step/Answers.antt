@@ -26,17 +26,17 @@ off_stack w rest popped frame is some walking = record {
 pub go_on-requires-clause-kept : goal.go_on-requires-clause-kept
 go_on-requires-clause-kept o c =
     off_stack c.args.self.now c.pop.new.self c.pop.result c.in-Some.frame c.pop.ensures.items c.in-Some.is
-    c.requires
+    c.requires.walking
 
 pub go_back-requires-clause-kept : goal.go_back-requires-clause-kept
 go_back-requires-clause-kept o c =
     off_stack c.args.self.now c.pop.new.self c.pop.result c.in-Some.frame c.pop.ensures.items c.in-Some.is
-    c.requires
+    c.requires.walking
 
 pub is_end-is_end-requires-clause-kept : goal.is_end-is_end-requires-clause-kept
 is_end-is_end-requires-clause-kept o c =
     off_stack c.args.self.now c.pop.new.self c.pop.result c.in-Some.frame c.pop.ensures.items c.in-Some.is
-    c.requires
+    c.requires.walking
 
 pub is_full-requires-clause-walked : goal.is_full-requires-clause-walked
 is_full-requires-clause-walked o c =
@@ -44,9 +44,9 @@ is_full-requires-clause-walked o c =
     let all =
     subst (AreWalked w.path.setting w.part w.tally w.path.news)
     (frames_popped w.frames.items c.pop.new.self.items c.pop.result c.in-Some.frame c.pop.ensures.items
-    c.in-Some.is) c.requires.walked in
+    c.in-Some.is) c.requires.walking.walked in
     let same : c.in-Some.frame.next ≡ w.processors =
-    omega (arith, all.0.within, c.if-frame-self.false, c.requires.processors) in
+    omega (arith, all.0.within, c.if-frame-self.false, c.requires.walking.processors) in
     subst (λ (n : ℕ). IsPartWalkedBefore w.path.setting w.part (schedule_of w.path.news ++ n ∷ [])
     w.tally.ends) same all.0.walked
 
@@ -58,7 +58,7 @@ returns-in_default-clause-ok o c =
     (λ _. vec_len c.pop.new.self + 1 ≡ vec_len w.frames)) c.in_default.is c.pop.ensures.cases in
     subst (AreWalked w.path.setting w.part w.tally w.path.news)
     (no_frames w.frames.items c.pop.new.self.items c.pop.result c.pop.ensures.items c.in_default.is
-    ∙ none_left c.pop.new.self.items (sym c.pop.new.self.ok.0 ∙ none.1)) c.requires.walked
+    ∙ none_left c.pop.new.self.items (sym c.pop.new.self.ok.0 ∙ none.1)) c.requires.walking.walked
 
 pub returns-then-frame-self-clause-ok : goal.returns-then-frame-self-clause-ok
 returns-then-frame-self-clause-ok o c =

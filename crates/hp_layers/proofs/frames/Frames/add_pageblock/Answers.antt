@@ -1,7 +1,7 @@
 use Rattle.std.proofs.Common.{◌*◌, ◌^◌, sym, ◌∙◌, subst}
 use Rattle.hp_units.specs.LayoutParts.{LayoutParts}
 use Rattle.hp_units.specs.Isolation.{add_pageblock}
-use Rattle.hp_buddy.specs.Buddy.{HasBlockMore, MayBeGiven}
+use Rattle.hp_buddy.specs.Buddy.{MayBeGiven}
 use Rattle.hp_layers.proofs.Given.{area-added, may-give, pageblock-returns}
 use Rattle.hp_layers.proofs.frames.Frames.add_pageblock.Goals as goal
 
@@ -27,7 +27,5 @@ returns-clause-given c =
       layout = c.add_pageblock.ensures.layout;
       notes = c.add_pageblock.ensures.notes;
       apart = c.add_pageblock.ensures.apart;
-      places =
-          subst (λ (k : LayoutParts). HasBlockMore e.areas f.buddy.areas k.order (c.args.pageblock
-          * 2 ^ k.order)) (c.requires.tidy.layout ∙ c.requires.same) c.add_pageblock.ensures.places;
+      places = rw (← c.requires.same, ← c.requires.tidy.layout) c.add_pageblock.ensures.places;
     })

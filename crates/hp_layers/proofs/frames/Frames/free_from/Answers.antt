@@ -1,5 +1,5 @@
 -- The rest of a free block, from a frame of it on.
-use Rattle.std.proofs.Common.{◌≡◌, ◌-◌, ◌*◌, ◌^◌, ◌%◌, ◌<◌, ◌≤◌, ℕ, ◌∙◌, ap, subst, arith}
+use Rattle.std.proofs.Common.{◌≡◌, ◌-◌, ◌*◌, ◌^◌, ◌%◌, ◌<◌, ◌≤◌, ℕ, subst, arith}
 use Rattle.std.proofs.Math.Pow.{pow_mono}
 use Rattle.hp_layers.proofs.FreeRuns.{run-is_free, size-computed}
 use Rattle.hp_layers.proofs.frames.Frames.free_from.Goals as goal
@@ -12,8 +12,7 @@ returns-in-Some-clause-free c =
     c.in-Some.ensures.is.within c.order.view_is in
     let count : 1 * 2 ^ c.order.inside.0 % 4294967296
     - c.frame.inside.0 % (1 * 2 ^ c.order.inside.0 % 4294967296) ≡ 2 ^ order - c.args.frame % 2 ^ order =
-    ap (λ (n : ℕ). n - c.frame.inside.0 % n) size
-    ∙ ap (λ (n : ℕ). 2 ^ order - n % 2 ^ order) c.frame.view_is in
+    rw (size, c.frame.view_is) in
     λ (k : ℕ) below. run-is_free c.args.layout.now c.args.self.now.buddy.areas c.args.frame order k
     c.in-Some.ensures.is (subst (λ (n : ℕ). k < n) count below)
 

@@ -1,10 +1,8 @@
 -- One more order is looked at.
-use Rattle.std.proofs.Common.{◌≡◌, ◌+◌, ◌^◌, ◌<◌, ℕ, Bool, false, sym, ◌∙◌, ap, subst, arith}
+use Rattle.std.proofs.Common.{◌≡◌, ◌+◌, ◌^◌, ◌<◌, ℕ, Bool, false, sym, ◌∙◌, ap, arith}
 use Rattle.hp_numbers.specs.Numbers.{ancestor}
 use Rattle.hp_units.specs.Refusals.{is_free_start}
 use Rattle.hp_plain.proofs.Ranges.{any-below_step}
-use Rattle.hp_units.specs.Arithmetic.{frame_count}
-use Rattle.hp_units.specs.LayoutParts.{LayoutParts}
 use Rattle.std.proofs.Math.Nat.{div-mul-le_self}
 use Rattle.hp_layers.proofs.frames.Frames.free_order.Goals as goal
 
@@ -23,5 +21,4 @@ pub is_free_start-requires : goal.is_free_start-requires
 is_free_start-requires c =
     let l = c.args.layout.now in
     let le = div-mul-le_self c.args.frame (2 ^ c.loop-number.number) in
-    subst (λ (k : LayoutParts). c.ancestor.result < frame_count k) (sym c.requires.same)
-    (omega (arith, le, c.ancestor.ensures, c.requires.frame))
+    rw c.requires.same (omega (arith, le, c.ancestor.ensures, c.requires.frame))

@@ -1,10 +1,8 @@
-use Rattle.std.proofs.Common.{sym, subst, arith}
-use Rattle.hp_units.specs.LayoutParts.{IsLayout}
+use Rattle.std.proofs.Common.{arith}
 use Rattle.hp_units.specs.declared.rows.Pool.TheVariants.{Nm as NmPool, Mm as MmPool}
 use Rattle.hp_units.specs.ProcessorLists.{take_one}
 use Rattle.hp_tape.specs.Bounds.{take_one_bound}
 use Rattle.hp_cpus.proofs.Undoes.{take-few}
-use Rattle.hp_layers.specs.declared.frames.Frames.{Frames}
 use Rattle.hp_layers.specs.Frames.{free_of, normal_frame}
 use Rattle.hp_layers.proofs.Taken.{IsListEmpty, list-empty, list-room, then-taken}
 use Rattle.hp_layers.proofs.frames.Frames.page_frame.Goals as goal
@@ -16,8 +14,7 @@ none c = list-empty c.in-None.is c.take_one.ensures
 
 pub normal_frame-requires-clause-layout : goal.normal_frame-requires-clause-layout
 normal_frame-requires-clause-layout c =
-    subst (λ (f : Frames). IsLayout f.cpus.layout)
-    (sym (none (goal.at.normal_frame-requires-clause-layout c).In-None).same) c.requires.layout
+    rw ((none (goal.at.normal_frame-requires-clause-layout c).In-None).same) c.requires.layout
 
 pub normal_frame-requires-clause-room : goal.normal_frame-requires-clause-room
 normal_frame-requires-clause-room c =

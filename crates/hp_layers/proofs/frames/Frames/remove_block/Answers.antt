@@ -1,8 +1,6 @@
 -- One pageblock further.
-use Rattle.std.proofs.Common.{◌≡◌, ℕ, ◌+◌, ◌*◌, ◌^◌, ◌<◌, true, sym, subst, arith}
-use Rattle.hp_units.specs.FreeAreas.{is_on}
+use Rattle.std.proofs.Common.{◌+◌, ◌*◌, ◌<◌, sym, arith}
 use Rattle.hp_units.specs.Isolation.{remove_pageblock}
-use Rattle.hp_units.specs.Memory.{free_list, isolated_class}
 use Rattle.hp_layers.proofs.Given.{given-further}
 use Rattle.hp_layers.proofs.Pageblocks.{pageblock-is}
 use Rattle.hp_layers.proofs.frames.Frames.remove_block.Goals as goal
@@ -13,10 +11,8 @@ remove_pageblock-requires-clause-free c =
     let at = pageblock-is c.loop-number.number c.block.view_is c.pageblocks-count.ensures.is in
     let below : c.loop-number.number < l.pageblocks =
     omega (arith, c.loop-number-test.true, c.pageblocks-count.ensures.is) in
-    subst (λ (n : ℕ). is_on (n * 2 ^ l.order) (free_list c.loop-number.self.buddy.areas
-    (isolated_class c.args.zone) l.order) ≡ true) (sym at)
-    (c.loop-number.invariant.free (c.args.block * l.pageblocks + c.loop-number.number) (omega arith)
-    (omega (arith, below)))
+    rw (← sym at) (c.loop-number.invariant.free (c.args.block * l.pageblocks + c.loop-number.number)
+    (omega arith) (omega (arith, below)))
 
 pub loop-number-preserved : goal.loop-number-preserved
 loop-number-preserved c =

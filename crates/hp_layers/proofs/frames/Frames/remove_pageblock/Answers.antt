@@ -1,8 +1,6 @@
-use Rattle.std.proofs.Common.{◌≡◌, ◌*◌, ◌^◌, true, sym, ◌∙◌, ap, subst, arith}
+use Rattle.std.proofs.Common.{◌∙◌, ap, arith}
 use Rattle.hp_units.specs.LayoutParts.{LayoutParts}
-use Rattle.hp_units.specs.FreeAreas.{is_on}
 use Rattle.hp_units.specs.Isolation.{remove_pageblock}
-use Rattle.hp_units.specs.Memory.{free_list, isolated_class}
 use Rattle.hp_layers.proofs.Given.{area-moved}
 use Rattle.hp_layers.proofs.Removed.{removed-stays}
 use Rattle.hp_layers.proofs.frames.Frames.remove_pageblock.Goals as goal
@@ -10,9 +8,7 @@ use Rattle.hp_layers.proofs.frames.Frames.remove_pageblock.Goals as goal
 pub remove_pageblock-requires-clause-free : goal.remove_pageblock-requires-clause-free
 remove_pageblock-requires-clause-free c =
     let f = c.args.self.now in
-    subst (λ (k : LayoutParts). is_on (c.args.pageblock * 2 ^ k.order)
-    (free_list f.buddy.areas (isolated_class c.args.zone) k.order) ≡ true) (sym
-    (c.requires.tidy.layout ∙ c.requires.same)) c.requires.free
+    rw (c.requires.tidy.layout, c.requires.same) c.requires.free
 
 pub returns-clause-given : goal.returns-clause-given
 returns-clause-given c =

@@ -1,9 +1,7 @@
-use Rattle.std.proofs.Common.{◌<◌, ◌*◌, ℕ, List, [], length, get_or, not, sym, ◌∙◌, ap, subst, arith}
+use Rattle.std.proofs.Common.{[], not, sym, ◌∙◌, ap, arith}
 use Rattle.hp_units.specs.Rows.{is_live}
 use Rattle.hp_units.specs.declared.events.Event.TheVariants.{Cancel}
 use Rattle.hp_units.specs.declared.replies.Refusal.TheVariants.{NoOp}
-use Rattle.hp_tape.specs.Bounds.{moved_block_bound}
-use Rattle.hp_tape.specs.Tapes.{HasRoom}
 use Rattle.hp_layers.proofs.Placed.{tidy-placed}
 use Rattle.hp_layers.proofs.Refusals.{holds-first, refused_for}
 use Rattle.hp_layers.proofs.Releases.{cancel-done}
@@ -33,14 +31,10 @@ overflow_mul-len c =
     c.moved_block_room-each.ensures.is
 
 pub release_blocks-requires-clause-within : goal.release_blocks-requires-clause-within
-release_blocks-requires-clause-within c =
-    subst (λ (xs : List ℕ). (k : ℕ) → k < length xs → get_or xs k 0 < c.args.self.now.layout.blocks)
-    (sym c.deref.ensures.value) c.in_ok-blocks.ensures.within
+release_blocks-requires-clause-within c = rw c.deref.ensures.value c.in_ok-blocks.ensures.within
 
 pub release_blocks-requires-clause-room : goal.release_blocks-requires-clause-room
 release_blocks-requires-clause-room c =
     let tape = c.reserve.new.self in
-    subst (λ (n : ℕ). HasRoom tape (n * moved_block_bound c.args.self.now.layout))
-    (c.len.ensures ∙ sym c.deref.ensures.len)
-    (subst (λ (n : ℕ). HasRoom tape (c.len.result * n)) c.moved_block_room-each.ensures.is
-    c.in_ok-reserve.ensures.room)
+    rw (c.deref.ensures.len, ← c.len.ensures, ← c.moved_block_room-each.ensures.is)
+    c.in_ok-reserve.ensures.room

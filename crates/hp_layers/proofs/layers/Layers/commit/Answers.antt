@@ -1,4 +1,4 @@
-use Rattle.std.proofs.Common.{◌≡◌, ℕ, ◌<◌, List, length, get_or, true, refl, sym, ◌∙◌, subst}
+use Rattle.std.proofs.Common.{◌≡◌, true, refl, sym, ◌∙◌}
 use Rattle.std.specs.List.{list_all}
 use Rattle.hp_units.specs.declared.events.Event.TheVariants.{Commit}
 use Rattle.hp_units.specs.declared.replies.Refusal.TheVariants.{NotFree}
@@ -18,9 +18,7 @@ commit_blocks-requires-clause-ready c =
     let m = c.args.self.now in
     let ready : list_all (is_ready m.layout (state_of m)) c.as_slice-blocks.result.now ≡ true =
     c.in_default.ensures in
-    let within =
-    subst (λ (xs : List ℕ). (k : ℕ) → k < length xs → get_or xs k 0 < m.layout.blocks)
-    (sym c.as_slice-blocks.ensures.value) c.in_ok-held.ensures.within in
+    let within = rw (← c.as_slice-blocks.ensures.value) at c.in_ok-held.ensures.within in
     blocks-grantable m.layout (state_of m) c.args.op c.as_slice-blocks.result.now
     (c.as_slice-blocks.ensures.value ∙ c.in_ok-held.ensures.blocks) within ready
 

@@ -1,7 +1,6 @@
 -- One block further.
-use Rattle.std.proofs.Common.{◌<◌, ◌*◌, ℕ, sym, subst}
+use Rattle.std.proofs.Common.{◌*◌, ℕ, sym, subst}
 use Rattle.std.proofs.lemmas.List.{get_or_read}
-use Rattle.hp_units.specs.LayoutParts.{LayoutParts}
 use Rattle.hp_units.specs.Rows.{commit_block}
 use Rattle.hp_tape.specs.Bounds.{committed_block_bound}
 use Rattle.hp_laws.specs.Commits.{IsGrantable}
@@ -31,9 +30,8 @@ commit_block-requires-clause-block c =
     let here =
     sym (get_or_read c.args.blocks.now c.loop-block.block-index c.block-item.result c.loop-block-test.true
     c.block-item.is 0) in
-    subst (λ (l : LayoutParts). c.block-item.result < l.blocks) (sym c.loop-block.invariant.done.layout)
-    (subst (λ (b : ℕ). b < c.args.self.now.layout.blocks) here
-    (c.requires.within c.loop-block.block-index c.loop-block-test.true))
+    rw (c.loop-block.invariant.done.layout, ← here)
+    (c.requires.within c.loop-block.block-index c.loop-block-test.true)
 
 pub commit_block-requires-clause-ready : goal.commit_block-requires-clause-ready
 commit_block-requires-clause-ready c =
@@ -61,8 +59,7 @@ loop-block-preserved c =
       middle =
           committing-next m.layout (state_of m) c.args.blocks.now c.loop-block.block-index c.block-item.result
           c.requires.placed.one.layout c.loop-block-test.true here
-          (subst (λ (b : ℕ). b < m.layout.blocks) here
-          (c.requires.within c.loop-block.block-index c.loop-block-test.true))
+          (rw (← here) (c.requires.within c.loop-block.block-index c.loop-block-test.true))
           (subst (λ (b : ℕ). IsGrantable m.layout (state_of m) b) here (c.requires.ready
           c.loop-block.block-index c.loop-block-test.true)) c.requires.rise c.loop-block.invariant.middle;
     }

@@ -2,7 +2,6 @@ use Rattle.std.specs.Prelude.{nat_lt}
 use Rattle.std.proofs.lemmas.Bool.{le-leb}
 use Rattle.hp_units.specs.Choices.{unless_some}
 use Rattle.hp_units.specs.KernelBlocks.{kernel_block}
-use Rattle.hp_units.specs.LayoutParts.{LayoutParts, IsLayout}
 use Rattle.hp_units.specs.declared.events.Event.TheVariants.{KernelAlloc}
 use Rattle.hp_units.specs.declared.replies.Refusal.TheVariants.{BadOrder, NoFrame}
 use Rattle.hp_layers.specs.Layers.{state_of}
@@ -13,7 +12,7 @@ use Rattle.hp_layers.specs.Frames.{free_of, kernel_block_bound}
 use Rattle.hp_layers.proofs.Rooms.{kernel-fits, room-free, room-less}
 use Rattle.hp_layers.proofs.Placed.{tidy-placed}
 use Rattle.hp_layers.proofs.Refusals.{holds-first, read-le, read-lt, refused_for}
-use Rattle.std.proofs.Common.{◌≡◌, ℕ, suc, ◌+◌, ◌<◌, ◌≤◌, [], ◌∷◌, Fits, w64, refl, sym, ◌∙◌, ap, subst, arith}
+use Rattle.std.proofs.Common.{◌≡◌, ℕ, suc, ◌+◌, [], ◌∷◌, Fits, w64, refl, sym, subst, arith}
 use Rattle.hp_layers.proofs.layers.Layers.kernel_alloc.Goals as goal
 
 pub kernel_block-requires-clause-tidy : goal.kernel_block-requires-clause-tidy
@@ -36,12 +35,10 @@ returns-then-order-clause-ok c =
     (read-lt c.if-order.true c.order.ensures.is c.order-2.view_is)))
 
 pub kernel_block-requires-clause-cpu : goal.kernel_block-requires-clause-cpu
-kernel_block-requires-clause-cpu c =
-    subst (λ (l : LayoutParts). c.args.cpu < l.cpus) (sym c.requires.placed.one.cpus) c.requires.cpu
+kernel_block-requires-clause-cpu c = rw c.requires.placed.one.cpus c.requires.cpu
 
 pub kernel_block-requires-clause-layout : goal.kernel_block-requires-clause-layout
-kernel_block-requires-clause-layout c =
-    subst IsLayout (sym c.requires.placed.one.cpus) c.requires.placed.one.layout
+kernel_block-requires-clause-layout c = rw c.requires.placed.one.cpus c.requires.placed.one.layout
 
 pub returns-in-None-clause-ok : goal.returns-in-None-clause-ok
 returns-in-None-clause-ok c =
@@ -61,17 +58,13 @@ overflow_add-room c =
 
 pub kernel_block-requires-clause-order : goal.kernel_block-requires-clause-order
 kernel_block-requires-clause-order c =
-    subst (λ (l : LayoutParts). c.args.order ≤ l.order) (sym c.requires.placed.one.cpus)
-    (read-le c.if-order.false c.order-2.view_is c.order.ensures.is)
+    rw c.requires.placed.one.cpus (read-le c.if-order.false c.order-2.view_is c.order.ensures.is)
 
 pub kernel_block-requires-clause-room : goal.kernel_block-requires-clause-room
 kernel_block-requires-clause-room c =
     let m = c.args.self.now in
-    subst (λ (l : LayoutParts).
-    HasRoom c.reserve.new.self (kernel_block_bound l (free_of m.frames) c.args.cpu c.args.order))
-    (sym c.requires.placed.one.cpus)
-    (subst (λ (n : ℕ). HasRoom c.reserve.new.self n) c.kernel_block_room-room.ensures
-    (room-less c.reserve.new.self c.kernel_block_room-room.result 1 c.in_ok-reserve.ensures.room))
+    rw (c.requires.placed.one.cpus, ← c.kernel_block_room-room.ensures)
+    (room-less c.reserve.new.self c.kernel_block_room-room.result 1 c.in_ok-reserve.ensures.room)
 
 pub set-requires-clause-frame : goal.set-requires-clause-frame
 set-requires-clause-frame c =
@@ -82,7 +75,6 @@ set-requires-clause-room c =
     let m = c.args.self.now in
     let bound : ℕ = kernel_block_bound m.frames.cpus.layout (free_of m.frames) c.args.cpu c.args.order in
     let is : c.kernel_block_room-room.result ≡ bound =
-    c.kernel_block_room-room.ensures ∙ ap (λ (l : LayoutParts).
-    kernel_block_bound l (free_of m.frames) c.args.cpu c.args.order) (sym c.requires.placed.one.cpus) in
+    rw (c.kernel_block_room-room.ensures, ← c.requires.placed.one.cpus) in
     room-free _ bound 1 c.reserve.new.self c.kernel_block.new.tape _ _ c.kernel_block.ensures.notes
     (subst (λ (n : ℕ). HasRoom c.reserve.new.self (n + 1)) is c.in_ok-reserve.ensures.room)

@@ -1,4 +1,4 @@
-use Rattle.std.proofs.Common.{◌≡◌, ℕ, Some, ◌<◌, [], ◌∷◌, sym, ◌∙◌, subst, arith}
+use Rattle.std.proofs.Common.{◌≡◌, Some, ◌<◌, [], ◌∷◌, sym, ◌∙◌, arith}
 use Rattle.std.specs.Prelude.{nat_le}
 use Rattle.std.proofs.lemmas.Bool.{le-leb, lt-leb}
 use Rattle.hp_units.specs.Choices.{unless_some}
@@ -10,9 +10,6 @@ use Rattle.hp_layers.specs.Layers.{state_of}
 use Rattle.hp_layers.proofs.KernelEvents.{kernel-given}
 use Rattle.hp_layers.proofs.Placed.{kernel-returns, tidy-placed}
 use Rattle.hp_layers.proofs.Rooms.{room-kernel, room-less, room-turn}
-use Rattle.hp_tape.specs.Tapes.{HasRoom}
-use Rattle.hp_units.specs.LayoutParts.{LayoutParts}
-use Rattle.hp_layers.specs.Frames.{free_of, give_back_bound}
 use Rattle.hp_layers.proofs.Refusals.{fails-first, holds-first, lacks-first, read-le, read-lt, refused_for}
 use Rattle.hp_layers.proofs.layers.Layers.kernel_free.Goals as goal
 use Rattle.hp_layers.proofs.layers.Layers.kernel_free.Goals.{In-Some}
@@ -53,8 +50,7 @@ returns-then-frame-frames-clause-ok c =
 
 pub order_at-requires : goal.order_at-requires
 order_at-requires c =
-    subst (λ (n : ℕ). c.args.frame < n) (sym c.requires.placed.one.kernel)
-    (read-lt c.if-frame-frames.false c.frame.view_is c.frames.ensures.is)
+    rw c.requires.placed.one.kernel (read-lt c.if-frame-frames.false c.frame.view_is c.frames.ensures.is)
 
 pub returns-in_default-clause-ok : goal.returns-in_default-clause-ok
 returns-in_default-clause-ok c =
@@ -72,8 +68,7 @@ zone_of-zone-requires-clause-frame c = within (goal.at.zone_of-zone-requires-cla
 
 pub set-requires-clause-frame : goal.set-requires-clause-frame
 set-requires-clause-frame c =
-    subst (λ (n : ℕ). c.args.frame < n) (sym c.requires.placed.one.kernel)
-    (within (goal.at.set-requires-clause-frame c).In-Some)
+    rw c.requires.placed.one.kernel (within (goal.at.set-requires-clause-frame c).In-Some)
 
 pub give_back_room-room-requires-clause-frame : goal.give_back_room-room-requires-clause-frame
 give_back_room-room-requires-clause-frame c =
@@ -86,10 +81,7 @@ set-requires-clause-room c =
 
 pub give_back-requires-clause-room : goal.give_back-requires-clause-room
 give_back-requires-clause-room c =
-    subst (λ (l : LayoutParts). HasRoom c.set.new.tape (give_back_bound l (free_of c.args.self.now.frames)
-    c.args.cpu c.zone_of-zone.result c.args.frame c.in-Some.order)) (sym c.requires.placed.one.cpus)
-    (subst (λ (n : ℕ). HasRoom c.set.new.tape n) c.give_back_room-room.ensures.is
+    rw (c.requires.placed.one.cpus, ← c.give_back_room-room.ensures.is)
     (room-kernel c.args.self.now.layout 1 c.give_back_room-room.result c.reserve.new.self c.set.new.tape _ _
-    (c.set.ensures.notes c.args.self.now.layout
-    (within (goal.at.give_back-requires-clause-room c).In-Some))
-    (room-turn c.reserve.new.self c.give_back_room-room.result 1 c.in_ok-reserve.ensures.room)))
+    (c.set.ensures.notes c.args.self.now.layout (within (goal.at.give_back-requires-clause-room c).In-Some))
+    (room-turn c.reserve.new.self c.give_back_room-room.result 1 c.in_ok-reserve.ensures.room))

@@ -1,5 +1,5 @@
 -- The rest of one more free block is passed.
-use Rattle.std.proofs.Common.{ℕ, suc, ◌≡◌, ◌+◌, ◌-◌, ◌*◌, Bool, Some, cond, not, sym, ◌∙◌, ap, arith}
+use Rattle.std.proofs.Common.{ℕ, suc, ◌≡◌, ◌+◌, ◌-◌, ◌*◌, Bool, not, sym, ◌∙◌, ap, arith}
 use Rattle.std.specs.List.{find, range_with_len}
 use Rattle.hp_layers.specs.Commits.{is_in_use}
 use Rattle.hp_layers.specs.Layers.{state_of}
@@ -49,10 +49,7 @@ returns-then-free-eq0 c =
     let p : ℕ → Bool = is_in_use c.args.self.now.layout (state_of c.args.self.now) in
     let rest : ℕ = size - number - 1 in
     let left : size - number ≡ suc rest = omega (arith, c.loop-number-test.true) in
-    sym (c.loop-number.invariant
-    ∙ ap (λ (n : ℕ). find p (range_with_len at n)) left
-    ∙ ap (λ (on : Bool). cond (not on) (Some at) (find p (range_with_len (at + 1) rest)))
-    (c.free_from-free.ensures.used c.if-free-eq0.true))
+    sym (rw (c.loop-number.invariant, left, c.free_from-free.ensures.used c.if-free-eq0.true))
 
 pub returns : goal.returns
 returns c =
@@ -60,5 +57,4 @@ returns c =
     let number : ℕ = c.loop-number.number in
     let p : ℕ → Bool = is_in_use c.args.self.now.layout (state_of c.args.self.now) in
     let none : size - number ≡ 0 = omega (arith, c.loop-number-test.false) in
-    sym (c.loop-number.invariant
-    ∙ ap (λ (n : ℕ). find p (range_with_len (c.block.inside.0 * size + number) n)) none)
+    sym (rw (c.loop-number.invariant, none))

@@ -1,6 +1,5 @@
-use Rattle.std.proofs.Common.{◌≡◌, ◌+◌, ◌<◌, Fits, w64, ℕ, Option, refl, sym, ◌∙◌, ap, subst, arith}
-use Rattle.std.specs.Prelude.{is_some}
-use Rattle.hp_units.specs.LayoutParts.{LayoutParts, IsLayout}
+use Rattle.std.proofs.Common.{◌≡◌, ◌+◌, ◌<◌, Fits, w64, ℕ, refl, sym, ◌∙◌, subst, arith}
+use Rattle.hp_units.specs.LayoutParts.{LayoutParts}
 use Rattle.hp_units.specs.Arithmetic.{frame_count}
 use Rattle.hp_units.specs.declared.events.Event.TheVariants.{Map}
 use Rattle.hp_units.specs.declared.replies.Refusal.TheVariants.{AlreadyMapped, NoFrame, NoOwner, NoPage}
@@ -70,8 +69,7 @@ returns-then-is_some-clause-ok c =
     (read-lt c.if-owner-owners.false c.owner.view_is c.owners.ensures.is)
     (read-lt c.if-page-pages.false c.page.view_is c.pages.ensures.is)
     ∙ is-mapped m c.args.cpu c.args.owner c.args.page
-    (ap (λ (o : Option ℕ). is_some o) (sym c.frame_at.ensures.frame)
-    ∙ (sym c.is_some.ensures ∙ c.if-is_some.true)))
+    (rw (← c.frame_at.ensures.frame, ← c.is_some.ensures) c.if-is_some.true))
 
 pub frame_at-requires-clause-owner : goal.frame_at-requires-clause-owner
 frame_at-requires-clause-owner c =
@@ -90,12 +88,10 @@ map-requires-clause-page c =
     page-there c.requires.placed c.if-page-pages.false c.page.view_is c.pages.ensures.is
 
 pub page_frame-requires-clause-cpu : goal.page_frame-requires-clause-cpu
-page_frame-requires-clause-cpu c =
-    subst (λ (l : LayoutParts). c.args.cpu < l.cpus) (sym c.requires.placed.one.cpus) c.requires.cpu
+page_frame-requires-clause-cpu c = rw c.requires.placed.one.cpus c.requires.cpu
 
 pub page_frame-requires-clause-layout : goal.page_frame-requires-clause-layout
-page_frame-requires-clause-layout c =
-    subst IsLayout (sym c.requires.placed.one.cpus) c.requires.placed.one.layout
+page_frame-requires-clause-layout c = rw c.requires.placed.one.cpus c.requires.placed.one.layout
 
 pub map-requires-clause-unmapped : goal.map-requires-clause-unmapped
 map-requires-clause-unmapped c =
@@ -109,19 +105,15 @@ map-requires-clause-frame c =
 pub page_frame-requires-clause-room : goal.page_frame-requires-clause-room
 page_frame-requires-clause-room c =
     let m = c.args.self.now in
-    subst (λ (l : LayoutParts). HasRoom c.reserve.new.self (page_frame_bound l (free_of m.frames) c.args.cpu))
-    (sym c.requires.placed.one.cpus)
-    (subst (λ (n : ℕ). HasRoom c.reserve.new.self n) c.page_frame_room-room.ensures
-    (room-less c.reserve.new.self c.page_frame_room-room.result 1 c.in_ok-reserve.ensures.room))
+    rw (c.requires.placed.one.cpus, ← c.page_frame_room-room.ensures)
+    (room-less c.reserve.new.self c.page_frame_room-room.result 1 c.in_ok-reserve.ensures.room)
 
 pub map-requires-clause-room : goal.map-requires-clause-room
 map-requires-clause-room c =
     let m = c.args.self.now in
     let bound : ℕ = page_frame_bound m.frames.cpus.layout (free_of m.frames) c.args.cpu in
     let is : c.page_frame_room-room.result ≡ bound =
-    c.page_frame_room-room.ensures
-    ∙ ap (λ (l : LayoutParts). page_frame_bound l (free_of m.frames) c.args.cpu)
-    (sym c.requires.placed.one.cpus) in
+    rw (c.page_frame_room-room.ensures, ← c.requires.placed.one.cpus) in
     room-free _ bound 1 c.reserve.new.self c.page_frame.new.tape _ _ c.page_frame.ensures.notes
     (subst (λ (n : ℕ). HasRoom c.reserve.new.self (n + 1)) is c.in_ok-reserve.ensures.room)
 

@@ -1,7 +1,5 @@
-use Rattle.std.proofs.Common.{◌≡◌, ℕ, ◌+◌, ◌*◌, ◌<◌, ◌≤◌, arith, true, Some, refl, sym, ◌∙◌, subst}
+use Rattle.std.proofs.Common.{◌≡◌, ℕ, ◌+◌, ◌*◌, ◌≤◌, arith, true, Some, refl, sym, ◌∙◌}
 use Rattle.std.specs.Prelude.{is_some}
-use Rattle.hp_units.specs.Arithmetic.{frame_count}
-use Rattle.hp_units.specs.LayoutParts.{LayoutParts}
 use Rattle.hp_units.specs.Pages.{page_at}
 use Rattle.hp_units.specs.Migrations.{migration_source}
 use Rattle.hp_units.specs.Rows.{is_live}
@@ -41,8 +39,7 @@ zone_of-zone-requires-clause-frame c =
 
 pub move_page-requires-clause-from : goal.move_page-requires-clause-from
 move_page-requires-clause-from c =
-    subst (λ (l : LayoutParts). c.in-Some.from < frame_count l) (sym c.requires.placed.one.pages)
-    (source-inside c.args.self.now c.in-Some.from c.requires.placed
+    rw c.requires.placed.one.pages (source-inside c.args.self.now c.in-Some.from c.requires.placed
     (holds (goal.at.move_page-requires-clause-from c).In-Some))
 
 pub move_page-requires-clause-mapped : goal.move_page-requires-clause-mapped
@@ -93,10 +90,8 @@ returns-in_default-clause-ok c =
 
 pub move_page-requires-clause-to : goal.move_page-requires-clause-to
 move_page-requires-clause-to c =
-    subst (λ (l : LayoutParts). c.in-Some-migration_target.to < frame_count l)
-    (sym c.requires.placed.one.pages)
-    (taken-inside c.args.self.now _ _ _ _ _ c.in-Some-migration_target.to c.requires.placed
-    c.in-Some-migration_target.ensures)
+    rw c.requires.placed.one.pages (taken-inside c.args.self.now _ _ _ _ _ c.in-Some-migration_target.to
+    c.requires.placed c.in-Some-migration_target.ensures)
 
 pub move_page-requires-clause-free : goal.move_page-requires-clause-free
 move_page-requires-clause-free c =
@@ -110,9 +105,7 @@ give-requires-clause-tidy c = c.migration_target.ensures.tidy
 enough : (c : In-Some) (t : TapeValue) (order more : ℕ) → HasRoom t (2 * order + 5)
     → order ≡ c.args.self.now.layout.order → more ≤ order + 3
     → HasRoom t (steal_bound c.args.self.now.frames.cpus.layout + more)
-enough c t order more room is few =
-    subst (λ (l : LayoutParts). HasRoom t (steal_bound l + more)) (sym c.requires.placed.one.cpus)
-    (omega (arith, room, is, few))
+enough c t order more room is few = rw c.requires.placed.one.cpus (omega (arith, room, is, few))
 
 pub migration_target-requires-clause-room : goal.migration_target-requires-clause-room
 migration_target-requires-clause-room c =
@@ -131,11 +124,9 @@ pub give-requires-clause-room : goal.give-requires-clause-room
 give-requires-clause-room c =
     let m = c.args.self.now in
     let left : ℕ = 2 + give_bound m.layout in
-    subst (λ (l : LayoutParts). HasRoom c.move_page.new.tape (give_bound l))
-    (sym (c.migration_target.ensures.layout ∙ c.requires.placed.one.cpus))
+    rw (c.migration_target.ensures.layout, c.requires.placed.one.cpus)
     (room-pages _ 2 (give_bound m.layout) c.migration_target.new.tape c.move_page.new.tape _ _
-    c.move_page.ensures.notes
-    (room-free _ (steal_bound m.frames.cpus.layout) left c.reserve.new.self c.migration_target.new.tape _ _
-    c.migration_target.ensures.notes
+    c.move_page.ensures.notes (room-free _ (steal_bound m.frames.cpus.layout) left c.reserve.new.self
+    c.migration_target.new.tape _ _ c.migration_target.ensures.notes
     (enough (goal.at.give-requires-clause-room c).In-Some c.reserve.new.self c.order-order.result left
     c.in_ok-reserve.ensures.room c.order-order.ensures.is (omega (arith, c.order-order.ensures.is)))))

@@ -1,6 +1,5 @@
-use Rattle.std.proofs.Common.{◌≡◌, ℕ, ◌+◌, ◌-◌, ◌<◌, sym, ◌∙◌, ap, subst, arith}
+use Rattle.std.proofs.Common.{◌≡◌, ◌-◌, ◌<◌, sym, ◌∙◌, ap, arith}
 use Rattle.hp_units.specs.LayoutParts.{LayoutParts}
-use Rattle.hp_blocks.specs.Blocks.{AreUnclaimed}
 use Rattle.hp_layers.specs.Layers.{state_of}
 use Rattle.hp_layers.specs.Migrations.{source_from}
 use Rattle.hp_layers.proofs.Sources.{source-all, source-between, source-further, source-here, source-past}
@@ -40,20 +39,15 @@ loop-block-preserved c =
     record {
       within = omega (arith, lt, c.block.view_is);
       left =
-          subst (λ (n : ℕ). source_from m.layout (state_of m) c.args.op 0 m.layout.blocks
-          ≡ source_from m.layout (state_of m) c.args.op (n + 1) (m.layout.blocks - (n + 1)))
-          (sym c.block.view_is)
-          (c.loop-block.invariant.left ∙ (skipped here
-          ∙ source-further m.layout (state_of m) c.args.op c.in-Some.block m.layout.blocks lt
-          (sym c.source_of.ensures ∙ c.in_default-source_of.is)));
+          rw c.block.view_is
+          (c.loop-block.invariant.left ∙ (skipped here ∙ source-further m.layout (state_of m) c.args.op
+          c.in-Some.block m.layout.blocks lt (sym c.source_of.ensures ∙ c.in_default-source_of.is)));
     }
 
 pub returns : goal.returns
 returns c =
     let m = c.args.self.now in
-    let none =
-    subst (λ (l : LayoutParts). AreUnclaimed m.blocks c.args.op c.loop-block.first l.blocks)
-    c.requires.one.blocks c.in_default.ensures.none in
+    let none = rw c.requires.one.blocks at c.in_default.ensures.none in
     sym (sym (source-all m.layout (state_of m) c.args.op) ∙ (c.loop-block.invariant.left
     ∙ (source-between m.layout (state_of m) c.args.op c.loop-block.first m.layout.blocks m.layout.blocks
     c.loop-block.invariant.within (omega arith) none

@@ -1,7 +1,6 @@
-use Rattle.std.proofs.Common.{false, None, ap, ◌∙◌}
-use Rattle.hp_units.specs.declared.rows.Row.{Row}
+use Rattle.std.proofs.Common.{false, None}
 use Rattle.hp_units.specs.declared.rows.State.TheVariants.{Online as OnlineState}
-use Rattle.hp_units.specs.Memory.{row_of, with_row}
+use Rattle.hp_units.specs.Memory.{row_of}
 use Rattle.hp_layers.proofs.Releases.{moved}
 use Rattle.hp_layers.proofs.layers.Layers.online_again.Goals as goal
 
@@ -12,6 +11,5 @@ returns c =
     (record { state = OnlineState; zone = (row_of m.blocks.blocks c.args.block).zone; claim = None })
     c.args.tape.now c.move_block.new.tape c.set.new.tape c.requires.one c.zone_of_block-zone.ensures
     c.move_block.ensures
-    (c.set.ensures.set ∙ ap (λ (r : Row). with_row m.blocks.blocks c.args.block
-    (record { state = OnlineState; zone = r.zone; claim = None })) c.row.ensures.row)
+    (rw (c.set.ensures.set, c.row.ensures.row))
     c.set.ensures.layout c.set.ensures.notes

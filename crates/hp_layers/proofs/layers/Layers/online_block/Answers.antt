@@ -1,6 +1,3 @@
-use Rattle.std.proofs.Common.{ap, ◌∙◌}
-use Rattle.hp_units.specs.declared.rows.Row.{Row}
-use Rattle.hp_units.specs.Memory.{with_row}
 use Rattle.hp_layers.proofs.OnlineBlocks.{onlined, unplugged-nowhere}
 use Rattle.hp_layers.proofs.Placed.{tidy-placed}
 use Rattle.hp_layers.proofs.layers.Layers.online_block.Goals as goal
@@ -16,6 +13,5 @@ pub returns : goal.returns
 returns c =
     onlined c.args.self.now c.add_block.new.self c.set.new.self c.args.zone c.args.block c.args.tape.now
     c.set.new.tape c.add_block.new.tape c.requires.placed
-    (c.set.ensures.set
-    ∙ ap (λ (r : Row). with_row c.args.self.now.blocks.blocks c.args.block r) c.online.ensures)
+    (rw (c.set.ensures.set, c.online.ensures))
     c.set.ensures.layout c.set.ensures.notes c.add_block.ensures

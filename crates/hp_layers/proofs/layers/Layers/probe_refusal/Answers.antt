@@ -21,10 +21,8 @@ returns-then-not-is_absent c =
     let low : c.args.address / bytes < m.layout.blocks =
     subst (λ (n : ℕ). c.args.address / n < m.layout.blocks) c.block_bytes-bytes.ensures.is
     (omega (arith, c.if-address-bytes.false, c.from.ensures, c.blocks-2.ensures.is)) in
-    ap (λ (b : ℕ). Some (NotAbsent b)) c.block_at-block.ensures
-    ∙ third BadAddress NoBlock (NotAbsent (c.args.address / bytes))
-    (ap (λ (n : ℕ). not (c.args.address % n == 0)) (sym c.block_bytes-bytes.ensures.is)
-    ∙ ap (λ (n : ℕ). not (n == 0)) c.if-address-bytes-ne0.false)
-    (lt-leb m.layout.blocks (c.args.address / bytes) low)
-    (sym (c.if-not-is_absent.ensures
-    ∙ ap is_absent (c.row.ensures.row ∙ ap (row_of m.blocks.blocks) c.block_at-block.ensures)))
+    rw c.block_at-block.ensures
+    (third BadAddress NoBlock (NotAbsent (c.args.address / bytes)) (ap (λ (n : ℕ). not (c.args.address % n ==
+    0)) (sym c.block_bytes-bytes.ensures.is) ∙ ap (λ (n : ℕ). not (n == 0)) c.if-address-bytes-ne0.false)
+    (lt-leb m.layout.blocks (c.args.address / bytes) low) (sym (c.if-not-is_absent.ensures ∙ ap is_absent
+    (c.row.ensures.row ∙ ap (row_of m.blocks.blocks) c.block_at-block.ensures))))

@@ -1,12 +1,10 @@
 -- One block further.
-use Rattle.std.proofs.Common.{◌≡◌, ℕ, ◌*◌, ◌<◌, List, length, get_or, take, sym, subst, arith}
+use Rattle.std.proofs.Common.{◌≡◌, ℕ, ◌*◌, List, length, get_or, take, sym, subst, arith}
 use Rattle.std.specs.List.{fold}
 use Rattle.std.proofs.Math.Seq.{take-length}
 use Rattle.std.proofs.lemmas.List.{get_or_read}
-use Rattle.hp_units.specs.LayoutParts.{LayoutParts}
 use Rattle.hp_units.specs.Rows.{release_block}
 use Rattle.hp_tape.specs.Bounds.{moved_block_bound}
-use Rattle.hp_tape.specs.Tapes.{HasRoom}
 use Rattle.hp_layers.specs.Layers.{state_of}
 use Rattle.hp_layers.specs.Operations.{IsReworked}
 use Rattle.hp_layers.proofs.Claims.{reworked-none}
@@ -46,20 +44,16 @@ release_block-requires-clause-block c =
     let here : get_or c.args.blocks.now c.loop-block.block-index 0 ≡ c.block-item.result =
     sym (get_or_read c.args.blocks.now c.loop-block.block-index c.block-item.result
     c.loop-block-test.true c.block-item.is 0) in
-    subst (λ (l : LayoutParts). c.block-item.result < l.blocks) (sym c.loop-block.invariant.done.layout)
-    (subst (λ (n : ℕ). n < m.layout.blocks) here
-    (c.requires.within c.loop-block.block-index c.loop-block-test.true))
+    rw (c.loop-block.invariant.done.layout, ← here)
+    (c.requires.within c.loop-block.block-index c.loop-block-test.true)
 
 pub release_block-requires-clause-room : goal.release_block-requires-clause-room
 release_block-requires-clause-room c =
     let m = c.args.self.now in
     let each : ℕ = moved_block_bound m.layout in
-    subst (λ (l : LayoutParts). HasRoom c.loop-block.tape (moved_block_bound l))
-    (sym c.loop-block.invariant.done.layout)
-    (room-view m.layout (c.loop-block.block-index * each) each c.args.tape.now c.loop-block.tape _ _
-    c.loop-block.invariant.done.notes
-    (room-each c.args.tape.now c.loop-block.block-index (length c.args.blocks.now) each
-    c.loop-block-test.true c.requires.room))
+    rw c.loop-block.invariant.done.layout (room-view m.layout (c.loop-block.block-index * each) each
+    c.args.tape.now c.loop-block.tape _ _ c.loop-block.invariant.done.notes (room-each c.args.tape.now
+    c.loop-block.block-index (length c.args.blocks.now) each c.loop-block-test.true c.requires.room))
 
 pub returns : goal.returns
 returns c =

@@ -1,4 +1,4 @@
-use Rattle.std.proofs.Common.{◌≡◌, ℕ, not, ◌&&◌, Option, Some, None, sym, ◌∙◌, ap}
+use Rattle.std.proofs.Common.{◌≡◌, ℕ, not, ◌&&◌, Option, Some, None, sym, ◌∙◌}
 use Rattle.std.specs.Prelude.{find}
 use Rattle.std.specs.Option.{option_map, option_or}
 use Rattle.std.proofs.lemmas.Option.{same_Some}
@@ -16,8 +16,7 @@ not_online-first : (found : Option Item) (rest : Option Refusal) (block : ℕ)
     → option_map (λ item. item.block) found ≡ Some block
     → Some (NotOnline block) ≡ option_or (option_map (λ item. NotOnline item.block) found) rest
 not_online-first None rest block is = absurd cc
-not_online-first (Some item) rest block is =
-    ap (λ (b : ℕ). Some (NotOnline b)) (sym (same_Some item.block block is))
+not_online-first (Some item) rest block is = rw (← same_Some item.block block is)
 
 pub returns-in-Some : goal.returns-in-Some
 returns-in-Some c =

@@ -1,13 +1,10 @@
-use Rattle.std.proofs.Common.{ℕ, sym, ◌∙◌, subst, arith}
-use Rattle.hp_units.specs.LayoutParts.{LayoutParts}
+use Rattle.std.proofs.Common.{sym, ◌∙◌, arith}
 use Rattle.hp_units.specs.declared.events.Event.TheVariants.{Unmap}
 use Rattle.hp_units.specs.declared.replies.Refusal.TheVariants.{NoOwner, NoPage, NotMapped}
 use Rattle.hp_layers.proofs.PageEvents.{settled, unmap-done}
 use Rattle.hp_layers.proofs.Placed.{page-inside, page-returns, tidy-placed}
 use Rattle.hp_layers.proofs.Refusals.{no-owner, no-page, not-mapped, owner-there, page-there, read-le, read-lt, refused_for, some-page, unmap_others}
 use Rattle.hp_layers.proofs.Rooms.{room-pages, room-turn}
-use Rattle.hp_tape.specs.Tapes.{HasRoom}
-use Rattle.hp_layers.specs.Frames.{free_of, give_back_bound}
 use Rattle.hp_layers.proofs.layers.Layers.unmap.Goals as goal
 
 pub unmap-requires-clause-settled : goal.unmap-requires-clause-settled
@@ -87,8 +84,6 @@ overflow_add-room c = omega (arith, c.give_back_room-room.ensures.small)
 
 pub give_back-requires-clause-room : goal.give_back-requires-clause-room
 give_back-requires-clause-room c =
-    subst (λ (l : LayoutParts). HasRoom c.unmap.new.tape (give_back_bound l (free_of c.args.self.now.frames)
-    c.args.cpu c.zone_of-zone.result c.in-Some.frame 0)) (sym c.requires.placed.one.cpus)
-    (subst (λ (n : ℕ). HasRoom c.unmap.new.tape n) c.give_back_room-room.ensures.is
+    rw (c.requires.placed.one.cpus, ← c.give_back_room-room.ensures.is)
     (room-pages _ 2 c.give_back_room-room.result c.reserve.new.self c.unmap.new.tape _ _ c.unmap.ensures.notes
-    (room-turn c.reserve.new.self c.give_back_room-room.result 2 c.in_ok-reserve.ensures.room)))
+    (room-turn c.reserve.new.self c.give_back_room-room.result 2 c.in_ok-reserve.ensures.room))

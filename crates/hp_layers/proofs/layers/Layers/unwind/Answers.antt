@@ -1,7 +1,6 @@
 -- Each delta is undone when its turn comes.
-use Rattle.std.proofs.Common.{◌<◌, length, drop, ◌∙◌, sym, subst, arith}
-use Rattle.hp_units.specs.LayoutParts.{LayoutParts}
-use Rattle.hp_tape.specs.Deltas.{IsDeltaOf, undo, undo_all}
+use Rattle.std.proofs.Common.{◌<◌, length, drop, ◌∙◌, arith}
+use Rattle.hp_tape.specs.Deltas.{undo, undo_all}
 use Rattle.hp_layers.specs.Layers.{view_of}
 use Rattle.hp_layers.proofs.Unwinding.{IsLatest, latest, past-drop, past-length, past-take, unwound}
 use Rattle.hp_layers.proofs.layers.Layers.unwind.Goals as goal
@@ -24,8 +23,7 @@ back-requires-clause-fits c = (last (goal.at.back-requires-clause-fits c).In-Som
 
 pub back-requires-clause-numbers : goal.back-requires-clause-numbers
 back-requires-clause-numbers c =
-    subst (λ (l : LayoutParts). IsDeltaOf l c.in-Some.delta) (sym c.loop-tape.invariant.layout)
-    (last (goal.at.back-requires-clause-numbers c).In-Some).numbers
+    rw c.loop-tape.invariant.layout (last (goal.at.back-requires-clause-numbers c).In-Some).numbers
 
 pub loop-tape-preserved : goal.loop-tape-preserved
 loop-tape-preserved c =

@@ -5,14 +5,12 @@ use Rattle.hp_pages.proofs.buffers.Buffers.copy.Goals as goal
 
 pub returns-in_err-frames : goal.returns-in_err-frames
 returns-in_err-frames c =
-    let p = err_from_is_err_and c.from_residual.result c.from_residual.ensures.1 in
-    rw p.1 tt
+    rw (err_from_is_err_and c.from_residual.result c.from_residual.ensures.1).1 tt
 
 pub returns-in_err-copy_if_any : goal.returns-in_err-copy_if_any
 returns-in_err-copy_if_any c =
     let e = c.from_residual-in_err-copy_if_any in
-    let p = err_from_is_err_and e.result e.ensures.1 in
-    rw p.1 tt
+    rw (err_from_is_err_and e.result e.ensures.1).1 tt
 
 pub returns-in_err-push : goal.returns-in_err-push
 returns-in_err-push c =

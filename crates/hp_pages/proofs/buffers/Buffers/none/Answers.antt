@@ -7,8 +7,7 @@ use Rattle.hp_pages.proofs.buffers.Buffers.none.Goals as goal
 
 pub returns-in_err-frames : goal.returns-in_err-frames
 returns-in_err-frames c =
-    let p = err_from_is_err_and c.from_residual.result c.from_residual.ensures.1 in
-    rw p.1 tt
+    rw (err_from_is_err_and c.from_residual.result c.from_residual.ensures.1).1 tt
 
 pub returns-in_err-push : goal.returns-in_err-push
 returns-in_err-push c =

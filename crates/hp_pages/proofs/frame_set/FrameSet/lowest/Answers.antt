@@ -63,5 +63,4 @@ loop-at-preserved c =
 
 pub returns : goal.returns
 returns c n low high =
-    subst (λ (ws : List ℕ). has ws n ≡ false) c.self.view_is (c.loop-at.invariant.before n low
-    (omega (arith, c.loop-at-test.false)))
+    rw (← c.self.view_is) (c.loop-at.invariant.before n low (omega (arith, c.loop-at-test.false)))

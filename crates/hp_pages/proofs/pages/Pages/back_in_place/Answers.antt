@@ -1,9 +1,5 @@
 -- The numbers of the layer's parts stay, whichever of them changes.
-use Rattle.std.proofs.Common.{◌≡◌, refl, sym, ap, subst}
-use Rattle.hp_units.specs.LayoutParts.{LayoutParts}
-use Rattle.hp_tape.specs.declared.deltas.Delta.{Delta}
-use Rattle.hp_tape.specs.Deltas.{IsDeltaOf}
-use Rattle.hp_pages.specs.Pages.{PagesValue}
+use Rattle.std.proofs.Common.{◌≡◌, refl}
 use Rattle.hp_pages.proofs.PageParts.{layer-buffer, layer-entry, same-size}
 use Rattle.hp_pages.proofs.pages.Pages.back_in_place.Goals as goal
 
@@ -14,33 +10,24 @@ invariant_of-self c =
 
 pub invariant_of-self-in-Word : goal.invariant_of-self-in-Word
 invariant_of-self-in-Word c =
-    let same : c.args.self.now.layout ≡ c.self.inside.layout =
-    sym (ap (λ (p : PagesValue). p.layout) c.self.view_is) in
-    let numbers =
-    subst (λ (d : Delta). IsDeltaOf c.self.inside.layout d) c.in-Word.is
-    (subst (λ (l : LayoutParts). IsDeltaOf l c.args.delta.now) same c.requires.numbers) in
+    let same : c.args.self.now.layout ≡ c.self.inside.layout = rw (← c.self.view_is) in
+    let numbers = rw (same, c.in-Word.is) at c.requires.numbers in
     layer-buffer c.self.inside.layout c.self.inside.table c.self.inside.buffers c.set_word.new.self
     c.self.inside.zeros _ _ c.self.invariant numbers.0 (same-size _ _ _ _ (c.self.invariant.words _))
     c.set_word.ensures
 
 pub invariant_of-self-in-LargeWord : goal.invariant_of-self-in-LargeWord
 invariant_of-self-in-LargeWord c =
-    let same : c.args.self.now.layout ≡ c.self.inside.layout =
-    sym (ap (λ (p : PagesValue). p.layout) c.self.view_is) in
-    let numbers =
-    subst (λ (d : Delta). IsDeltaOf c.self.inside.layout d) c.in-LargeWord.is
-    (subst (λ (l : LayoutParts). IsDeltaOf l c.args.delta.now) same c.requires.numbers) in
+    let same : c.args.self.now.layout ≡ c.self.inside.layout = rw (← c.self.view_is) in
+    let numbers = rw (same, c.in-LargeWord.is) at c.requires.numbers in
     layer-buffer c.self.inside.layout c.self.inside.table c.self.inside.buffers c.set_word-in-LargeWord.new.self
     c.self.inside.zeros _ _ c.self.invariant numbers.0 (same-size _ _ _ _ (c.self.invariant.words _))
     c.set_word-in-LargeWord.ensures
 
 pub invariant_of-self-in-Swap : goal.invariant_of-self-in-Swap
 invariant_of-self-in-Swap c =
-    let same : c.args.self.now.layout ≡ c.self.inside.layout =
-    sym (ap (λ (p : PagesValue). p.layout) c.self.view_is) in
-    let numbers =
-    subst (λ (d : Delta). IsDeltaOf c.self.inside.layout d) c.in-Swap.is
-    (subst (λ (l : LayoutParts). IsDeltaOf l c.args.delta.now) same c.requires.numbers) in
+    let same : c.args.self.now.layout ≡ c.self.inside.layout = rw (← c.self.view_is) in
+    let numbers = rw (same, c.in-Swap.is) at c.requires.numbers in
     layer-buffer c.self.inside.layout c.self.inside.table _ c.swap.new.self
     c.self.inside.zeros _ _
     (layer-buffer c.self.inside.layout c.self.inside.table c.self.inside.buffers _
@@ -49,10 +36,7 @@ invariant_of-self-in-Swap c =
 
 pub invariant_of-self-in-Filled : goal.invariant_of-self-in-Filled
 invariant_of-self-in-Filled c =
-    let same : c.args.self.now.layout ≡ c.self.inside.layout =
-    sym (ap (λ (p : PagesValue). p.layout) c.self.view_is) in
-    let numbers =
-    subst (λ (d : Delta). IsDeltaOf c.self.inside.layout d) c.in-Filled.is
-    (subst (λ (l : LayoutParts). IsDeltaOf l c.args.delta.now) same c.requires.numbers) in
+    let same : c.args.self.now.layout ≡ c.self.inside.layout = rw (← c.self.view_is) in
+    let numbers = rw (same, c.in-Filled.is) at c.requires.numbers in
     layer-buffer c.self.inside.layout c.self.inside.table c.self.inside.buffers c.clear.new.self
     c.self.inside.zeros _ _ c.self.invariant numbers.0 tt c.clear.ensures

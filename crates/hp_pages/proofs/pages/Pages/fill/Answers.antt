@@ -1,4 +1,4 @@
-use Rattle.std.proofs.Common.{◌≡◌, ◌<◌, ℕ, Some, length, set, subst, sym, ◌∙◌, ap}
+use Rattle.std.proofs.Common.{◌≡◌, ◌<◌, ℕ, Some, set, subst, sym, ap}
 use Rattle.std.proofs.lemmas.List.{length-replicate, length-set}
 use Rattle.hp_units.specs.LayoutParts.{LayoutParts}
 use Rattle.hp_units.specs.Arithmetic.{frame_count}
@@ -41,8 +41,6 @@ invariant_of-self c =
     layer-buffer l c.self.inside.table c.self.inside.buffers c.put.new.self c.self.inside.zeros c.args.frame
     (Some c.set.new.self) c.self.invariant
     (subst (λ (k : LayoutParts). c.args.frame < frame_count k) same c.requires.frame)
-    (ap length c.set.ensures ∙ (length-set c.args.words c.args.index c.args.value
-    ∙ (ap length c.requires.words
-    ∙ (length-replicate {A = ℕ} c.args.self.now.layout.words 0
-    ∙ ap (λ (k : LayoutParts). k.words) same))))
+    (rw (c.set.ensures, length-set c.args.words c.args.index c.args.value, c.requires.words)
+    (rw (length-replicate {A = ℕ} c.args.self.now.layout.words 0, same)))
     c.put.ensures

@@ -16,44 +16,36 @@ use Rattle.hp_pages.proofs.pages.Pages.move_page.Goals as goal
 pub set-requires-clause-owner : goal.set-requires-clause-owner
 set-requires-clause-owner c =
     let page = c.unwrap-owner.result in
-    let first : page_from 0 c.args.self.now.pages.table c.args.from ≡ Some page =
-    sym c.page_at.ensures.page ∙ c.unwrap-owner.ensures in
     let is =
     first_page c.args.self.now.layout c.args.self.now.pages c.args.from page c.page_at.ensures.pages
-    first in
+    (sym c.page_at.ensures.page ∙ c.unwrap-owner.ensures) in
     let in_owners = subst (λ (v : PagesValue). page.0 < v.layout.owners) (sym c.self.view_is) is.in_owners in
     omega (arith, in_owners, c.self.invariant.owners)
 
 pub set-requires-clause-page : goal.set-requires-clause-page
 set-requires-clause-page c =
     let page = c.unwrap-owner.result in
-    let first : page_from 0 c.args.self.now.pages.table c.args.from ≡ Some page =
-    sym c.page_at.ensures.page ∙ c.unwrap-owner.ensures in
     let is =
     first_page c.args.self.now.layout c.args.self.now.pages c.args.from page c.page_at.ensures.pages
-    first in
+    (sym c.page_at.ensures.page ∙ c.unwrap-owner.ensures) in
     let in_pages = subst (λ (v : PagesValue). page.1 < v.layout.pages) (sym c.self.view_is) is.in_pages in
     omega (arith, in_pages, c.self.invariant.pages)
 
 pub set-requires-clause-was : goal.set-requires-clause-was
 set-requires-clause-was c =
     let page = c.unwrap-owner.result in
-    let first : page_from 0 c.args.self.now.pages.table c.args.from ≡ Some page =
-    sym c.page_at.ensures.page ∙ c.unwrap-owner.ensures in
     let is =
     first_page c.args.self.now.layout c.args.self.now.pages c.args.from page c.page_at.ensures.pages
-    first in
+    (sym c.page_at.ensures.page ∙ c.unwrap-owner.ensures) in
     subst (λ (v : PagesValue). entry_of v.pages.table page.0 page.1 ≡ Some c.args.from) (sym c.self.view_is)
     is.entry
 
 pub returns-clause-settled : goal.returns-clause-settled
 returns-clause-settled c =
     let page = c.unwrap-owner.result in
-    let first : page_from 0 c.args.self.now.pages.table c.args.from ≡ Some page =
-    sym c.page_at.ensures.page ∙ c.unwrap-owner.ensures in
     let is =
     first_page c.args.self.now.layout c.args.self.now.pages c.args.from page c.page_at.ensures.pages
-    first in
+    (sym c.page_at.ensures.page ∙ c.unwrap-owner.ensures) in
     let rows = ap (λ (t : TableValue). t.rows) c.set.ensures.set in
     rw (rows, c.swap.ensures) (subst (λ (v : PagesValue).
     AreSettled (move_entry v.pages page.0 page.1 c.args.from c.args.to)) (sym c.self.view_is)
@@ -64,13 +56,10 @@ returns-clause-settled c =
 pub returns-clause-notes : goal.returns-clause-notes
 returns-clause-notes c =
     let page = c.unwrap-owner.result in
-    let first : page_from 0 c.args.self.now.pages.table c.args.from ≡ Some page =
-    sym c.page_at.ensures.page ∙ c.unwrap-owner.ensures in
     let is =
     first_page c.args.self.now.layout c.args.self.now.pages c.args.from page c.page_at.ensures.pages
-    first in
-    let rows = ap (λ (t : TableValue). t.rows) c.set.ensures.set in
-    rw (rows, c.swap.ensures)
+    (sym c.page_at.ensures.page ∙ c.unwrap-owner.ensures) in
+    rw (ap (λ (t : TableValue). t.rows) c.set.ensures.set, c.swap.ensures)
     (subst (λ (v : PagesValue). NotesPages c.args.self.now.layout 2 c.args.tape.now c.note-2.new.self
     (move_entry v.pages page.0 page.1 c.args.from c.args.to) c.args.self.now.pages) (sym c.self.view_is)
     (notes-move c.args.self.now.layout c.args.self.now.pages page.0 page.1 c.args.from c.args.to _
@@ -82,22 +71,18 @@ returns-clause-notes c =
 pub of_page-requires-clause-owner : goal.of_page-requires-clause-owner
 of_page-requires-clause-owner c =
     let page = c.unwrap-owner.result in
-    let first : page_from 0 c.args.self.now.pages.table c.args.from ≡ Some page =
-    sym c.page_at.ensures.page ∙ c.unwrap-owner.ensures in
     let is =
     first_page c.args.self.now.layout c.args.self.now.pages c.args.from page c.page_at.ensures.pages
-    first in
+    (sym c.page_at.ensures.page ∙ c.unwrap-owner.ensures) in
     let in_owners = subst (λ (v : PagesValue). page.0 < v.layout.owners) (sym c.self.view_is) is.in_owners in
     omega (arith, in_owners, c.self.invariant.owners, c.set.ensures.was_table.owners)
 
 pub of_page-requires-clause-page : goal.of_page-requires-clause-page
 of_page-requires-clause-page c =
     let page = c.unwrap-owner.result in
-    let first : page_from 0 c.args.self.now.pages.table c.args.from ≡ Some page =
-    sym c.page_at.ensures.page ∙ c.unwrap-owner.ensures in
     let is =
     first_page c.args.self.now.layout c.args.self.now.pages c.args.from page c.page_at.ensures.pages
-    first in
+    (sym c.page_at.ensures.page ∙ c.unwrap-owner.ensures) in
     let in_pages = subst (λ (v : PagesValue). page.1 < v.layout.pages) (sym c.self.view_is) is.in_pages in
     omega (arith, in_pages, c.self.invariant.pages, c.set.ensures.was_table.pages)
 
@@ -118,8 +103,7 @@ returns-clause-layout c = ap (λ (w : PagesValue). w.layout) c.self.view_is
 
 pub invariant_of-self : goal.invariant_of-self
 invariant_of-self c =
-    let same : c.args.self.now.layout ≡ c.self.inside.layout =
-    sym (ap (λ (p : PagesValue). p.layout) c.self.view_is) in
+    let same : c.args.self.now.layout ≡ c.self.inside.layout = rw (← c.self.view_is) in
     let from_is = get_or c.self.inside.buffers c.args.from None in
     let to_is = get_or c.self.inside.buffers c.args.to None in
     let one = set c.self.inside.buffers c.args.from to_is in

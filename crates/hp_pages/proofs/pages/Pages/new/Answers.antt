@@ -1,10 +1,9 @@
-use Rattle.std.proofs.Common.{ℕ, List, Option, None, IfSome, length, get_or, replicate, sym, ◌∙◌, ap, subst, ◌≡◌, arith}
+use Rattle.std.proofs.Common.{ℕ, List, Option, None, length, replicate, sym, ◌∙◌, ap, subst, arith}
 use Rattle.std.proofs.lemmas.List.{length-replicate}
 use Rattle.std.proofs.lemmas.Result.{err_from_is_err_and}
-use Rattle.hp_units.specs.LayoutParts.{LayoutParts}
 use Rattle.hp_units.specs.Arithmetic.{frame_count}
 use Rattle.hp_tape.specs.Deltas.{PageFrames}
-use Rattle.hp_pages.specs.Pages.{AreLayerOf, AreSettled}
+use Rattle.hp_pages.specs.Pages.{AreSettled}
 use Rattle.hp_pages.specs.Places.{TableValue}
 use Rattle.hp_pages.proofs.PageParts.{new_is, none_read, same_frames, settled_no_pages}
 use Rattle.hp_pages.proofs.pages.Pages.new.Goals as goal
@@ -18,13 +17,11 @@ returns-clause-empty c =
 
 pub returns-in_err-copy-clause-empty : goal.returns-in_err-copy-clause-empty
 returns-in_err-copy-clause-empty c =
-    let p = err_from_is_err_and c.from_residual.result c.from_residual.ensures.1 in
-    rw p.1 tt
+    rw (err_from_is_err_and c.from_residual.result c.from_residual.ensures.1).1 tt
 
 pub returns-in_err-copy-clause-settled : goal.returns-in_err-copy-clause-settled
 returns-in_err-copy-clause-settled c =
-    let p = err_from_is_err_and c.from_residual.result c.from_residual.ensures.1 in
-    rw p.1 tt
+    rw (err_from_is_err_and c.from_residual.result c.from_residual.ensures.1).1 tt
 
 pub returns-in_err-empty-clause-empty : goal.returns-in_err-empty-clause-empty
 returns-in_err-empty-clause-empty c =
@@ -77,8 +74,7 @@ pub invariant_of-result : goal.invariant_of-result
 invariant_of-result c =
     let l = c.args.layout.now in
     let frames = c.frames-frames.result in
-    subst (λ (k : LayoutParts). AreLayerOf k c.in_ok-empty.field-0 c.in_ok-none.field-0
-    c.in_ok-zeros.field-0) (sym c.in_ok-copy.ensures) (record {
+    rw c.in_ok-copy.ensures (record {
       frames = ap (λ (t : TableValue). t.frames) c.in_ok-empty.ensures ∙ c.frames-frames.ensures.is;
       pages = ap (λ (t : TableValue). t.pages) c.in_ok-empty.ensures ∙ c.pages.ensures.is;
       owners =
@@ -88,9 +84,7 @@ invariant_of-result c =
           ap (λ (b : List (Option (List ℕ))). length b) c.in_ok-none.ensures
           ∙ (simp length-replicate) ∙ c.frames-frames.ensures.is;
       words =
-          λ frame. subst (λ (b : Option (List ℕ)). IfSome b (λ words. length words ≡ l.words))
-          (sym (ap (λ (b : List (Option (List ℕ))). get_or b frame None) c.in_ok-none.ensures
-          ∙ none_read frames frame)) tt;
+          λ frame. rw (c.in_ok-none.ensures, none_read frames frame) tt;
       zeros = c.in_ok-zeros.ensures;
       few_words = c.pages.ensures.layout.words;
     })

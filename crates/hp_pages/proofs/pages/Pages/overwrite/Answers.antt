@@ -1,4 +1,4 @@
-use Rattle.std.proofs.Common.{◌≡◌, ◌<◌, ℕ, List, [], Option, None, Some, length, set, refl, ap, subst, sym, ◌∙◌, Bor, false, arith}
+use Rattle.std.proofs.Common.{◌≡◌, ◌<◌, ℕ, List, Option, None, Some, length, set, refl, ap, subst, sym, ◌∙◌, Bor, false, arith}
 use Rattle.std.specs.Prelude.{IfSome, IsSome, option_map}
 use Rattle.hp_tape.specs.Deltas.{buffer_of, is_blank}
 use Rattle.hp_pages.specs.Pages.{PagesValue}

@@ -29,8 +29,7 @@ returns-clause-notes c =
 
 pub invariant_of-self : goal.invariant_of-self
 invariant_of-self c =
-    let same : c.args.self.now.layout ≡ c.self.inside.layout =
-    sym (ap (λ (p : PagesValue). p.layout) c.self.view_is) in
+    let same : c.args.self.now.layout ≡ c.self.inside.layout = rw (← c.self.view_is) in
     let buffer = buffer_of (view_of c.self.inside.table.rows c.self.inside.buffers) c.args.frame in
     layer-buffer c.self.inside.layout c.self.inside.table c.self.inside.buffers c.set_word.new.self
     c.self.inside.zeros c.args.frame

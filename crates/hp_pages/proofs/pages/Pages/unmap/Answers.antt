@@ -1,10 +1,7 @@
-use Rattle.std.proofs.Common.{◌≡◌, None, Some, ap, subst, sym, ◌∙◌}
-use Rattle.hp_units.specs.LayoutParts.{LayoutParts}
+use Rattle.std.proofs.Common.{◌≡◌, None, Some, ap, sym, ◌∙◌}
 use Rattle.hp_units.specs.Memory.{entry_of, with_entry}
 use Rattle.hp_tape.specs.Deltas.{FitsPages, IsOfPages, PageFrames, pages_undo}
-use Rattle.hp_tape.specs.Tapes.{NotesPages}
 use Rattle.hp_tape.proofs.Leads.{notes-append}
-use Rattle.hp_pages.specs.Pages.{AreSettled}
 use Rattle.hp_pages.proofs.PageCalls.{settled-unmap}
 use Rattle.hp_pages.proofs.pages.Pages.unmap.Goals as goal
 
@@ -16,8 +13,7 @@ returns-clause-settled c =
     let is =
     c.clear_entry.ensures.cleared ∙ ap (λ (w : PageFrames).
     record w { table = with_entry w.table c.args.owner c.args.page None }) c.empty.ensures.emptied in
-    subst AreSettled (sym is)
-    (settled-unmap c.args.self.now.layout c.args.self.now.pages c.args.owner c.args.page frame
+    rw is (settled-unmap c.args.self.now.layout c.args.self.now.pages c.args.owner c.args.page frame
     c.frame_at.ensures.pages c.requires.settled c.requires.owner c.requires.page mapped)
 
 pub returns-clause-notes : goal.returns-clause-notes
@@ -25,5 +21,4 @@ returns-clause-notes c =
     notes-append IsOfPages FitsPages pages_undo c.args.self.now.layout 1 1 c.args.tape.now c.empty.new.tape
     c.clear_entry.new.tape
     c.clear_entry.new.self.pages c.empty.new.self.pages c.args.self.now.pages c.empty.ensures.notes
-    (subst (λ (k : LayoutParts). NotesPages k 1 c.empty.new.tape c.clear_entry.new.tape
-    c.clear_entry.new.self.pages c.empty.new.self.pages) c.empty.ensures.layout c.clear_entry.ensures.notes)
+    (rw (← c.empty.ensures.layout) c.clear_entry.ensures.notes)

@@ -1,4 +1,4 @@
-use Rattle.std.proofs.Common.{◌≡◌, Option, ℕ, sym, ◌∙◌, ap, subst}
+use Rattle.std.proofs.Common.{Option, ℕ, sym, ◌∙◌, ap, subst}
 use Rattle.std.specs.Prelude.{IfSome, unwrap_or}
 use Rattle.std.specs.Option.{option_map_or}
 use Rattle.hp_units.specs.Arithmetic.{IsFrame}
@@ -47,20 +47,12 @@ pub returns-in-Fill-clause-written : goal.returns-in-Fill-clause-written
 returns-in-Fill-clause-written c =
     let l = c.args.self.now.layout in
     let v = c.args.self.now.pages in
-    c.fill.ensures.written
-    ∙ ap (λ (o : Option ℕ). option_map_or (λ n. write_at l v n c.args.index c.args.value) o v)
-    (sym (sym c.frame_at.ensures.frame ∙ c.unwrap-frame.ensures))
+    rw c.fill.ensures.written (ap (λ (o : Option ℕ). option_map_or (λ n. write_at l v n c.args.index
+    c.args.value) o v) (sym (sym c.frame_at.ensures.frame ∙ c.unwrap-frame.ensures)))
 
 pub returns-in-Change-clause-written : goal.returns-in-Change-clause-written
 returns-in-Change-clause-written c =
     let l = c.args.self.now.layout in
     let v = c.args.self.now.pages in
-    c.overwrite.ensures.written
-    ∙ ap (λ (o : Option ℕ). option_map_or (λ n. write_at l v n c.args.index c.args.value) o v)
-    (sym (sym c.frame_at.ensures.frame ∙ c.unwrap-frame.ensures))
-
-pub returns-in-Fill-clause-notes : goal.returns-in-Fill-clause-notes
-returns-in-Fill-clause-notes c = c.fill.ensures.notes
-
-pub returns-in-Change-clause-notes : goal.returns-in-Change-clause-notes
-returns-in-Change-clause-notes c = c.overwrite.ensures.notes
+    rw c.overwrite.ensures.written (ap (λ (o : Option ℕ). option_map_or (λ n. write_at l v n c.args.index
+    c.args.value) o v) (sym (sym c.frame_at.ensures.frame ∙ c.unwrap-frame.ensures)))

@@ -1,4 +1,4 @@
-use Rattle.std.proofs.Common.{◌+◌, ◌≤◌, length, subst, sym}
+use Rattle.std.proofs.Common.{length}
 use Rattle.hp_pages.specs.Places.{TableValue}
 use Rattle.hp_pages.proofs.Tables.{lowest_of}
 use Rattle.hp_pages.proofs.table.Table.lowest.Goals as goal
@@ -11,7 +11,6 @@ returns c =
       pages = c.self.inside.pages;
       rows = c.self.inside.rows.items;
     } in
-    let within =
-    subst (λ (v : TableValue). c.args.first + c.args.count ≤ v.frames) (sym c.self.view_is) c.requires in
+    let within = rw (← c.self.view_is) at c.requires in
     rw (← c.self.view_is) (lowest_of t c.self.inside.sums c.args.first c.args.count c.lowest.result
     c.self.invariant within c.lowest.ensures)

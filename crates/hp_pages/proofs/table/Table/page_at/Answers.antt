@@ -1,5 +1,5 @@
-use Rattle.std.proofs.Common.{◌<◌, ◌≤◌, length, subst, sym, ◌∙◌, arith}
-use Rattle.hp_pages.specs.Places.{TableValue, holders}
+use Rattle.std.proofs.Common.{length, sym, ◌∙◌, arith}
+use Rattle.hp_pages.specs.Places.{TableValue}
 use Rattle.hp_pages.proofs.Tables.{page_none, page_told}
 use Rattle.hp_pages.proofs.table.Table.page_at.Goals as goal
 
@@ -11,8 +11,7 @@ returns-then-sum-eq0-clause-page c =
       pages = c.self.inside.pages;
       rows = c.self.inside.rows.items;
     } in
-    let in_frames =
-    subst (λ (v : TableValue). c.args.frame < v.frames) (sym c.self.view_is) c.requires.frame in
+    let in_frames = rw (← c.self.view_is) at c.requires.frame in
     rw (← c.self.view_is) (page_none t c.self.inside.sums c.args.frame c.self.invariant in_frames
     (sym c.at-sum.ensures ∙ c.if-sum-eq0.true))
 
@@ -24,10 +23,8 @@ overflow_cast-result c =
       pages = c.self.inside.pages;
       rows = c.self.inside.rows.items;
     } in
-    let in_frames =
-    subst (λ (v : TableValue). c.args.frame < v.frames) (sym c.self.view_is) c.requires.frame in
-    let once =
-    subst (λ (v : TableValue). holders v.rows c.args.frame ≤ 1) (sym c.self.view_is) c.requires.once in
+    let in_frames = rw (← c.self.view_is) at c.requires.frame in
+    let once = rw (← c.self.view_is) at c.requires.once in
     let told =
     page_told t c.self.inside.sums c.args.frame c.at-sum.result c.self.invariant in_frames once
     c.at-sum.ensures c.if-sum-eq0.false in
@@ -41,10 +38,8 @@ returns-clause-page c =
       pages = c.self.inside.pages;
       rows = c.self.inside.rows.items;
     } in
-    let in_frames =
-    subst (λ (v : TableValue). c.args.frame < v.frames) (sym c.self.view_is) c.requires.frame in
-    let once =
-    subst (λ (v : TableValue). holders v.rows c.args.frame ≤ 1) (sym c.self.view_is) c.requires.once in
+    let in_frames = rw (← c.self.view_is) at c.requires.frame in
+    let once = rw (← c.self.view_is) at c.requires.once in
     let told =
     page_told t c.self.inside.sums c.args.frame c.at-sum.result c.self.invariant in_frames once
     c.at-sum.ensures c.if-sum-eq0.false in

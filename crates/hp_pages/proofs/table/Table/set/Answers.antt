@@ -1,6 +1,5 @@
 use Rattle.std.proofs.Common.{◌≡◌, ◌<◌, ◌≤◌, ◌^◌, [], length, get_or, subst, sym, refl}
 use Rattle.std.proofs.lemmas.List.{get_or_read}
-use Rattle.std.specs.Prelude.{IfSome}
 use Rattle.hp_pages.specs.Places.{TableValue}
 use Rattle.hp_pages.proofs.Tables.{are_sums-set, below_most, can_join, can_leave}
 use Rattle.hp_pages.proofs.table.Table.set.Goals as goal
@@ -24,15 +23,11 @@ join-requires c =
       pages = c.self.inside.pages;
       rows = c.self.inside.rows.items;
     } in
-    let in_owners =
-    subst (λ (v : TableValue). c.args.owner < length v.rows) (sym c.self.view_is) c.requires.owner in
-    let in_pages = subst (λ (v : TableValue). c.args.page < v.pages) (sym c.self.view_is) c.requires.page in
-    let in_frames =
-    subst (λ (v : TableValue). IfSome c.args.now (λ frame. frame < v.frames)) (sym c.self.view_is)
-    c.requires.frame in
+    let in_owners = rw (← c.self.view_is) at c.requires.owner in
+    let in_frames = rw (← c.self.view_is) at c.requires.frame in
     rw (c.leave.ensures, sym c.requires.was, c.place-place.ensures, ← c.self.view_is)
     (can_join t c.self.inside.sums c.args.owner c.args.page c.args.now c.self.invariant refl in_owners
-    in_pages in_frames)
+    (subst (λ (v : TableValue). c.args.page < v.pages) (sym c.self.view_is) c.requires.page) in_frames)
 
 pub set-requires-clause-small : goal.set-requires-clause-small
 set-requires-clause-small c =
@@ -41,12 +36,9 @@ set-requires-clause-small c =
 
 pub invariant_of-self : goal.invariant_of-self
 invariant_of-self c =
-    let in_owners =
-    subst (λ (v : TableValue). c.args.owner < length v.rows) (sym c.self.view_is) c.requires.owner in
+    let in_owners = rw (← c.self.view_is) at c.requires.owner in
     let in_pages = subst (λ (v : TableValue). c.args.page < v.pages) (sym c.self.view_is) c.requires.page in
-    let in_frames =
-    subst (λ (v : TableValue). IfSome c.args.now (λ frame. frame < v.frames)) (sym c.self.view_is)
-    c.requires.frame in
+    let in_frames = rw (← c.self.view_is) at c.requires.frame in
     let was : c.index_mut-row.result.now
     ≡ get_or c.self.inside.rows.items c.args.owner c.index_mut-row.result.now =
     rw (← c.owner.view_is) c.index_mut-row.ensures.value in

@@ -1,4 +1,4 @@
-use Rattle.std.proofs.Common.{ℕ, arith, ◌≡◌, ◌∙◌, ap, false, get_or, subst, sym, true}
+use Rattle.std.proofs.Common.{ℕ, arith, ◌≡◌, false, get_or, true}
 use Rattle.std.proofs.lemmas.Bool.{both_ways}
 use Rattle.hp_units.specs.Arithmetic.{buddy}
 use Rattle.hp_units.specs.FreeAreas.{is_on}
@@ -10,11 +10,9 @@ returns-then-at-number c joined =
     let frames = c.args.frames.now in
     let x : ℕ = c.first-item.result in
     let on : is_on x frames ≡ true =
-    subst (λ (y : ℕ). is_on y frames ≡ true) (sym c.first-item.is)
-    (entry_on frames c.loop-first.first-index x c.loop-first-test.true) in
+    rw c.first-item.is (entry_on frames c.loop-first.first-index x c.loop-first-test.true) in
     let here : get_or c.args.self.now (buddy x c.args.order) 0 ≡ c.args.number =
-    ap (λ (n : ℕ). get_or c.args.self.now n 0) (sym c.buddy.ensures) ∙ sym c.at.ensures
-    ∙ c.if-at-number.true in
+    rw (← c.buddy.ensures, ← c.at.ensures) c.if-at-number.true in
     both_ways (is_on (buddy x c.args.order) frames) (joined x on)
     ((c.requires.heads (buddy x c.args.order)).0 here)
 

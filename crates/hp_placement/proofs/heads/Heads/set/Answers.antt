@@ -1,4 +1,4 @@
-use Rattle.std.proofs.Common.{ℕ, arith, ◌≡◌, ◌∙◌, ◌<◌, length, length-set, true, sym, subst}
+use Rattle.std.proofs.Common.{ℕ, arith, ◌≡◌, ◌∙◌, ◌<◌, length, length-set, true, sym}
 use Rattle.std.proofs.lemmas.List.{get_or_read}
 use Rattle.hp_units.specs.FreeAreas.{is_on}
 use Rattle.hp_placement.proofs.Counting.{entry_on}
@@ -10,8 +10,7 @@ index_mut-requires c =
     let frames = c.args.frames.now in
     let x : ℕ = c.frame-item.result in
     let on : is_on x frames ≡ true =
-    subst (λ (y : ℕ). is_on y frames ≡ true) (sym c.frame-item.is)
-    (entry_on frames c.loop-frame.frame-index x c.loop-frame-test.true) in
+    rw c.frame-item.is (entry_on frames c.loop-frame.frame-index x c.loop-frame-test.true) in
     omega (arith, c.requires x on, c.frame.view_is)
 
 pub loop-frame-preserved : goal.loop-frame-preserved
@@ -19,9 +18,7 @@ loop-frame-preserved c =
     let frames = c.args.frames.now in
     let x : ℕ = c.frame-item.result in
     let low : c.loop-frame.frame-index < length frames = omega arith in
-    let on : is_on x frames ≡ true =
-    subst (λ (y : ℕ). is_on y frames ≡ true) (sym c.frame-item.is)
-    (entry_on frames c.loop-frame.frame-index x low) in
+    let on : is_on x frames ≡ true = rw c.frame-item.is (entry_on frames c.loop-frame.frame-index x low) in
     let there : c.frame.inside.0 < length c.loop-frame.self-inside.frames.items =
     omega (arith, c.requires x on, c.frame.view_is) in
     record {

@@ -1,7 +1,6 @@
-use Rattle.std.proofs.Common.{ℕ, Bool, arith, ◌≡◌, ◌∙◌, ◌+◌, ap, cond, length, rules}
+use Rattle.std.proofs.Common.{ℕ, arith, ◌≡◌, cond, rules}
 use Rattle.std.proofs.lemmas.List.{length_push}
-use Rattle.hp_units.specs.Placement.{is_unplugged}
-use Rattle.hp_placement.specs.Placing.{row_in, unplugged}
+use Rattle.hp_placement.specs.Placing.{unplugged}
 use Rattle.hp_placement.proofs.PlacedRows.{all_unplugged, marks_more}
 use Rattle.hp_placement.proofs.marks.Marks.of_unplugged.Goals as goal
 
@@ -13,12 +12,9 @@ loop-number-preserved c =
     let number : ℕ = c.loop-number.number in
     let byte : c.from.result ≡ cond c.is_unplugged.result 1 0 = search rules in
     let is : c.from.result ≡ unplugged l rows number =
-    byte ∙ ap (λ (b : Bool). cond b 1 0) (c.is_unplugged.ensures
-    ∙ ap (λ (block : ℕ). is_unplugged (row_in rows block)) c.block_of-block.ensures) in
+    rw (byte, c.is_unplugged.ensures, c.block_of-block.ensures) in
     record {
-      long =
-          ap length c.in_ok-push.ensures.items ∙ length_push items c.from.result
-          ∙ ap (λ (n : ℕ). n + 1) c.loop-number.invariant.long;
+      long = rw (c.in_ok-push.ensures.items, length_push items c.from.result, c.loop-number.invariant.long);
       each =
           marks_more l rows items c.push.new.self.items number c.from.result c.loop-number.invariant.long
           c.loop-number.invariant.each c.in_ok-push.ensures.items is;

@@ -1,9 +1,7 @@
-use Rattle.std.proofs.Common.{◌≡◌, ℕ, ◌+◌, ◌*◌, [], replicate, sym, ◌∙◌, ap, subst}
+use Rattle.std.proofs.Common.{◌≡◌, ℕ, ◌+◌, ◌*◌, [], replicate, ◌∙◌, ap}
 use Rattle.hp_units.specs.Arithmetic.{pageblock_count}
 use Rattle.hp_units.specs.Boot.{empty_areas}
-use Rattle.hp_units.specs.InLayout.{AreFreeAreasOf}
 use Rattle.hp_units.specs.Memory.{plain_kind}
-use Rattle.hp_units.specs.declared.rows.Kind.{Kind}
 use Rattle.hp_plain.proofs.EmptyFrames.{empty-areas_are, empty-areas_of, made}
 use Rattle.hp_plain.proofs.areas.Areas.empty.Goals as goal
 use Rattle.hp_plain.proofs.areas.Areas.empty.Goals.{In_ok-kinds}
@@ -15,10 +13,8 @@ value c =
     let lists : c.in_ok-lists.lists.items ≡ replicate (5 * (l.order + 1)) [] =
     c.in_ok-lists.ensures ∙ ap (λ (n : ℕ). replicate (5 * (n + 1)) []) c.order.ensures.is in
     let kinds : c.in_ok-kinds.kinds.items ≡ replicate (pageblock_count l) plain_kind =
-    c.in_ok-kinds.ensures.items_if_clones_equal (λ y e. e)
-    ∙ ap (λ (k : Kind). replicate (c.blocks-2.result * c.pageblocks.result) k) c.plain.ensures
-    ∙ ap (λ (n : ℕ). replicate (n * c.pageblocks.result) plain_kind) c.blocks-2.ensures.is
-    ∙ ap (λ (n : ℕ). replicate (l.blocks * n) plain_kind) c.pageblocks.ensures.is in
+    rw ((c.in_ok-kinds.ensures.items_if_clones_equal (λ y e. e)), c.plain.ensures)
+    (rw (c.blocks-2.ensures.is, c.pageblocks.ensures.is)) in
     empty-areas_are l c.in_ok-lists.lists.items c.in_ok-kinds.kinds.items lists kinds
 
 pub returns-clause-value : goal.returns-clause-value
@@ -26,5 +22,4 @@ returns-clause-value c = value (goal.at.returns-clause-value c).In_ok-kinds
 
 pub returns-clause-layout : goal.returns-clause-layout
 returns-clause-layout c =
-    subst (AreFreeAreasOf c.args.layout.now) (sym (value (goal.at.returns-clause-layout c).In_ok-kinds))
-    (empty-areas_of c.args.layout.now)
+    rw (value (goal.at.returns-clause-layout c).In_ok-kinds) (empty-areas_of c.args.layout.now)

@@ -1,8 +1,8 @@
-use Rattle.std.proofs.Common.{◌≡◌, sym, ◌∙◌, ap, subst}
+use Rattle.std.proofs.Common.{◌≡◌, sym, ap, subst}
 use Rattle.std.proofs.lemmas.Result.{on_ok_weaker, on_err_weaker}
 use Rattle.hp_units.specs.FreeAreas.{with_back}
 use Rattle.hp_units.specs.InLayout.{AreFreeAreasOf, AreFreeFramesOf}
-use Rattle.hp_units.specs.Memory.{FreeAreas, FreeFrames}
+use Rattle.hp_units.specs.Memory.{FreeFrames}
 use Rattle.hp_plain.proofs.FramesInLayout.{of_areas, of_back}
 use Rattle.hp_plain.proofs.ListWalks.{either_way}
 use Rattle.hp_plain.proofs.Values.{frames_value}
@@ -23,9 +23,7 @@ returns-clause-layout c =
 
 pub returns-clause-value : goal.returns-clause-value
 returns-clause-value c =
-    let old = c.self.inside.areas in
     on_ok_weaker c.add_back.result
-    (λ (e : c.add_back.new.self ≡ with_back old c.args.class c.args.order c.args.frame).
-    ap (λ (a : FreeAreas). frames_value a c.self.inside.cached.items) e
-    ∙ ap (λ (f : FreeFrames). frames_value (with_back f.areas c.args.class c.args.order c.args.frame) f.cached)
-    c.self.view_is) c.add_back.ensures.value
+    (λ (e : c.add_back.new.self ≡ with_back c.self.inside.areas c.args.class c.args.order c.args.frame).
+    rw e (ap (λ (f : FreeFrames). frames_value (with_back f.areas c.args.class c.args.order c.args.frame)
+    f.cached) c.self.view_is)) c.add_back.ensures.value

@@ -1,16 +1,13 @@
 use Rattle.std.proofs.Common.{◌≡◌, ℕ, ◌*◌, List, [], replicate, ◌∙◌, ap}
-use Rattle.hp_units.specs.Boot.{empty_areas, empty_cached}
-use Rattle.hp_units.specs.Memory.{FreeAreas}
+use Rattle.hp_units.specs.Boot.{empty_cached}
 use Rattle.hp_plain.proofs.EmptyFrames.{empty_of}
-use Rattle.hp_plain.proofs.Values.{frames_value}
 use Rattle.hp_plain.proofs.frames.FreeFrames.empty.Goals as goal
 
 pub returns-clause-value : goal.returns-clause-value
 returns-clause-value c =
     let cached : c.in_ok-cached.cached.items ≡ empty_cached c.args.layout.now =
     c.in_ok-cached.ensures ∙ ap (λ (n : ℕ). replicate {A = List ℕ} (3 * n) []) c.cpus.ensures.is in
-    ap (λ (a : FreeAreas). frames_value a c.in_ok-cached.cached.items) c.in_ok-areas.ensures.value
-    ∙ ap (frames_value (empty_areas c.args.layout.now)) cached
+    rw (c.in_ok-areas.ensures.value, cached)
 
 pub returns-clause-layout : goal.returns-clause-layout
 returns-clause-layout c =

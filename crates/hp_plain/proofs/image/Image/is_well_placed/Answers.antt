@@ -1,8 +1,6 @@
-use Rattle.std.proofs.Common.{MatchBool, subst, sym}
+use Rattle.std.proofs.Common.{subst}
 use Rattle.hp_units.specs.Memory.{Memory}
-use Rattle.hp_units.specs.Placement.{IsWellPlaced}
-use Rattle.hp_plain.specs.Image.{Pictured}
-use Rattle.hp_placement.specs.Placing.{AreListsJoined, ArePlacedOnce}
+use Rattle.hp_placement.specs.Placing.{AreListsJoined}
 use Rattle.hp_plain.proofs.Values.{memory_value}
 use Rattle.hp_plain.proofs.WellPlaced.{decided}
 use Rattle.hp_plain.proofs.image.Image.is_well_placed.Goals as goal
@@ -16,9 +14,5 @@ returns c =
     rw (c.kinds.ensures, c.areas.ensures, c.rows-rows.ensures) at c.if-not-are_kinds.ensures in
     let said = rw c.if-not-joined.false at c.in_ok-joined.ensures in
     let joined = subst (AreListsJoined in_.layout) c.areas-2.ensures said in
-    let once =
-    subst (λ (i : Pictured). MatchBool c.is_each_once.result (ArePlacedOnce i.layout i.memory)
-    (ArePlacedOnce i.layout i.memory → ⊥)) (sym c.self.view_is) c.is_each_once.ensures in
-    subst (λ (i : Pictured). MatchBool c.is_each_once.result (IsWellPlaced i.layout i.memory)
-    (IsWellPlaced i.layout i.memory → ⊥)) c.self.view_is
-    (decided in_.layout s c.is_each_once.result c.self.invariant rows kinds joined once)
+    let once = rw (← c.self.view_is) at c.is_each_once.ensures in
+    rw (← c.self.view_is) (decided in_.layout s c.is_each_once.result c.self.invariant rows kinds joined once)

@@ -8,10 +8,8 @@ more (suc n) = ap (λ (xs : List (List ℕ)). [] ∷ xs) (more n)
 
 pub loop-number-preserved : goal.loop-number-preserved
 loop-number-preserved c =
-    c.in_ok-push.ensures.items
-    ∙ ap (λ (xs : List ℕ). c.loop-number.lists.items ++ xs ∷ []) c.new.ensures
-    ∙ ap (λ (xs : List (List ℕ)). xs ++ [] ∷ []) c.loop-number.invariant
-    ∙ more c.loop-number._number ∙ ap (λ (n : ℕ). replicate n []) (sym (add-one c.loop-number._number))
+    rw (c.in_ok-push.ensures.items, c.new.ensures, c.loop-number.invariant)
+    (rw (more c.loop-number._number) (ap (λ (n : ℕ). replicate n []) (sym (add-one c.loop-number._number))))
 
 pub returns : goal.returns
 returns c =

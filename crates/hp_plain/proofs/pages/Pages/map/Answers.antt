@@ -1,7 +1,7 @@
-use Rattle.std.proofs.Common.{ℕ, ◌<◌, List, length, set, Option, Some, sym, ◌∙◌, ap, subst}
-use Rattle.hp_units.specs.Memory.{Pages, with_entry}
+use Rattle.std.proofs.Common.{◌<◌, length, Some, sym, ap, subst}
+use Rattle.hp_units.specs.Memory.{Pages}
 use Rattle.hp_units.specs.Pages.{map_page}
-use Rattle.hp_plain.proofs.Values.{entry_set, pages_value}
+use Rattle.hp_plain.proofs.Values.{entry_set}
 use Rattle.hp_plain.proofs.pages.Pages.map.Goals as goal
 
 pub returns : goal.returns
@@ -9,12 +9,9 @@ returns c =
     let a = c.args in
     let old = c.self.inside in
     let there = subst (λ (p : Pages). a.owner < length p.table) (sym c.self.view_is) c.requires.owner in
-    let listed =
-    subst (λ (p : Pages). a.owner < length p.contents) (sym c.self.view_is) c.requires.contents_owner in
-    ap (λ (t : List (List (Option ℕ))). pages_value t (set old.contents.items c.owner.inside.0 c.set-2.new.self))
-    (entry_set old.table.items c.owner.inside.0 a.owner a.page (Some a.frame) c.index_mut.result.now
+    let listed = rw (← c.self.view_is) at c.requires.contents_owner in
+    rw (entry_set old.table.items c.owner.inside.0 a.owner a.page (Some a.frame) c.index_mut.result.now
     c.set.new.self c.owner.view_is there c.index_mut.ensures.value c.set.ensures)
-    ∙ ap (pages_value (with_entry old.table.items a.owner a.page (Some a.frame)))
-    (entry_set old.contents.items c.owner.inside.0 a.owner a.page (Some a.words) c.index_mut-2.result.now
+    (rw (entry_set old.contents.items c.owner.inside.0 a.owner a.page (Some a.words) c.index_mut-2.result.now
     c.set-2.new.self c.owner.view_is listed c.index_mut-2.ensures.value c.set-2.ensures)
-    ∙ ap (λ (p : Pages). map_page p a.owner a.page a.frame a.words) c.self.view_is
+    (ap (λ (p : Pages). map_page p a.owner a.page a.frame a.words) c.self.view_is))

@@ -2,7 +2,9 @@
 use Rattle.std.proofs.Common.{◌≡◌, ◌<◌, Some, ap, arith, length, refl, slice_get, sym, ◌∙◌}
 use Rattle.std.proofs.lemmas.Option.{same_Some, slice_get_read}
 use Rattle.hp_schedules.specs.declared.rows.Share.{Share}
+use Rattle.hp_schedules.specs.declared.trail.Trail.{Trail}
 use Rattle.hp_schedules.proofs.Trails.{sum_fits, summed_first, summed_with}
+use Rattle.hp_schedules.proofs.trail.Trail.sum_up.Goals.{then-share-len, else-share-len}
 use Rattle.hp_schedules.proofs.trail.Trail.sum_up.Goals as goal
 
 pub overflow_add-index_mut : goal.overflow_add-index_mut
@@ -41,8 +43,11 @@ returns-in-Some c =
 pub returns : goal.returns
 returns c =
     let all = c.args.self.now.shares.items in
-    summed_first all c.learn.new.self.shares.items c.args.start c.args.end c.args.at
+    summed_first all c.if-share-len.self.shares.items c.args.start c.args.end c.args.at
     c.index-share.result.now
     (slice_get_read all (length all) c.args.at c.index-share.result.now refl c.requires.at
     c.index-share.ensures)
-    c.requires.start c.requires.end c.learn.ensures
+    c.requires.start c.requires.end (elim c.if-share-len.branch [
+      | then-share-len w ↦ ap (λ (t : Trail). t.shares.items) w.self-is
+      | else-share-len w ↦ ap (λ (t : Trail). t.shares.items) w.self-is
+    ])

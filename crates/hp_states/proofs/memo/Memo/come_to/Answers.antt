@@ -38,14 +38,14 @@ returns-in_err-number_state-clause-memo c =
     λ g ends kept. memo_extended g ends
     (record {
       is_on = c.self.inside.is_on;
-      keys = c.self.inside.keys.items;
+      keys = c.self.inside.keys;
       rows = c.self.inside.rows;
       key = c.self.inside.key.items;
       standing = c.self.inside.standing;
     })
     (record {
       is_on = c.self.inside.is_on;
-      keys = c.self.inside.keys.items;
+      keys = c.self.inside.keys;
       rows = c.self.inside.rows;
       key = c.self.inside.key.items;
       standing = c.number_state.new.self;
@@ -57,14 +57,14 @@ returns-clause-memo c =
     λ g ends kept. memo_extended g ends
     (record {
       is_on = c.self.inside.is_on;
-      keys = c.self.inside.keys.items;
+      keys = c.self.inside.keys;
       rows = c.self.inside.rows;
       key = c.self.inside.key.items;
       standing = c.self.inside.standing;
     })
     (record {
       is_on = c.self.inside.is_on;
-      keys = c.self.inside.keys.items;
+      keys = c.self.inside.keys;
       rows = c.self.inside.rows;
       key = c.key.new.key.items;
       standing = c.number_state.new.self;

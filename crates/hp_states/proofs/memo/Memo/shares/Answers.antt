@@ -1,4 +1,4 @@
--- The row is that of the place where the key stands.
+-- The row is that of the place where the key is.
 use Rattle.std.proofs.Common.{Bor, IfSome, List, subst}
 use Rattle.hp_states.specs.Seen.{IsRowAmong, MemoValue}
 use Rattle.hp_schedules.specs.declared.rows.Share.{Share}
@@ -9,7 +9,6 @@ pub returns : goal.returns
 returns c =
     subst (λ (m : MemoValue). IfSome c.row.result (λ row. IsRowAmong m.keys m.rows m.key row.now))
     c.self.view_is
-    (row_among (λ (row : Bor (List Share)). row.now) c.row.result c.self.inside.keys.items
-    c.self.inside.rows c.self.inside.key.items c.as_slice.result.now c.as_slice-key.result.now
-    c.in-Some.place.now c.as_slice.ensures.value c.as_slice-key.ensures.value
-    (c.is_key_at.ensures c.if-not-is_key_at.false) c.row.ensures.some)
+    (row_among (λ (row : Bor (List Share)). row.now) c.row.result c.self.inside.keys c.self.inside.rows
+    c.self.inside.key.items c.as_slice.result.now c.in-Some.place c.as_slice.ensures.value
+    c.in-Some.ensures c.row.ensures.some)

@@ -1,41 +1,21 @@
--- The way has one place more.
-use Rattle.std.proofs.Common.{None, refl, subst, sym}
-use Rattle.hp_states.specs.Standing.{IsStanding, StandingValue}
-use Rattle.hp_states.proofs.Numbered.{number_within}
-use Rattle.hp_states.proofs.Stood.{stood_on}
+-- The places and the transcripts go on.
+use Rattle.std.proofs.Common.{subst, sym}
+use Rattle.std.proofs.lemmas.Result.{on_ok_weaker}
+use Rattle.hp_states.specs.Standing.{IsStanding}
 use Rattle.hp_states.proofs.standing.Standing.go_on.Goals as goal
 
-pub after-requires : goal.after-requires
-after-requires c =
-    let old : StandingValue = record {
-      codes = c.self.inside.codes;
-      lists = c.self.inside.openings;
-      exchanged = c.self.inside.exchanges;
-      here = c.self.inside.here;
-      before = c.self.inside.before.items;
-    } in
-    let g = c.requires.0 in
-    let news = c.requires.1 in
-    let was : IsStanding g news old = subst (IsStanding g news) (sym c.self.view_is) c.requires.2 in
-    number_within g old.codes old.lists news old.here.openings was.stops.0
+pub go_on-requires : goal.go_on-requires
+go_on-requires c =
+    let stood = subst (IsStanding c.requires.0 c.requires.1) (sym c.self.view_is) c.requires.2 in
+    (c.requires.0, c.requires.1, stood.stops)
 
 pub returns-clause-ok : goal.returns-clause-ok
 returns-clause-ok c =
-    λ g news stood leaves.
-    let old : StandingValue = record {
-      codes = c.self.inside.codes;
-      lists = c.self.inside.openings;
-      exchanged = c.self.inside.exchanges;
-      here = c.self.inside.here;
-      before = c.self.inside.before.items;
-    } in
-    let was : IsStanding g news old = subst (IsStanding g news) (sym c.self.view_is) stood in
-    stood_on g news c.args.latest.now old (record {
-      codes = c.self.inside.codes;
-      lists = c.after.new.self;
-      exchanged = c.go_on.new.self;
-      here = record { openings = c.in_ok-openings.openings; state = None };
-      before = c.push.new.self.items;
-    }) c.in_ok-openings.openings refl c.after.ensures.kept refl c.in_ok-push.ensures.items
-    (c.in_ok-openings.ensures.ok g old.codes news was.stops.1 leaves was.stops.0)
-    (c.in_ok-go_on.ensures.ok g news was.exchanged) was
+    on_ok_weaker c.go_on-2.result
+    (λ on g news stood leaves.
+    let was = subst (IsStanding g news) (sym c.self.view_is) stood in
+    record {
+      stops = c.in_ok-go_on.ensures.ok g news was.stops leaves;
+      exchanged = on g news was.exchanged;
+    })
+    c.go_on-2.ensures.ok

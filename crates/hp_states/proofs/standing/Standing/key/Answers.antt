@@ -1,7 +1,8 @@
--- A key that is begun gets the parts of all processors.
-use Rattle.std.proofs.Common.{ap, sym, ◌∙◌}
+-- A key that begins with the numbers of the place gets the parts of all processors.
+use Rattle.std.proofs.Common.{ap, subst, sym, ◌∙◌}
 use Rattle.std.proofs.lemmas.Result.{IfOk-weaker}
 use Rattle.hp_states.specs.Standing.{StandingValue}
+use Rattle.hp_states.specs.Stops.{AreNumbersAt, AreStopsAt, StopsValue}
 use Rattle.hp_states.proofs.Keys.{key_made}
 use Rattle.hp_states.proofs.standing.Standing.key.Goals as goal
 
@@ -13,11 +14,13 @@ push_parts-requires-clause-standing c = c.requires.standing
 
 pub returns : goal.returns
 returns c =
+    let two = c.in_ok-has.ensures c.if-not-has.false in
+    let stops_are = ap (λ (s : StandingValue). s.stops) c.self.view_is in
     IfOk-weaker c.push_parts.result _ _
-    (λ fit made whole g news at stands. key_made g c.args.self.now news c.in-Some.state
-    c.in-Some-openings.openings c.args.processors c.clear.new.self.items c.push_two.new.numbers.items
+    (λ fit made whole g news at stands. key_made g c.args.self.now news two.0 two.1
+    c.args.processors c.clear.new.self.items c.push_numbers.new.numbers.items
     c.push_parts.new.key.items (c.requires.processors ∙ at.many)
-    (sym (ap (λ (s : StandingValue). s.here.state) c.self.view_is) ∙ c.in-Some.is)
-    (sym (ap (λ (s : StandingValue). s.here.openings) c.self.view_is) ∙ c.in-Some-openings.is)
-    stands c.clear.ensures.items (c.in_ok-fit.ensures c.if-not-fit.false) (made whole g news at stands))
+    (subst (λ (s : StopsValue). AreNumbersAt g news s two.0 two.1) stops_are
+    (two.3 g news (subst (AreStopsAt g news) (sym stops_are) stands.stops)))
+    c.clear.ensures.items two.2 (made whole g news at stands))
     c.push_parts.ensures

@@ -4,6 +4,5 @@ use Rattle.hp_trace.proofs.rows.Rows.write.Goals as goal
 
 pub returns : goal.returns
 returns c =
-    row_written c.args.row c.args.self.now _ c.in_ok-row_layout.row_layout.orders
-    (string_bytes c.write_row.new.out) c.push.new.self.items (sym c.self.view_is)
-    c.in_ok-row_layout.ensures c.in_ok-write_row.ensures
+    row_written c.args.row c.args.self.now _ (string_bytes c.write_row.new.out) c.push.new.self.items
+    (sym c.self.view_is) c.in_ok-write_row.ensures

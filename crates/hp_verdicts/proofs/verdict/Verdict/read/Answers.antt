@@ -11,8 +11,7 @@ returns-in-Some-clause-verdict c =
     verdict_fault c.self.inside.judge c.observe.new.self c.self.inside.faults c.add.new.self c.args.event.now
     c.in_ok-fault.fault c.in-Some.fault c.self.inside.number
     (c.observe.ensures.size, c.in_ok-fault.ensures.follows, c.in_ok-fault.ensures.verdict) c.in-Some.is
-    c.self.invariant.0 add log (subst (λ (v : Judged). IsVerdictOn log v) (sym c.self.view_is) is))
-    c.add.ensures.report
+    c.self.invariant.0 add log (rw c.self.view_is is)) c.add.ensures.report
 
 pub returns-in-None-clause-verdict : goal.returns-in-None-clause-verdict
 returns-in-None-clause-verdict c =

@@ -1,8 +1,0 @@
-use Rattle.std.proofs.Common.{◌≡◌, ◌+◌, ◌≤◌, count_by, take}
-use Rattle.hp_call_lines.specs.EntryLines.{AreSignLines, is_newline}
-use Rattle.hp_call_lines.proofs.entry_lines.call_lines.Given as goal
-
-abbrev pub invariant-loop-place : goal.invariant-loop-place
-invariant-loop-place l =
-    (l.walk.depth ≤ l.place) × (l.line ≤ l.place + 1)
-    × AreSignLines l.input l.walk.lines.items × (l.line ≡ 1 + count_by is_newline (take l.place l.input))

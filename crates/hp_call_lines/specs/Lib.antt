@@ -1,2 +1,0 @@
-pub mod EntryLines
-pub mod Lexemes

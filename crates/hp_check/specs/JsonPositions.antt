@@ -1,0 +1,30 @@
+-- White space of JSON (RFC 8259, section 2), and in which lines of a text something is.
+use Rattle.std.specs.Prelude.{◌≡◌, ℕ, ◌+◌, ◌==◌, ◌||◌, Bool, true, false, List, count_by, slice_get, take, Some, if◌then◌else◌}
+use Rattle.std.specs.List.{All}
+
+abbrev pub is_space : ℕ → Bool
+is_space b = b == 32 || (b == 9 || (b == 10 || b == 13))
+
+abbrev pub is_newline : ℕ → Bool
+is_newline b = b == 10
+
+-- the line after a byte; lines are counted from 1
+abbrev pub line_after : (line byte : ℕ) → ℕ
+line_after line byte = if is_newline byte then line + 1 else line
+
+-- a line of the text that has a byte other than white space; lines are counted from 1
+pub record IsSignLine (input : List ℕ) (line : ℕ) : Type 0 where
+  pub at : ℕ
+  pub byte : ℕ
+  pub here : slice_get input at ≡ Some byte
+  pub sign : is_space byte ≡ false
+  pub counted : line ≡ 1 + count_by is_newline (take at input)
+
+abbrev pub AreSignLines : (input lines : List ℕ) → Type 0
+AreSignLines input lines = All (IsSignLine input) lines
+
+-- lines stay such lines of a text, if the one that may be noted is such a line
+abbrev pub KeepSignLines : (is_noted : Bool) → (line : ℕ) → (old new : List ℕ) → Type 0
+KeepSignLines is_noted line old new =
+    (input : List ℕ) → AreSignLines input old → (is_noted ≡ true → IsSignLine input line)
+    → AreSignLines input new

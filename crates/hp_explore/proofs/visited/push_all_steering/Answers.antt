@@ -1,0 +1,9 @@
+-- One processor's numbers more.
+use Rattle.hp_explore.proofs.PlaceKeys.{steered_more}
+use Rattle.hp_explore.proofs.visited.push_all_steering.Goals as goal
+
+pub loop-cpu-preserved : goal.loop-cpu-preserved
+loop-cpu-preserved c =
+    steered_more c.args.positions.now.cursors.items c.loop-cpu.cpu c.args.numbers.now.items
+    c.loop-cpu.numbers.items c.push_steering.new.numbers.items c.loop-cpu.invariant
+    (c.in_ok-push_steering.ensures c.if-not-branch.false)

@@ -1,0 +1,13 @@
+-- The processors so far have their numbers.
+use Rattle.std.proofs.Common.{◌≡◌, ◌++◌, ℕ, List}
+use Rattle.hp_units.specs.declared.replies.Record.{Record}
+use Rattle.hp_schedules.specs.Cursors.{AreCursors}
+use Rattle.hp_schedules.specs.Schedules.{Setting}
+use Rattle.hp_explore.specs.Visited.{AreSteered}
+use Rattle.hp_explore.proofs.visited.push_all_steering.Given as goal
+
+abbrev pub invariant-loop-cpu : goal.invariant-loop-cpu
+invariant-loop-cpu l =
+    (part : List ℕ) × (l.numbers.items ≡ l.initial.numbers.items ++ part)
+    × ((g : Setting) (news : List Record) → AreCursors g news l.positions.cursors.items
+    → AreSteered g l.cpu news part)

@@ -1,0 +1,220 @@
+//! The places that a search has visited, each by its key.
+ghost use Rattle.std.specs.Prelude.{◌≡◌, ◌++◌, ◌∷◌, ℕ, List, Option, IfOk, OnOk, [], length, true};
+ghost use Rattle.hp_units.specs.History.{effect_of};
+ghost use Rattle.hp_units.specs.declared.replies.Record.{Record as NewRecord};
+ghost use Rattle.hp_schedules.specs.Alike.{leaves_steps};
+ghost use Rattle.hp_schedules.specs.Cursors.{AreCursors};
+ghost use Rattle.hp_schedules.specs.Schedules.{Setting, schedule_of};
+ghost use Rattle.hp_states.specs.Places.{memory_at};
+ghost use Rattle.hp_states.specs.Stops.{AreSameStops, KeepStops};
+ghost use Rattle.hp_explore.specs.Settings.{setting};
+ghost use Rattle.hp_explore.specs.Visited.{AreFollowed, AreSpent, AreSteered, AreVisited, IsLookedUp, IsPlaceKey};
+ghost use Rattle.hp_questions.specs.declared.wanted.Wanted.{Wanted as NewWanted};
+
+use crate::changes::changes_of;
+use crate::path::Path;
+use crate::walk::keeps_places;
+use hp_machine::Machine;
+use hp_memory::Memory;
+use hp_questions::{Wanted, push_marks};
+use hp_schedules::{CallScript, Positions, is_closed};
+use hp_states::{KeyTable, Stops};
+use hp_units::{Cpu, Record};
+use std::alloc::{AllocError, Global};
+
+/// The keys of the places that a search has visited, and the numbers of the place where it is.
+///
+/// Two places with the same key continue alike: with the same calls, to ends that meet the same wanted
+/// lines. So a place is tried once. `key` is the key written last. With `is_on` false no place is
+/// ever kept.
+pub(crate) struct Visited {
+    is_on: bool,
+    stops: Stops,
+    keys: KeyTable,
+    key: Vec<u32>,
+}
+
+/// Keeps callers from proving again how each field is dropped.
+impl Drop for Visited {
+    fn drop(self) {
+        let Visited {
+            is_on: _,
+            stops: _stops,
+            keys: _keys,
+            key: _,
+        } = self;
+    }
+}
+
+impl Visited {
+    /// Creates the table for a search before any call, where the memory is this one.
+    pub(crate) fn start(
+        alloc: Global,
+        machine: &Machine,
+        scripts: &[CallScript],
+        memory: &Memory,
+    ) -> Result<Visited, AllocError>
+        requires { memory.now ≡ memory_at (setting machine.now scripts.now) [] }
+        ensures visited { IfOk result (λ visited. (wanted : List NewWanted) (budget : Option ℕ)
+            → AreVisited (setting machine.now scripts.now) wanted budget [] visited) }
+        ensures way { IfOk result (λ visited. AreFollowed (setting machine.now scripts.now) [] visited) }
+    {
+        let is_on = keeps_places(scripts);
+        let mut stops = Stops::start(alloc, is_closed(machine.history()));
+        stops.number_state(alloc, memory)?;
+        Ok(Visited {
+            is_on,
+            stops,
+            keys: KeyTable::new(alloc),
+            key: Vec::new(alloc),
+        })
+    }
+
+    /// Follows a call.
+    pub(crate) fn go_on(&mut self, latest: &Record) -> Result<(), AllocError>
+        requires { (g : Setting) × (news : List NewRecord) × AreFollowed g news self.old }
+        ensures same { (self.new.is_on ≡ self.old.is_on) × (self.new.keys ≡ self.old.keys) }
+        ensures kept { KeepStops self.old.stops self.new.stops }
+        ensures ok { OnOk result ((g : Setting) (news : List NewRecord) → AreFollowed g news self.old
+            → (self.old.is_on ≡ true → leaves_steps (effect_of latest.now.event) ≡ true)
+            → AreFollowed g (news ++ latest.now ∷ []) self.new) }
+    {
+        if !self.is_on {
+            return Ok(());
+        }
+        self.stops.go_on(latest)?;
+        Ok(())
+    }
+
+    /// Takes back the latest call.
+    pub(crate) fn go_back(&mut self)
+        ensures same { (self.new.is_on ≡ self.old.is_on) × (self.new.keys ≡ self.old.keys) }
+        ensures kept { AreSameStops self.old.stops self.new.stops }
+        ensures back { (g : Setting) (news : List NewRecord) (r : NewRecord)
+            → AreFollowed g (news ++ r ∷ []) self.old → AreFollowed g news self.new }
+    {
+        if self.is_on {
+            self.stops.go_back();
+        }
+    }
+
+    /// Returns whether a place with the same key as this one was visited. If not, keeps the key of
+    /// this place, unless it has none: it is then unknown which operations a Cancel can take back, or
+    /// a number does not fit 32 bits.
+    pub(crate) fn look_up(
+        &mut self,
+        alloc: Global,
+        path: &Path<'_>,
+        schedule: &[Cpu],
+        processors: u32,
+        wanted: &[Wanted],
+        budget: Option<u64>,
+    ) -> Result<bool, AllocError>
+        requires processors { processors ≡ length path.now.setting.scripts }
+        requires schedule { schedule.now ≡ schedule_of path.now.news }
+        requires way { AreFollowed path.now.setting path.now.news self.old }
+        ensures on { OnOk result (self.new.is_on ≡ self.old.is_on) }
+        ensures kept { OnOk result (KeepStops self.old.stops self.new.stops) }
+        ensures way { OnOk result (AreFollowed path.now.setting path.now.news self.new) }
+        ensures ok { IfOk result
+            (IsLookedUp path.now.setting wanted.now budget path.now.news self.old self.new) }
+    {
+        if !self.is_on {
+            return Ok(false);
+        }
+        self.stops.number_state(alloc, path.memory())?;
+        if !self.write_key(path, schedule, processors, wanted, budget)? {
+            return Ok(false);
+        }
+        let key = self.key.as_slice();
+        if self.keys.find(key).is_some() {
+            return Ok(true);
+        }
+        let _place = self.keys.add(key)?;
+        Ok(false)
+    }
+
+    /// Writes the key of the place, and returns whether it has one.
+    fn write_key(
+        &mut self,
+        path: &Path<'_>,
+        schedule: &[Cpu],
+        processors: u32,
+        wanted: &[Wanted],
+        budget: Option<u64>,
+    ) -> Result<bool, AllocError>
+        requires processors { processors ≡ length path.now.setting.scripts }
+        requires schedule { schedule.now ≡ schedule_of path.now.news }
+        requires way { AreFollowed path.now.setting path.now.news self.old }
+        requires on { self.old.is_on ≡ true }
+        ensures same { (self.new.is_on ≡ self.old.is_on) × (self.new.stops ≡ self.old.stops)
+            × (self.new.keys ≡ self.old.keys) }
+        ensures ok { IfOk result (λ has. has ≡ true → IsPlaceKey path.now.setting wanted.now budget
+            self.new.stops path.now.news self.new.key.items) }
+    {
+        self.key.clear();
+        if !self.stops.push_numbers(&mut self.key)? {
+            return Ok(false);
+        }
+        if !push_all_steering(path.positions(), processors, &mut self.key)? {
+            return Ok(false);
+        }
+        if !push_marks(wanted, processors, path.records(), &mut self.key)? {
+            return Ok(false);
+        }
+        if !push_spent(budget, schedule, &mut self.key)? {
+            return Ok(false);
+        }
+        Ok(true)
+    }
+
+    /// Returns about how many bytes the states and the keys take.
+    pub(crate) fn bytes(&self) -> u64 {
+        self.stops.size().saturating_add(self.keys.bytes())
+    }
+}
+
+/// Appends what the further calls of each processor depend on. Returns whether each number fits 32
+/// bits.
+fn push_all_steering(
+    positions: &Positions,
+    processors: u32,
+    numbers: &mut Vec<u32>,
+) -> Result<bool, AllocError>
+    requires { processors ≡ length positions.now.cursors.items }
+    ensures { IfOk result (λ fit. fit ≡ true → (part : List ℕ)
+        × (numbers.new.items ≡ numbers.old.items ++ part)
+        × ((g : Setting) (news : List NewRecord) → AreCursors g news positions.now.cursors.items
+        → AreSteered g processors news part)) }
+{
+    for cpu in 0..processors {
+        if !positions.push_steering(cpu, numbers)? {
+            return Ok(false);
+        }
+    }
+    Ok(true)
+}
+
+/// Appends the latest processor and the changes so far, if there is a budget of changes. Returns
+/// whether each number fits 32 bits and there is a latest processor.
+fn push_spent(
+    budget: Option<u64>,
+    schedule: &[Cpu],
+    numbers: &mut Vec<u32>,
+) -> Result<bool, AllocError>
+    ensures { IfOk result (λ fit. fit ≡ true → (part : List ℕ)
+        × (numbers.new.items ≡ numbers.old.items ++ part) × AreSpent budget schedule.now part) }
+{
+    if budget.is_none() {
+        return Ok(true);
+    }
+    let Some(cpu) = schedule.last() else {
+        return Ok(false);
+    };
+    let Ok(changes) = u32::try_from(changes_of(schedule)) else {
+        return Ok(false);
+    };
+    numbers.push(cpu.0)?;
+    numbers.push(changes)?;
+    Ok(true)
+}

@@ -1,0 +1,131 @@
+-- The marks of records, as they are written one by one.
+use Rattle.std.proofs.Common.{◌≡◌, ℕ, ◌+◌, ◌-◌, ◌<◌, ◌≤◌, Bool, true, false, List, [], ◌∷◌, ◌++◌, length, map, Some, None, slice_get, refl, ap, sym, subst, ◌∙◌, arith, inl, inr}
+use mir.Val.{bool_byte}
+use Rattle.std.specs.Prelude.{◌⊎◌, ◌↔◌, IsTrue}
+use Rattle.std.specs.List.{range_with_len}
+use Rattle.std.proofs.lemmas.Bool.{cases_lt}
+use Rattle.std.proofs.lemmas.List.{append_assoc, length-append, length_push}
+use Rattle.std.proofs.lemmas.List.FromFn.{get_or-map-range_with_len, length-map-range_with_len, map-range_with_len_more}
+use Rattle.std.proofs.lemmas.Option.{none-some, same_Some, slice_get-get_or, slice_get_within}
+use Rattle.hp_laws.proofs.Lists.{get_end, get_left}
+use Rattle.hp_units.specs.declared.replies.Record.{Record}
+use Rattle.hp_units.specs.declared.replies.Reply.{Reply}
+use Rattle.hp_schedules.specs.Outcomes.{replies_below, replies_to, told}
+use Rattle.hp_questions.specs.Marks.{AreMarks, AreMet, HasLineSoFar, line_of}
+use Rattle.hp_questions.specs.Wanted.{HasAnswerAt, IsAsWanted}
+use Rattle.hp_questions.specs.declared.wanted.Pattern.{Pattern}
+use Rattle.hp_questions.specs.declared.wanted.Wanted.{Wanted}
+use Rattle.hp_questions.proofs.Marking.{below_at, below_is, get_right}
+
+-- ---- tests
+
+-- of the reply at a place, if there is one
+pub told_at_some : (p : Pattern) (n : ℕ) (news : List Record) (cpu earlier : ℕ) (answer : Reply)
+    (told : Bool)
+    → cpu < n → Some answer ≡ slice_get (replies_to cpu news) earlier
+    → (IsTrue told ↔ IsAsWanted p answer)
+    → IsTrue told ↔ HasAnswerAt p (replies_below n news) cpu earlier
+told_at_some p n news cpu earlier answer told within is same = (
+  λ yes. (replies_to cpu news, below_at n news cpu within, (answer, sym is, same.0 yes)),
+  λ has. same.1 (subst (IsAsWanted p) (same_Some has.2.0 answer (sym has.2.1
+      ∙ (ap (λ (xs : List Reply). slice_get xs earlier) (below_is n news cpu has.0 has.1).1 ∙ sym is)))
+      has.2.2),
+)
+
+pub told_at_none : (p : Pattern) (n : ℕ) (news : List Record) (cpu earlier : ℕ)
+    → None ≡ slice_get (replies_to cpu news) earlier
+    → HasAnswerAt p (replies_below n news) cpu earlier → ⊥
+told_at_none p n news cpu earlier is has =
+    none-some has.2.0 (is
+    ∙ (ap (λ (xs : List Reply). slice_get xs earlier) (sym (below_is n news cpu has.0 has.1).1) ∙ has.2.1))
+
+-- ---- the marks are made
+
+-- one processor more
+pub calls_more : (news : List Record) (cpu : ℕ) (old mid new : List ℕ) (n : ℕ)
+    → mid ≡ old ++ map (λ c. length (replies_to c news)) (range_with_len 0 cpu) → new ≡ mid ++ n ∷ []
+    → n ≡ length (replies_to cpu news)
+    → new ≡ old ++ map (λ c. length (replies_to c news)) (range_with_len 0 (cpu + 1))
+calls_more news cpu old mid new n so_far is many =
+    is
+    ∙ (ap (λ (xs : List ℕ). xs ++ n ∷ []) so_far
+    ∙ (append_assoc old (map (λ c. length (replies_to c news)) (range_with_len 0 cpu)) (n ∷ [])
+    ∙ ap (λ (xs : List ℕ). old ++ xs)
+    (ap (λ (m : ℕ). map (λ c. length (replies_to c news)) (range_with_len 0 cpu) ++ m ∷ []) many
+    ∙ sym (map-range_with_len_more (λ (c : ℕ). length (replies_to c news)) 0 cpu cpu (omega arith)))))
+
+-- one wanted line more
+one_or_none : (P : Type 0) (told : Bool) (n : ℕ) → n ≡ bool_byte told → (IsTrue told ↔ P)
+    → ((n ≡ 1) ↔ P) × ((n ≡ 0) ⊎ (n ≡ 1))
+one_or_none P true n is same = ((λ one. same.0 refl, λ p. is), inr is)
+one_or_none P false n is same =
+    ((λ one. absurd (omega (arith, is, one)), λ p. absurd (let no = same.1 p in cc)), inl is)
+
+pub met_more : (wanted : List Wanted) (processors : ℕ) (news : List Record) (i : ℕ) (one : Wanted)
+    (told : Bool) (n : ℕ) (old mid new : List ℕ)
+    → slice_get wanted i ≡ Some one
+    → (met : List ℕ) × (mid ≡ old ++ met) × AreMet wanted processors news i met → new ≡ mid ++ n ∷ []
+    → n ≡ bool_byte told → (IsTrue told ↔ HasLineSoFar processors news (line_of one))
+    → (met : List ℕ) × (new ≡ old ++ met) × AreMet wanted processors news (i + 1) met
+met_more wanted processors news i one told n old mid new here so_far is n_is same = (
+  so_far.0 ++ n ∷ [],
+  is ∙ (ap (λ (xs : List ℕ). xs ++ n ∷ []) so_far.1 ∙ append_assoc old so_far.0 (n ∷ [])),
+  (
+    omega (arith, length_push so_far.0 n, so_far.2.0),
+    λ k other less at. by_place k other at (cases_lt k i) less,
+  ),
+)
+  where
+    last : ((n ≡ 1) ↔ HasLineSoFar processors news (line_of one)) × ((n ≡ 0) ⊎ (n ≡ 1))
+    last = one_or_none (HasLineSoFar processors news (line_of one)) told n n_is same
+
+    by_place : (k : ℕ) (other : Wanted) → slice_get wanted k ≡ Some other → (k < i) ⊎ (i ≤ k) → k < i + 1
+        → (m : ℕ) × (slice_get (so_far.0 ++ n ∷ []) k ≡ Some m)
+        × ((m ≡ 1) ↔ HasLineSoFar processors news (line_of other)) × ((m ≡ 0) ⊎ (m ≡ 1))
+    by_place k other at (inl below) less =
+        let x = so_far.2.1 k other below at in
+        (x.0, get_left so_far.0 (n ∷ []) k (slice_get_within so_far.0 k x.0 x.1) ∙ x.1, x.2, x.3)
+    by_place k other at (inr past) less =
+        let place : length so_far.0 ≡ k = omega (arith, so_far.2.0, past, less) in
+        let index : i ≡ k = omega (arith, past, less) in
+        let same_line : one ≡ other =
+        same_Some one other (sym here ∙ (ap (slice_get wanted) index ∙ at)) in (
+          n,
+          ap (slice_get (so_far.0 ++ n ∷ [])) (sym place) ∙ get_end so_far.0 n,
+          subst (λ (w : Wanted). (n ≡ 1) ↔ HasLineSoFar processors news (line_of w)) same_line last.0,
+          last.1,
+        )
+
+-- a list that is appended to another one
+pub marks_made : (wanted : List Wanted) (n : ℕ) (news : List Record) (old mid new met : List ℕ)
+    → mid ≡ old ++ map (λ cpu. length (replies_to cpu news)) (range_with_len 0 n) → new ≡ mid ++ met
+    → AreMet wanted n news (length wanted) met
+    → (marks : List ℕ) × (new ≡ old ++ marks) × AreMarks wanted n news marks
+marks_made wanted n news old mid new met calls_are is are = (
+  calls ++ met,
+  is ∙ (ap (λ (xs : List ℕ). xs ++ met) calls_are ∙ append_assoc old calls met),
+  record {
+    many = omega (arith, length-append calls met, long, are.0);
+    calls =
+        λ cpu within.
+        get_left calls met cpu (omega (arith, within, long))
+        ∙ (slice_get-get_or calls cpu 0 (omega (arith, within, long)) ∙ ap Some
+        (get_or-map-range_with_len (λ (c : ℕ). length (replies_to c news)) 0 n cpu cpu 0 within
+        (omega arith)));
+    met =
+        λ k one here. let x = are.1 k one (slice_get_within wanted k one here) here in (
+          x.0,
+          get_right calls met (n + k) (omega (arith, long))
+              ∙ (let place : n + k - length calls ≡ k = omega (arith, long) in
+              ap (slice_get met) place ∙ x.1),
+          x.2,
+          x.3,
+        );
+  },
+)
+  where
+    calls : List ℕ
+    calls = map (λ cpu. length (replies_to cpu news)) (range_with_len 0 n)
+
+    long : length calls ≡ n
+    long = length-map-range_with_len (λ (c : ℕ). length (replies_to c news)) 0 n

@@ -1,0 +1,235 @@
+//! What of the wanted lines is met before a schedule is complete.
+ghost use Rattle.std.specs.Prelude.{◌≡◌, ◌↔◌, ◌++◌, ℕ, List, IfOk, IsTrue, None, OnOk, length, map, slice_get, true};
+ghost use Rattle.std.specs.List.{range_with_len};
+ghost use Rattle.hp_schedules.specs.Outcomes.{replies_below, replies_to, told};
+ghost use Rattle.hp_questions.specs.Marks.{AreMarks, AreMet, HasLineSoFar, IsLost, IsMissed, IsRuledOut, line_of};
+ghost use Rattle.hp_questions.specs.Wanted.{HasAnswer, HasAnswerAt, HasReply};
+
+use crate::wanted::{EndLine, Pattern, Wanted};
+use hp_units::{Cpu, Record, Reply, Serial};
+use std::alloc::AllocError;
+
+/// Appends what of the wanted lines the records have met: for each processor how many replies it
+/// got, and for each wanted line whether some reply has it. Returns whether each number fits 32
+/// bits. If not, `numbers` holds a part of them.
+///
+/// From two places with the same marks, equal further calls with equal replies lead to ends that
+/// meet the same wanted lines, provided that the rows at the end are equal.
+pub fn push_marks(
+    wanted: &[Wanted],
+    processors: u32,
+    records: &[Record],
+    numbers: &mut Vec<u32>,
+) -> Result<bool, AllocError>
+    ensures { IfOk result (λ fit. fit ≡ true → (marks : List ℕ)
+        × (numbers.new.items ≡ numbers.old.items ++ marks)
+        × AreMarks wanted.now processors records.now marks) }
+{
+    if !push_calls(processors, records, numbers)? {
+        return Ok(false);
+    }
+    push_met(wanted, processors, records, numbers)?;
+    Ok(true)
+}
+
+/// Returns whether no end can meet the wanted lines any more: a reply that is wanted at its place
+/// was another one, or a line that is to be lacked is there.
+pub fn is_lost(wanted: &[Wanted], processors: u32, records: &[Record]) -> bool
+    ensures { IsTrue result → IsLost wanted.now processors records.now }
+{
+    for index in 0..wanted.len() {
+        if is_ruled_out(&wanted[index], processors, records) {
+            return true;
+        }
+    }
+    false
+}
+
+/// Appends how many replies each processor got. Returns whether each number fits 32 bits.
+fn push_calls(
+    processors: u32,
+    records: &[Record],
+    numbers: &mut Vec<u32>,
+) -> Result<bool, AllocError>
+    ensures { IfOk result (λ fit. fit ≡ true → numbers.new.items ≡ numbers.old.items
+        ++ map (λ cpu. length (replies_to cpu records.now)) (range_with_len 0 processors)) }
+{
+    for cpu in 0..processors {
+        let Ok(calls) = u32::try_from(calls_by(Cpu(cpu), records)) else {
+            return Ok(false);
+        };
+        numbers.push(calls)?;
+    }
+    Ok(true)
+}
+
+/// Appends 1 for each wanted line that the replies so far have, and 0 for each other.
+fn push_met(
+    wanted: &[Wanted],
+    processors: u32,
+    records: &[Record],
+    numbers: &mut Vec<u32>,
+) -> Result<(), AllocError>
+    ensures { OnOk result ((met : List ℕ) × (numbers.new.items ≡ numbers.old.items ++ met)
+        × AreMet wanted.now processors records.now (length wanted.now) met) }
+{
+    for index in 0..wanted.len() {
+        let is_met = has_line_so_far(line_of(&wanted[index]), processors, records);
+        numbers.push(u32::from(is_met))?;
+    }
+    Ok(())
+}
+
+/// Returns the line that is to be had or to be lacked.
+fn line_of(one: &Wanted) -> &EndLine
+    ensures { result.now ≡ line_of one.now }
+{
+    match one {
+        Wanted::Has(line) | Wanted::Lacks(line) => line,
+    }
+}
+
+/// Returns whether no end that the records lead to is as this wants.
+fn is_ruled_out(one: &Wanted, processors: u32, records: &[Record]) -> bool
+    ensures { IsTrue result → IsRuledOut processors records.now one.now }
+{
+    match one {
+        Wanted::Has(line) => is_missed(line, records),
+        Wanted::Lacks(line) => has_line_so_far(line, processors, records),
+    }
+}
+
+/// Returns whether the line names a reply at its place, and that one was another.
+fn is_missed(line: &EndLine, records: &[Record]) -> bool
+    ensures { IsTrue result → IsMissed records.now line.now }
+{
+    match line {
+        EndLine::AnswerAt {
+            cpu,
+            earlier,
+            reply,
+        } => match reply_at(*cpu, *earlier, records) {
+            Some(answer) => !reply.is_met_by(&answer),
+            None => false,
+        },
+        _ => false,
+    }
+}
+
+/// Returns whether the replies so far have the line.
+fn has_line_so_far(line: &EndLine, processors: u32, records: &[Record]) -> bool
+    ensures { IsTrue result ↔ HasLineSoFar processors records.now line.now }
+{
+    match line {
+        EndLine::Answer { cpu, reply } => is_answered(reply, *cpu, processors, records),
+        EndLine::AnswerAt {
+            cpu,
+            earlier,
+            reply,
+        } => is_answered_at(reply, *cpu, *earlier, processors, records),
+        EndLine::Block { .. } => false,
+    }
+}
+
+/// Returns whether a reply to this processor matches, or one to any processor if `cpu` is `None`.
+fn is_answered(reply: &Pattern, cpu: Option<Cpu>, processors: u32, records: &[Record]) -> bool
+    ensures { IsTrue result ↔ HasAnswer reply.now (replies_below processors records.now) cpu }
+{
+    match cpu {
+        Some(cpu) => {
+            if cpu.0 >= processors {
+                return false;
+            }
+            is_told(reply, cpu, records)
+        }
+        None => is_told_to_any(reply, processors, records),
+    }
+}
+
+/// Returns whether the reply to this processor after `earlier` others matches.
+fn is_answered_at(
+    reply: &Pattern,
+    cpu: Cpu,
+    earlier: u64,
+    processors: u32,
+    records: &[Record],
+) -> bool
+    ensures { IsTrue result ↔ HasAnswerAt reply.now (replies_below processors records.now) cpu earlier }
+{
+    if cpu.0 >= processors {
+        return false;
+    }
+    match reply_at(cpu, earlier, records) {
+        Some(answer) => reply.is_met_by(&answer),
+        None => false,
+    }
+}
+
+/// Returns whether a reply to any processor matches.
+fn is_told_to_any(reply: &Pattern, processors: u32, records: &[Record]) -> bool
+    ensures { IsTrue result ↔ HasAnswer reply.now (replies_below processors records.now) None }
+{
+    for cpu in 0..processors {
+        if is_told(reply, Cpu(cpu), records) {
+            return true;
+        }
+    }
+    false
+}
+
+/// Returns whether a reply to the processor matches.
+fn is_told(reply: &Pattern, cpu: Cpu, records: &[Record]) -> bool
+    ensures { IsTrue result ↔ HasReply reply.now (replies_to cpu records.now) }
+{
+    for record in records {
+        if record.cpu != cpu {
+            continue;
+        }
+        let answer = told(&record.reply);
+        if reply.is_met_by(&answer) {
+            return true;
+        }
+    }
+    false
+}
+
+/// Returns the reply to the processor after `earlier` others.
+fn reply_at(cpu: Cpu, earlier: u64, records: &[Record]) -> Option<Reply>
+    ensures { result ≡ slice_get (replies_to cpu records.now) earlier }
+{
+    let mut left = earlier;
+    for record in records {
+        if record.cpu != cpu {
+            continue;
+        }
+        if left == 0 {
+            return Some(told(&record.reply));
+        }
+        left -= 1;
+    }
+    None
+}
+
+/// Returns how many replies the processor got.
+fn calls_by(cpu: Cpu, records: &[Record]) -> usize
+    ensures { result ≡ length (replies_to cpu records.now) }
+{
+    let mut calls = 0;
+    for record in records {
+        if record.cpu != cpu {
+            continue;
+        }
+        calls += 1;
+    }
+    calls
+}
+
+/// Returns the reply with 0 in place of the number of an opened operation, as an end has it.
+fn told(reply: &Reply) -> Reply
+    ensures { result ≡ told reply.now }
+{
+    match reply {
+        Reply::Opened { .. } => Reply::Opened { op: Serial(0) },
+        _ => *reply,
+    }
+}

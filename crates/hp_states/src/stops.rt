@@ -1,0 +1,185 @@
+//! The places that a walk came through, in two numbers each: one for the state, and one for the
+//! operations that a Cancel can take back. Equal numbers mean equal things.
+ghost use Rattle.std.specs.Prelude.{◌≡◌, ℕ, ◌++◌, ◌∷◌, [], IfOk, List, None, OnOk, Some, cond, true, unwrap_or};
+ghost use Rattle.hp_units.specs.History.{effect_of};
+ghost use Rattle.hp_units.specs.declared.replies.Record.{Record as NewRecord};
+ghost use Rattle.hp_schedules.specs.Alike.{leaves_steps};
+ghost use Rattle.hp_schedules.specs.Schedules.{Setting};
+ghost use Rattle.hp_states.specs.Places.{memory_at};
+ghost use Rattle.hp_states.specs.Stops.{AreNumbersAt, AreSameStops, AreStopsAt, KeepStops};
+
+use crate::Codes;
+use crate::openings::Openings;
+use hp_memory::Memory;
+use hp_units::Record;
+use std::alloc::{AllocError, Global};
+use std::marker::Model;
+
+/// A place on the way: the numbers of its cancellable operations and of its state, as far as known.
+#[derive(Clone, Copy, Drop)]
+pub(crate) struct Stop {
+    openings: Option<usize>,
+    state: Option<usize>,
+}
+
+/// The numbers of the place where a walk is, and of each place before it, from the beginning of the
+/// scripts.
+///
+/// At the beginning it may be unknown which operations a Cancel can take back. A state has no number
+/// until `number_state` gives it one.
+pub struct Stops {
+    codes: Codes,
+    openings: Openings,
+    here: Stop,
+    before: Vec<Stop>,
+}
+
+impl Model for Stops {
+    ghost use Rattle.hp_states.specs.Stops.{StopsValue};
+
+    ghost Value = { StopsValue };
+
+    ghost view = { λ s. record {
+      codes = s.codes;
+      lists = s.openings;
+      here = s.here;
+      before = s.before.items;
+    } };
+}
+
+/// Keeps callers from proving again how each field is dropped.
+impl Drop for Stops {
+    fn drop(self) {
+        let Stops {
+            codes: _codes,
+            openings: _openings,
+            here: _,
+            before: _,
+        } = self;
+    }
+}
+
+impl Stops {
+    /// Creates the numbers of the place where the scripts begin. `is_closed` states that no Cancel
+    /// can drop a step that led there. Allocates nothing.
+    pub fn start(alloc: Global, is_closed: bool) -> Stops
+        ensures { result ≡ record {
+          codes = [];
+          lists = [] ∷ [];
+          here = record { openings = cond is_closed (Some 0) None; state = None };
+          before = [];
+        } }
+    {
+        Stops {
+            codes: Codes::new(alloc),
+            openings: Openings::new(alloc),
+            here: Stop {
+                openings: first_number(is_closed),
+                state: None,
+            },
+            before: Vec::new(alloc),
+        }
+    }
+
+    /// Follows a call. The state of the new place has no number yet.
+    pub fn go_on(&mut self, latest: &Record) -> Result<(), AllocError>
+        requires { (g : Setting) × (news : List NewRecord) × AreStopsAt g news self.old }
+        ensures kept { KeepStops self.old self.new }
+        ensures ok { OnOk result ((g : Setting) (news : List NewRecord) → AreStopsAt g news self.old
+            → leaves_steps (effect_of latest.now.event) ≡ true
+            → AreStopsAt g (news ++ latest.now ∷ []) self.new) }
+    {
+        let was = self.here;
+        let openings = self.openings.after(was.openings, was.state, latest)?;
+        self.before.push(was)?;
+        self.here = Stop {
+            openings,
+            state: None,
+        };
+        Ok(())
+    }
+
+    /// Takes back the latest call.
+    pub fn go_back(&mut self)
+        ensures same { AreSameStops self.old self.new }
+        ensures back { (g : Setting) (news : List NewRecord) (r : NewRecord)
+            → AreStopsAt g (news ++ r ∷ []) self.old → AreStopsAt g news self.new }
+    {
+        let here = known_of(self.before.pop());
+        self.here = here;
+    }
+
+    /// Gives the current state the number that it has, or a new one, unless it is unknown which
+    /// operations a Cancel can take back.
+    pub fn number_state(&mut self, alloc: Global, memory: &Memory) -> Result<(), AllocError>
+        ensures kept { KeepStops self.old self.new }
+        ensures here { (g : Setting) (news : List NewRecord) → memory.now ≡ memory_at g news
+            → AreStopsAt g news self.old → AreStopsAt g news self.new }
+    {
+        if self.here.openings.is_none() {
+            return Ok(());
+        }
+        let state = self.codes.number_of(alloc, memory)?;
+        self.here.state = Some(state);
+        Ok(())
+    }
+
+    /// Returns about how many bytes the states take.
+    pub fn size(&self) -> u64 {
+        self.codes.size()
+    }
+
+    /// Appends the number of the state and that of the cancellable operations, and returns whether
+    /// both are known and fit 32 bits. If not, what is appended is unspecified.
+    pub fn push_numbers(&self, numbers: &mut Vec<u32>) -> Result<bool, AllocError>
+        ensures { IfOk result (λ has. has ≡ true → (state : ℕ) × (openings : ℕ)
+            × (numbers.new.items ≡ numbers.old.items ++ state ∷ openings ∷ [])
+            × ((g : Setting) (news : List NewRecord) → AreStopsAt g news self.now
+            → AreNumbersAt g news self.now state openings)) }
+    {
+        let Some(state) = self.here.state else {
+            return Ok(false);
+        };
+        let Some(openings) = self.here.openings else {
+            return Ok(false);
+        };
+        push_two(numbers, state as u64, openings as u64)
+    }
+}
+
+/// Returns the number of the list at the beginning: the empty list if the history is closed,
+/// otherwise unknown.
+fn first_number(is_closed: bool) -> Option<usize>
+    ensures { result ≡ cond is_closed (Some 0) None }
+{
+    if is_closed { Some(0) } else { None }
+}
+
+/// Returns the place, or one of which nothing is known.
+fn known_of(stop: Option<Stop>) -> Stop
+    ensures { result ≡ unwrap_or stop (record { openings = None; state = None }) }
+{
+    match stop {
+        Some(stop) => stop,
+        None => Stop {
+            openings: None,
+            state: None,
+        },
+    }
+}
+
+/// Appends two numbers and returns whether they fit. If not, the contents are unspecified.
+pub(crate) fn push_two(numbers: &mut Vec<u32>, first: u64, second: u64) -> Result<bool, AllocError>
+    ensures { IfOk result (λ fit. fit ≡ true
+        → numbers.new.items ≡ numbers.old.items ++ first ∷ second ∷ []) }
+{
+    let Ok(first) = u32::try_from(first) else {
+        return Ok(false);
+    };
+    let Ok(second) = u32::try_from(second) else {
+        return Ok(false);
+    };
+    numbers.push(first)?;
+    numbers.push(second)?;
+    Ok(true)
+}

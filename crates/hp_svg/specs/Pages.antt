@@ -1,0 +1,22 @@
+-- The page of a trace.
+use Rattle.std.specs.Prelude.{ℕ, List, ◌++◌}
+use Rattle.hp_svg.specs.declared.viewer.html.TheConstants.{BODY, END, HEAD, MIDDLE}
+use Rattle.hp_svg.specs.declared.viewer.machine.TheConstants.{MACHINE}
+use Rattle.hp_svg.specs.declared.viewer.panels.TheConstants.{PANELS}
+use Rattle.hp_svg.specs.declared.viewer.style.TheConstants.{STYLE}
+use Rattle.hp_svg.specs.declared.viewer.trace.TheConstants.{TRACE}
+use Rattle.hp_svg.specs.declared.viewer.words.TheConstants.{WORDS}
+
+-- the viewer, up to the lines of a trace
+unfoldable pub viewer_before : List ℕ
+viewer_before = HEAD.now ++ STYLE.now ++ BODY.now
+
+-- from there on: what reads the lines, and what draws them
+unfoldable pub viewer_rules : List ℕ
+viewer_rules = MIDDLE.now ++ TRACE.now ++ WORDS.now
+
+unfoldable pub viewer_drawing : List ℕ
+viewer_drawing = MACHINE.now ++ PANELS.now ++ END.now
+
+unfoldable pub viewer_after : List ℕ
+viewer_after = viewer_rules ++ viewer_drawing
