@@ -15,6 +15,10 @@ among the first. `--never` prints the same with the other status, `--scenario 1`
 found as a scenario with the setup's lines before the calls, `--json` the same as an object, scripts
 that use 0 before a begin are told, and a text that no end has as a line ends with status 2.
 
+`--group` puts those ends together that agree in their blocks, or in their answers, and adds their
+counts, in words and as JSON, also past a limit; `--summary` has a line of each end or group with its
+count, its share, how many calls were refused, and the blocks, neighbours that are alike joined.
+
 Of each: the parts of 1, of 3 and of 7, in any order, add up to what `explore` prints, in words and
 as JSON, and `--jobs 2` prints the same; of one in four also from files and with an end as a
 scenario. There a sum is refused where a part is missing, comes twice, was cut off, is of another
@@ -331,7 +335,7 @@ def check_object(checks, programs, scenario, setup, texts, expected):
                  f"says {status}, {text!r}")
 
 
-FORMS = ((), ("--json",))
+FORMS = ((), ("--json",), ("--summary",))
 
 
 def check_sum(checks, programs, draw, scenario, setup, of):
@@ -467,6 +471,90 @@ def check_ends(checks, programs, scenario, setup, orders):
     checks.holds(where, ends == counted(orders), f"{ends} in place of {counted(orders)}")
 
 
+def grouped(ends, part):
+    """Ends put together by a part of their end: each group with the count of all and the rest of
+    the first."""
+    groups = {}
+    for count, end, first in ends:
+        so_far, leader, schedule = groups.get(end[part], (0, end, first))
+        groups[end[part]] = so_far + count, leader, schedule
+    return list(groups.values())
+
+
+def grouped_objects(objects, key):
+    """The objects of ends put together by a key, numbered anew."""
+    groups = {}
+    for end in objects:
+        leader = groups.setdefault(json.dumps(end[key]), {**end, "interleavings": 0})
+        leader["interleavings"] += end["interleavings"]
+    return [{**end, "end": number} for number, end in enumerate(groups.values(), 1)]
+
+
+SHORT = {"offline": "off", "absent": "absent", "online normal": "N", "online movable": "M",
+         "going normal": "N>off", "going movable": "M>off"}
+
+
+def joined_blocks(states):
+    """Memory blocks in short, neighbours that are alike joined."""
+    runs = []
+    for block, state in enumerate(states):
+        if runs and runs[-1][2] == state:
+            runs[-1][1] = block
+        else:
+            runs.append([block, block, state])
+    return " ".join(f"{first}:{SHORT[state]}" if first == last else f"{first}-{last}:{SHORT[state]}"
+                    for first, last, state in runs)
+
+
+def summary_of(ends):
+    """The lines of a summary of ends."""
+    total = sum(count for count, _, _ in ends)
+    for number, (count, (answers, blocks), _) in enumerate(ends, 1):
+        share = count * 1000 // total
+        refused = sum(reply.startswith("refused ") for replies in answers for reply in replies)
+        states = joined_blocks([block.split(" ", 2)[2] for block in blocks])
+        yield (f"end {number}: {count}, {share // 10}.{share % 10} %"
+               + (f", {refused} refused" if refused else "") + f", {states}")
+
+
+def check_groups(checks, programs, scenario, setup, orders, limit):
+    """Groups are those of the ends, whatever else is asked for; a summary has a line of each."""
+    for by, part in (("answers", 0), ("blocks", 1)):
+        words = ("--group", by)
+        where = f"{words} --setup {setup} {json.dumps(scenario)}"
+        status, text = programs.search(scenario, setup, *words)
+        checks.holds(where, status == 0, f"ends with {status}, {programs.said!r}")
+        expected = len(orders), grouped(counted(orders), part)
+        checks.holds(where, ends_of(text) == expected, f"{ends_of(text)} in place of {expected}")
+        check_group_forms(checks, programs, scenario, setup, by)
+        past = ("--limit", str(limit), *words)
+        _, text = programs.search(scenario, setup, *past)
+        told = [end_of(part) for part in text.rstrip("\n").split("\n\n")[1:]]
+        checks.holds(f"{past} {where}", told == grouped(counted(orders[:limit]), part), f"tells {told}")
+        check_summary(checks, programs, scenario, setup, grouped(counted(orders), part), *words)
+    check_summary(checks, programs, scenario, setup, counted(orders))
+
+
+def check_group_forms(checks, programs, scenario, setup, by):
+    """As JSON groups are those of the objects, and threads find them too."""
+    where = f"--json --group {by} --setup {setup} {json.dumps(scenario)}"
+    _, whole = programs.search(scenario, setup, "--json")
+    expected = grouped_objects([json.loads(line) for line in whole.splitlines()], by)
+    for more in ((), ("--jobs", "2")):
+        status, text = programs.search(scenario, setup, "--json", "--group", by, *more)
+        told = status, [json.loads(line) for line in text.splitlines()]
+        checks.holds(f"{more} {where}", told == (0, expected), f"{told} in place of {expected}")
+
+
+def check_summary(checks, programs, scenario, setup, ends, *words):
+    where = f"--summary {words} --setup {setup} {json.dumps(scenario)}"
+    status, text = programs.search(scenario, setup, "--summary", *words)
+    head = [f"interleavings: {sum(count for count, _, _ in ends)}", f"ends: {len(ends)}"]
+    told = status, text.splitlines()
+    expected = 0, [*head, *summary_of(ends)]
+    checks.holds(where, told == expected, f"{told} in place of {expected}")
+
+
 def check_drawn(checks, programs, draw, drawn):
     """Checks a scenario that is drawn, after so many, its searches and some of its sums; it answers
     whether it has few enough orders, with room for each."""
@@ -485,6 +573,7 @@ def check_drawn(checks, programs, draw, drawn):
     limit = draw.randrange(len(orders))
     check_ends(checks, programs, scenario, setup, orders)
     check_first(checks, programs, scenario, setup, orders, limit)
+    check_groups(checks, programs, scenario, setup, orders, limit)
     check_parts(checks, programs, draw, scenario, setup, drawn % SPOILED == 0)
     if drawn % SPOILED == 0:
         check_part_limit(checks, programs, scenario, setup, orders)

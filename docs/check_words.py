@@ -116,6 +116,7 @@ def check_explore(checks, lab):
     past = (1, "", "hotplug_lab: 7 is past the last line, 6\n")
     checks.same("explore --setup 7", past, lab.call("explore", "--setup", "7", scenario=scripts))
     check_replays(checks, lab, scripts)
+    check_groups(checks, lab, scripts)
     check_unbegun(checks, lab)
     check_progress(checks, lab)
     many = scenario_of([f"{cpu} read db 0 0" for cpu in (0, 1)] * READS)
@@ -175,6 +176,28 @@ def check_progress(checks, lab):
         status, out, error = lab.call("explore", *options, scenario=scenario)
         checks.same(f"explore {options}", (0, "interleavings: 3432"), (status, out.split("\n")[0]))
         checks.holds(f"explore {options}", re.fullmatch(form, error), f"says {error!r}")
+
+
+def check_groups(checks, lab, scripts):
+    """Ends are put together by blocks or by answers, and by nothing else; a line of a summary has at
+    most 100 columns, however many memory blocks there are."""
+    for by in ("blocks", "answers"):
+        status, out, error = lab.call("explore", "--group", by, scenario=scripts)
+        checks.same(f"explore --group {by}", (0, "interleavings: 15", ""),
+                    (status, out.split("\n")[0], error))
+    for by in ("", "block", "Blocks", "ends", "blocks,answers"):
+        checks.same(f"explore --group={by}", (2, "", "hotplug_lab: --group may be blocks or answers\n"),
+                    lab.call("explore", f"--group={by}", scenario=scripts))
+    for boot, shown in ((["normal", "movable"] * 16, "0:N 1:M 2:N"),
+                        (["normal"] * 20 + ["movable"] * 11 + ["offline"], "0-19:N 20-30:M 31:off")):
+        wide = {"layout": {**LAYOUT, "blocks": len(boot), "boot": boot}, "calls": ["0 drain 0"]}
+        status, out, error = lab.call("explore", "--summary", scenario=wide)
+        checks.same("explore --summary", (0, ["interleavings: 1", "ends: 1"], ""),
+                    (status, out.splitlines()[:2], error))
+        line = out.splitlines()[2]
+        start = f"end 1: 1, 100.0 %, {shown}"
+        checks.holds("explore --summary", line.startswith(start) and len(line) <= 100, f"writes {line!r}")
+        checks.same(f"explore --summary of {shown}", "31:off" not in shown, line.endswith(" .."))
 
 
 def check_unbegun(checks, lab):
@@ -328,6 +351,16 @@ def check_lab(checks, lab):
                   ("explore", "--part", "1/2", "--scenario", "1"),
                   ("explore", "--part", "1/2", "--jobs", "2"),
                   ("explore", "--jobs", "2", "--find", "done"),
+                  ("explore", "--group"), ("explore", "--group", "blocks", "--part", "1/2"),
+                  ("explore", "--group", "blocks", "--scenario", "1"),
+                  ("explore", "--group", "answers", "--find", "done"),
+                  ("explore", "--group", "answers", "--never", "done"),
+                  ("explore", "--summary", "--part", "1/2"), ("explore", "--summary", "--json"),
+                  ("explore", "--summary", "--scenario", "1"),
+                  ("explore", "--summary", "--find", "done"),
+                  ("explore", "--summary", "--never", "done"),
+                  ("sum", "--summary", "--json"), ("sum", "--summary", "--scenario", "1"),
+                  ("sum", "--group", "blocks"),
                   ("sum", "--json", "--scenario", "1"), ("sum", "--setup", "1"),
                   ("trace", "--json", "--from", "1"), ("trace", "--json", "--svg"),
                   ("trace", "--html", "--from", "1"), ("trace", "--html", "--json"),

@@ -14,7 +14,7 @@ use Rattle.hotplug_lab.specs.Words.{IsUnanswered}
 -- out of memory is a fault of each word
 pub no_memory : (word : Word) (input : List ℕ) → IsUnanswered word input (Lab OutOfMemory)
 no_memory (Check setup) input = refl
-no_memory (Explore asked form jobs) input = tt
+no_memory (Explore asked form by jobs) input = tt
 no_memory (Part asked part) input = (tt, tt)
 no_memory (Sum form) input = refl
 no_memory (Find asked wanted form) input = tt

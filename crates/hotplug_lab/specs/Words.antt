@@ -17,6 +17,7 @@ use Rattle.hp_part_files.specs.Parts.{IsFullPart, IsPartOf}
 use Rattle.hp_part_files.specs.Sums.{IsSumOf}
 use Rattle.hp_lab_shell.specs.Checks.{IsCheckOf}
 use Rattle.hp_lab_shell.specs.Shown.{HasJson, HasLog, HasRows, HasTrace}
+use Rattle.hp_search.specs.declared.groups.GroupBy.{GroupBy}
 use Rattle.hp_search.specs.declared.lab_fault.LabFault.{LabFault}
 use Rattle.hp_search.specs.declared.lab_fault.LabFault.TheVariants.{OutOfMemory}
 use Rattle.hp_search.specs.declared.part_fault.PartFault.{PartFault}
@@ -28,9 +29,10 @@ use Rattle.hp_lab_shell.specs.declared.words.Word.TheVariants.{Check, Explore, F
 use Rattle.hp_lab_shell.specs.Needs.{HasLines, IsPastEnd}
 
 -- the text of an exploration; the status is 0 if it finds what was asked for, and 3 if not
-abbrev pub IsExploringOf : ExploreOptions → EndsForm → (input text : List ℕ) → (status : ℕ) → Type 0
-IsExploringOf asked form input text status =
-    (found : Bool) × IsExplorationOf form input asked.setup asked.limit text found
+abbrev pub IsExploringOf : ExploreOptions → EndsForm → Option GroupBy → (input text : List ℕ)
+    → (status : ℕ) → Type 0
+IsExploringOf asked form by input text status =
+    (found : Bool) × IsExplorationOf form by input asked.setup asked.limit text found
     × (status ≡ (if found then 0 else 3))
 
 -- the text of one part; the text of the sum
@@ -52,7 +54,7 @@ IsSearchOf asked wanted form found_status absent_status input text status =
 
 abbrev pub IsAnswerOf : Word → (input text : List ℕ) → (status : ℕ) → Type 0
 IsAnswerOf (Check setup) input text status = IsCheckOf setup input text status
-IsAnswerOf (Explore asked form jobs) input text status = IsExploringOf asked form input text status
+IsAnswerOf (Explore asked form by jobs) input text status = IsExploringOf asked form by input text status
 IsAnswerOf (Part asked part) input text status = IsPartialOf asked part.now input text status
 IsAnswerOf (Sum form) input text status = IsAddedOf form input text status
 IsAnswerOf (Find asked wanted form) input text status = IsSearchOf asked wanted.now form 0 3 input text status
@@ -71,7 +73,7 @@ Answers word input text status = HasLines word input × IsAnswerOf word input te
 -- otherwise only out of memory
 abbrev pub IsLabCause : Word → (input : List ℕ) → LabFault → Type 0
 IsLabCause (Check setup) input fault = fault ≡ OutOfMemory
-IsLabCause (Explore asked form jobs) input fault = IsFaultWithin input asked.setup asked.limit fault
+IsLabCause (Explore asked form by jobs) input fault = IsFaultWithin input asked.setup asked.limit fault
 IsLabCause (Part asked part) input fault =
     IsFaultOf input asked.setup asked.limit fault × IsFullPart part.now input asked.setup asked.limit fault
 IsLabCause (Sum form) input fault = fault ≡ OutOfMemory
@@ -85,7 +87,7 @@ IsLabCause (Told form) input fault = fault ≡ OutOfMemory
 
 abbrev pub IsScenarioCause : Word → (input : List ℕ) → ScenarioFault → Type 0
 IsScenarioCause (Check setup) input fault = ⊥
-IsScenarioCause (Explore asked form jobs) input fault = ⊥
+IsScenarioCause (Explore asked form by jobs) input fault = ⊥
 IsScenarioCause (Part asked part) input fault = ⊥
 IsScenarioCause (Sum form) input fault = ⊥
 IsScenarioCause (Find asked wanted form) input fault = ⊥

@@ -9,7 +9,7 @@ use hp_part_files::{part_text, sum_text};
 use hp_questions::Wanted;
 use hp_schedules::ShardId;
 use hp_search::{
-    EndsForm, LabProgramFault, ScheduleForm, SearchText, explore_text_with_jobs, find_text,
+    EndsForm, GroupBy, LabProgramFault, ScheduleForm, SearchText, explore_text_with_jobs, find_text,
 };
 use hp_states::Watch;
 use std::alloc::Global;
@@ -30,9 +30,12 @@ pub(crate) fn answer_to<W: Watch>(
 {
     match word {
         Word::Check(setup) => checked(alloc, input, setup),
-        Word::Explore { asked, form, jobs } => {
-            explored(rt, alloc, input, asked, form, jobs, watch)
-        }
+        Word::Explore {
+            asked,
+            form,
+            by,
+            jobs,
+        } => explored(rt, alloc, input, asked, form, by, jobs, watch),
         Word::Part { asked, part } => partial(alloc, input, asked, part, watch),
         Word::Sum(form) => summed(alloc, input, form),
         Word::Find {
@@ -59,15 +62,16 @@ fn explored<W: Watch>(
     input: &[u8],
     asked: ExploreOptions,
     form: EndsForm,
+    by: Option<GroupBy>,
     jobs: u32,
     watch: &mut W,
 ) -> Result<TextAndStatus, LabProgramFault>
     ensures ok { IfOk result
-        (λ answer. IsExploringOf asked form input.now (string_bytes answer.text) answer.status) }
-    ensures err { IfErr result (IsUnanswered (Explore asked form jobs) input.now) }
+        (λ answer. IsExploringOf asked form by input.now (string_bytes answer.text) answer.status) }
+    ensures err { IfErr result (IsUnanswered (Explore asked form by jobs) input.now) }
 {
     let ExploreOptions { setup, limit } = asked;
-    let finding = explore_text_with_jobs(rt, alloc, input, setup, limit, form, jobs, watch)?;
+    let finding = explore_text_with_jobs(rt, alloc, input, setup, limit, form, by, jobs, watch)?;
     Ok(answer_with(finding, 0, 3))
 }
 

@@ -15,7 +15,7 @@ use Rattle.hp_lab_shell.specs.declared.words.Word.TheVariants.{Check, Explore, F
 -- searches
 abbrev pub unbegun_of : Word → Result ScenarioValue ScenarioFault → List Unbegun
 unbegun_of (Check setup) read = []
-unbegun_of (Explore asked form jobs) read = unbegun_in asked.setup read
+unbegun_of (Explore asked form by jobs) read = unbegun_in asked.setup read
 unbegun_of (Part asked part) read = unbegun_in asked.setup read
 unbegun_of (Sum form) read = []
 unbegun_of (Find asked wanted form) read = unbegun_in asked.setup read
@@ -36,7 +36,7 @@ setup_named setup = if setup == 2 ^ 64 - 1 then 0 else setup
 -- the last line, counted from 1, that a scenario needs for a word; 0 where it needs none
 abbrev pub last_named : Word → ℕ
 last_named (Check setup) = setup_named setup
-last_named (Explore asked form jobs) = asked.setup
+last_named (Explore asked form by jobs) = asked.setup
 last_named (Part asked part) = asked.setup
 last_named (Sum form) = 0
 last_named (Find asked wanted form) = asked.setup

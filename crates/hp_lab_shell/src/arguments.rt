@@ -24,6 +24,12 @@ pub(crate) const HTML: &str = "html";
 /// The option that searches one part.
 pub(crate) const PART: &str = "part";
 
+/// The option that puts ends together.
+pub(crate) const GROUP: &str = "group";
+
+/// The option that writes one line per end.
+pub(crate) const SUMMARY: &str = "summary";
+
 /// The option that searches in threads.
 pub(crate) const JOBS: &str = "jobs";
 
@@ -62,6 +68,8 @@ pub(crate) enum Takes {
     Number,
     /// A part's number and the number of parts.
     Part,
+    /// A part of an end's outcome.
+    Group,
     /// A range of memory blocks.
     Blocks,
     /// A kind of fault; may be given several times.
@@ -106,6 +114,7 @@ fn taking<'a>(arg: Arg<'a>, argument: &Argument) -> Arg<'a> {
             .value_name("N")
             .value_parser(value_parser!(u64)),
         Takes::Part => arg.long(argument.name).value_name("I/N"),
+        Takes::Group => arg.long(argument.name).value_name("PART"),
         Takes::Blocks => arg.long(argument.name).value_name("A..B"),
         Takes::Kinds => arg
             .long(argument.name)

@@ -1,7 +1,8 @@
 //! The arguments of the words that search: `explore`, and `sum` of its parts.
 
 use crate::arguments::{
-    Argument, FILE, FIND, JOBS, JSON, MEMORY, NEVER, PART, PROGRESS, SCENARIO, SCENARIO_FILE, Takes,
+    Argument, FILE, FIND, GROUP, JOBS, JSON, MEMORY, NEVER, PART, PROGRESS, SCENARIO, SCENARIO_FILE,
+    SUMMARY, Takes,
 };
 
 /// The option that writes an interleaving as a scenario.
@@ -20,8 +21,12 @@ const AS_JSON: Argument = Argument {
     against: &[SCENARIO],
 };
 
+/// What the flag does that writes one line per end.
+const SUMMARY_HELP: &str =
+    "Writes a line of each end: its count, its share, how many calls were refused, and its blocks";
+
 /// The arguments of `explore`.
-pub(crate) const EXPLORE: [Argument; 11] = [
+pub(crate) const EXPLORE: [Argument; 13] = [
     Argument {
         name: "setup",
         takes: Takes::Number,
@@ -64,8 +69,20 @@ pub(crate) const EXPLORE: [Argument; 11] = [
         help: "Searches with so many threads, 1 to 256 (1)",
         against: &[FIND, NEVER],
     },
+    Argument {
+        name: GROUP,
+        takes: Takes::Group,
+        help: "Puts ends together that agree in what became of the blocks, or in the answers",
+        against: &[FIND, NEVER, PART, SCENARIO],
+    },
     AS_SCENARIO,
     AS_JSON,
+    Argument {
+        name: SUMMARY,
+        takes: Takes::Nothing,
+        help: SUMMARY_HELP,
+        against: &[FIND, NEVER, PART, SCENARIO, JSON],
+    },
     Argument {
         name: PROGRESS,
         takes: Takes::Nothing,
@@ -76,9 +93,15 @@ pub(crate) const EXPLORE: [Argument; 11] = [
 ];
 
 /// The arguments of `sum`.
-pub(crate) const SUM: [Argument; 3] = [
+pub(crate) const SUM: [Argument; 4] = [
     AS_SCENARIO,
     AS_JSON,
+    Argument {
+        name: SUMMARY,
+        takes: Takes::Nothing,
+        help: SUMMARY_HELP,
+        against: &[SCENARIO, JSON],
+    },
     Argument {
         name: FILE,
         takes: Takes::Files,

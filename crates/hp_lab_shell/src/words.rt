@@ -1,14 +1,14 @@
 //! The words that the program is called with.
 
 use crate::arguments::{
-    FILE, FIND, HTML, JOBS, JSON, LOG, MEMORY, NEVER, PART, PROGRESS, SCENARIO,
+    FILE, FIND, GROUP, HTML, JOBS, JSON, LOG, MEMORY, NEVER, PART, PROGRESS, SCENARIO, SUMMARY,
 };
 use crate::checks::{ALL, LIMIT};
 use clap::ArgMatches;
 use hp_numbers::number64;
 use hp_questions::Wanted;
 use hp_schedules::ShardId;
-use hp_search::{EndsForm, ScheduleForm};
+use hp_search::{EndsForm, GroupBy, ScheduleForm};
 use hp_trace::View;
 
 /// The default width of a cell in pixels, and the greatest.
@@ -70,10 +70,12 @@ pub enum Word<'a> {
     /// Report what is wrong with it and where. This many lines are the setup; later ones are in
     /// scripts.
     Check(u64),
-    /// Explore every interleaving of its scripts, in `jobs` threads.
+    /// Explore every interleaving of its scripts, in `jobs` threads, and put ends together `by` a
+    /// part of their outcome.
     Explore {
         asked: ExploreOptions,
         form: EndsForm,
+        by: Option<GroupBy>,
         jobs: u32,
     },
     /// Search one part of these.
@@ -253,8 +255,19 @@ fn whole_word<'a>(asked: ExploreOptions, words: &ArgMatches<'_>) -> Result<Word<
     Ok(Word::Explore {
         asked,
         form: ends_form_from(words),
+        by: group_from(words)?,
         jobs: jobs as u32,
     })
+}
+
+/// Returns the part of their outcome by which ends are put together, if they are.
+fn group_from(words: &ArgMatches<'_>) -> Result<Option<GroupBy>, &'static str> {
+    match words.get_str(GROUP) {
+        Some("blocks") => Ok(Some(GroupBy::Blocks)),
+        Some("answers") => Ok(Some(GroupBy::Answers)),
+        Some(_) => Err("--group may be blocks or answers"),
+        None => Ok(None),
+    }
 }
 
 /// Returns what `trace` asks for.
@@ -314,6 +327,7 @@ fn ends_form_from(words: &ArgMatches<'_>) -> EndsForm {
     match words.get_one::<u64>(SCENARIO) {
         Some(number) => EndsForm::Scenario(number),
         None if words.get_flag(JSON) => EndsForm::Objects,
+        None if words.get_flag(SUMMARY) => EndsForm::Summary,
         None => EndsForm::Words,
     }
 }

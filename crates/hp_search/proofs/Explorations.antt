@@ -12,6 +12,8 @@ use Rattle.hp_explore.specs.Settings.{setting}
 use Rattle.hp_schedules.specs.declared.scripts.Step.{Step}
 use Rattle.hp_schedules.specs.Schedules.{IsComplete, Setting}
 use Rattle.hp_search.specs.declared.forms.EndsForm.{EndsForm}
+use Rattle.hp_search.specs.declared.groups.GroupBy.{GroupBy}
+use Rattle.hp_search.specs.Groups.{AreShown}
 use Rattle.hp_search.specs.declared.lab_fault.LabFault.{LabFault}
 use Rattle.hp_search.specs.Ends.{IsMore, IsTold}
 use Rattle.hp_search.specs.Faults.{IsFaultOf, IsToldAs}
@@ -29,28 +31,36 @@ explored_told : (g : Setting) (limit : ℕ) (x : Exploration) (more : Option How
 explored_told g limit x None whole few room first many h = (whole h, few h, room h)
 explored_told g limit x (Some known) whole few room first many h = (first h.0, many h.0, h.1)
 
--- and they are told, where the scripts are those of a scenario that was made ready
-pub is_explored : (form : EndsForm) (p : Prepared) (scripts : List (List Step)) (limit : ℕ)
-    (x : Exploration) (text : List ℕ) (found : Bool)
+-- and they, or their groups, are told, where the scripts are those of a scenario that was made ready
+pub is_explored : (form : EndsForm) (by : Option GroupBy) (p : Prepared) (scripts : List (List Step))
+    (limit : ℕ) (x shown : Exploration) (text : List ℕ) (found : Bool)
     → scripts ≡ p.start.scripts.items → IfWhole x (AreEnds (setting p.start.machine scripts))
     → IfWhole x (λ _. HasMoreThan (IsComplete (setting p.start.machine scripts)) limit → ⊥)
     → IfWhole x (λ _. FillsHistory (setting p.start.machine scripts) → ⊥)
     → IfFirst x (AreFirst (setting p.start.machine scripts) limit)
     → IfFirst x (λ _. HasMoreThan (IsComplete (setting p.start.machine scripts)) limit)
     → AreInOrder x.ends.items → sum_by (λ e. e.count) x.ends.items ≤ limit
-    → IsTold form (names_of p) (before_of p) (setting_of p) x text found
-    → IsExploredOn form (names_of p) (before_of p) (setting_of p) limit text found
-is_explored form p scripts limit x text found same whole few room first many ordered within told = record {
-  ends = x.ends.items;
-  more = told.0;
-  are =
-      subst (λ (ss : List (List Step)). AreExplored (setting p.start.machine ss) limit x.ends.items told.0)
-      same (explored_told (setting p.start.machine scripts) limit x told.0 whole few room first many
-      (subst (λ (ss : List (List Step)). IsMore ss x.is_whole told.0) (sym same) told.1));
-  ordered = ordered;
-  within = within;
-  told = told.2;
-}
+    → AreShown by x.ends.items shown.ends.items → shown.is_whole ≡ x.is_whole
+    → IsTold form (names_of p) (before_of p) (setting_of p) shown text found
+    → IsExploredOn form by (names_of p) (before_of p) (setting_of p) limit text found
+is_explored form by p scripts limit x shown text found same whole few room first many ordered within grouped
+    is_whole told =
+    let more =
+    subst (λ (w : Bool). IsMore (setting_of p).scripts w told.0) is_whole told.1 in
+    record {
+      ends = x.ends.items;
+      more = told.0;
+      are =
+          subst
+          (λ (ss : List (List Step)). AreExplored (setting p.start.machine ss) limit x.ends.items told.0)
+          same (explored_told (setting p.start.machine scripts) limit x told.0 whole few room first many
+          (subst (λ (ss : List (List Step)). IsMore ss x.is_whole told.0) (sym same) more));
+      ordered = ordered;
+      within = within;
+      shown = shown.ends.items;
+      grouped = grouped;
+      told = told.2;
+    }
 
 -- ---- faults
 

@@ -1,5 +1,8 @@
 pub mod Explorations
 pub mod Findings
+pub mod GroupsFound
+pub mod GroupsGrown
 pub mod Known
 pub mod Played
+pub mod SummaryLines
 pub mod Written

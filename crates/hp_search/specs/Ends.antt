@@ -9,7 +9,8 @@ use Rattle.hp_schedules.specs.Interleavings.{IsKnown}
 use Rattle.hp_schedules.specs.Schedules.{Setting}
 use Rattle.hp_scenario.specs.declared.lines.Line.{Line}
 use Rattle.hp_search.specs.declared.forms.EndsForm.{EndsForm}
-use Rattle.hp_search.specs.declared.forms.EndsForm.TheVariants.{Words, Objects, Scenario}
+use Rattle.hp_search.specs.declared.forms.EndsForm.TheVariants.{Words, Objects, Scenario, Summary}
+use Rattle.hp_search.specs.Summaries.{IsSummary}
 use Rattle.hp_search.specs.Texts.{all_objects_text, exploration_text, replay_text}
 
 -- the end with a number, counted from 1; no end has the number
@@ -42,6 +43,8 @@ AreEndsTold Words names before g ends more text found =
     (text ≡ exploration_text names g ends more) × (found ≡ is_none more)
 AreEndsTold Objects names before g ends more text found =
     (text ≡ all_objects_text names g ends more) × (found ≡ is_none more)
+AreEndsTold Summary names before g ends more text found =
+    IsSummary ends more text × (found ≡ is_none more)
 AreEndsTold (Scenario number) names before g ends more text found =
     IsEndTold names before g ends number text found
 

@@ -13,6 +13,8 @@ use Rattle.hp_search.specs.declared.forms.EndsForm.{EndsForm}
 use Rattle.hp_search.specs.declared.lab_fault.LabFault.{LabFault}
 use Rattle.hp_search.specs.Ends.{AreEndsTold}
 use Rattle.hp_search.specs.Faults.{IsFaultWith}
+use Rattle.hp_search.specs.Groups.{AreShown}
+use Rattle.hp_search.specs.declared.groups.GroupBy.{GroupBy}
 use Rattle.hp_search.specs.Holding.{HoldsIn}
 
 -- ---- on a machine
@@ -25,24 +27,27 @@ AreExplored g limit ends None =
 AreExplored g limit ends (Some known) =
     AreFirst g limit ends × HasMoreThan (IsComplete g) limit × IsKnown g.scripts (2 ^ 64 - 1) known
 
--- the text has the ends of at most `limit` schedules, in the order of their first schedules
-pub record IsExploredOn (form : EndsForm) (names : List (List ℕ)) (before : List Line) (g : Setting)
+-- the text has the ends of at most `limit` schedules, in the order of their first schedules, or
+-- their groups
+pub record IsExploredOn (form : EndsForm) (by : Option GroupBy) (names : List (List ℕ)) (before : List Line) (g : Setting)
     (limit : ℕ) (text : List ℕ) (found : Bool) : Type 0 where
   pub ends : List Ending
   pub more : Option HowMany
   pub are : AreExplored g limit ends more
   pub ordered : AreInOrder ends
   pub within : sum_by (λ e. e.count) ends ≤ limit
-  pub told : AreEndsTold form names before g ends more text found
+  pub shown : List Ending
+  pub grouped : AreShown by ends shown
+  pub told : AreEndsTold form names before g shown more text found
 
 -- ---- in a scenario
 
 -- the text is that of an exploration of the scenario's scripts
-abbrev pub IsExplorationOf : EndsForm → (input : List ℕ) → (setup limit : ℕ) → (text : List ℕ)
+abbrev pub IsExplorationOf : EndsForm → Option GroupBy → (input : List ℕ) → (setup limit : ℕ) → (text : List ℕ)
     → (found : Bool)
     → Type 0
-IsExplorationOf form input setup limit text found =
-    HoldsIn (λ names before g. IsExploredOn form names before g limit text found) input setup
+IsExplorationOf form by input setup limit text found =
+    HoldsIn (λ names before g. IsExploredOn form by names before g limit text found) input setup
 
 -- the cause of each fault; for a full history, a call that the search makes within its limit
 abbrev pub IsFaultWithin : (input : List ℕ) → (setup limit : ℕ) → LabFault → Type 0

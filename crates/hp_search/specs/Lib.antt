@@ -5,9 +5,11 @@ pub mod FaultTexts
 pub mod Faults
 pub mod Findings
 pub mod FoundTexts
+pub mod Groups
 pub mod Holding
 pub mod Objects
 pub mod Prepared
 pub mod Replays
+pub mod Summaries
 pub mod Texts
 pub mod Words

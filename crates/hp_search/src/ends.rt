@@ -9,7 +9,7 @@ ghost use Rattle.hp_search.specs.Texts.{end_keys, exploration_text, numbered_tex
 
 use crate::found::SearchText;
 use crate::prepared::Prepared;
-use crate::{EndsForm, write_counts, write_end, write_keys, write_more};
+use crate::{EndsForm, write_counts, write_end, write_keys, write_more, write_summary};
 use hp_explore::{Exploration, ExploreFault};
 use hp_schedules::{Ending, HowMany, total_of};
 use hp_units::Cpu;
@@ -66,6 +66,14 @@ impl Prepared {
                 let mut text = String::new(alloc);
                 self.write_objects(&mut text, alloc, ends)?;
                 write_more(&mut text, total_of(ends), more)?;
+                Ok(SearchText {
+                    text,
+                    is_found: more.is_none(),
+                })
+            }
+            EndsForm::Summary => {
+                let mut text = String::new(alloc);
+                write_summary(&mut text, alloc, ends, more)?;
                 Ok(SearchText {
                     text,
                     is_found: more.is_none(),

@@ -5,8 +5,9 @@ ghost use Rattle.hp_search.specs.Faults.{IsFaultOf};
 ghost use Rattle.hp_search.specs.Prepared.{before_of, names_of, setting_of};
 ghost use Rattle.hp_search.specs.Explorations.{IsExplorationOf, IsExploredOn, IsFaultWithin};
 
+use crate::groups::grouped;
 use crate::lab_fault::LabFault;
-use crate::{EndsForm, Prepared, SearchText, prepare};
+use crate::{EndsForm, GroupBy, Prepared, SearchText, prepare};
 use hp_explore::{ExploreFault, Watch, explore};
 use std::alloc::Global;
 
@@ -16,11 +17,14 @@ use std::alloc::Global;
 ///
 /// As words, the text has the number of interleavings, and for each different end how many lead to
 /// it, the processors' replies, the states of the memory blocks, and the calls of the first
-/// interleaving that leads to it. As objects, it has one line of JSON per end. In both forms
-/// nothing is found if there are more interleavings than the limit, and the text reports that. As a
-/// scenario, it has the layout, the lines of the setup, and the calls of the first interleaving
-/// that leads to the end with the number; if no end has that number, the text reports how many
-/// interleavings and ends there are, and nothing is found.
+/// interleaving that leads to it. As objects, it has one line of JSON per end, and as a summary one
+/// line of words. In these forms nothing is found if there are more interleavings than the limit,
+/// and the text reports that. As a scenario, it has the layout, the lines of the setup, and the
+/// calls of the first interleaving that leads to the end with the number; if no end has that
+/// number, there is no text, and nothing is found.
+///
+/// With `by`, ends that agree in this part of their outcome are put together, and the text has
+/// their groups in place of the ends.
 ///
 /// While the search runs, `watch` gets the number of interleavings counted so far.
 ///
@@ -34,15 +38,16 @@ pub fn explore_text<W: Watch>(
     setup: u64,
     limit: u64,
     form: EndsForm,
+    by: Option<GroupBy>,
     watch: &mut W,
 ) -> Result<SearchText, LabFault>
     ensures ok { IfOk result (λ f.
-        IsExplorationOf form input.now setup limit (string_bytes f.text) f.is_found) }
+        IsExplorationOf form by input.now setup limit (string_bytes f.text) f.is_found) }
     ensures err { IfErr result (IsFaultOf input.now setup limit) }
     ensures full { IfErr result (IsFaultWithin input.now setup limit) }
 {
     let prepared = prepare(alloc, input, setup)?;
-    match explored(alloc, &prepared, form, limit, watch) {
+    match explored(alloc, &prepared, limit, form, by, watch) {
         Ok(finding) => Ok(finding),
         Err(fault) => Err(prepared.told_fault(alloc, fault)),
     }
@@ -52,20 +57,22 @@ pub fn explore_text<W: Watch>(
 fn explored<W: Watch>(
     alloc: Global,
     prepared: &Prepared,
-    form: EndsForm,
     limit: u64,
+    form: EndsForm,
+    by: Option<GroupBy>,
     watch: &mut W,
 ) -> Result<SearchText, ExploreFault>
     requires { length prepared.now.start.scripts.items < 2 ^ 32 }
-    ensures ok { IfOk result (λ f. IsExploredOn form (names_of prepared.now) (before_of prepared.now)
+    ensures ok { IfOk result (λ f. IsExploredOn form by (names_of prepared.now) (before_of prepared.now)
         (setting_of prepared.now) limit (string_bytes f.text) f.is_found) }
     ensures err { IfErr result (IsCauseWithin (setting_of prepared.now) limit) }
 {
     let machine = &prepared.start.machine;
     let scripts = prepared.start.scripts.as_slice();
     let explored = explore(alloc, machine, scripts, limit, watch)?;
+    let shown = grouped(alloc, explored, by)?;
     // The search has made the calls of each first interleaving, so only memory can run out.
-    let Ok(finding) = prepared.exploration_told(alloc, &explored, form) else {
+    let Ok(finding) = prepared.exploration_told(alloc, &shown, form) else {
         return Err(ExploreFault::OutOfMemory);
     };
     Ok(finding)

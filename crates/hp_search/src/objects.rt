@@ -70,7 +70,7 @@ pub fn write_keys(
 }
 
 /// Writes the replies of each processor, from processor 0.
-fn write_answers(out: &mut String, all: &[Replies]) -> Result<(), AllocError>
+pub(crate) fn write_answers(out: &mut String, all: &[Replies]) -> Result<(), AllocError>
     ensures { OnOk result
         (string_bytes out.new ≡ string_bytes out.old ++ separated (codes ", ") answer_list true all.now) }
 {
@@ -107,7 +107,7 @@ fn write_reply(out: &mut String, reply: Reply) -> Result<(), AllocError>
 }
 
 /// Writes the states of the memory blocks, from block 0.
-fn write_blocks(out: &mut String, rows: &[Row]) -> Result<(), AllocError>
+pub(crate) fn write_blocks(out: &mut String, rows: &[Row]) -> Result<(), AllocError>
     ensures { OnOk result (string_bytes out.new
         ≡ string_bytes out.old ++ separated (codes ", ") block_string true rows.now) }
 {

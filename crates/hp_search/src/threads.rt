@@ -5,8 +5,9 @@ ghost use Rattle.hp_search.specs.Faults.{IsFaultOf};
 ghost use Rattle.hp_search.specs.Prepared.{before_of, names_of, setting_of};
 ghost use Rattle.hp_search.specs.Explorations.{IsExplorationOf, IsExploredOn, IsFaultWithin};
 
+use crate::groups::grouped;
 use crate::lab_fault::LabFault;
-use crate::{EndsForm, Prepared, SearchText, prepare};
+use crate::{EndsForm, GroupBy, Prepared, SearchText, prepare};
 use hp_explore::{ExploreFault, Watch, explore_with_jobs};
 use std::alloc::Global;
 use std::thread::Threads;
@@ -22,16 +23,17 @@ pub fn explore_text_with_jobs<W: Watch>(
     setup: u64,
     limit: u64,
     form: EndsForm,
+    by: Option<GroupBy>,
     jobs: u32,
     watch: &mut W,
 ) -> Result<SearchText, LabFault>
     ensures ok { IfOk result (λ f.
-        IsExplorationOf form input.now setup limit (string_bytes f.text) f.is_found) }
+        IsExplorationOf form by input.now setup limit (string_bytes f.text) f.is_found) }
     ensures err { IfErr result (IsFaultOf input.now setup limit) }
     ensures full { IfErr result (IsFaultWithin input.now setup limit) }
 {
     let prepared = prepare(alloc, input, setup)?;
-    match explored(rt, alloc, &prepared, limit, form, jobs, watch) {
+    match explored(rt, alloc, &prepared, limit, form, by, jobs, watch) {
         Ok(finding) => Ok(finding),
         Err(fault) => Err(prepared.told_fault(alloc, fault)),
     }
@@ -44,19 +46,21 @@ fn explored<W: Watch>(
     prepared: &Prepared,
     limit: u64,
     form: EndsForm,
+    by: Option<GroupBy>,
     jobs: u32,
     watch: &mut W,
 ) -> Result<SearchText, ExploreFault>
     requires { length prepared.now.start.scripts.items < 2 ^ 32 }
-    ensures ok { IfOk result (λ f. IsExploredOn form (names_of prepared.now) (before_of prepared.now)
+    ensures ok { IfOk result (λ f. IsExploredOn form by (names_of prepared.now) (before_of prepared.now)
         (setting_of prepared.now) limit (string_bytes f.text) f.is_found) }
     ensures err { IfErr result (IsCauseWithin (setting_of prepared.now) limit) }
 {
     let machine = &prepared.start.machine;
     let scripts = prepared.start.scripts.as_slice();
     let explored = explore_with_jobs(rt, alloc, machine, scripts, limit, jobs, watch)?;
+    let shown = grouped(alloc, explored, by)?;
     // The search has made the calls of each first interleaving, so only memory can run out.
-    let Ok(finding) = prepared.exploration_told(alloc, &explored, form) else {
+    let Ok(finding) = prepared.exploration_told(alloc, &shown, form) else {
         return Err(ExploreFault::OutOfMemory);
     };
     Ok(finding)

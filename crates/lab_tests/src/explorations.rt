@@ -1,12 +1,11 @@
 //! Explorations and their text.
 use hp_explore::Silent;
-use hp_search::{EndsForm, explore_text};
+use hp_search::{EndsForm, GroupBy, explore_text};
 use std::alloc::{AllocError, Global};
 use std::test::Fail;
 
-/// An offline against a map, with one free frame outside the block, which both may need. The
-/// expected replies in each order of the four calls are those of a separate program, written by
-/// hand.
+/// An offline against a map, where each finds one free frame outside the block. What each order of
+/// the four calls answers was taken from another program, written by hand.
 const RACE: &str =
     "0 map db 0;0 write db 0 0 7;0 kalloc 0;0 begin off 1;0 migrate 0;0 commit 0;1 map web 0";
 
@@ -31,7 +30,24 @@ const RACE_OBJECTS: &str =
      \"refused NotFree 3\"], [\"done\"]], \"blocks\": [\"online normal\", \"going movable\"], \
      \"first\": [\"1 map web 0\", \"0 begin off 1\", \"0 migrate 5\", \"0 commit 5\"]}\n";
 
-/// A setup with a line of each kind, and one line after it that brings the block online again.
+/// The second end with the third one's count, which has the same memory blocks.
+const RACE_BLOCKS: &str =
+    "interleavings: 4\nends: 2\n\nend 1\ninterleavings: 2\ncpu 0\nopened 0\nmoved 2 1\ndone\n\
+     cpu 1\nrefused NoFrame\nblock 0 online normal\nblock 1 offline\nfirst:\n\"0 begin off 1\",\n\
+     \"0 migrate 4\",\n\"0 commit 4\",\n\"1 map web 0\"\n\nend 2\ninterleavings: 2\ncpu 0\n\
+     opened 0\nrefused NoFrame\nrefused NotFree 2\ncpu 1\ndone\nblock 0 online normal\n\
+     block 1 going movable\nfirst:\n\"0 begin off 1\",\n\"1 map web 0\",\n\"0 migrate 4\",\n\
+     \"0 commit 4\"\n";
+
+const RACE_SUMMARY: &str =
+    "interleavings: 4\nends: 3\nend 1: 2, 50.0 %, 1 refused, 0:N 1:off\n\
+     end 2: 1, 25.0 %, 2 refused, 0:N 1:M>off\nend 3: 1, 25.0 %, 1 refused, 0:N 1:M>off\n";
+
+const BLOCKS_SUMMARY: &str =
+    "interleavings: 4\nends: 2\nend 1: 2, 50.0 %, 1 refused, 0:N 1:off\n\
+     end 2: 2, 50.0 %, 2 refused, 0:N 1:M>off\n";
+
+/// A setup with a line of each kind, after which one line brings the block online again.
 const SETUP: &str = "0 cat buddyinfo;0 map db 0;0 unmap db 0;0 echo offline memory1/state;0 seal;\
      0 echo online_movable memory1/state;1 plan 4 off 1;0 echo x memory1/state;\
      0 echo 1 memory1/online";
@@ -44,7 +60,7 @@ const NO_SCRIPT_TEXT: &str =
     "interleavings: 1\nends: 1\n\nend 1\ninterleavings: 1\ncpu 0\ncpu 1\nblock 0 online normal\n\
      block 1 offline\nfirst:\n";
 
-/// A plan, each of whose calls is a step of its own.
+/// A plan, whose calls are steps of their own.
 const PLAN: &str = "1 echo offline memory1/state";
 
 const PLAN_TEXT: &str =
@@ -53,14 +69,14 @@ const PLAN_TEXT: &str =
      \"1 begin off 1\",\n\"1 drainfor 1 0\",\n\"1 drainfor 1 1\",\n\"1 migrate 1\",\n\
      \"1 commit 1\"\n";
 
-/// An offline that begins in the setup.
+/// An offline that the setup begins.
 const BEGUN: &str = "0 begin off 1;0 drainfor 0 0;0 drainfor 0 1;0 migrate 0;0 commit 0";
 
 const BEGUN_TEXT: &str = "interleavings: 1\nends: 1\n\nend 1\ninterleavings: 1\ncpu 0\ndone\ndone\n\
      refused NothingToMove\ndone\ncpu 1\nblock 0 online normal\nblock 1 offline\nfirst:\n\
      \"0 drainfor 1 0\",\n\"0 drainfor 1 1\",\n\"0 migrate 1\",\n\"0 commit 1\"\n";
 
-/// Operations that begin in the setup and in a script, and a line of a processor that began none.
+/// One that the setup begins and seals; then one that its script begins; and no one's.
 const AGAIN: &str = "0 begin off 1;0 seal;0 cancel 0;0 begin off 1;0 commit 0;1 commit 0";
 
 const AGAIN_TEXT: &str =
@@ -68,21 +84,36 @@ const AGAIN_TEXT: &str =
      cpu 1\nrefused NoOp\nblock 0 online normal\nblock 1 offline\nfirst:\n\
      \"0 cancel 1\",\n\"0 begin off 1\",\n\"0 commit 3\",\n\"1 commit 0\"\n";
 
-/// The lines of a scenario, the length of the setup, and the text of its exploration in a form.
-type Explored = (&'static str, u64, EndsForm, &'static str);
+/// The lines of a scenario, how many of them are run first, and the text of its exploration in a form,
+/// with its ends put together by a part.
+type Explored = (
+    &'static str,
+    u64,
+    EndsForm,
+    Option<GroupBy>,
+    &'static str,
+);
+
+const BLOCKS: Option<GroupBy> = Some(GroupBy::Blocks);
+
+const ANSWERS: Option<GroupBy> = Some(GroupBy::Answers);
 
 const EXPLORED: &[Explored] = &[
-    (RACE, 3, EndsForm::Words, RACE_TEXT),
-    (RACE, 3, EndsForm::Objects, RACE_OBJECTS),
-    (SETUP, 8, EndsForm::Words, SETUP_TEXT),
-    (PLAN, 3, EndsForm::Words, NO_SCRIPT_TEXT),
-    (PLAN, 0, EndsForm::Words, PLAN_TEXT),
-    (BEGUN, 1, EndsForm::Words, BEGUN_TEXT),
-    (AGAIN, 2, EndsForm::Words, AGAIN_TEXT),
+    (RACE, 3, EndsForm::Words, None, RACE_TEXT),
+    (RACE, 3, EndsForm::Objects, None, RACE_OBJECTS),
+    (SETUP, 8, EndsForm::Words, None, SETUP_TEXT),
+    (PLAN, 3, EndsForm::Words, None, NO_SCRIPT_TEXT),
+    (PLAN, 0, EndsForm::Words, None, PLAN_TEXT),
+    (BEGUN, 1, EndsForm::Words, None, BEGUN_TEXT),
+    (AGAIN, 2, EndsForm::Words, None, AGAIN_TEXT),
+    (RACE, 3, EndsForm::Words, BLOCKS, RACE_BLOCKS),
+    (RACE, 3, EndsForm::Objects, ANSWERS, RACE_OBJECTS),
+    (RACE, 3, EndsForm::Summary, None, RACE_SUMMARY),
+    (RACE, 3, EndsForm::Summary, BLOCKS, BLOCKS_SUMMARY),
 ];
 
-/// Returns the scenario of these lines, on a layout of two memory blocks of one pageblock of two
-/// frames, with room for `history` records.
+/// The scenario of these lines, on a layout of two memory blocks of one pageblock of two frames,
+/// with room for so many records.
 pub fn scenario(alloc: Global, history: u64, lines: &str) -> Result<String, AllocError> {
     let calls = lines.replace(alloc, ";", "\",\"")?;
     format!(in alloc;
@@ -92,11 +123,12 @@ pub fn scenario(alloc: Global, history: u64, lines: &str) -> Result<String, Allo
     )
 }
 
-/// Returns whether an exploration has the expected text.
+/// Whether the exploration of a scenario after so many lines has its text.
 fn explores(alloc: Global, row: &Explored) -> Result<bool, AllocError> {
-    let (lines, setup, form, text) = row;
+    let (lines, setup, form, by, text) = row;
     let scenario = scenario(alloc, 40, lines)?;
-    match explore_text(alloc, scenario.as_bytes(), *setup, 100, *form, &mut Silent) {
+    let input = scenario.as_bytes();
+    match explore_text(alloc, input, *setup, 100, *form, *by, &mut Silent) {
         Ok(finding) => Ok(finding.text.as_str() == *text),
         Err(_fault) => Ok(false),
     }
@@ -110,8 +142,7 @@ fn explorations_have_their_text(rt: HostRuntime) -> Result<(), Fail> {
     Ok(())
 }
 
-/// The text for the first two interleavings of the race; then the objects for a limit of 0, of the
-/// race and of a plan.
+/// The first two interleavings of the race; and none, which are told as objects.
 const FIRST_TEXT: &str =
     "4 interleavings; these are the first 2\nends: 1\n\nend 1\ninterleavings: 2\ncpu 0\n\
      opened 0\nmoved 2 1\ndone\ncpu 1\nrefused NoFrame\nblock 0 online normal\nblock 1 offline\n\
@@ -121,7 +152,8 @@ const NO_OBJECTS: &str = "{\"first\": 0, \"interleavings\": 4}\n";
 
 const NO_OBJECTS_OF_A_PLAN: &str = "{\"first\": 0, \"interleavings\": null}\n";
 
-/// The lines of a scenario, the length of the setup, the limit, and the expected text in a form.
+/// The lines of a scenario, how many of them are run first, the limit, and the text in a form of the
+/// interleavings that come first.
 type Limited = (&'static str, u64, u64, EndsForm, &'static str);
 
 const LIMITED: &[Limited] = &[
@@ -130,12 +162,12 @@ const LIMITED: &[Limited] = &[
     (PLAN, 0, 0, EndsForm::Objects, NO_OBJECTS_OF_A_PLAN),
 ];
 
-/// Returns whether an exploration stops at its limit with the expected text.
+/// Whether the exploration of a scenario stops at a limit, with its text.
 fn stops(alloc: Global, row: &Limited) -> Result<bool, AllocError> {
     let (lines, setup, limit, form, text) = row;
     let scenario = scenario(alloc, 40, lines)?;
     let input = scenario.as_bytes();
-    match explore_text(alloc, input, *setup, *limit, *form, &mut Silent) {
+    match explore_text(alloc, input, *setup, *limit, *form, None, &mut Silent) {
         Ok(finding) => Ok(!finding.is_found && finding.text.as_str() == *text),
         Err(_fault) => Ok(false),
     }

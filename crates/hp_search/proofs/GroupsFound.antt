@@ -1,0 +1,70 @@
+-- The group of an outcome: which outcomes agree, and the hashes that are known.
+use Rattle.std.proofs.Common.{◌≡◌, ℕ, ◌+◌, ◌≤◌, true, false, List, codes, length, Some, None, is_some, slice_get, take, refl, ap, sym, subst, ◌∙◌, inl, inr}
+use Rattle.std.specs.Prelude.{fold, nat_eq}
+use Rattle.std.proofs.lemmas.List.{take_all}
+use Rattle.indexmap.specs.IndexMap.{IndexMap, get}
+use Rattle.hp_units.specs.declared.replies.Reply.{Reply}
+use Rattle.hp_units.specs.declared.rows.Row.{Row}
+use Rattle.hp_text.specs.Separated.{separated}
+use Rattle.hp_laws.proofs.Lists.{get_push_cases}
+use Rattle.hp_laws.proofs.Replays.{take_one}
+use Rattle.hp_schedules.specs.Digests.{mixed}
+use Rattle.hp_schedules.specs.Outcomes.{OutcomeValue}
+use Rattle.hp_schedules.specs.declared.tally.Ending.{Ending}
+use Rattle.hp_search.specs.Objects.{answer_list, block_string}
+use Rattle.hp_search.specs.Groups.{Agree, AreKnown, HasNoGroup, part_digest}
+use Rattle.hp_search.specs.declared.groups.GroupBy.{GroupBy}
+use Rattle.hp_search.specs.declared.groups.GroupBy.TheVariants.{Answers, Blocks}
+
+-- ---- outcomes that agree
+
+pub agree_self : (by : GroupBy) (x : OutcomeValue) → Agree by x x
+agree_self Blocks x = refl
+agree_self Answers x = refl
+
+pub agree_back : (by : GroupBy) (x y : OutcomeValue) → Agree by x y → Agree by y x
+agree_back Blocks x y h = sym h
+agree_back Answers x y h = sym h
+
+pub agree_on : (by : GroupBy) (x y z : OutcomeValue) → Agree by x y → Agree by y z → Agree by x z
+agree_on Blocks x y z h k = h ∙ k
+agree_on Answers x y z h k = h ∙ k
+
+-- have one hash
+same_digest : (by : GroupBy) (x y : OutcomeValue) → Agree by x y → part_digest by x ≡ part_digest by y
+same_digest Blocks x y h =
+    ap (λ (rows : List Row). fold mixed 0 (separated (codes ", ") block_string true rows)) h
+same_digest Answers x y h =
+    ap (λ (all : List (List Reply)). fold mixed 0 (separated (codes ", ") answer_list true all)) h
+
+-- ---- the hashes that are known
+
+-- where a hash has no place, no group has it
+pub unknown : {S : Type 0} (by : GroupBy) (groups : List Ending) (x : OutcomeValue)
+    (latest : IndexMap ℕ ℕ S) (digest : ℕ)
+    → AreKnown by groups latest → digest ≡ part_digest by x → None ≡ get nat_eq latest digest
+    → HasNoGroup by groups x
+unknown by groups x latest digest known is none j g here agrees =
+    let there : is_some (get nat_eq latest digest) ≡ true =
+    subst (λ (d : ℕ). is_some (get nat_eq latest d) ≡ true) (same_digest by g.outcome x agrees ∙ sym is)
+    (known j g here) in
+    let f : false ≡ true = ap is_some none ∙ there in
+    absurd cc
+
+-- ---- the group at a place
+
+-- no group up to the next place has the outcome; no group at all
+pub none_more : (by : GroupBy) (groups : List Ending) (x : OutcomeValue) (at : ℕ) (g : Ending)
+    → HasNoGroup by (take at groups) x → slice_get groups at ≡ Some g → (Agree by g.outcome x → ⊥)
+    → HasNoGroup by (take (at + 1) groups) x
+none_more by groups x at g none here differs k f h agrees =
+    elim (get_push_cases (take at groups) g f k
+    (subst (λ (xs : List Ending). slice_get xs k ≡ Some f) (take_one groups at g here) h)) [
+      | inl old ↦ none k f old agrees
+      | inr new ↦ differs (subst (λ (d : Ending). Agree by d.outcome x) (sym new.1) agrees)
+    ]
+
+pub none_all : (by : GroupBy) (groups : List Ending) (x : OutcomeValue) (at : ℕ) → length groups ≤ at
+    → HasNoGroup by (take at groups) x → HasNoGroup by groups x
+none_all by groups x at le none =
+    subst (λ (xs : List Ending). HasNoGroup by xs x) (take_all at groups le) none

@@ -1,0 +1,18 @@
+-- The place is that of the end's group.
+use Rattle.std.proofs.Common.{List, inl, subst}
+use Rattle.hp_schedules.specs.declared.tally.Ending.{Ending}
+use Rattle.hp_search.specs.Groups.{GroupsValue, HasGroupAt}
+use Rattle.hp_search.proofs.groups.Groups.add.Goals as goal
+
+pub returns-in-Some-clause-ok : goal.returns-in-Some-clause-ok
+returns-in-Some-clause-ok c =
+    let x = c.args.end.now.outcome in
+    let place = c.in-Some.place in
+    inl (record {
+      place = place;
+      has =
+          subst (λ (g : GroupsValue). HasGroupAt g.by g.ends x place) c.self.view_is
+          (subst (λ (ends : List Ending). HasGroupAt c.self.inside.by ends x place) c.as_slice.ensures.value
+          c.in-Some.ensures.some);
+      counted = c.join.ensures.added;
+    })
