@@ -8,7 +8,7 @@ use Rattle.hp_explore.specs.declared.fault.FindFault.{FindFault}
 use Rattle.hp_explore.specs.declared.fault.FindFault.TheVariants.{HistoryFull, OutOfMemory, Stopped}
 use Rattle.hp_explore.specs.Changes.{changes}
 use Rattle.hp_explore.specs.FindFaults.{IsFindCause, IsNearCause, IsPassCause, IsTurnCause, few_changes, find_fault_from}
-use Rattle.hp_explore.specs.Reaching.{HasRoomAlong, IsFirstWithin, IsNearest, IsNearestBelow, NeedsChanges, ReachesFirst}
+use Rattle.hp_explore.specs.Reaching.{IsFirstWithin, IsNearest, IsNearestBelow, NeedsChanges, ReachesFirst}
 use Rattle.hp_questions.specs.declared.wanted.Wanted.{Wanted}
 
 -- ---- what a pass found

@@ -1,38 +1,32 @@
 -- Places with one key go on alike, so what is passed from the one is passed from the other.
-use Rattle.std.proofs.Common.{◌≡◌, ℕ, zero, suc, ◌+◌, ◌<◌, ◌≤◌, Bool, true, false, eqb, List, [], ◌∷◌, ◌++◌, length, Option, Some, None, slice_get, refl, ap, sym, subst, ◌∙◌, arith, inl, inr}
-use Rattle.std.specs.Prelude.{◌⊎◌, ◌||◌, fold, nat_le}
+use Rattle.std.proofs.Common.{◌≡◌, ℕ, zero, suc, ◌+◌, ◌<◌, ◌≤◌, List, [], ◌∷◌, ◌++◌, length, Option, Some, None, refl, ap, sym, subst, ◌∙◌, arith, inl, inr}
+use Rattle.std.specs.Prelude.{◌⊎◌, ◌||◌, nat_le}
 use Rattle.std.proofs.lemmas.Bool.{cases_lt}
-use Rattle.std.proofs.lemmas.List.{append-nil, append_assoc, length-append, length-map, length_push}
-use Rattle.std.proofs.lemmas.Option.{same_Some, slice_get_within}
-use Rattle.hp_laws.proofs.Lists.{get_push_cases, get_some}
-use Rattle.hp_units.specs.History.{net_of, value_of}
-use Rattle.hp_units.specs.LayoutParts.{LayoutParts}
-use Rattle.hp_units.specs.Memory.{Memory}
+use Rattle.std.proofs.lemmas.List.{append_assoc, length-append}
+use Rattle.std.proofs.lemmas.Option.{slice_get_within}
+use Rattle.hp_laws.proofs.Lists.{get_some}
+use Rattle.hp_units.specs.History.{value_of}
 use Rattle.hp_units.specs.declared.replies.Record.{Record}
 use Rattle.hp_schedules.specs.Alike.{UndoNothing}
 use Rattle.hp_schedules.specs.Continuing.{ContinueAlike, ContinuesAs}
 use Rattle.hp_schedules.specs.Cursors.{AreCursors, IsSteered}
 use Rattle.hp_schedules.specs.declared.cursors.Cursor.{Cursor}
-use Rattle.hp_schedules.specs.Orders.{Extends}
-use Rattle.hp_schedules.specs.Outcomes.{OutcomeValue, ended_rows_below, outcome, replies_to}
-use Rattle.hp_schedules.specs.Schedules.{EndsWith, Setting, next_call, outcome_after, plays, schedule_of}
-use Rattle.hp_schedules.specs.declared.scripts.Step.{Step}
+use Rattle.hp_schedules.specs.Outcomes.{ended_rows_below, outcome}
+use Rattle.hp_schedules.specs.Schedules.{Setting, outcome_after, plays, schedule_of}
 use Rattle.hp_schedules.proofs.Continuing.{all_calls, continues_as}
 use Rattle.hp_schedules.proofs.Steering.{steered_alike}
-use Rattle.hp_questions.specs.Marks.{AreMarks, IsLost}
+use Rattle.hp_questions.specs.Marks.{AreMarks}
 use Rattle.hp_questions.specs.Wanted.{Meets}
 use Rattle.hp_questions.specs.declared.wanted.Wanted.{Wanted}
 use Rattle.hp_questions.proofs.Marking.{marks_meet}
 use Rattle.hp_states.specs.Rooms.{HasNoRoom}
-use Rattle.hp_states.specs.Stops.{AreNumbersAt, AreStopsAt, KeepStops, StopsValue}
+use Rattle.hp_states.specs.Stops.{AreNumbersAt, AreStopsAt, StopsValue}
 use Rattle.hp_states.specs.Walks.{HasRoomFrom}
-use Rattle.hp_states.proofs.Rooms.{push_extends}
-use Rattle.hp_states.proofs.StopNumbers.{numbers_join, numbers_kept}
+use Rattle.hp_states.proofs.StopNumbers.{numbers_join}
 use Rattle.hp_explore.specs.Changes.{changes, changes_after}
-use Rattle.hp_explore.specs.Reaching.{Exceeds, IfUnbounded, Reaches}
-use Rattle.hp_explore.specs.Visited.{AreSpent, AreSteered, AreVisited, IsKept, IsKnown, IsPassedFrom, IsPlaceKey, IsVisited}
-use Rattle.hp_explore.specs.declared.visited.Visited.{Visited}
-use Rattle.hp_explore.proofs.Counted.{calls_counted_alike, continued}
+use Rattle.hp_explore.specs.Reaching.{Exceeds, Reaches}
+use Rattle.hp_explore.specs.Visited.{AreSpent, AreSteered, IsPassedFrom, IsPlaceKey}
+use Rattle.hp_explore.proofs.Counted.{calls_counted_alike}
 use Rattle.hp_explore.proofs.Reaching.{if_then}
 
 -- ---- parts of keys

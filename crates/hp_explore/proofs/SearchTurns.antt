@@ -1,37 +1,28 @@
 -- The turns of a search that go on, and those that come to a place.
-use Rattle.std.proofs.Common.{◌≡◌, ℕ, ◌+◌, ◌<◌, ◌≤◌, Bool, true, false, List, [], ◌∷◌, ◌++◌, length, Option, Some, None, refl, ap, sym, subst, ◌∙◌, arith}
-use Rattle.std.specs.Prelude.{◌↔◌, IsTrue}
+use Rattle.std.proofs.Common.{◌≡◌, ℕ, ◌+◌, ◌<◌, ◌≤◌, false, List, [], ◌∷◌, ◌++◌, length, Option, Some, None, refl, ap, sym, subst, ◌∙◌, arith}
 use Rattle.std.proofs.lemmas.List.{append-nil, length-append, length-map, length_push}
-use Rattle.std.proofs.lemmas.Option.{none-some, same_Some}
 use Rattle.hp_units.specs.declared.events.Event.{Event}
 use Rattle.hp_units.specs.declared.replies.Record.{Record}
 use Rattle.hp_states.specs.Rooms.{is_full_after}
-use Rattle.hp_states.specs.Stops.{AreSameStops}
 use Rattle.hp_states.specs.Walks.{HasRoomBefore, HasRoomFrom}
-use Rattle.hp_explore.specs.Faults.{FillsHistory, IsCauseHere}
-use Rattle.hp_explore.specs.Paths.{IsBack, IsForth, IsOver, PathValue, state_at}
-use Rattle.hp_schedules.specs.Outcomes.{OutcomeValue, outcome}
-use Rattle.hp_schedules.specs.Schedules.{Setting, next_call, outcome_after, play_one, plays, record_of_call, schedule_of}
+use Rattle.hp_explore.specs.Faults.{IsCauseHere}
+use Rattle.hp_schedules.specs.Schedules.{Setting, next_call, plays, record_of_call, schedule_of}
 use Rattle.hp_explore.proofs.Framing.{longer_schedule}
-use Rattle.hp_schedules.proofs.Plays.{asks_within, caller, only_this, plays_on, plays_one}
-use Rattle.hp_schedules.proofs.Regions.{before_longer}
+use Rattle.hp_schedules.proofs.Plays.{caller}
 use Rattle.hp_explore.proofs.Walked.{room_after}
 use Rattle.hp_explore.specs.declared.exploring.ExploreFault.{ExploreFault}
 use Rattle.hp_explore.specs.declared.exploring.ExploreFault.TheVariants.{HistoryFull, OutOfMemory}
 use Rattle.hp_explore.specs.FindFaults.{IsTurnCause}
-use Rattle.hp_explore.specs.Reaching.{Exceeds, HasRoomAlong, IfUnbounded, IsFirstWithin, IsPassed, IsWithin, Reaches}
-use Rattle.hp_explore.specs.Searches.{HasArrived, IsArriving, IsCloser, IsNear, IsSearching, IsTakenBack, IsTurned, IsUp, SearchValue, room_of, search_at, turns_left, turns_of}
+use Rattle.hp_explore.specs.Reaching.{Exceeds, IfUnbounded, IsFirstWithin, IsPassed, IsWithin, Reaches}
+use Rattle.hp_explore.specs.Searches.{HasArrived, IsArriving, IsCloser, IsNear, IsSearching, IsTurned, IsUp, SearchValue, room_of, search_at, turns_left, turns_of}
 use Rattle.hp_explore.specs.Visited.{AreFollowed, AreVisited, IsPassedFrom}
-use Rattle.hp_questions.specs.Wanted.{Meets}
 use Rattle.hp_explore.specs.declared.searching.Turn.{Turn}
 use Rattle.hp_explore.specs.declared.searching.Turn.TheVariants.{On, New, Found, Over}
 use Rattle.hp_explore.specs.declared.visited.Visited.{Visited}
 use Rattle.hp_questions.specs.declared.wanted.Wanted.{Wanted}
-use Rattle.hp_explore.proofs.Reaching.{if_always, if_both, if_past, if_then, not_both, passed_all, passed_down, passed_far, passed_known, passed_none, passed_over, passed_up, passed_whole, within_none, within_shorter}
-use Rattle.hp_explore.proofs.FindRooms.{room_back, room_none, room_push, spared_down, spared_from, spared_known, spared_none, spared_over, spared_up, spared_whole}
-use Rattle.hp_explore.proofs.FindTurns.{left_down, left_over, left_past, left_up}
-use Rattle.hp_explore.proofs.Visits.{stops_kept, visited_shorter}
-use Rattle.hp_states.proofs.StopNumbers.{keep_same_stops}
+use Rattle.hp_explore.proofs.Reaching.{if_always, if_both, if_past, if_then, not_both, passed_down, passed_far, passed_known, passed_none, passed_over, within_none}
+use Rattle.hp_explore.proofs.FindRooms.{room_none, room_push, spared_down, spared_known, spared_none, spared_over}
+use Rattle.hp_explore.proofs.FindTurns.{left_down, left_over, left_past}
 
 -- ---- the start
 

@@ -6,7 +6,7 @@ use Rattle.hp_schedules.specs.Schedules.{Setting}
 use Rattle.hp_explore.specs.FindFaults.{IsTurnCause}
 use Rattle.hp_explore.specs.Reaching.{IsFirstWithin}
 use Rattle.hp_explore.specs.Searches.{IsCloser, IsTurned}
-use Rattle.hp_explore.proofs.Levels.{never_stopped, pass_cause}
+use Rattle.hp_explore.proofs.Levels.{pass_cause}
 use Rattle.hp_explore.proofs.SearchBacks.{found_here}
 use Rattle.hp_explore.proofs.searching.first_within.Given.{Over}
 use Rattle.hp_explore.proofs.searching.first_within.Goals as goal

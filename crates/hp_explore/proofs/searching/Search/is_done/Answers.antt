@@ -3,7 +3,7 @@ use Rattle.std.proofs.Common.{◌≡◌, Some, ap, subst, sym, ◌∙◌}
 use Rattle.hp_schedules.specs.Schedules.{plays, schedule_of}
 use Rattle.hp_states.specs.Stops.{KeepStops}
 use Rattle.hp_explore.specs.Searches.{SearchValue}
-use Rattle.hp_explore.specs.Visited.{AreFollowed, IsLookedUp}
+use Rattle.hp_explore.specs.Visited.{IsLookedUp}
 use Rattle.hp_explore.proofs.Arrivals.{looked_up, looked_up_passed, lost_here, on_the_way}
 use Rattle.hp_explore.proofs.searching.Search.is_done.Goals as goal
 
