@@ -37,8 +37,8 @@ pub enum Found {
 ///
 /// The search has three steps. It tries the schedules with fewer than three changes, by rising number
 /// of changes. If none of these ends as wanted, it tries all, up to the first that does. Then it
-/// tries the schedules with fewer changes than that one. Each of these passes tries a place once,
-/// and none of those that continue as it does, unless a script undoes steps by their serials.
+/// tries the schedules with fewer changes than that one. A pass skips a place that continues as one
+/// that it has tried, unless a script undoes steps by their serials.
 ///
 /// # Errors
 ///

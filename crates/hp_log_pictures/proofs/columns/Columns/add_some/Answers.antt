@@ -1,4 +1,4 @@
-use Rattle.std.proofs.Common.{◌≡◌, ℕ, ◌<◌, ◌≤◌, ◌∙◌, arith}
+use Rattle.std.proofs.Common.{◌≤◌, arith}
 use Rattle.hp_log_pictures.specs.Columns.{peak_at}
 use Rattle.hp_log_pictures.proofs.columns.Columns.add_some.Goals as goal
 

@@ -1,4 +1,4 @@
-use Rattle.std.proofs.Common.{◌≡◌, ◌*◌, ◌≤◌, length, ◌∙◌, ap, arith, subst}
+use Rattle.std.proofs.Common.{◌≡◌, length, arith, subst}
 use Rattle.hp_log_pictures.specs.Columns.{Sampled, events_below}
 use Rattle.hp_log_pictures.proofs.Sampling.{all_below}
 use Rattle.hp_log_pictures.proofs.columns.Columns.event_count.Goals as goal

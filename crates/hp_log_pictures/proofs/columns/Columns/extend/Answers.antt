@@ -1,4 +1,4 @@
-use Rattle.std.proofs.Common.{◌≡◌, ◌<◌, ◌≤◌, ◌∙◌, arith}
+use Rattle.std.proofs.Common.{◌∙◌, arith}
 use Rattle.hp_log_pictures.proofs.Sampling.{more_held, more_kept}
 use Rattle.hp_log_pictures.proofs.columns.Columns.extend.Goals as goal
 

@@ -1,5 +1,5 @@
-use Rattle.std.proofs.Common.{◌≡◌, ℕ, ◌+◌, ◌*◌, ◌/◌, ◌<◌, ◌≤◌, List, length, get_or, ap, arith, subst, sym, ◌∙◌}
-use Rattle.hp_log_pictures.specs.Columns.{Sampled, peak_at}
+use Rattle.std.proofs.Common.{◌≡◌, ℕ, ◌*◌, ◌/◌, ◌<◌, ◌≤◌, List, length, get_or, ap, arith, subst, ◌∙◌}
+use Rattle.hp_log_pictures.specs.Columns.{Sampled}
 use Rattle.hp_log_pictures.proofs.Sampling.{at_joined}
 use Rattle.hp_log_pictures.proofs.columns.Columns.join.Goals as goal
 
@@ -14,9 +14,6 @@ returns-clause-kept c =
     subst
     (λ (xs : List ℕ). (k : ℕ) → k < 1024 → get_or xs k 0 ≤ get_or c.in_ok-peaks.peaks.items (k / 2) 0)
     c.as_slice-2.ensures.value c.in_ok-peaks.ensures.kept in
-    subst
-    (λ (s : Sampled). (e : ℕ) → e < s.events
-    → peak_at s e ≤ get_or c.in_ok-peaks.peaks.items (e / (c.self.inside.width * 2)) 0) c.self.view_is
-    (λ e low.
-    at_joined c.self.inside.peaks.items c.in_ok-peaks.peaks.items c.self.inside.width e 1024
-    (omega (arith, c.self.invariant.1)) (omega (arith, c.self.invariant.0, whole)) kept)
+    rw (← c.self.view_is) (λ e low. at_joined c.self.inside.peaks.items c.in_ok-peaks.peaks.items
+    c.self.inside.width e 1024 (omega (arith, c.self.invariant.1))
+    (omega (arith, c.self.invariant.0, whole)) kept)

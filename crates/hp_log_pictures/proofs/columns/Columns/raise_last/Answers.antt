@@ -1,4 +1,4 @@
-use Rattle.std.proofs.Common.{◌≡◌, ℕ, ◌+◌, ◌-◌, ◌*◌, ◌/◌, ◌<◌, ◌≤◌, List, length, get_or, set, ap, arith, subst, sym, refl, ◌∙◌}
+use Rattle.std.proofs.Common.{◌≡◌, ℕ, ◌+◌, ◌-◌, ◌/◌, ◌<◌, ◌≤◌, length, get_or, set, arith, subst, sym}
 use Rattle.hp_log_pictures.specs.Columns.{Sampled}
 use Rattle.hp_log_pictures.proofs.Sampling.{at_raise}
 use Rattle.hp_log_pictures.proofs.columns.Columns.raise_last.Goals as goal

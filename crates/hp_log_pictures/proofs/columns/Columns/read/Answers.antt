@@ -1,4 +1,4 @@
-use Rattle.std.proofs.Common.{◌≡◌, ℕ, ◌<◌, ◌≤◌, ◌∙◌, ap, arith}
+use Rattle.std.proofs.Common.{◌≡◌, ◌≤◌, ◌∙◌, ap, arith}
 use Rattle.hp_log_pictures.specs.Columns.{Sampled, peak_at}
 use Rattle.hp_log_pictures.proofs.columns.Columns.read.Goals as goal
 
