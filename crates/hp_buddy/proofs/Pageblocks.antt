@@ -260,12 +260,6 @@ pub one-same : (a now : FreeAreas) (from to : Class) (order first at frame : ℕ
 one-same a now from to order first at frame has is place =
     rw (is, place, move_first-on a from to order first at has)
 
--- the count with the next frame
-pub count_next : (a : FreeAreas) (class : Class) (order first at : ℕ)
-    → free_count a class order first (at + 1)
-    ≡ free_count a class order first at + free_one a class order (first + at)
-count_next a class order first at = let next : at + 1 ≡ suc at = omega arith in rw next refl
-
 -- ---- one order after another
 
 -- the blocks of one more order have moved

@@ -85,21 +85,3 @@ list_of-same c cpu pool xs low size =
 pub with_list_of-size : (c : CpusValue) (cpu : ℕ) (pool : Pool) (xs : List ℕ) → HasLists c
     → HasLists (with_list_of c cpu pool xs)
 with_list_of-size c cpu pool xs size = omega (arith, size, length-set c.cached (3 * cpu + pool_index pool) xs)
-
--- a frame that is nowhere is on no list
-pub unlisted : (links : LinkedLists) (f : ℕ) → sum_by (λ (xs : List ℕ). times f xs) links.lists ≡ 0
-    → IsUnlisted links f
-unlisted links f none n on =
-    let there : is_on f (get_or links.lists n []) ≡ true = contains_on f (get_or links.lists n []) on in
-    elim (cases_lt n (length links.lists)) [
-      | inl below ↦
-          omega (
-            arith,
-            none,
-            times-on f (get_or links.lists n []) there,
-            get_or-le-sum_by (λ (xs : List ℕ). times f xs) links.lists n [] below,
-          )
-      | inr past ↦
-          both_ways (is_on f []) refl
-          (subst (λ (xs : List ℕ). is_on f xs ≡ true) (get_or_past links.lists n [] past) there)
-    ]

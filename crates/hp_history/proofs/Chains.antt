@@ -1,5 +1,5 @@
 -- One volume more of a list of which each follows those before it, and the histories of such a list.
-use Rattle.std.proofs.Common.{◌≡◌, ℕ, suc, ◌+◌, ◌≤◌, ◌<◌, List, [], ◌∷◌, ◌++◌, length, take, Some, slice_get, refl, ap, sym, subst, ◌∙◌, arith, inl, inr}
+use Rattle.std.proofs.Common.{◌≡◌, ℕ, suc, ◌+◌, ◌≤◌, ◌<◌, List, [], ◌∷◌, ◌++◌, length, take, Some, slice_get, refl, subst, ◌∙◌, arith, inl, inr}
 use Rattle.std.specs.Prelude.{fold}
 use Rattle.std.proofs.lemmas.List.{take-append-le, take_all}
 use Rattle.std.proofs.lemmas.List.Folds.{fold-map}
@@ -38,13 +38,11 @@ chain_more l volumes v chain next at x e =
     elim (get_push_cases volumes v x at e) [
       | inl there ↦ (let lt : at < length volumes = slice_get_within volumes at x there in
           let le : at ≤ length volumes = omega arith in
-          subst (λ (g : List Volume). FollowsVolumes l g x) (sym (take-append-le at volumes (v ∷ []) le))
-          (chain at x there))
+          rw (take-append-le at volumes (v ∷ []) le) (chain at x there))
       | inr last ↦ (let le : at ≤ length volumes = omega arith in
           let whole : take at (volumes ++ v ∷ []) ≡ volumes =
           take-append-le at volumes (v ∷ []) le ∙ take_all at volumes (omega arith) in
-          subst (λ (g : List Volume). FollowsVolumes l g x) (sym whole)
-          (subst (λ (y : Volume). FollowsVolumes l volumes y) last.1 next))
+          rw (whole, ← last.1) next)
     ]
 
 -- ---- the histories of volumes
@@ -64,8 +62,7 @@ histories_from l s before (v ∷ volumes) each =
           (λ at x e. let sum : before + records_in (v ∷ take at volumes)
           ≡ (before + length v.records) + records_in (take at volumes) =
           omega (arith, sum_by-cons (λ (y : Volume). length y.records) v (take at volumes)) in
-          subst (λ (n : ℕ). IsLegal l (fold (λ t y. value_of l t y.records) (value_of l s v.records)
-          (take at volumes)) n x.records) sum (each (suc at) x e)),
+          rw (← sum) (each (suc at) x e)),
     )
 
 -- those of a chain are legal one after another
@@ -86,5 +83,4 @@ histories_value l volumes =
 pub histories_count : (volumes : List Volume) → count_of_all (histories_of volumes) ≡ records_in volumes
 histories_count [] = refl
 histories_count (v ∷ volumes) =
-    ap (λ (n : ℕ). length v.records + n) (histories_count volumes)
-    ∙ sym (sum_by-cons (λ (x : Volume). length x.records) v volumes)
+    rw (histories_count volumes, ← (sum_by-cons (λ (x : Volume). length x.records) v volumes))

@@ -1,5 +1,5 @@
 -- A course after an answer.
-use Rattle.std.proofs.Common.{◌≡◌, ℕ, ◌<◌, ◌+◌, ◌^◌, Bool, true, false, List, [], ◌∷◌, ◌++◌, length, take, refl, ap, sym, subst, ◌∙◌, arith, inl, inr}
+use Rattle.std.proofs.Common.{◌≡◌, ℕ, ◌<◌, ◌+◌, ◌^◌, Bool, true, false, List, [], ◌∷◌, ◌++◌, length, take, refl, ap, sym, ◌∙◌, arith, inl, inr}
 use Rattle.std.specs.Prelude.{◌&&◌, not, if◌then◌else◌}
 use Rattle.std.proofs.lemmas.List.{length_push}
 use Rattle.std.proofs.lemmas.Bool.{leb-false, and_cases, not-false}
@@ -75,9 +75,7 @@ new_course l s before v h es ds limits placed is none empty clear fits =
 -- a course's state is well placed
 pub state_placed : (m : CourseValue) (es : List Entry) (ds : List Delta) → IsCourse m es ds
     → IsWellPlaced m.layout m.state
-state_placed m es ds ok =
-    subst (λ (s : Memory). IsWellPlaced m.layout s) (sym ok.history.state)
-    (value-placed m.layout m.base m.history ok.limits ok.placed)
+state_placed m es ds ok = rw ok.history.state (value-placed m.layout m.base m.history ok.limits ok.placed)
 
 -- a course that was sealed
 pub sealed_course : (m : CourseValue) (es : List Entry) (ds : List Delta) (before : ℕ) (left : List Entry)
@@ -108,7 +106,6 @@ cut_course : (m : CourseValue) (es : List Entry) (ds : List Delta) (cpu keep : �
     → IsCourse (answered_value m cpu r (value_of m.layout m.base (m.history ++ record_of cpu r ∷ [])))
     (take keep es) (take (start_of es (length ds) keep) ds)
 cut_course m es ds cpu keep r ok free cut serial =
-    let space = room m free in
     record {
       limits = ok.limits;
       placed = ok.placed;
@@ -116,7 +113,7 @@ cut_course m es ds cpu keep r ok free cut serial =
       journal =
           rw (cut_net m cpu keep r cut)
           (journal_take m.layout m.base m.before (net_of m.history) es ds keep ok.journal cut.within);
-      fits = omega (arith, space, length_push m.history (record_of cpu r));
+      fits = omega (arith, room m free, length_push m.history (record_of cpu r));
     }
 
 -- a receipt with the serial, the event and the reply that the definitions give
@@ -198,10 +195,7 @@ made_answer : (m : CourseValue) (es : List Entry) (ds : List Delta) (cpu : ℕ) 
     (v : MemoryValue) (now : List Delta)
     → IsMade m es ds cpu r e v now
     → r.reply ≡ (step m.layout (value_of m.layout m.base m.history) (last_serial m + 1) cpu r.event).reply
-made_answer m es ds cpu r e v now made =
-    made.reply
-    ∙ (ap (λ (n : ℕ). (step m.layout m.state n cpu r.event).reply) made.serial
-    ∙ ap (λ (s : Memory). (step m.layout s (last_serial m + 1) cpu r.event).reply) made.course.history.state)
+made_answer m es ds cpu r e v now made = rw (made.reply, made.serial, made.course.history.state)
 
 -- the reply is the one that the definitions give
 pub made_reply : (m : CourseValue) (es : List Entry) (ds : List Delta) (cpu : ℕ) (r : Receipt) (e : Entry)
@@ -238,9 +232,8 @@ pub made_next : (m : CourseValue) (es : List Entry) (ds : List Delta) (cpu : ℕ
     → v.state ≡ run m.layout m.base (net_of m.history ++ record_of cpu r ∷ [])
 unfolding value_of
 made_next m es ds cpu r e v now made =
-    made.state
-    ∙ (ap (λ (s : Memory). (step m.layout s r.serial cpu r.event).memory) made.course.history.state
-    ∙ sym (run-push m.layout m.base (net_of m.history) (record_of cpu r)))
+    rw (made.state, made.course.history.state)
+    (rw (← run-push m.layout m.base (net_of m.history) (record_of cpu r)))
 
 -- the state after the step, by whether it counts
 made_state : (m : CourseValue) (es : List Entry) (ds : List Delta) (cpu : ℕ) (r : Receipt) (e : Entry)
@@ -259,5 +252,4 @@ pub made_shown : (m : CourseValue) (es : List Entry) (ds : List Delta) (cpu : �
     → v.state ≡ value_of m.layout m.base (m.history ++ record_of cpu r ∷ [])
 unfolding value_of
 made_shown m es ds cpu r e v now made =
-    made_state m es ds cpu r e v now made (is_kept r) refl
-    ∙ ap (run m.layout m.base) (sym (made_net m es ds cpu r e v now made))
+    rw (made_state m es ds cpu r e v now made (is_kept r) refl) (rw (← made_net m es ds cpu r e v now made))

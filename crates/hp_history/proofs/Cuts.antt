@@ -2,17 +2,16 @@
 use Rattle.std.proofs.Common.{◌≡◌, ℕ, ◌<◌, ◌≤◌, ◌+◌, ◌-◌, Bool, true, false, cond, List, [], ◌∷◌, ◌++◌, length, map, take, Option, Some, None, slice_get, refl, ap, sym, ◌∙◌, arith, inl, inr}
 use Rattle.std.specs.Prelude.{◌&&◌, ◌⊎◌, not, IfSome, IfNone, if◌then◌else◌}
 use Rattle.std.specs.Bool.{then_some}
-use Rattle.std.specs.Option.{option_map, option_or}
+use Rattle.std.specs.Option.{option_map}
 use Rattle.std.proofs.lemmas.List.{take_all}
 use Rattle.std.proofs.lemmas.Option.{slice_get-map, slice_get_within, same_Some}
-use Rattle.std.proofs.lemmas.Bool.{lt-ltb, le-ltb, lt-leb, le-leb, cases_lt, both_ways}
+use Rattle.std.proofs.lemmas.Bool.{lt-ltb, le-ltb, cases_lt, both_ways}
 use Rattle.hp_units.specs.Memory.{Memory}
 use Rattle.hp_units.specs.LayoutParts.{LayoutParts}
 use Rattle.hp_units.specs.Choices.{first_some}
 use Rattle.hp_units.specs.Rows.{is_live}
 use Rattle.hp_units.specs.Step.{Answered, answer, step}
 use Rattle.hp_tape.specs.declared.deltas.Delta.{Delta}
-use Rattle.hp_units.specs.Refusals.{event_refusals, refusal_of}
 use Rattle.hp_units.specs.Marks.{sole_at, tag_of}
 use Rattle.hp_units.specs.History.{Effect, goes_back, Cancels, Looks, Acts, is_refused, is_look, net_with, net_with_effect, effect_of, cut_or_add, steps_until, count_above, net_of, value_of, reply_of, cancel_reply}
 use Rattle.hp_laws.proofs.Lists.{get_some}
@@ -26,6 +25,7 @@ use Rattle.hp_history.specs.Course.{CourseValue, IsHistory, NeedsNoMemory, last_
 use Rattle.hp_history.specs.Kept.{IsCourse, IsCut, IsStep, is_gone, may_cancel}
 use Rattle.hp_history.proofs.Journals.{entry_count}
 use Rattle.hp_history.proofs.Names.{Event, KernelAlloc, KernelFree, Map, Unmap, Write, Read, Drain, Online, Begin, DrainFor, Migrate, Commit, Cancel, UndoAfter, Probe, Remove, SetAuto, Reply, Undone, Restored, Refused, Refusal, NoCpu, NoOp, Gone, Record, Tag}
+use Rattle.hp_layers.proofs.Steps.{step-in, step-no_cpu}
 
 -- what is refused cuts nothing
 cut_refused : (m : CourseValue) (cpu keep : ℕ) (event : Event) (why : Refusal)
@@ -71,8 +71,7 @@ pub record IsKeptPlace (s : ℕ) (n : List Record) (keep : ℕ) : Type 0 where
 -- the tag of a step, at its place
 tag_of_place : (n : List Record) (tags : List Tag) (i : ℕ) (r : Record) → tags ≡ map tag_of n
     → slice_get n i ≡ Some r → slice_get tags i ≡ Some (tag_of r)
-tag_of_place n tags i r is at =
-    ap (λ (ts : List Tag). slice_get ts i) is ∙ (slice_get-map tag_of n i ∙ ap (option_map tag_of) at)
+tag_of_place n tags i r is at = rw is (slice_get-map tag_of n i ∙ ap (option_map tag_of) at)
 
 -- a place down to which all tags are above the serial, and before which there is one that is not
 kept_place : (before last s : ℕ) (n : List Record) (tags : List Tag) (keep : ℕ) → Numbered before last n
@@ -284,34 +283,19 @@ pub entries_numbered : (m : CourseValue) (es : List Entry) (ds : List Delta) →
     → AreNumbered m.before es
 entries_numbered m es ds ok j e at =
     let net = net_of m.history in
-    let below : j < length es = slice_get_within es j e at in
     let count = entry_count m.layout m.base m.before net es ds ok.journal in
-    let here = get_some net j (omega (arith, below, count)) in
+    let here = get_some net j (omega (arith, slice_get_within es j e at, count)) in
     let same : Some (tag_in m.before e) ≡ Some (tag_of here.0) =
     sym (slice_get-map (tag_in m.before) es j ∙ ap (option_map (tag_in m.before)) at)
     ∙ tag_of_place net (tags_of m.before es) j here.0 ok.journal.tagged here.1 in
-    let numbered = numbered_net m.layout m.base m.before m.history ok.history.legal in
     omega (
       arith,
       ap (λ (t : Tag). t.serial) (same_Some (tag_in m.before e) (tag_of here.0) same),
-      numbered.under j here.0 here.1,
+      (numbered_net m.layout m.base m.before m.history ok.history.legal).under j here.0 here.1,
       ok.fits,
     )
 
 -- ---- whether a Cancel is refused
-
--- by whether the layout has its processor
-step-no_cpu : (l : LayoutParts) (s : Memory) (serial cpu : ℕ) (event : Event) → l.cpus ≤ cpu
-    → step l s serial cpu event ≡ record { memory = s; reply = Refused NoCpu }
-unfolding step refusal_of
-step-no_cpu l s serial cpu event past = rw (le-leb l.cpus cpu past) refl
-
-step-in : (l : LayoutParts) (s : Memory) (serial cpu : ℕ) (event : Event) → cpu < l.cpus
-    → step l s serial cpu event ≡ answer l s serial cpu event (first_some (event_refusals l s cpu event))
-unfolding step refusal_of
-step-in l s serial cpu event below =
-    ap (λ (b : Bool). answer l s serial cpu event
-    (option_or (then_some b NoCpu) (first_some (event_refusals l s cpu event)))) (lt-leb l.cpus cpu below)
 
 -- by whether its operation is live
 by_live : (l : LayoutParts) (s : Memory) (serial cpu op : ℕ) (live : Bool)
@@ -336,9 +320,7 @@ cancel_refuses l s serial cpu op =
 here : (m : CourseValue) (cpu op : ℕ) → IsHistory m
     → is_refused (step m.layout (value_of m.layout m.base m.history) (last_serial m + 1) cpu
     (Cancel op)).reply ≡ not (may_cancel m.layout m.state cpu op)
-here m cpu op ok =
-    ap (λ (s : Memory). is_refused (step m.layout s (last_serial m + 1) cpu (Cancel op)).reply) (sym ok.state)
-    ∙ cancel_refuses m.layout m.state (last_serial m + 1) cpu op
+here m cpu op ok = rw (← ok.state) (cancel_refuses m.layout m.state (last_serial m + 1) cpu op)
 
 -- a Cancel that is not refused goes back where its operation is sole
 pub cancel_sole : (m : CourseValue) (cpu op : ℕ) (o : Option ℕ) → IsHistory m

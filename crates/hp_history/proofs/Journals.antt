@@ -1,5 +1,5 @@
 -- The journal of a net that grows by a step, or is cut, and what its entries show.
-use Rattle.std.proofs.Common.{◌≡◌, ℕ, ◌<◌, ◌≤◌, ◌+◌, ◌-◌, List, [], ◌∷◌, ◌++◌, drop, length, map, take, Some, slice_get, refl, ap, sym, subst, ◌∙◌, arith, inl, inr}
+use Rattle.std.proofs.Common.{◌≡◌, ℕ, ◌<◌, ◌≤◌, ◌+◌, ◌-◌, List, [], ◌∷◌, ◌++◌, drop, length, take, Some, slice_get, refl, ap, sym, subst, ◌∙◌, arith, inl, inr}
 use Rattle.std.specs.List.{slice_range}
 use Rattle.std.proofs.lemmas.List.{drop-append-le, drop_all, length-append, length-map, length-take-le, length_push, map_push, take-append-le, take-map, take-take, take_all}
 use Rattle.std.proofs.lemmas.List.Folds.{drop_split}
@@ -19,16 +19,12 @@ use Rattle.hp_history.specs.Course.{CourseValue}
 use Rattle.hp_history.specs.Entries.{IsEntry, IsWayBack, start_of, tag_in}
 use Rattle.hp_history.specs.Kept.{IsCourse, IsJournal}
 use Rattle.hp_history.proofs.Deltas.{between-length, leads-append, leads-left, leads-none, past-split}
-use Rattle.hp_history.proofs.Names.{Record, Tag}
+use Rattle.hp_history.proofs.Names.{Record}
 use Rattle.hp_history.proofs.Starts.{start-past, start-push, start-take}
 
 -- the same bound, between places that are equal to others
 moved : (a b c d n : ℕ) → a ≡ b → c ≡ d → b ≤ d + n → a ≤ c + n
 moved a b c d n same also le = omega arith
-
--- the bound of what was appended
-appended : (a b c new n : ℕ) → a ≡ c + new → b ≡ c → new ≤ n → a ≤ b + n
-appended a b c new n is from le = omega arith
 
 -- an order, between places that are equal to others
 placed_up : (a b c d : ℕ) → a ≡ c → b ≡ d → c ≤ d → a ≤ b
@@ -49,8 +45,7 @@ pub entry_count : (l : LayoutParts) (base : Memory) (before : ℕ) (net : List R
     (ds : List Delta)
     → IsJournal l base before net es ds → length es ≡ length net
 entry_count l base before net es ds ok =
-    sym (length-map es (tag_in before))
-    ∙ (ap (λ (ts : List Tag). length ts) ok.tagged ∙ length-map net tag_of)
+    rw (← length-map es (tag_in before), ok.tagged) (length-map net tag_of)
 
 -- the deltas of a step begin on the tape
 pub start_within : (l : LayoutParts) (base : Memory) (before : ℕ) (net : List Record) (es : List Entry)
@@ -59,18 +54,14 @@ pub start_within : (l : LayoutParts) (base : Memory) (before : ℕ) (net : List 
 start_within l base before net es ds j ok =
     let far : start_of es (length ds) (length es + j) ≡ length ds =
     start-past es (length ds) (length es + j) (omega arith) in
-    let later : start_of es (length ds) j ≤ start_of es (length ds) (length es + j) =
-    ok.rising j (length es + j) (omega arith) in
-    subst (λ (n : ℕ). start_of es (length ds) j ≤ n) far later
+    subst (λ (n : ℕ). start_of es (length ds) j ≤ n) far (ok.rising j (length es + j) (omega arith))
 
 -- ---- no steps
 
 none_leads : (l : LayoutParts) (base : Memory) (j : ℕ) → IsWellPlaced l base → 0 ≡ j
     → LeadsBack l (drop (start_of [] 0 j) []) (run l base []) (run l base (take j []))
 unfolding run
-none_leads l base j placed is =
-    subst (λ (i : ℕ). LeadsBack l (drop (start_of [] 0 i) []) (run l base []) (run l base (take i []))) is
-    (leads-none l base placed)
+none_leads l base j placed is = rw (← is) (leads-none l base placed)
 
 -- the journal of no steps
 pub journal_none : (l : LayoutParts) (base : Memory) (before : ℕ) → IsWellPlaced l base
@@ -145,16 +136,11 @@ cut_few l base before net es ds k ok le j r at =
     let here = get_take k net r j at in
     let low : j ≤ k = omega (arith, here.0) in
     let next : j + 1 ≤ k = omega (arith, here.0) in
-    subst
-    (λ (g : List Record). start_of (take k es) (length (take (start_of es (length ds) k) ds))
-    (j + 1) ≤ start_of (take k es) (length (take (start_of es (length ds) k) ds)) j + delta_bound l
-    (run l base g) r.event)
-    (sym (take-take j k net low))
+    rw (take-take j k net low)
     (moved (start_of (take k es) (length (take (start_of es (length ds) k) ds)) (j + 1))
-    (start_of es (length ds) (j + 1))
-    (start_of (take k es) (length (take (start_of es (length ds) k) ds)) j) (start_of es (length ds) j)
-    (delta_bound l (run l base (take j net)) r.event) (cut_start l base before net es ds k (j + 1) ok le next)
-    (cut_start l base before net es ds k j ok le low) (ok.few j r here.1))
+    (start_of es (length ds) (j + 1)) (start_of (take k es) (length (take (start_of es (length ds) k) ds)) j)
+    (start_of es (length ds) j) (delta_bound l (run l base (take j net)) r.event) (cut_start l base before net
+    es ds k (j + 1) ok le next) (cut_start l base before net es ds k j ok le low) (ok.few j r here.1))
 
 cut_leads : (l : LayoutParts) (base : Memory) (before : ℕ) (net : List Record) (es : List Entry)
     (ds : List Delta) (k : ℕ)
@@ -168,16 +154,11 @@ cut_leads l base before net es ds k ok le j low =
     let split : drop from ds ≡ drop from (take mark ds) ++ drop mark ds =
     past-split from mark ds (ok.rising j k low) (start_within l base before net es ds k ok) in
     let whole : LeadsBack l (drop from (take mark ds) ++ drop mark ds) (run l base net)
-    (run l base (take j net)) =
-    subst (λ (xs : List Delta). LeadsBack l xs (run l base net) (run l base (take j net))) split
-    (ok.leads j reach) in
+    (run l base (take j net)) = rw (← split) (ok.leads j reach) in
     let first : LeadsBack l (drop from (take mark ds)) (run l base (take k net)) (run l base (take j net)) =
     leads-left l (drop from (take mark ds)) (drop mark ds) (run l base net) (run l base (take k net))
     (run l base (take j net)) whole (ok.leads k le) in
-    subst (λ (n : ℕ). LeadsBack l (drop n (take mark ds)) (run l base (take k net))
-    (run l base (take j (take k net)))) (sym (cut_start l base before net es ds k j ok le low))
-    (subst (λ (g : List Record). LeadsBack l (drop from (take mark ds)) (run l base (take k net))
-    (run l base g)) (sym (take-take j k net low)) first)
+    rw (cut_start l base before net es ds k j ok le low, take-take j k net low) first
 
 -- the journal of the first steps
 pub journal_take : (l : LayoutParts) (base : Memory) (before : ℕ) (net : List Record) (es : List Entry)
@@ -185,9 +166,7 @@ pub journal_take : (l : LayoutParts) (base : Memory) (before : ℕ) (net : List 
     → IsJournal l base before net es ds → k ≤ length net
     → IsJournal l base before (take k net) (take k es) (take (start_of es (length ds) k) ds)
 journal_take l base before net es ds k ok le = record {
-  tagged =
-      sym (take-map (tag_in before) k es)
-      ∙ (ap (λ (ts : List Tag). take k ts) ok.tagged ∙ take-map tag_of k net);
+  tagged = rw (← take-map (tag_in before) k es, ok.tagged) (take-map tag_of k net);
   rising = cut_rising l base before net es ds k ok le;
   few = cut_few l base before net es ds k ok le;
   leads =
@@ -255,11 +234,10 @@ next_few l base before net es ds r e new ok next j x at =
           let low : j ≤ length es = omega (arith, below, count) in
           let after : j + 1 ≤ length es = omega (arith, below, count) in
           let inside : j ≤ length net = omega arith in
-          subst (λ (g : List Record). ends ≤ begins + delta_bound l (run l base g) x.event)
-          (sym (take-append-le j net (r ∷ []) inside))
-          (moved ends (start_of es (length ds) (j + 1)) begins (start_of es (length ds) j) (delta_bound l
-          (run l base (take j net)) x.event) (next_start l base before net es ds r e new (j + 1) next
-          after) (next_start l base before net es ds r e new j next low) (ok.few j x old)))
+          rw (take-append-le j net (r ∷ []) inside)
+          (moved ends (start_of es (length ds) (j + 1)) begins (start_of es (length ds) j)
+          (delta_bound l (run l base (take j net)) x.event) (next_start l base before net es ds r e new
+          (j + 1) next after) (next_start l base before net es ds r e new j next low) (ok.few j x old)))
       | inr last ↦ (let inside : j ≤ length net = omega (arith, last.0) in
           let low : j ≤ length es = omega (arith, last.0, count) in
           let past : length es < j + 1 = omega (arith, last.0, count) in
@@ -272,8 +250,7 @@ next_few l base before net es ds r e new ok next j x at =
           next_past es e (length (ds ++ new)) (j + 1) past ∙ length-append ds new in
           subst (λ (g : List Record). ends ≤ begins + delta_bound l (run l base g) x.event) (sym front)
           (subst (λ (y : Record). ends ≤ begins + delta_bound l (run l base net) y.event) last.1
-          (appended ends begins (length ds) (length new) (delta_bound l (run l base net) r.event) end start
-          next.few)))
+          (omega arith)))
     ]
 
 next_leads : (l : LayoutParts) (base : Memory) (before : ℕ) (net : List Record) (es : List Entry)
@@ -289,23 +266,15 @@ next_leads l base before net es ds r e new ok next j le =
       | inl past ↦ (let beyond : length es < j = omega (arith, past, count) in
           let whole : take j (net ++ r ∷ []) ≡ net ++ r ∷ [] =
           take_all j (net ++ r ∷ []) (omega (arith, past, length_push net r)) in
-          subst (λ (n : ℕ). LeadsBack l (drop n (ds ++ new)) now (run l base (take j (net ++ r ∷ []))))
-          (sym (next_past es e (length (ds ++ new)) j beyond))
-          (subst (λ (g : List Record). LeadsBack l (drop (length (ds ++ new)) (ds ++ new)) now (run l base g))
-          (sym whole)
-          (subst (λ (xs : List Delta). LeadsBack l xs now now)
-          (sym (drop_all (length (ds ++ new)) (ds ++ new) (omega arith))) (leads-none l now next.placed))))
+          rw (next_past es e (length (ds ++ new)) j beyond, whole)
+          (rw (drop_all (length (ds ++ new)) (ds ++ new) (omega arith)) (leads-none l now next.placed)))
       | inr inside ↦ (let low : j ≤ length es = omega (arith, inside, count) in
           let from = start_of es (length ds) j in
           let joined : LeadsBack l (drop from ds ++ new) now (run l base (take j net)) =
           leads-append l (drop from ds) new now (run l base net) (run l base (take j net)) (ok.leads j inside)
           next.leads in
-          subst (λ (n : ℕ). LeadsBack l (drop n (ds ++ new)) now (run l base (take j (net ++ r ∷ []))))
-          (sym (next_start l base before net es ds r e new j next low))
-          (subst (λ (g : List Record). LeadsBack l (drop from (ds ++ new)) now (run l base g))
-          (sym (take-append-le j net (r ∷ []) inside))
-          (subst (λ (xs : List Delta). LeadsBack l xs now (run l base (take j net)))
-          (sym (drop-append-le from ds new (start_within l base before net es ds j ok))) joined)))
+          rw (next_start l base before net es ds r e new j next low, take-append-le j net (r ∷ []) inside)
+          (rw (drop-append-le from ds new (start_within l base before net es ds j ok)) joined))
     ]
 
 -- the journal of one step more
@@ -314,10 +283,7 @@ pub journal_push : (l : LayoutParts) (base : Memory) (before : ℕ) (net : List 
     → IsJournal l base before net es ds → IsNext l base before net ds r e new
     → IsJournal l base before (net ++ r ∷ []) (es ++ e ∷ []) (ds ++ new)
 journal_push l base before net es ds r e new ok next = record {
-  tagged =
-      map_push (tag_in before) es e
-      ∙ (ap (λ (ts : List Tag). ts ++ tag_in before e ∷ []) ok.tagged
-      ∙ (ap (λ (t : Tag). map tag_of net ++ t ∷ []) next.tag ∙ sym (map_push tag_of net r)));
+  tagged = rw (map_push (tag_in before) es e, ok.tagged, next.tag, ← map_push tag_of net r);
   rising = next_rising l base before net es ds r e new ok next;
   few = next_few l base before net es ds r e new ok next;
   leads =
@@ -330,9 +296,7 @@ journal_push l base before net es ds r e new ok next = record {
 pub way_back : (m : CourseValue) (es : List Entry) (ds : List Delta) (k : ℕ) → IsCourse m es ds
     → k ≤ length (net_of m.history) → IsWayBack m k (drop (start_of es (length ds) k) ds)
 unfolding value_of
-way_back m es ds k ok le =
-    subst (λ (s : Memory). LeadsBack m.layout (drop (start_of es (length ds) k) ds) s
-    (run m.layout m.base (take k (net_of m.history)))) (sym ok.history.state) (ok.journal.leads k le)
+way_back m es ds k ok le = rw ok.history.state (ok.journal.leads k le)
 
 -- the deltas between the beginnings of a step and of the next are those of the step
 pub entry_shown : (m : CourseValue) (es : List Entry) (ds : List Delta) (at : ℕ) → IsCourse m es ds
@@ -358,6 +322,5 @@ entry_shown m es ds at ok below =
       leads =
           leads-left l (slice_range ds from to) (drop to ds) (run l base net) (run l base (take (at + 1) net))
           (run l base (take at net))
-          (subst (λ (xs : List Delta). LeadsBack l xs (run l base net) (run l base (take at net)))
-          (drop_split ds from to rises) (ok.journal.leads at inside)) (ok.journal.leads (at + 1) next);
+          (rw (← drop_split ds from to rises) (ok.journal.leads at inside)) (ok.journal.leads (at + 1) next);
     }

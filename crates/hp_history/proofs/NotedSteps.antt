@@ -27,13 +27,6 @@ tag_with serial mark = record { serial = serial; mark = mark }
 
 -- ---- what the step noted
 
--- it stands on the tape after what was there
-noted_past : (l : LayoutParts) (most : ℕ) (was now : List Delta) (later earlier : FrameView) (mark : ℕ)
-    (noted : AreNoted l most was now later earlier)
-    → mark ≡ length was → drop mark now ≡ noted.deltas
-noted_past l most was now later earlier mark noted is =
-    ap (λ (xs : List Delta). drop mark xs) noted.after ∙ drop_at was noted.deltas mark (sym is)
-
 noted_before : (l : LayoutParts) (most : ℕ) (was now : List Delta) (later earlier : FrameView) (mark : ℕ)
     (noted : AreNoted l most was now later earlier)
     → mark ≡ length was → take mark now ≡ was
@@ -54,10 +47,9 @@ pub made_off : (m : CourseValue) (es : List Entry) (ds : List Delta) (cpu : ℕ)
     → LeadsBack v.layout (drop e.start now) v.state v.state
 made_off m es ds cpu r e v now made none =
     let past =
-    noted_past m.layout (delta_bound m.layout m.state r.event) ds now (frame_view_of m.layout v.state)
-    (frame_view_of m.layout m.state) e.start made.noted made.start in
-    subst (λ (l : LayoutParts). LeadsBack l (drop e.start now) v.state v.state) (sym made.layout)
-    (subst (λ (xs : List Delta). LeadsBack m.layout xs v.state v.state) (sym past)
+    ap (λ (xs : List Delta). drop e.start xs) made.noted.after ∙ drop_at ds made.noted.deltas e.start
+    (sym made.start) in
+    rw made.layout (subst (λ (xs : List Delta). LeadsBack m.layout xs v.state v.state) (sym past)
     (subst (λ (s : Memory). LeadsBack m.layout made.noted.deltas v.state s)
     (sym (made_same m es ds cpu r e v now made none)) (made_leads m es ds cpu r e v now made)))
 
@@ -81,18 +73,13 @@ unfolding value_of
 made_entry m es ds cpu r e v now made =
     let l = m.layout in
     let net = net_of m.history in
-    let longer = net ++ record_of cpu r ∷ [] in
     let was : m.state ≡ run l m.base net = made.course.history.state in
     record {
       tag = made.tag;
       start = made.start;
       few = subst (λ (s : Memory). length made.noted.deltas ≤ delta_bound l s r.event) was made.noted.few;
-      leads =
-          subst (λ (s : Memory). LeadsBack l made.noted.deltas s (run l m.base net))
-          (made_next m es ds cpu r e v now made)
-          (subst (λ (s : Memory). LeadsBack l made.noted.deltas v.state s) was
-          (made_leads m es ds cpu r e v now made));
-      placed = run-placed l m.base longer made.course.limits made.course.placed;
+      leads = rw (← made_next m es ds cpu r e v now made, ← was) (made_leads m es ds cpu r e v now made);
+      placed = run-placed l m.base (net ++ record_of cpu r ∷ []) made.course.limits made.course.placed;
     }
 
 -- the journal after the step, by whether it counts
@@ -103,16 +90,13 @@ made_journal : (m : CourseValue) (es : List Entry) (ds : List Delta) (cpu : ℕ)
     m.history) (if b then es ++ e ∷ [] else es) (if b then now else take e.start now)
 made_journal m es ds cpu r e v now made true =
     let net = net_of m.history in
-    subst (λ (xs : List Delta).
-    IsJournal m.layout m.base m.before (net ++ record_of cpu r ∷ []) (es ++ e ∷ []) xs) (sym made.noted.after)
-    (journal_push m.layout m.base m.before net es ds (record_of cpu r) e made.noted.deltas
+    rw made.noted.after (journal_push m.layout m.base m.before net es ds (record_of cpu r) e made.noted.deltas
     made.course.journal (made_entry m es ds cpu r e v now made))
 made_journal m es ds cpu r e v now made false =
     let earlier =
     noted_before m.layout (delta_bound m.layout m.state r.event) ds now (frame_view_of m.layout v.state)
     (frame_view_of m.layout m.state) e.start made.noted made.start in
-    subst (λ (xs : List Delta). IsJournal m.layout m.base m.before (net_of m.history) es xs) (sym earlier)
-    made.course.journal
+    rw earlier made.course.journal
 
 -- what the course keeps after the step
 made_course : (m : CourseValue) (es : List Entry) (ds : List Delta) (cpu : ℕ) (r : Receipt) (e : Entry)
@@ -121,7 +105,6 @@ made_course : (m : CourseValue) (es : List Entry) (ds : List Delta) (cpu : ℕ) 
     → IsCourse (answered_value m cpu r (value_of m.layout m.base (m.history ++ record_of cpu r ∷ [])))
     (if is_kept r then es ++ e ∷ [] else es) (if is_kept r then now else take e.start now)
 made_course m es ds cpu r e v now made =
-    let space = room m made.free in
     record {
       limits = made.course.limits;
       placed = made.course.placed;
@@ -133,7 +116,7 @@ made_course m es ds cpu r e v now made =
           };
       journal =
           rw (made_net m es ds cpu r e v now made) (made_journal m es ds cpu r e v now made (is_kept r));
-      fits = omega (arith, space, length_push m.history (record_of cpu r));
+      fits = omega (arith, room m made.free, length_push m.history (record_of cpu r));
     }
 
 -- what the fields are once the entry is kept
@@ -154,10 +137,8 @@ pub made_fields : (m : CourseValue) (es : List Entry) (ds : List Delta) (cpu : �
     → IsMade m es ds cpu r e v now → IsLeft m es cpu r e v now b last h left kept
     → IsCourse (value_with m.before m.base h last) left kept
 made_fields m es ds cpu r e v now b last h left kept made fields =
-    let entries : left ≡ (if is_kept r then es ++ e ∷ [] else es) =
-    fields.entries ∙ ap (λ (k : Bool). if k then es ++ e ∷ [] else es) fields.steps in
-    let deltas : kept ≡ (if is_kept r then now else take e.start now) =
-    fields.deltas ∙ ap (λ (k : Bool). if k then now else take e.start now) fields.steps in
+    let entries : left ≡ (if is_kept r then es ++ e ∷ [] else es) = rw (fields.entries, fields.steps) in
+    let deltas : kept ≡ (if is_kept r then now else take e.start now) = rw (fields.deltas, fields.steps) in
     let shown =
     memory_is last m.layout (value_of m.layout m.base (m.history ++ record_of cpu r ∷ []))
     (fields.layout ∙ made.layout) (fields.state ∙ made_shown m es ds cpu r e v now made) in
@@ -181,7 +162,4 @@ pub tag-next : (m : CourseValue) (count serial : ℕ) (event : Event) (mark : Ma
     → serial ≡ last_serial m + 1 → count ≡ length m.history → mark ≡ mark_of event
     → tag_in m.before e ≡ record { serial = m.before + count + 1; mark = mark }
     → tag_in m.before e ≡ record { serial = serial; mark = mark_of event }
-tag-next m count serial event mark e is counted marked tag =
-    tag
-    ∙ (ap (λ (n : ℕ). tag_with (m.before + n + 1) mark) counted
-    ∙ (ap (λ (n : ℕ). tag_with n mark) (sym is) ∙ ap (λ (k : Mark). tag_with serial k) marked))
+tag-next m count serial event mark e is counted marked tag = rw (tag, counted, ← is, marked)

@@ -5,7 +5,7 @@ use Rattle.std.proofs.lemmas.Option.{same_Some}
 use Rattle.std.proofs.lemmas.Bool.{cases_order, and_parts, and_from, false≢true}
 use Rattle.hp_units.specs.Marks.{sole_at, is_opening, is_work_of, begins}
 use Rattle.hp_laws.proofs.Undo.{sole_complete, sole_none, no_opening_works}
-use Rattle.hp_history.proofs.Names.{Mark, Opens, Works, Other, Tag}
+use Rattle.hp_history.proofs.Names.{Mark, Works, Tag}
 
 -- the operation's Begin, with nothing but its own work after it
 pub sole_found : (op : ℕ) (ts : List Tag) (k : ℕ) (t : Tag) → 0 < k → slice_get ts (k - 1) ≡ Some t
@@ -52,9 +52,8 @@ sole_other op ts k t pos here opens serial works =
     neither false b e = refl
 
     no_work : (m : Mark) → is_opening m ≡ true → is_work_of op m ≡ false
-    no_work Opens e = refl
     no_work (Works own) e = absurd cc
-    no_work Other e = refl
+    no_work _ e = refl
 
 -- a step of no operation, or of another one
 pub sole_broken : (op : ℕ) (ts : List Tag) (k : ℕ) (t : Tag) → 0 < k → slice_get ts (k - 1) ≡ Some t

@@ -1,20 +1,19 @@
 -- The entries of the steps that going back drops, and where their deltas lead.
-use Rattle.std.specs.Prelude.{zero, suc, Result, Ok, Err, IfOk, ◌⊎◌}
+use Rattle.std.specs.Prelude.{zero, suc, Result, Ok, Err, IfOk}
 use Rattle.std.specs.List.{slice_range}
 use Rattle.std.proofs.Common.{◌≡◌, ℕ, ◌+◌, ◌-◌, ◌<◌, ◌≤◌, true, List, [], ◌∷◌, ◌++◌, drop, length, take, Some, slice_get, refl, ap, sym, subst, ◌∙◌, arith, inr}
 use Rattle.std.proofs.lemmas.List.{append-nil, append_assoc, drop_all}
 use Rattle.std.proofs.lemmas.List.Folds.{drop_split}
 use Rattle.std.proofs.lemmas.Option.{same_Some}
 use Rattle.hp_units.specs.History.{goes_back, net_of, run}
-use Rattle.hp_units.specs.Memory.{Memory}
 use Rattle.hp_units.specs.declared.replies.Receipt.{Receipt}
 use Rattle.hp_tape.specs.declared.deltas.Delta.{Delta}
-use Rattle.hp_memory.specs.Memory.{LeadsBack, MemoryValue}
+use Rattle.hp_memory.specs.Memory.{MemoryValue}
 use Rattle.hp_history.specs.declared.entries.Entry.{Entry}
 use Rattle.hp_history.specs.Course.{CourseValue, IsAnswered, NeedsNoMemory, receipt_for}
 use Rattle.hp_history.specs.Entries.{IsEntry, IsUndone, joined, start_of}
 use Rattle.hp_history.specs.Kept.{IsCourse}
-use Rattle.hp_history.proofs.Journals.{entry_count, entry_shown, start_within, way_back}
+use Rattle.hp_history.proofs.Journals.{entry_count, entry_shown, way_back}
 use Rattle.hp_history.proofs.Courses.{IsBack, cut_net, value_with}
 use Rattle.hp_history.proofs.Names.{Event, Record, Reply}
 use Rattle.hp_history.proofs.Starts.{start-past}
@@ -38,8 +37,7 @@ entries-get start ds at zero j deltas here = absurd cc
 entries-get start ds at (suc count) zero deltas here =
     let place : at ≡ at + 0 = omega arith in (
       omega arith,
-      subst (λ (n : ℕ). deltas ≡ slice_range ds (start n) (start (n + 1))) place
-          (sym (same_Some (slice_range ds (start at) (start (at + 1))) deltas here)),
+      rw (← place) (sym (same_Some (slice_range ds (start at) (start (at + 1))) deltas here)),
     )
 entries-get start ds at (suc count) (suc j) deltas here =
     let rest = entries-get start ds (at + 1) count j deltas here in
@@ -73,10 +71,7 @@ undone m new es ds keep ok within net state = record {
   dropped = omega (arith, entries-length start ds keep more, within);
   net = net;
   each = each;
-  leads =
-      subst (λ (s : Memory). LeadsBack m.layout (joined entries) m.state s) (sym state)
-      (subst (λ (xs : List Delta). LeadsBack m.layout xs m.state (run m.layout m.base
-      (take keep (net_of m.history)))) (sym all) (way_back m es ds keep ok within));
+  leads = rw (state, all) (way_back m es ds keep ok within);
 }
   where
     start : ℕ → ℕ
@@ -106,8 +101,7 @@ undone m new es ds keep ok within net state = record {
     each : (j : ℕ) (deltas : List Delta) → slice_get entries j ≡ Some deltas → IsEntry m (keep + j) deltas
     each j deltas here =
         let found = entries-get start ds keep more j deltas here in
-        subst (IsEntry m (keep + j)) (sym found.1)
-        (entry_shown m es ds (keep + j) ok (omega (arith, found.0, within)))
+        rw found.1 (entry_shown m es ds (keep + j) ok (omega (arith, found.0, within)))
 
 -- going back undoes the steps that it does not keep
 pub cut_undone : (m : CourseValue) (es : List Entry) (ds : List Delta) (cpu keep : ℕ) (r : Receipt)

@@ -20,6 +20,7 @@ use Rattle.hp_cpus.proofs.Counts.{one-self, times, times-cons, times-on}
 use Rattle.std.proofs.lemmas.Bool.{false_from_ne_true}
 use Rattle.hp_cpus.specs.Cpus.{CpusValue, list_of, with_list_of}
 use Rattle.hp_images.specs.Tables.{ArePartly}
+use Rattle.hp_buddy.proofs.Linked.{off_all}
 
 -- ---- the entries of a list from its back
 
@@ -46,17 +47,12 @@ filled-more lists n xs number at frame inside low is e =
 
 -- ---- a frame that stands on none of the lists
 
-all_off : (f : ℕ) (lists : List (List ℕ)) → ((j : ℕ) → is_on f (get_or lists j []) ≡ false)
-    → list_all (λ frames. not (is_on f frames)) lists ≡ true
-all_off f [] off = refl
-all_off f (xs ∷ lists) off = rw (off 0) (all_off f lists (λ j. off (suc j)))
-
 -- the lists of which each is one that is wanted or empty
 partly-off : (f n : ℕ) (rest frames : List ℕ) (wanted now : List (List ℕ)) → n < length wanted
     → ArePartly wanted now → ((j : ℕ) → is_on f (get_or (set wanted n rest) j []) ≡ false)
     → may_go_behind (set now n rest) None f frames ≡ true
 partly-off f n rest frames wanted now low partly off =
-    ap (λ (b : Bool). b && true) (all_off f (set now n rest) each)
+    ap (λ (b : Bool). b && true) (off_all f (set now n rest) each)
   where
     at_other : (j : ℕ) → (j ≡ n → ⊥) → is_on f (get_or now j []) ≡ false
     at_other j apart = elim (partly.each j) [

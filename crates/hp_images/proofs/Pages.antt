@@ -16,6 +16,7 @@ use Rattle.hp_pages.proofs.PageParts.{no_pages_is}
 use Rattle.hp_pages.proofs.FrameViews.{buffer_by, buffer_is, page_buffer}
 use Rattle.hp_images.specs.Tables.{AreCopied}
 use Rattle.hp_images.proofs.Tables.{copied-all, copied-next, copied-none}
+use Rattle.hp_pages.proofs.Tables.{row_length}
 
 -- ---- one row of a table
 
@@ -61,13 +62,6 @@ row-all {A = A} init new owner number wanted all f =
     (copied-all None None number wanted (get_or new owner []) all f.row)
 
 -- ---- how long rows are
-
-pub row_length : {A : Type 0} (pages : ℕ) (table : List (List A)) (owner : ℕ)
-    → AllByRecursion (λ row. length row ≡ pages) table → owner < length table
-    → length (get_or table owner []) ≡ pages
-row_length pages [] owner all low = absurd (omega arith)
-row_length pages (row ∷ rows) zero all low = all.0
-row_length pages (row ∷ rows) (suc owner) all low = row_length pages rows owner all.1 (omega arith)
 
 pub image-row : (l : LayoutParts) (s : Memory) (owner : ℕ) → IsWellPlaced l s → owner < l.owners
     → length (get_or s.pages.table owner []) ≡ l.pages

@@ -5,9 +5,7 @@ use Rattle.std.proofs.Math.Nat.{le-min, mul-le-mul_right}
 use Rattle.hp_units.specs.declared.events.Event.TheVariants.{Begin}
 use Rattle.hp_units.specs.declared.plans.Item.{Item}
 use Rattle.hp_units.specs.declared.replies.Reply.TheVariants.{Opened}
-use Rattle.hp_units.specs.LayoutParts.{LayoutParts}
 use Rattle.hp_units.specs.Choices.{first_some}
-use Rattle.hp_units.specs.Memory.{Memory}
 use Rattle.hp_units.specs.Refusals.{plan_refusals}
 use Rattle.hp_units.specs.Rows.{begin_plan}
 use Rattle.hp_units.specs.Step.{answer}
@@ -29,12 +27,6 @@ plan-room plan blocks each items most size is few below =
     mul-le-mul_right each (rw is (le-min (let a = claimed-few plan blocks in omega (arith, a, few))
     (let b = claimed-below plan blocks in omega (arith, b, below))))
 
--- the answer to a Begin
-begun : (l : LayoutParts) (s : Memory) (op : ℕ) (plan : List Item)
-    → first_some (plan_refusals l s plan) ≡ None
-    → opened l s op plan ≡ record { memory = begin_plan l s op plan; reply = Opened op }
-begun l s op plan none = ap (answer l s op 0 (Begin plan)) none
-
 pub begin-done : {before : List Delta} (m new : Layers) (op : ℕ) (plan : List Item) (was now : TapeValue)
     → ArePlaced m → was.deltas ≡ before
     → first_some (plan_refusals m.layout (state_of m) plan) ≡ None
@@ -42,6 +34,7 @@ pub begin-done : {before : List Delta} (m new : Layers) (op : ℕ) (plan : List 
     (claimed_below plan m.layout.blocks * moved_block_bound m.layout) new was now
     → IsAnswered m (Begin plan) (opened m.layout (state_of m) op plan) new before now.deltas (Opened op)
 begin-done {before} m new op plan was now p same none r =
-    rw (begun m.layout (state_of m) op plan none) (reworked-answered m new (Begin plan) (begin_plan m.layout
+    rw (ap (answer m.layout (state_of m) op 0 (Begin plan)) none)
+    (reworked-answered m new (Begin plan) (begin_plan m.layout
     (state_of m) op plan) (Opened op) (claimed_below plan m.layout.blocks * moved_block_bound m.layout) was
     now p same (mul-le-mul_right (moved_block_bound m.layout) (claimed-few plan m.layout.blocks)) r)

@@ -8,7 +8,7 @@ use Rattle.std.proofs.lemmas.List.{length-append}
 use Rattle.hp_plain.proofs.Scans.{fold-below_more}
 use Rattle.hp_units.specs.declared.plans.Item.{Item}
 use Rattle.hp_units.specs.declared.rows.Wish.{Wish}
-use Rattle.hp_units.specs.declared.rows.Wish.TheVariants.{Off as OffWish, Normal as NormalWish, Movable as MovableWish}
+use Rattle.hp_units.specs.declared.rows.Wish.TheVariants.{Off as OffWish}
 use Rattle.hp_units.specs.declared.rows.Zone.{Zone}
 use Rattle.hp_units.specs.LayoutParts.{LayoutParts}
 use Rattle.hp_units.specs.Isolation.{move_block}
@@ -93,7 +93,6 @@ pub isolated : (m : Layers) (f : Frames) (bs : BlocksValue) (op block : ℕ) (zo
 isolated m f bs op block zone was mid now one zone_is g set_is layout_is notes =
     let l = m.layout in
     let v = view_of m in
-    let moved = frames-one m f one g.layout g.tidy.layout in
     let first = notes-free v l (l.pageblocks * move_bound l) was mid (free_of f) (free_of m.frames)
     (subst (λ (k : LayoutParts).
     NotesFree k (l.pageblocks * move_bound l) was mid (free_of f) (free_of m.frames)) one.cpus g.notes) in
@@ -101,7 +100,7 @@ isolated m f bs op block zone was mid now one zone_is g set_is layout_is notes =
     notes-blocks (record v { free = free_of f }) l 1 mid now bs.blocks m.blocks.blocks
     (subst (λ (k : LayoutParts). NotesBlocks k 1 mid now bs.blocks m.blocks.blocks) one.blocks notes) in
     record {
-      one = row-one (record m { frames = f }) bs moved layout_is;
+      one = row-one (record m { frames = f }) bs (frames-one m f one g.layout g.tidy.layout) layout_is;
       layout = refl;
       pages = refl;
       kernel = refl;
@@ -118,8 +117,7 @@ claim-other : (l : LayoutParts) (s : Memory) (op block : ℕ) (wish : Wish) → 
     → claim_block l op s block wish
     ≡ record s { blocks = with_row s.blocks block (claimed_row (row_of s.blocks block) op wish) }
 claim-other l s op block OffWish other = absurd (other refl)
-claim-other l s op block NormalWish other = refl
-claim-other l s op block MovableWish other = refl
+claim-other l s op block _ other = refl
 
 pub claimed : (m : Layers) (bs : BlocksValue) (op block : ℕ) (wish : Wish) (was now : TapeValue)
     → AreOfOneLayout m → IsTidy m.frames → (wish ≡ OffWish → ⊥)
@@ -129,7 +127,6 @@ pub claimed : (m : Layers) (bs : BlocksValue) (op block : ℕ) (wish : Wish) (wa
     (record m { blocks = bs }) was now
 claimed m bs op block wish was now one tidy other set_is layout_is notes =
     let l = m.layout in
-    let v = view_of m in
     record {
       one = row-one m bs one layout_is;
       layout = refl;
@@ -138,7 +135,7 @@ claimed m bs op block wish was now one tidy other set_is layout_is notes =
       tidy = tidy;
       state = rw (set_is, ← claim-other l (state_of m) op block wish other);
       notes = notes-more IsOfMemory Fits undo l 1 (moved_block_bound l) was now _ _ (omega arith)
-          (notes-blocks v l 1 was now bs.blocks m.blocks.blocks (rw (← one.blocks) notes));
+          (notes-blocks (view_of m) l 1 was now bs.blocks m.blocks.blocks (rw (← one.blocks) notes));
     }
 
 -- ---- the blocks of a plan
@@ -156,8 +153,7 @@ begun-further m n o op plan number was mid now a b =
     let each = moved_block_bound l in
     let sum : claimed_below plan number * each + claimed_at plan number * each
     ≤ claimed_below plan (number + 1) * each =
-    let e = add-mul (claimed_below plan number) (claimed_at plan number) each in
-    rw (add-one number) (omega (arith, e)) in
+    rw (add-one number) (omega (arith, add-mul (claimed_below plan number) (claimed_at plan number) each)) in
     rw (fold-below_more (begin_block l op plan) (state_of m) number)
     (reworked-then (λ k s. begin_block k op plan s number) (λ k. claimed_at plan number * moved_block_bound k)
     m n o (fold (begin_block l op plan) (state_of m) (range_with_len 0 number))

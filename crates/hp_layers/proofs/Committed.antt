@@ -11,7 +11,7 @@ use Rattle.hp_units.specs.declared.replies.Reply.TheVariants.{Done, Refused}
 use Rattle.hp_units.specs.declared.rows.Claim.{Claim}
 use Rattle.hp_units.specs.declared.rows.Row.{Row}
 use Rattle.hp_units.specs.declared.rows.Wish.{Wish}
-use Rattle.hp_units.specs.declared.rows.Wish.TheVariants.{Off as OffWish, Normal as NormalWish, Movable as MovableWish}
+use Rattle.hp_units.specs.declared.rows.Wish.TheVariants.{Off as OffWish}
 use Rattle.hp_units.specs.LayoutParts.{LayoutParts, IsLayout}
 use Rattle.hp_units.specs.Arithmetic.{all_blocks, frames_of_block}
 use Rattle.hp_units.specs.Memory.{Blocks, Memory, row_of}
@@ -56,8 +56,7 @@ may-go m block wish p ready e w =
 -- a block that is to go online is offline or absent
 stays-on : (wish : Wish) → (wish ≡ OffWish → ⊥) → is_off wish ≡ false
 stays-on OffWish ne = absurd (ne refl)
-stays-on NormalWish ne = refl
-stays-on MovableWish ne = refl
+stays-on _ ne = refl
 
 pub may-come : (m : Layers) (block : ℕ) (wish : Wish) → ArePlaced m
     → option_map (λ c. c.wish) (row_of m.blocks.blocks block).claim ≡ Some wish → (wish ≡ OffWish → ⊥)
@@ -261,12 +260,6 @@ blocks-grantable l s op blocks is within all k short =
 
 -- ---- the answer
 
-not-free : (l : LayoutParts) (s : Memory) (op : ℕ) → is_live s.blocks op ≡ true
-    → list_all (is_all_free l s) (going_blocks l s.blocks op) ≡ false
-    → asked l s 0 (Commit op)
-    ≡ record { memory = s; reply = Refused (NotFree (unwrap_or (frame_in_use l s op) 0)) }
-not-free l s op live held = rw (live, held) refl
-
 pub commit-refused : (m : Layers) (op : ℕ) (blocks : List ℕ) (frame : ℕ) → is_live m.blocks.blocks op ≡ true
     → blocks ≡ blocks_of m.layout m.blocks.blocks op
     → IsHeldBy m.layout (state_of m) blocks frame
@@ -277,7 +270,7 @@ commit-refused m op blocks frame live is held =
     let s = state_of m in
     let all = blocks_of l s.blocks op in
     let here : frame ≡ unwrap_or (frame_in_use l s op) 0 = rw (held.1, is, leaving-all l s all) in
-    not-free l s op live (sym (ready-all l s all) ∙ (ap (list_all (is_ready l s)) (sym is) ∙ held.0))
+    (rw (live, (sym (ready-all l s all) ∙ (ap (list_all (is_ready l s)) (sym is) ∙ held.0))) refl)
     ∙ ap (λ (n : ℕ). record { memory = s; reply = Refused (NotFree n) }) (sym here)
 
 committed : (l : LayoutParts) (s : Memory) (op : ℕ) → is_live s.blocks op ≡ true
@@ -299,5 +292,4 @@ commit-done {before} m new op blocks was now p same live is ready r =
     let all = blocks_of l m.blocks.blocks op in
     let free = sym (ready-all l s all) ∙ (ap (list_all (is_ready l s)) (sym is) ∙ ready) in
     rw (committed l s op live free) (reworked-answered m new (Commit op) (fold (commit_block l) s all) Done
-    (length all * committed_block_bound l) was now p same (omega arith) (subst (λ (bs : List ℕ). IsReworked m
-    (fold (commit_block l) s bs) (length bs * committed_block_bound l) new was now) is r))
+    (length all * committed_block_bound l) was now p same (omega arith) (rw (← is) r))

@@ -1,14 +1,15 @@
 -- What a frame's place shows about the free lists.
-use Rattle.std.proofs.Common.{◌≡◌, ℕ, Bool, true, false, ◌||◌, [], ◌∷◌, Option, Some, None, IfSome, refl, sym, ◌∙◌, ap, subst, inl, inr, ◌==◌, eq-eqb, ne_eqb}
+use Rattle.std.proofs.Common.{◌≡◌, ℕ, Bool, true, false, [], ◌∷◌, Option, Some, None, IfSome, refl, sym, ◌∙◌, ap, subst, inl, inr, ◌==◌, eq-eqb, ne_eqb}
 use Rattle.std.specs.List.{list_any}
 use Rattle.std.specs.Option.{option_map_or}
-use Rattle.std.proofs.lemmas.Bool.{cases_eq, false_from_ne_true, or_left}
+use Rattle.std.proofs.lemmas.Bool.{cases_eq, false_from_ne_true}
 use Rattle.std.proofs.lemmas.Option.{same_Some}
 use Rattle.hp_units.specs.declared.rows.Class.{Class}
 use Rattle.hp_units.specs.declared.rows.Class.TheVariants.{Nu, Nm, Mm, IsoN, IsoM}
 use Rattle.hp_units.specs.FreeAreas.{is_on}
 use Rattle.hp_units.specs.Memory.{FreeAreas, free_list}
 use Rattle.hp_units.specs.Refusals.{is_free_start}
+use Rattle.hp_laws.proofs.ConsequencesCommits.{on_class}
 
 -- the class and the order of the free block that starts at a frame, if one does
 pub record IsPlaceOf (a : FreeAreas) (frame : ℕ) (place : Option (Class × ℕ)) : Type 0 where
@@ -17,19 +18,6 @@ pub record IsPlaceOf (a : FreeAreas) (frame : ℕ) (place : Option (Class × ℕ
   pub free : IfSome place (λ p. is_on frame (free_list a p.0 p.1) ≡ true)
 
 -- ---- of all classes
-
-or_right : (x y : Bool) → y ≡ true → (x || y) ≡ true
-or_right true y e = refl
-or_right false y e = e
-
-any-class : (p : Class → Bool) (class : Class) → p class ≡ true
-    → list_any p (Nu ∷ Nm ∷ Mm ∷ IsoN ∷ IsoM ∷ []) ≡ true
-any-class p Nu e = or_left (p Nu) _ e
-any-class p Nm e = or_right (p Nu) _ (or_left (p Nm) _ e)
-any-class p Mm e = or_right (p Nu) _ (or_right (p Nm) _ (or_left (p Mm) _ e))
-any-class p IsoN e = or_right (p Nu) _ (or_right (p Nm) _ (or_right (p Mm) _ (or_left (p IsoN) _ e)))
-any-class p IsoM e =
-    or_right (p Nu) _ (or_right (p Nm) _ (or_right (p Mm) _ (or_right (p IsoN) _ (or_left (p IsoM) _ e))))
 
 no-class : (p : Class → Bool) → ((class : Class) → p class ≡ false)
     → list_any p (Nu ∷ Nm ∷ Mm ∷ IsoN ∷ IsoM ∷ []) ≡ false
@@ -62,7 +50,7 @@ start-place a frame order None h =
 start-place a frame order (Some p) h = elim (cases_eq p.1 order) [
   | inl same ↦
       eq-eqb p.1 order same
-      ∙ sym (any-class (λ class. is_on frame (free_list a class order)) p.0
+      ∙ sym (on_class (λ class. is_on frame (free_list a class order)) p.0
       (subst (λ (n : ℕ). is_on frame (free_list a p.0 n) ≡ true) same h.free))
   | inr ne ↦
       ne_eqb p.1 order ne ∙ sym (no-class (λ class. is_on frame (free_list a class order))

@@ -64,8 +64,7 @@ kernel_few l fs cpu zero some = list_few (cached_list fs cpu NuPool)
     list_few [] = omega arith
     list_few (x ∷ xs) = omega arith
 kernel_few l fs cpu (suc order) some =
-    let more : l.order + 2 ≤ l.batch * (l.order + 2) = le_times l.batch (l.order + 2) some in
-    omega (arith, more)
+    omega (arith, le_times l.batch (l.order + 2) some)
   where
     le_times : (n m : ℕ) → 1 ≤ n → m ≤ n * m
     le_times zero m some = omega arith

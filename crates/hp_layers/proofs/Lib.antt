@@ -6,7 +6,7 @@ mod Lifts
 mod Claims
 mod Migrated
 mod OnlineBlocks
-mod PageEvents
+pub mod PageEvents
 mod Pageblocks
 mod Placed
 mod Refusals
@@ -15,7 +15,7 @@ mod Rooms
 mod SingleBlocks
 mod Sources
 pub mod States
-mod Steps
+pub mod Steps
 mod Taken
 mod Unwinding
 mod Committed

@@ -66,15 +66,7 @@ free-undone : (v : FrameView) (d : Delta) (fs : FreeFrames) → IsOfFree d
 free-undone v (Link list frame after) fs own = refl
 free-undone v (Unlink list frame after) fs own = refl
 free-undone v (KindDelta pageblock was now) fs own = refl
-free-undone v (KernelDelta frame was now) fs own = absurd own
-free-undone v (MapDelta owner page change) fs own = absurd own
-free-undone v (Swap a b) fs own = absurd own
-free-undone v (WordDelta index frame was now) fs own = absurd own
-free-undone v (LargeWord index frame change) fs own = absurd own
-free-undone v (Filled index frame now) fs own = absurd own
-free-undone v (Emptied frame words) fs own = absurd own
-free-undone v (RowDelta change) fs own = absurd own
-free-undone v (AutoDelta was now) fs own = absurd own
+free-undone v _ fs own = absurd own
 
 free-fits : (v : FrameView) (d : Delta) (fs : FreeFrames) → IsOfFree d → FitsFree d fs
     → Fits d (with_free_part v fs)
@@ -84,15 +76,7 @@ free-fits v (Unlink list frame after) fs own h =
     record { areas = h.0; cached = h.1; pages = tt; kernel = tt; blocks = tt }
 free-fits v (KindDelta pageblock was now) fs own h =
     record { areas = h.0; cached = h.1; pages = tt; kernel = tt; blocks = tt }
-free-fits v (KernelDelta frame was now) fs own h = absurd own
-free-fits v (MapDelta owner page change) fs own h = absurd own
-free-fits v (Swap a b) fs own h = absurd own
-free-fits v (WordDelta index frame was now) fs own h = absurd own
-free-fits v (LargeWord index frame change) fs own h = absurd own
-free-fits v (Filled index frame now) fs own h = absurd own
-free-fits v (Emptied frame words) fs own h = absurd own
-free-fits v (RowDelta change) fs own h = absurd own
-free-fits v (AutoDelta was now) fs own h = absurd own
+free-fits v _ fs own h = absurd own
 
 pub notes-free : (v : FrameView) (l : LayoutParts) (most : ℕ) (was now : TapeValue)
     (later earlier : FreeFrames)
@@ -109,18 +93,13 @@ with_pages_part v ps = record { free = v.free; pages = ps; kernel = v.kernel; bl
 
 pages-undone : (v : FrameView) (d : Delta) (ps : PageFrames) → IsOfPages d
     → undo d (with_pages_part v ps) ≡ with_pages_part v (pages_undo d ps)
-pages-undone v (Link list frame after) ps own = absurd own
-pages-undone v (Unlink list frame after) ps own = absurd own
-pages-undone v (KindDelta pageblock was now) ps own = absurd own
-pages-undone v (KernelDelta frame was now) ps own = absurd own
 pages-undone v (MapDelta owner page change) ps own = refl
 pages-undone v (Swap a b) ps own = refl
 pages-undone v (WordDelta index frame was now) ps own = refl
 pages-undone v (LargeWord index frame change) ps own = refl
 pages-undone v (Filled index frame now) ps own = refl
 pages-undone v (Emptied frame words) ps own = refl
-pages-undone v (RowDelta change) ps own = absurd own
-pages-undone v (AutoDelta was now) ps own = absurd own
+pages-undone v _ ps own = absurd own
 
 pages-fits : (v : FrameView) (d : Delta) (ps : PageFrames) → IsOfPages d → FitsPages d ps
     → Fits d (with_pages_part v ps)
@@ -128,19 +107,9 @@ pages-fits v (Link list frame after) ps own h = absurd own
 pages-fits v (Unlink list frame after) ps own h = absurd own
 pages-fits v (KindDelta pageblock was now) ps own h = absurd own
 pages-fits v (KernelDelta frame was now) ps own h = absurd own
-pages-fits v (MapDelta owner page change) ps own h =
-    record { areas = tt; cached = tt; pages = h; kernel = tt; blocks = tt }
-pages-fits v (Swap a b) ps own h = record { areas = tt; cached = tt; pages = h; kernel = tt; blocks = tt }
-pages-fits v (WordDelta index frame was now) ps own h =
-    record { areas = tt; cached = tt; pages = h; kernel = tt; blocks = tt }
-pages-fits v (LargeWord index frame change) ps own h =
-    record { areas = tt; cached = tt; pages = h; kernel = tt; blocks = tt }
-pages-fits v (Filled index frame now) ps own h =
-    record { areas = tt; cached = tt; pages = h; kernel = tt; blocks = tt }
-pages-fits v (Emptied frame words) ps own h =
-    record { areas = tt; cached = tt; pages = h; kernel = tt; blocks = tt }
 pages-fits v (RowDelta change) ps own h = absurd own
 pages-fits v (AutoDelta was now) ps own h = absurd own
+pages-fits v _ ps own h = record { areas = tt; cached = tt; pages = h; kernel = tt; blocks = tt }
 
 pub notes-pages : (v : FrameView) (l : LayoutParts) (most : ℕ) (was now : TapeValue)
     (later earlier : PageFrames)
@@ -157,35 +126,17 @@ with_blocks_part v bs = record { free = v.free; pages = v.pages; kernel = v.kern
 
 blocks-undone : (v : FrameView) (d : Delta) (bs : Blocks) → IsOfBlocks d
     → undo d (with_blocks_part v bs) ≡ with_blocks_part v (blocks_undo d bs)
-blocks-undone v (Link list frame after) bs own = absurd own
-blocks-undone v (Unlink list frame after) bs own = absurd own
-blocks-undone v (KindDelta pageblock was now) bs own = absurd own
-blocks-undone v (KernelDelta frame was now) bs own = absurd own
-blocks-undone v (MapDelta owner page change) bs own = absurd own
-blocks-undone v (Swap a b) bs own = absurd own
-blocks-undone v (WordDelta index frame was now) bs own = absurd own
-blocks-undone v (LargeWord index frame change) bs own = absurd own
-blocks-undone v (Filled index frame now) bs own = absurd own
-blocks-undone v (Emptied frame words) bs own = absurd own
 blocks-undone v (RowDelta change) bs own = refl
 blocks-undone v (AutoDelta was now) bs own = refl
+blocks-undone v _ bs own = absurd own
 
 blocks-fits : (v : FrameView) (d : Delta) (bs : Blocks) → IsOfBlocks d → FitsBlocks d bs
     → Fits d (with_blocks_part v bs)
-blocks-fits v (Link list frame after) bs own h = absurd own
-blocks-fits v (Unlink list frame after) bs own h = absurd own
-blocks-fits v (KindDelta pageblock was now) bs own h = absurd own
-blocks-fits v (KernelDelta frame was now) bs own h = absurd own
-blocks-fits v (MapDelta owner page change) bs own h = absurd own
-blocks-fits v (Swap a b) bs own h = absurd own
-blocks-fits v (WordDelta index frame was now) bs own h = absurd own
-blocks-fits v (LargeWord index frame change) bs own h = absurd own
-blocks-fits v (Filled index frame now) bs own h = absurd own
-blocks-fits v (Emptied frame words) bs own h = absurd own
 blocks-fits v (RowDelta change) bs own h =
     record { areas = tt; cached = tt; pages = tt; kernel = tt; blocks = h }
 blocks-fits v (AutoDelta was now) bs own h =
     record { areas = tt; cached = tt; pages = tt; kernel = tt; blocks = h }
+blocks-fits v _ bs own h = absurd own
 
 pub notes-blocks : (v : FrameView) (l : LayoutParts) (most : ℕ) (was now : TapeValue) (later earlier : Blocks)
     → NotesBlocks l most was now later earlier
@@ -201,34 +152,14 @@ with_kernel_part v kernel = record { free = v.free; pages = v.pages; kernel = ke
 
 kernel-undone : (v : FrameView) (d : Delta) (kernel : List (Option ℕ)) → IsOfKernel d
     → undo d (with_kernel_part v kernel) ≡ with_kernel_part v (kernel_undo d kernel)
-kernel-undone v (Link list frame after) kernel own = absurd own
-kernel-undone v (Unlink list frame after) kernel own = absurd own
-kernel-undone v (KindDelta pageblock was now) kernel own = absurd own
 kernel-undone v (KernelDelta frame was now) kernel own = refl
-kernel-undone v (MapDelta owner page change) kernel own = absurd own
-kernel-undone v (Swap a b) kernel own = absurd own
-kernel-undone v (WordDelta index frame was now) kernel own = absurd own
-kernel-undone v (LargeWord index frame change) kernel own = absurd own
-kernel-undone v (Filled index frame now) kernel own = absurd own
-kernel-undone v (Emptied frame words) kernel own = absurd own
-kernel-undone v (RowDelta change) kernel own = absurd own
-kernel-undone v (AutoDelta was now) kernel own = absurd own
+kernel-undone v _ kernel own = absurd own
 
 kernel-fits : (v : FrameView) (d : Delta) (kernel : List (Option ℕ)) → IsOfKernel d → FitsKernel d kernel
     → Fits d (with_kernel_part v kernel)
-kernel-fits v (Link list frame after) kernel own h = absurd own
-kernel-fits v (Unlink list frame after) kernel own h = absurd own
-kernel-fits v (KindDelta pageblock was now) kernel own h = absurd own
 kernel-fits v (KernelDelta frame was now) kernel own h =
     record { areas = tt; cached = tt; pages = tt; kernel = h; blocks = tt }
-kernel-fits v (MapDelta owner page change) kernel own h = absurd own
-kernel-fits v (Swap a b) kernel own h = absurd own
-kernel-fits v (WordDelta index frame was now) kernel own h = absurd own
-kernel-fits v (LargeWord index frame change) kernel own h = absurd own
-kernel-fits v (Filled index frame now) kernel own h = absurd own
-kernel-fits v (Emptied frame words) kernel own h = absurd own
-kernel-fits v (RowDelta change) kernel own h = absurd own
-kernel-fits v (AutoDelta was now) kernel own h = absurd own
+kernel-fits v _ kernel own h = absurd own
 
 pub notes-kernel : (v : FrameView) (l : LayoutParts) (most : ℕ) (was now : TapeValue)
     (later earlier : List (Option ℕ))

@@ -70,8 +70,7 @@ source-returns m wanted most f was now from to p holds t = record {
   within = rw (t.layout, p.one.cpus) (let inside = source-inside m from p holds in omega (arith, inside));
   nowhere = λ o above below.
       let same : o ≡ from = omega arith in
-      let some = source-mapped m from holds in
-      rw same (omega (arith, p.placed.once from, some, t.block.places from));
+      rw same (omega (arith, p.placed.once from, source-mapped m from holds, t.block.places from));
 }
 
 -- ---- what a Migrate answers
@@ -162,8 +161,7 @@ migrate-done {before} m f g ps op from to zone was mid more now p none live sour
     let behind : f.cpus.layout ≡ l = t.layout ∙ same in
     let target = target-is fs (migration_target l m.frames.buddy.areas) (free_of f) to
     (rw (← same) (hands-some _ _ _ to t.handed)) in
-    let holds = source-holds m op from source in
-    let page = some_page (page_at s.pages from) holds in
+    let page = some_page (page_at s.pages from) (source-holds m op from source) in
     let seen : ps.pages ≡ page_frames_of l (move_page s.pages from to) =
     set_is ∙ (ap (λ (q : PageFrames). move_frame q from to) (pages_seen m p)
     ∙ sym (view-move_page l s.pages page.0.0 page.0.1 from to (pages_once m p)

@@ -35,10 +35,9 @@ pub unplugged-nowhere : (m : Layers) (block : ℕ) → ArePlaced m
 unplugged-nowhere m block p off o low high =
     let l = m.layout in
     let first = mul_assoc block l.pageblocks (2 ^ l.order) in
-    let last = add-mul (block * l.pageblocks) l.pageblocks (2 ^ l.order) in
     let here : block_of l o ≡ block =
     quotient o (l.pageblocks * 2 ^ l.order) block (omega (arith, low, first))
-    (omega (arith, high, last, first)) in
+    (omega (arith, high, add-mul (block * l.pageblocks) l.pageblocks (2 ^ l.order), first)) in
     let counts : offline_places l (state_of m) o ≡ 1 =
     cond-true (is_unplugged (row_of m.blocks.blocks (block_of l o))) 1 0
     (subst (λ (b : ℕ). is_unplugged (row_of m.blocks.blocks b) ≡ true) (sym here) off) in

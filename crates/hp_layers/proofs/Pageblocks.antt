@@ -19,12 +19,9 @@ pageblock-inside l {block} {at} {count} {number} low here many less =
 -- there are no more pageblocks than frames
 pub pageblocks-few : (l : LayoutParts) → IsLayout l → pageblock_count l ≤ 2 ^ 20
 pageblocks-few l layout =
-    let some : 1 ≤ 2 ^ l.order = one-le-pow l.order 2 (omega arith) in
     let more : l.pageblocks ≤ l.pageblocks * 2 ^ l.order =
-    omega (arith, mul-le-mul_left l.pageblocks some) in
-    let all : l.blocks * l.pageblocks ≤ l.blocks * (l.pageblocks * 2 ^ l.order) =
-    mul-le-mul_left l.blocks more in
-    omega (arith, all, layout.frames)
+    omega (arith, mul-le-mul_left l.pageblocks (one-le-pow l.order 2 (omega arith))) in
+    omega (arith, mul-le-mul_left l.blocks more, layout.frames)
 
 -- the pageblock's number fits into 32 bits
 pub pageblock-fits : {l : LayoutParts} {block at count number : ℕ} → IsLayout l → block < l.blocks

@@ -91,9 +91,8 @@ none-below : (item : Item) (plan : List Item) (n : ℕ) → n ≤ item.block
     → claimed_below (item ∷ plan) n ≤ claimed_below plan n
 none-below item plan zero past = omega arith
 none-below item plan (suc n) past =
-    let rest = none-below item plan n (omega arith) in
     let same = more-at item plan n (λ here. omega arith) in
-    omega (arith, rest, same)
+    omega (arith, none-below item plan n (omega arith), same)
 
 at-most-one : (plan : List Item) (block : ℕ) → claimed_at plan block ≤ 1
 at-most-one plan block = one (is_some (wish_of plan block))
@@ -108,12 +107,10 @@ one-below item plan zero = omega arith
 one-below item plan (suc n) = elim (cases_eq item.block n) [
   | inl here ↦
       let rest = none-below item plan n (omega arith) in
-      let one = at-most-one (item ∷ plan) n in
-      omega (arith, rest, one)
+      omega (arith, rest, at-most-one (item ∷ plan) n)
   | inr other ↦
-      let rest = one-below item plan n in
       let same = more-at item plan n other in
-      omega (arith, rest, same)
+      omega (arith, one-below item plan n, same)
 ]
 
 pub claimed-few : (plan : List Item) (n : ℕ) → claimed_below plan n ≤ length plan
@@ -123,13 +120,11 @@ claimed-few [] n = let none = nothing n in omega (arith, none)
     nothing zero = omega arith
     nothing (suc n) = let rest = nothing n in omega (arith, rest)
 claimed-few (item ∷ plan) n =
-    let rest = claimed-few plan n in
     let more = one-below item plan n in
-    omega (arith, rest, more)
+    omega (arith, claimed-few plan n, more)
 
 pub claimed-below : (plan : List Item) (n : ℕ) → claimed_below plan n ≤ n
 claimed-below plan zero = omega arith
 claimed-below plan (suc n) =
-    let rest = claimed-below plan n in
     let one = at-most-one plan n in
-    omega (arith, rest, one)
+    omega (arith, claimed-below plan n, one)

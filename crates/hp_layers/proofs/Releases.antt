@@ -75,7 +75,6 @@ pub row-set : (m : Layers) (bs : BlocksValue) (block : ℕ) (row : Row) (was now
     (record m { blocks = bs }) was now
 row-set m bs block row was now one tidy set_is layout_is notes =
     let l = m.layout in
-    let v = view_of m in
     record {
       one = row-one m bs one layout_is;
       layout = refl;
@@ -84,7 +83,7 @@ row-set m bs block row was now one tidy set_is layout_is notes =
       tidy = tidy;
       state = ap (λ (b : Blocks). record (state_of m) { blocks = b }) set_is;
       notes = notes-more IsOfMemory Fits undo l 1 (moved_block_bound l) was now _ _ (omega arith)
-          (notes-blocks v l 1 was now bs.blocks m.blocks.blocks (rw (← one.blocks) notes));
+          (notes-blocks (view_of m) l 1 was now bs.blocks m.blocks.blocks (rw (← one.blocks) notes));
     }
 
 -- the pageblocks of a block change, and then its row
@@ -171,8 +170,7 @@ cancel-done {before} m new op blocks was now p none live is r =
     let all = blocks_of m.layout m.blocks.blocks op in
     rw (released m.layout (state_of m) op live)
     (reworked-answered m new (Cancel op) (fold (release_block m.layout) (state_of m) all) Released (length all
-    * moved_block_bound m.layout) was now p none (omega arith) (subst (λ (bs : List ℕ). IsReworked m (fold
-    (release_block m.layout) (state_of m) bs) (length bs * moved_block_bound m.layout) new was now) is r))
+    * moved_block_bound m.layout) was now p none (omega arith) (rw (← is) r))
 
 -- a list with one number more, or with none, has at most one more entry
 pub push-few : (xs ys : List ℕ) (b : Bool) (x n : ℕ) → ys ≡ xs ++ cond b (x ∷ []) [] → length xs ≤ n

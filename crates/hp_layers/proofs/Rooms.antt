@@ -69,18 +69,16 @@ room-view l most more was now later earlier n room =
 pub room-each : (t : TapeValue) (done all each : ℕ) → done < all → HasRoom t (all * each)
     → HasRoom t (done * each + each)
 room-each t done all each low room =
-    let more : suc done * each ≤ all * each = mul-le-mul_right each low in
-    omega (arith, more, suc-mul done each, room)
+    omega (arith, mul-le-mul_right each low, suc-mul done each, room)
 
 -- room for isolating or releasing all memory blocks fits
 pub moved-fits : (l : LayoutParts) (count each : ℕ) → IsLayout l → count ≤ 256 → each ≡ moved_block_bound l
     → Fits w64 (count * each)
 moved-fits l count each layout few is =
-    let blocks : 2 ^ layout.pageblocks.0 ≤ 2 ^ 6 = pow_mono layout.pageblocks.1 in
     let frames : 2 ^ l.order ≤ 2 ^ 10 = pow_mono layout.order in
     let some : l.pageblocks * (1 + 2 * 2 ^ l.order) ≤ 64 * 2049 =
     mul-le-mul {n₁ = l.pageblocks} {m₁ = 1 + 2 * 2 ^ l.order} {n₂ = 64} {m₂ = 2049}
-    (omega (arith, blocks, layout.pageblocks.2)) (omega (arith, frames)) in
+    (omega (arith, pow_mono layout.pageblocks.1, layout.pageblocks.2)) (omega (arith, frames)) in
     let most : count * each ≤ 256 * 131137 =
     mul-le-mul {n₁ = count} {m₁ = each} {n₂ = 256} {m₂ = 131137} few (omega (arith, is, some)) in
     omega (arith, most)

@@ -71,9 +71,8 @@ offline-low l s block first =
 pub offline-unplugged : (l : LayoutParts) (s : Memory) (block : ℕ)
     → None ≡ first_some (event_refusals l s 0 (Remove block)) → is_unplugged (row_of s.blocks block) ≡ true
 offline-unplugged l s block first =
-    let none = all_none (event_refusals l s 0 (Remove block)) (sym first) in
     or_left (is_offline (row_of s.blocks block)) (is_absent (row_of s.blocks block))
-    (not-false _ (then_none _ _ none.1.1.0))
+    (not-false _ (then_none _ _ (all_none (event_refusals l s 0 (Remove block)) (sym first)).1.1.0))
 
 pub probed-low : (l : LayoutParts) (s : Memory) (address : ℕ)
     → None ≡ first_some (event_refusals l s 0 (Probe address)) → address / block_bytes l < l.blocks

@@ -32,11 +32,6 @@ pub source-past : (l : LayoutParts) (s : Memory) (op number count : ℕ) → cou
 source-past l s op number count past =
     let none : count - number ≡ 0 = omega arith in ap (λ (n : ℕ). source_from l s op number n) none
 
--- a block that the operation does not hold
-source-unclaimed : (l : LayoutParts) (s : Memory) (op block : ℕ)
-    → is_claimed_by op (row_of s.blocks block) ≡ false → source_of l s op block ≡ None
-source-unclaimed l s op block none = rw none
-
 -- several blocks that the operation does not hold
 pub source-skipped : (l : LayoutParts) (s : Memory) (op first more count : ℕ) → first + more ≤ count
     → ((block : ℕ) → first ≤ block → block < first + more → is_claimed_by op (row_of s.blocks block) ≡ false)
@@ -46,8 +41,8 @@ source-skipped l s op first zero count low none =
     ap (λ (n : ℕ). source_from l s op n (count - n)) (sym same)
 source-skipped l s op first (suc more) count low none =
     let next : first + 1 + more ≡ first + suc more = omega arith in
-    rw (source-further l s op first count (omega (arith, low)) (source-unclaimed l s op first
-    (none first (omega arith) (omega arith)))) (rw (source-skipped l s op (first + 1) more count
+    rw (source-further l s op first count (omega (arith, low)) (rw (none first (omega arith) (omega arith))))
+    (rw (source-skipped l s op (first + 1) more count
     (omega (arith, low)) (λ block from to. none block (omega (arith, from)) (omega (arith, to)))) (rw next))
 
 -- all blocks between two numbers

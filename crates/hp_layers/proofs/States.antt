@@ -1,6 +1,5 @@
 -- The state of a frame view, and the frame view of a state.
-use Rattle.std.proofs.Common.{◌≡◌, ℕ, zero, suc, ◌<◌, List, [], ◌∷◌, length, get_or, map, Option, Some, None, Result, Ok, Err, IfOk, OnOk, OnErr, refl, sym, ◌∙◌, ap, subst, arith}
-use Rattle.std.specs.List.{AllByRecursion}
+use Rattle.std.proofs.Common.{◌≡◌, ℕ, ◌<◌, List, [], length, get_or, map, Option, Some, None, Result, Ok, Err, IfOk, OnOk, OnErr, refl, sym, ◌∙◌, ap, subst, arith}
 use Rattle.std.specs.Option.{option_map}
 use Rattle.std.proofs.lemmas.List.{ext_get_or, get_or-map, length-map}
 use Rattle.hp_units.specs.LayoutParts.{LayoutParts, IsLayout}
@@ -19,16 +18,9 @@ use Rattle.hp_pages.specs.Pages.{pages_of, words_in, words_of}
 use Rattle.hp_pages.proofs.Views.{AreOnce, once_placed, view-words_at}
 use Rattle.hp_layers.specs.declared.layers.Layers.{Layers}
 use Rattle.hp_layers.specs.Layers.{AreLedTo, AreNoted, ArePlaced, IsAnswered, memory_of, state_of, view_of}
+use Rattle.hp_pages.proofs.Tables.{row_length}
 
 -- ---- words by frame, and by page
-
--- a row of a table
-row_length : {A : Type 0} (pages : ℕ) (table : List (List A)) (owner : ℕ)
-    → AllByRecursion (λ row. length row ≡ pages) table → owner < length table
-    → length (get_or table owner []) ≡ pages
-row_length pages [] owner all low = absurd (omega arith)
-row_length pages (row ∷ rows) zero all low = all.0
-row_length pages (row ∷ rows) (suc owner) all low = row_length pages rows owner all.1 (omega arith)
 
 words_back : (l : LayoutParts) (ps : Pages) (owner page : ℕ) (entry : Option ℕ) → AreOnce l ps
     → IsPage l entry (words_at ps owner page) → frame_at ps owner page ≡ entry
@@ -64,11 +56,6 @@ contents_back l s layout p =
     (omega (arith, inside, length-map (get_or ps.table owner []) words))
     ∙ words_back l ps owner page (frame_at ps owner page) once (p.in_order.words owner page) refl))
 
--- the state of a well placed state's frame view is that state
-pub state_back : (l : LayoutParts) (s : Memory) → IsLayout l → IsWellPlaced l s
-    → memory_of l (frame_view_of l s) ≡ s
-state_back l s layout p = rw (contents_back l s layout p)
-
 -- ---- the layers after a step
 
 -- layers that keep the frame view of a well placed state
@@ -78,7 +65,7 @@ are-placed m new s led p =
     let layout = subst IsLayout led.layout led.one.layout in
     let is : state_of new ≡ s =
     ap (memory_of new.layout) led.view ∙ (ap (λ (l : LayoutParts). memory_of l (frame_view_of m.layout s))
-    led.layout ∙ state_back m.layout s layout p) in (
+    led.layout ∙ (rw (contents_back m.layout s layout p))) in (
       record {
         one = led.one;
         placed =

@@ -1,5 +1,5 @@
 -- Rows in the replies of a talk in rows.
-use Rattle.std.proofs.Common.{◌≡◌, ℕ, ◌+◌, Bool, List, [], ◌∷◌, ◌++◌, Option, Some, None, length, refl, sym, ap, subst, ◌∙◌, append-nil, append_assoc, inl, inr}
+use Rattle.std.proofs.Common.{arith, ◌≡◌, ℕ, ◌+◌, Bool, List, [], ◌∷◌, ◌++◌, Option, Some, None, length, refl, sym, ap, subst, ◌∙◌, append-nil, append_assoc, inl, inr}
 use Rattle.std.proofs.lemmas.List.{length-append}
 use Rattle.std.specs.Prelude.{flat_map, map}
 use Rattle.std.specs.List.{AllByRecursion}
@@ -8,11 +8,8 @@ use Rattle.hp_scenario.specs.Scenario.{ScenarioValue}
 use Rattle.hp_scenario.specs.declared.lines.Line.{Line}
 use Rattle.hp_talk.specs.Talks.{AreReplies}
 use Rattle.hp_trace.specs.Lives.{AreRead, LiveValue, LivesOn, LivesThrough, ShowTheTrace, without_text}
-use Rattle.hp_trace.specs.Traces.{IsTraceOf}
-use Rattle.hp_live.specs.RowTalks.{DrawsTrace, HasRows, RepliesWhole, RowsBegun, RowsRead, RowsSession, RowsText, RowsWord, Stays, cleared, later_view}
-use Rattle.hp_live.specs.Talks.{word_of}
+use Rattle.hp_live.specs.RowTalks.{DrawsTrace, HasRows, RepliesWhole, RowsBegun, RowsRead, RowsSession, RowsText, RowsWord, Stays, cleared}
 use Rattle.hp_live.specs.declared.live_words.LiveWord.{LiveWord}
-use Rattle.hp_live.specs.declared.live_words.LiveWord.TheVariants as word
 
 -- the replies after these names and lines have the rows of the lines that came
 record Draws (names : List (List ℕ)) (lines : List Line) (trace : LiveValue) (text : List ℕ)
@@ -41,8 +38,7 @@ quiet : (s next new : RowsSession) (reply rest : List ℕ) → Stays (cleared s)
 quiet s next new reply rest stays later =
     let same =
     subst (λ (t : LiveValue). Draws s.names s.lines t rest new) stays.trace
-    (subst (λ (l : List Line). Draws s.names l next.trace rest new) stays.lines
-    (subst (λ (n : List (List ℕ)). Draws n next.lines next.trace rest new) stays.names later)) in
+    (rw (← stays.lines) (rw (← stays.names) later)) in
     let lives =
     through_cleared (length s.lines + 1) same.came
     (flat_map (λ (p : List ℕ × List ℕ). p.1) same.told) s.trace same.last same.lives in record {
@@ -95,18 +91,11 @@ one_read (Some n) s next new line reply rest is read later = ran n s next new li
 one_word : (w : LiveWord) (s next new : RowsSession) (line reply rest : List ℕ)
     → RowsWord w (cleared s) line reply next → Draws next.names next.lines next.trace rest new
     → Draws s.names s.lines s.trace (reply ++ rest) new
-one_word word.Nothing s next new line reply rest said later = quiet s next new reply rest said.1 later
-one_word word.Help s next new line reply rest said later = quiet s next new reply rest said later
-one_word word.State s next new line reply rest said later = quiet s next new reply rest said.1 later
-one_word word.Scenario s next new line reply rest said later = quiet s next new reply rest said.1 later
-one_word word.Line s next new line reply rest said later =
-    one_read (line_in s.names line) s next new line reply rest refl said later
+one_word w s next new line reply rest said later = grind (arith, quiet, one_read)
 
 one_text : (s next new : RowsSession) (line reply rest : List ℕ) → RowsText (cleared s) line reply next
     → Draws next.names next.lines next.trace rest new → Draws s.names s.lines s.trace (reply ++ rest) new
-one_text s next new line reply rest (inl unread) later = quiet s next new reply rest unread.1 later
-one_text s next new line reply rest (inr said) later =
-    one_word (word_of line) s next new line reply rest said later
+one_text s next new line reply rest x later = grind (arith, quiet, one_word)
 
 -- ---- all replies
 
@@ -123,29 +112,11 @@ all_drawn [] s new text replied = record {
   lives = (refl, refl);
 }
 all_drawn (line ∷ lines) s new text replied =
-    subst (λ (l : List ℕ). Draws s.names s.lines s.trace l new) (sym replied.4)
-    (one_text s replied.1 new line replied.0 replied.2 replied.3
-    (all_drawn lines replied.1 new replied.2 replied.5))
+    rw replied.4 (one_text s replied.1 new line replied.0 replied.2 replied.3 (all_drawn lines replied.1 new
+    replied.2 replied.5))
 
 pub talks_draw : ShowTheTrace → (scenario : ScenarioValue) (width : ℕ) (orders : Bool) (first s : RowsSession)
     (lines : List (List ℕ)) (text : List ℕ) → RowsBegun scenario width orders first
     → AreReplies RepliesWhole first lines text s
     → DrawsTrace scenario width orders first.trace.rows.text text s
-talks_draw law scenario width orders first s lines text begun replied =
-    let drawn =
-    subst (λ (l : List Line). Draws scenario.names l first.trace text s) begun.lines
-    (subst (λ (n : List (List ℕ)). Draws n first.lines first.trace text s) begun.names
-    (all_drawn lines first s text replied)) in
-    let rows = flat_map (λ (p : List ℕ × List ℕ). p.1) drawn.told in record {
-      told = drawn.told;
-      replies = drawn.replies;
-      rows = drawn.rows;
-      trace =
-          subst (λ (l : List Line). IsTraceOf (later_view scenario width orders) (record {
-            layout = scenario.layout;
-            names = s.names;
-            lines = l;
-          }) (first.trace.rows.text ++ rows)) (sym drawn.kept)
-          (law (later_view scenario width orders) scenario drawn.came s.names rows first.trace drawn.last
-          refl begun.begun drawn.read drawn.lives);
-    }
+talks_draw law scenario width orders first s lines text begun replied = grind (arith, all_drawn)

@@ -1,5 +1,5 @@
 -- The receipts that a plan's calls leave.
-use Rattle.std.proofs.Common.{◌≡◌, ℕ, Bool, true, false, ◌||◌, not, List, [], ◌++◌, Option, Some, None, refl, sym, ap, subst, ◌∙◌, true≢false}
+use Rattle.std.proofs.Common.{arith, ◌≡◌, ℕ, Bool, false, ◌||◌, not, List, [], ◌++◌, Option, Some, refl, sym, ap, subst, ◌∙◌}
 use Rattle.hp_units.specs.Driver.{IsDriverRun}
 use Rattle.hp_units.specs.declared.plans.Item.{Item}
 use Rattle.hp_units.specs.declared.replies.CallFault.{CallFault}
@@ -16,10 +16,7 @@ use Rattle.hp_live.specs.Plans.{IsRunWith, Keeps}
 -- one receipt more
 pub one_kept : (old now new gained : List Receipt) (was is kept : Bool) → is ≡ (was || not kept)
     → now ≡ old → Keeps now false gained new (not kept) → Keeps old was gained new is
-one_kept old now new gained false is true lost same keeps =
-    λ none. (refl, (keeps refl).1 ∙ ap (λ (l : List Receipt). l ++ gained) same)
-one_kept old now new gained false is false lost same keeps = λ none. absurd (true≢false (sym lost ∙ none))
-one_kept old now new gained true is kept lost same keeps = λ none. absurd (true≢false (sym lost ∙ none))
+one_kept old now new gained was is kept lost same keeps = grind arith
 
 -- what the calls that gave receipts and the one that left a fault made of a port
 pub all_kept : {S N K : Type 0} (old new : S) (name : S → N) (list : S → K) (cpu : S → ℕ)
@@ -35,17 +32,7 @@ pub all_kept : {S N K : Type 0} (old new : S) (name : S → N) (list : S → K) 
     → (name new ≡ name old) × (list new ≡ list old)
     × AreCalls (machine old) (cpu old) gained (machine new) × HasCause fault (machine new)
     × Keeps (calls old) (lost old) gained (calls new) (lost new)
-all_kept old new name list cpu machine calls lost gained None made =
-    (made.0, made.1, made.3, tt, made.4)
-all_kept old new name list cpu machine calls lost gained (Some fault) made =
-    let first = made.1 in
-    let left = made.2 in (
-      left.0 ∙ first.0,
-      left.1 ∙ first.1,
-      subst (λ (m : MachineValue). AreCalls (machine old) (cpu old) gained m) (sym left.3) first.3,
-      subst (HasCause (Some fault)) (sym left.3) left.4,
-      λ none. let kept = first.4 (sym left.6 ∙ none) in (kept.0, left.5 ∙ kept.1),
-    )
+all_kept old new name list cpu machine calls lost gained fault made = grind arith
 
 -- a run, from a port's machine and receipts before and after it
 pub run_with : (m first last new : MachineValue) (cpu caller turns : ℕ) (plan : List Item) (end : OpEnd)
@@ -62,8 +49,7 @@ run_with m first last new cpu caller turns plan end fault gained old start kept 
         fault = fault;
         calls =
             subst (λ (k : MachineValue). AreCalls m cpu gained k) (sym at_last)
-            (subst (λ (n : ℕ). AreCalls m n gained last) same
-            (subst (λ (k : MachineValue). AreCalls k caller gained last) at_first calls));
+            (rw (← same) (subst (λ (k : MachineValue). AreCalls k caller gained last) at_first calls));
         cause = subst (HasCause fault) (sym at_last) cause;
         run = subst (λ (k : MachineValue). IsDriverRun k.layout.cpus turns plan gained fault end) at_first ran;
       },
@@ -78,8 +64,7 @@ pub plan_kept : (m new : MachineValue) (cpu turns : ℕ) (plan copied : List Ite
     → IsPlanKept m cpu turns plan end (record { text = text; calls = kept; did = d }) new
 plan_kept m new cpu turns plan copied end text old kept d same empty ran =
     let none : old ≡ [] = ap (λ (a : AnswerValue). a.calls) empty in
-    subst (λ (p : List Item). IsPlanKept m cpu turns p end (record { text = text; calls = kept; did = d }) new)
-    same (
+    rw (← same) (
       ran.0,
       ap (λ (a : AnswerValue). record { text = a.text; calls = kept; did = a.did }) empty
           ∙ ap (λ (l : List Receipt). record { text = []; calls = l; did = did.NoLine })

@@ -1,5 +1,5 @@
 -- A scenario's lines, run one after another.
-use Rattle.std.proofs.Common.{◌≡◌, ℕ, ◌+◌, ◌<◌, List, [], ◌∷◌, ◌++◌, length, get_or, take, refl, sym, ap, subst, ◌∙◌}
+use Rattle.std.proofs.Common.{arith, ◌≡◌, ℕ, ◌+◌, ◌<◌, List, [], length, get_or, take, refl}
 use Rattle.std.proofs.lemmas.List.{take_more}
 use Rattle.hp_machine.specs.Machine.{MachineValue}
 use Rattle.hp_scenario.specs.declared.lines.Line.{Line}
@@ -16,9 +16,4 @@ none_run m xs = ([], (refl, refl))
 pub more_run : (xs : List Line) (i : ℕ) (line : Line) (written : List ℕ) (m mid next : MachineValue)
     → i < length xs → (text : List ℕ) × WritesLines m (take i xs) text mid → line ≡ get_or xs i line
     → WritesLine mid line written next → (text : List ℕ) × WritesLines m (take (i + 1) xs) text next
-more_run xs i line written m mid next lt ran is_at one = (
-  ran.0 ++ written,
-  subst (λ (l : List Line). WritesLines m l (ran.0 ++ written) next)
-      (sym (take_more xs i line lt ∙ ap (λ (x : Line). take i xs ++ x ∷ []) (sym is_at)))
-      (one_more (take i xs) line m mid next ran.0 written ran.1 one),
-)
+more_run xs i line written m mid next lt ran is_at one = grind (arith, take_more, one_more)

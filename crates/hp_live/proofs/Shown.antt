@@ -1,6 +1,6 @@
 -- Objects that show how a state changed.
-use Rattle.std.proofs.Common.{◌≡◌, ◌≢◌, ℕ, Bool, true, false, List, [], ◌∷◌, ◌++◌, Option, refl, sym, ap, subst, ◌∙◌, append_assoc, inl, inr, arith, get_or, drop, length}
-use Rattle.json.specs.Print.{ends, print, print_from, separator, token_text}
+use Rattle.std.proofs.Common.{◌≡◌, ◌≢◌, ℕ, Bool, true, false, List, [], ◌∷◌, ◌++◌, Option, refl, sym, ap, subst, ◌∙◌, append_assoc, inl, arith, get_or, drop, length}
+use Rattle.json.specs.Print.{ends, print, print_from}
 use Rattle.json.specs.Token.{Token, end_object}
 use Rattle.hp_plain.specs.Image.{Pictured}
 use Rattle.hp_machine.specs.Machine.{MachineValue}
@@ -18,11 +18,7 @@ print_end : (after : Bool) (ts : List Token)
 unfolding print_from
 print_end false [] = refl
 print_end true [] = refl
-print_end after (t ∷ ts) =
-    ap (λ (l : List ℕ). separator after t ++ (token_text t ++ l)) (print_end (ends t) ts)
-    ∙ ap (λ (l : List ℕ). separator after t ++ l)
-    (sym (append_assoc (token_text t) (print_from (ends t) ts) (125 ∷ [])))
-    ∙ sym (append_assoc (separator after t) (token_text t ++ print_from (ends t) ts) (125 ∷ []))
+print_end after (t ∷ ts) = grind (arith, append_assoc, (print_end (ends t) ts))
 
 pub object_ends : (number : ℕ) (a : AnswerValue) (object : List ℕ) → WritesObject [] number a object
     → (front : List ℕ) × (object ≡ front ++ object_end)
@@ -56,9 +52,7 @@ answer_shown a b s t states u new m object reply shown same stays still is write
           (shows end.0 end.1);
       kept = keeps;
     } in
-    subst (λ (x : AnswerValue). ShowsObject (number_of x.did s.lines) x states s.machine reply new) same
-    (subst (λ (x : SessionValue). ShowsObject (number_of b.did x.lines) b states x.machine reply new) stays
-    (subst (λ (x : StatesValue). ShowsObject (number_of b.did t.lines) b x t.machine reply new) still one))
+    rw (← same) (rw (← stays) (rw (← still) one))
 
 -- ---- the object of a change
 
@@ -76,26 +70,18 @@ change_begins change x keys object = ap (λ (b : ℕ). b ∷ keys) (first_is obj
 
 pub change_some : (change : ChangeValue) (text : List ℕ) → IsChangeObject change text → length text ≢ 0
 unfolding print_from
-change_some change text object none =
-    let long : length text ≡ length (123 ∷ print_from false (object.inside ++ end_object ∷ [])) =
-    ap (λ (l : List ℕ). length l) object.is in
-    absurd (omega (arith, none, long))
+change_some change text object none = cc
 
 empty_told : (change : ChangeValue) (inside : List Token) → TellsChange change inside
     → print_from false (inside ++ end_object ∷ []) ≡ 125 ∷ [] → change ≡ no_change
 unfolding print_from
-empty_told change inside (inl none) is = none.0
-empty_told change inside (inr some) is =
-    let opens =
-    first_is (ap (λ (ts : List Token). print_from false (ts ++ end_object ∷ [])) (sym some.2) ∙ is) in
-    absurd (omega (arith, opens))
+empty_told change inside x is = grind (arith, first_is)
 
 -- it is empty if nothing changed
 change_empty : (change : ChangeValue) (text keys : List ℕ) → IsChangeObject change text → text ≡ 123 ∷ keys
     → keys ≡ 125 ∷ [] → change ≡ no_change
 unfolding print_from
-change_empty change text keys object begins is =
-    empty_told change object.inside object.told (rest_is (sym object.is ∙ begins) ∙ is)
+change_empty change text keys object begins is = grind (arith, empty_told, rest_is)
 
 -- an object stays as it is if nothing changed
 pub unchanged_told : (front : List ℕ) (change : ChangeValue) (object text keys : List ℕ)
@@ -103,14 +89,3 @@ pub unchanged_told : (front : List ℕ) (change : ChangeValue) (object text keys
     → TellsIn front change object
 unchanged_told front change object text keys ends told begins is =
     inl (change_empty change text keys told begins is, ends)
-
--- and else gets the keys
-pub change_told : (front : List ℕ) (change : ChangeValue) (object text keys : List ℕ)
-    → object ≡ ((front ++ 44 ∷ []) ++ keys) ++ 10 ∷ [] → IsChangeObject change text → text ≡ 123 ∷ keys
-    → TellsIn front change object
-change_told front change object text keys is told begins =
-    inr (
-      keys,
-      subst (IsChangeObject change) begins told,
-      is ∙ append_assoc (front ++ 44 ∷ []) keys (10 ∷ []) ∙ append_assoc front (44 ∷ []) (keys ++ 10 ∷ []),
-    )

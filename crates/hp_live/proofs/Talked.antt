@@ -1,57 +1,38 @@
 -- Texts in the replies of a talk in objects.
-use Rattle.std.proofs.Common.{◌≡◌, ℕ, Bool, true, false, List, [], ◌∷◌, ◌++◌, Option, Some, None, refl, sym, ap, subst, ◌∙◌, append-nil, append_assoc, inl, inr}
+use Rattle.std.proofs.Common.{arith, ◌≡◌, ℕ, Bool, List, [], ◌∷◌, ◌++◌, Option, refl, ap, subst, ◌∙◌, append-nil, append_assoc, inl, inr}
 use Rattle.std.specs.Prelude.{◌⊎◌, flat_map}
 use Rattle.std.specs.List.{AllByRecursion}
 use Rattle.hp_plain.specs.Image.{Pictured}
-use Rattle.hp_machine.specs.Machine.{MachineValue, booted}
-use Rattle.hp_scenario.specs.Names.{Numbered, line_in}
+use Rattle.hp_machine.specs.Machine.{MachineValue}
+use Rattle.hp_scenario.specs.Names.{line_in}
 use Rattle.hp_scenario.specs.Scenario.{ScenarioValue}
-use Rattle.hp_scenario.specs.declared.lines.Line.{Line}
 use Rattle.hp_commands.specs.Serial.{WritesLines}
 use Rattle.hp_commands.proofs.Lines.{one_more}
 use Rattle.hp_talk.specs.Talks.{AreReplies}
 use Rattle.hp_trace_json.specs.Changes.{ChangeValue}
 use Rattle.hp_live.specs.Answers.{AnswerValue}
-use Rattle.hp_live.specs.Sessions.{AnswersRead, IsLost, IsResumed, SessionValue}
-use Rattle.hp_live.specs.Talks.{HasKeys, HasText, IsLostLine, IsObjectOf, ObjectsValue, RepliesObject, RepliesWord, ShowsIf, ShowsObject, StatesValue, TellsIn, TellsLines, lost_object, number_of, object_end, picture, word_of}
+use Rattle.hp_live.specs.Sessions.{IsResumed, SessionValue}
+use Rattle.hp_live.specs.Talks.{HasKeys, HasText, IsLostLine, IsObjectOf, ObjectsValue, RepliesObject, RepliesWord, ShowsIf, ShowsObject, StatesValue, TellsIn, TellsLines, lost_object, number_of, object_end}
 use Rattle.hp_live.specs.declared.live_words.LiveWord.{LiveWord}
 use Rattle.hp_live.specs.declared.live_words.LiveWord.TheVariants as word
-use Rattle.hp_live.specs.declared.session.Lack.{Lack}
-use Rattle.hp_live.specs.declared.session.Lack.TheVariants as lack
 use Rattle.hp_live.proofs.Together.{one_answer, resumed_run}
 
 -- ---- without memory
-
-pub lost_line_of : (given : Lack) (s new : SessionValue) (text : List ℕ) → IsLost given s text new
-    → IsLostLine s text new
-lost_line_of lack.Line s new text same = inl same
-lost_line_of lack.Answer s new text ran = inr ran
-
-pub answered_lost : (n : Option Numbered) (s new : SessionValue) (text : List ℕ) (a : AnswerValue)
-    → line_in s.names text ≡ n → AnswersRead s n a new → IsLostLine s text new
-answered_lost None s new text a is answered = inl answered.1
-answered_lost (Some n) s new text a is answered = inr (n, a.text, is, (answered.0.0, answered.1))
 
 -- ---- an object that may show a state
 
 told_in : (front : List ℕ) (change : ChangeValue) (reply : List ℕ) → TellsIn front change reply
     → (reply ≡ front ++ object_end) ⊎ ((keys : List ℕ) × HasKeys front keys reply)
-told_in front change reply (inl none) = inl none.1
-told_in front change reply (inr some) = inr (some.0, some.2)
+told_in front change reply x = grind arith
 
 shown_in : (is_shown : Bool) (last : Option Pictured) (now : Pictured) (shown : Option Pictured)
     (front reply : List ℕ) → ShowsIf is_shown last now shown front reply
     → (reply ≡ front ++ object_end) ⊎ ((keys : List ℕ) × HasKeys front keys reply)
-shown_in false last now shown front reply shows = inl shows.1
-shown_in true last now shown front reply shows = told_in front shows.1 reply shows.3
+shown_in is_shown last now shown front reply shows = grind (arith, told_in)
 
 object_shown : (number : ℕ) (a : AnswerValue) (states new : StatesValue) (machine : MachineValue)
     (reply : List ℕ) → ShowsObject number a states machine reply new → IsObjectOf number a reply
-object_shown number a states new machine reply object = (
-  object.front,
-  object.object,
-  shown_in states.is_shown states.last (picture machine) object.shown object.front reply object.shows,
-)
+object_shown number a states new machine reply object = grind (arith, shown_in)
 
 -- ---- the texts in replies
 
@@ -62,12 +43,7 @@ IsToldAfter m before reply s =
 
 nothing_told : (m : MachineValue) (s new : SessionValue) (before reply : List ℕ) → new ≡ s
     → WritesLines m s.lines before s.machine → IsToldAfter m before reply new
-nothing_told m s new before reply same ran = (
-  [],
-  inr (inl refl),
-  subst (λ (x : SessionValue). WritesLines m x.lines (before ++ []) x.machine) (sym same)
-      (subst (λ (l : List ℕ). WritesLines m s.lines l s.machine) (sym (append-nil before)) ran),
-)
+nothing_told m s new before reply same ran = grind (arith, append-nil)
 
 same_told : (m : MachineValue) (s new : ObjectsValue) (before reply : List ℕ) → new ≡ s
     → WritesLines m s.session.lines before s.session.machine → IsToldAfter m before reply new.session
@@ -96,20 +72,13 @@ one_word word.Line m s new before line reply replied ran =
 one_lost : (m : MachineValue) (s new : SessionValue) (before line reply : List ℕ) → reply ≡ lost_object
     → IsLostLine s line new → WritesLines m s.lines before s.machine → IsToldAfter m before reply new
 one_lost m s new before line reply is (inl same) ran = nothing_told m s new before reply same ran
-one_lost m s new before line reply is (inr line_ran) ran = (
-  line_ran.1,
-  inr (inr is),
-  subst (λ (l : List Line). WritesLines m l (before ++ line_ran.1) new.machine)
-      (sym (ap (λ (x : SessionValue). x.lines) line_ran.3.1))
-      (one_more s.lines line_ran.0.line m s.machine new.machine before line_ran.1 ran line_ran.3.0),
-)
+one_lost m s new before line reply is (inr line_ran) ran = grind (arith, one_more)
 
 one_reply : (m : MachineValue) (s new : ObjectsValue) (before line reply : List ℕ)
     → RepliesObject s line reply new → WritesLines m s.session.lines before s.session.machine
     → IsToldAfter m before reply new.session
 one_reply m s new before line reply (inl refused) ran = same_told m s new before reply refused.same ran
-one_reply m s new before line reply (inr (inl replied)) ran =
-    one_word (word_of line) m s new before line reply replied ran
+one_reply m s new before line reply (inr (inl replied)) ran = grind (arith, one_word)
 one_reply m s new before line reply (inr (inr lost)) ran =
     one_lost m s.session new.session before line reply lost.0 lost.1.0 ran
 
@@ -123,14 +92,7 @@ AreTold m before text s =
 all_replies : (lines : List (List ℕ)) (m : MachineValue) (s new : ObjectsValue) (before text : List ℕ)
     → AreReplies RepliesObject s lines text new → WritesLines m s.session.lines before s.session.machine
     → AreTold m before text new.session
-all_replies [] m s new before text replied ran = (
-  [],
-  replied.0,
-  tt,
-  subst (λ (x : ObjectsValue). WritesLines m x.session.lines (before ++ []) x.session.machine)
-      (sym replied.1) (subst (λ (l : List ℕ). WritesLines m s.session.lines l s.session.machine)
-      (sym (append-nil before)) ran),
-)
+all_replies [] m s new before text replied ran = grind (arith, append-nil)
 all_replies (line ∷ lines) m s new before text replied ran =
     let reply = replied.0 in
     let one = one_reply m s replied.1 before line reply replied.3 ran in
@@ -145,7 +107,4 @@ all_replies (line ∷ lines) m s new before text replied ran =
 pub talks_tell : (scenario : ScenarioValue) (s new : ObjectsValue) (lines : List (List ℕ)) (text : List ℕ)
     → (begun : IsResumed scenario s.session) → AreReplies RepliesObject s lines text new
     → TellsLines scenario begun.text text new.session
-talks_tell scenario s new lines text begun replied =
-    let ran = resumed_run scenario s.session begun in
-    let all = all_replies lines (booted scenario.layout) s new begun.text text replied ran in
-    record { told = all.0; replies = all.1; texts = all.2; run = all.3 }
+talks_tell scenario s new lines text begun replied = grind (arith, resumed_run, all_replies)

@@ -1,12 +1,9 @@
 -- Answers in a row.
-use Rattle.std.proofs.Common.{◌≡◌, ℕ, ◌+◌, List, [], ◌∷◌, ◌++◌, Option, Some, None, Ok, refl, sym, ap, subst, ◌∙◌, append-nil, append_assoc}
+use Rattle.std.proofs.Common.{arith, ◌≡◌, ℕ, List, [], ◌∷◌, ◌++◌, Option, Ok, refl, sym, ap, append-nil, append_assoc}
 use Rattle.hp_units.specs.LayoutParts.{LayoutParts}
 use Rattle.hp_machine.specs.Machine.{MachineValue, booted}
-use Rattle.hp_scenario.specs.declared.fault.ScenarioFault.TheVariants.{BadLine}
-use Rattle.hp_scenario.specs.declared.lines.Line.{Line}
-use Rattle.hp_scenario.specs.Gives.{◌>>=◌, or_fault}
 use Rattle.hp_scenario.specs.Names.{Numbered, line_in}
-use Rattle.hp_scenario.specs.Scenario.{ScenarioValue, lines_from, nothing, scenario_in, with_line as script_with}
+use Rattle.hp_scenario.specs.Scenario.{ScenarioValue, lines_from, nothing, scenario_in}
 use Rattle.hp_commands.specs.Serial.{WritesLines}
 use Rattle.hp_commands.specs.Served.{IsTextOf}
 use Rattle.hp_commands.proofs.Lines.{one_more}
@@ -20,38 +17,29 @@ use Rattle.hp_live.specs.Sessions.{AnswersAll, AnswersRead, IsResumed, SessionVa
 -- the lines of a scenario
 pub resumed_run : (scenario : ScenarioValue) (s : SessionValue) → (begun : IsResumed scenario s)
     → WritesLines (booted scenario.layout) s.lines begun.text s.machine
-resumed_run scenario s begun =
-    subst (λ (l : List Line). WritesLines (booted scenario.layout) l begun.text s.machine) (sym begun.lines)
-    begun.run
+resumed_run scenario s begun = rw begun.lines begun.run
 
 -- the lines so far, and one text more
 pub one_answer : (n : Option Numbered) (m : MachineValue) (s next : SessionValue) (a : AnswerValue)
     (before : List ℕ)
     → WritesLines m s.lines before s.machine → AnswersRead s n a next
     → WritesLines m next.lines (before ++ a.text) next.machine
-one_answer None m s next a before ran answered =
-    subst (λ (x : AnswerValue). WritesLines m next.lines (before ++ x.text) next.machine) (sym answered.0)
-    (subst (λ (x : SessionValue). WritesLines m x.lines (before ++ []) x.machine) (sym answered.1)
-    (subst (λ (l : List ℕ). WritesLines m s.lines l s.machine) (sym (append-nil before)) ran))
-one_answer (Some n) m s next a before ran answered =
-    subst (λ (l : List Line). WritesLines m l (before ++ a.text) next.machine)
-    (sym (ap (λ (x : SessionValue). x.lines) answered.1))
-    (one_more s.lines n.line m s.machine next.machine before a.text ran answered.0.0)
+one_answer n m s next a before ran answered = grind (arith, append-nil, one_more)
 
 -- and all texts
 all_answers : (texts : List (List ℕ)) (m : MachineValue) (s new : SessionValue) (before written : List ℕ)
     → WritesLines m s.lines before s.machine → AnswersAll s texts written new
     → WritesLines m new.lines (before ++ written) new.machine
 unfolding AnswersAll
-all_answers [] m s new before written ran all =
-    subst (λ (l : List ℕ). WritesLines m new.lines (before ++ l) new.machine) (sym all.0)
-    (subst (λ (x : SessionValue). WritesLines m x.lines (before ++ []) x.machine) (sym all.1)
-    (subst (λ (l : List ℕ). WritesLines m s.lines l s.machine) (sym (append-nil before)) ran))
+all_answers [] m s new before written ran all = grind (arith, append-nil)
 all_answers (text ∷ texts) m s new before written ran all =
-    subst (λ (l : List ℕ). WritesLines m new.lines l new.machine)
-    (append_assoc before all.0.text all.2 ∙ ap (λ (l : List ℕ). before ++ l) (sym all.4))
-    (all_answers texts m all.1 new (before ++ all.0.text) all.2
-    (one_answer (line_in s.names text) m s all.1 all.0 before ran all.3) all.5)
+    grind (
+      arith,
+      append_assoc,
+      one_answer,
+      (all_answers texts m all.1 new (before ++ all.0.text) all.2
+          (one_answer (line_in s.names text) m s all.1 all.0 before ran all.3) all.5),
+    )
 
 pub answers_write : (l : LayoutParts) (texts : List (List ℕ)) (written : List ℕ) (s : SessionValue)
     → AnswersAll (started l) texts written s → WritesLines (booted l) s.lines written s.machine
@@ -64,8 +52,7 @@ pub answers_resume : (scenario : ScenarioValue) (texts : List (List ℕ)) (writt
     (first s : SessionValue)
     → (begun : IsResumed scenario first) → AnswersAll first texts written s
     → WritesLines (booted scenario.layout) s.lines (begun.text ++ written) s.machine
-answers_resume scenario texts written first s begun all =
-    all_answers texts (booted scenario.layout) first s begun.text written (resumed_run scenario first begun) all
+answers_resume scenario texts written first s begun all = grind (arith, all_answers, resumed_run)
 
 -- with the state after them it is a text of `hotplug serial`
 pub answers_serve : (l : LayoutParts) (texts : List (List ℕ)) (written : List ℕ) (s : SessionValue)
@@ -86,14 +73,7 @@ one_taken : (n : Option Numbered) (text : List ℕ) (texts : List (List ℕ)) (a
     → ((k : ℕ) → lines_from k (script_of next) (taken next.names texts) ≡ Ok (script_of new))
     → lines_from at (script_of s) (took n s.names text (λ names. taken names texts)) ≡ Ok (script_of new)
 unfolding lines_from
-one_taken None text texts at s next new a is answered rest =
-    subst (λ (x : SessionValue). lines_from at (script_of x) (taken x.names texts) ≡ Ok (script_of new))
-    answered.1 (rest at)
-one_taken (Some n) text texts at s next new a is answered rest =
-    ap (λ (o : Option Numbered). or_fault (BadLine at) o >>= λ k. lines_from (at + 1)
-    (script_with (script_of s) k) (taken n.names texts)) is
-    ∙ subst (λ (x : SessionValue). lines_from (at + 1) (script_of x) (taken x.names texts)
-    ≡ Ok (script_of new)) answered.1 (rest (at + 1))
+one_taken n text texts at s next new a is answered rest = grind arith
 
 all_taken : (texts : List (List ℕ)) (at : ℕ) (s new : SessionValue) (written : List ℕ)
     → AnswersAll s texts written new

@@ -1,15 +1,12 @@
 -- Tokens that are appended.
-use Rattle.std.proofs.Common.{◌≡◌, ℕ, ◌+◌, ◌<◌, List, [], ◌∷◌, ◌++◌, Result, length, get_or, take, refl, sym, ap, subst, ◌∙◌, append_assoc, append-nil}
+use Rattle.std.proofs.Common.{arith, ◌≡◌, ℕ, ◌+◌, ◌<◌, List, [], ◌∷◌, ◌++◌, Result, length, get_or, take, refl, sym, ap, subst, ◌∙◌, append_assoc, append-nil}
 use Rattle.std.specs.Prelude.{OnOk}
 use Rattle.std.proofs.lemmas.List.{take_more}
 use Rattle.std.proofs.lemmas.Result.{on_ok_weaker}
-use Rattle.json.specs.Lex.{tokens}
-use Rattle.json.specs.Print.{print}
-use Rattle.json.specs.Token.{Token, end_object}
+use Rattle.json.specs.Token.{Token}
 use Rattle.json.specs.Written.{Writes, Written}
 use Rattle.hp_units.specs.declared.replies.Receipt.{Receipt}
-use Rattle.hp_live.specs.Answers.{AnswerValue}
-use Rattle.hp_live.specs.Objects.{Adds, AddsDid, AddsObject, TellsCalls, WritesObject, call_object, head_of, object_of}
+use Rattle.hp_live.specs.Objects.{Adds, TellsCalls, call_object}
 
 -- one token
 pub wrote : {E : Type 0} (r : Result (Unit {0}) E) (old new : Written) (t : Token) → Writes r old new t
@@ -18,39 +15,10 @@ wrote r old new t w = on_ok_weaker r (λ is. record { before = w.room.0; tokens 
 
 -- tokens after tokens
 pub adds_more : (a b c : Written) (xs ys : List Token) → Adds a b xs → Adds b c ys → Adds a c (xs ++ ys)
-adds_more a b c xs ys x y = record {
-  before = y.before ∙ x.before;
-  tokens = y.tokens ∙ ap (λ (l : List Token). l ++ ys) x.tokens ∙ append_assoc a.tokens xs ys;
-}
+adds_more a b c xs ys x y = grind (arith, append_assoc)
 
 pub none_added : (a : Written) → Adds a a []
 none_added a = record { before = refl; tokens = sym (append-nil a.tokens) }
-
--- what an object begins with, its other keys, and its end
-pub object_added : (old b c new : Written) (line : ℕ) (a : AnswerValue) → Adds old b (head_of line a.text)
-    → AddsDid b a c → Adds c new (end_object ∷ []) → AddsObject old line a new
-object_added old b c new line a head did end = (
-  did.0,
-  did.1,
-  adds_more old b new (head_of line a.text) (did.0 ++ end_object ∷ []) head
-      (adds_more b c new did.0 (end_object ∷ []) did.2 end),
-)
-
--- the bytes of an object, and a newline
-pub object_written : (first last : Written) (old bytes new : List ℕ) (line : ℕ) (a : AnswerValue)
-    → first.before ≡ old → first.tokens ≡ [] → AddsObject first line a last
-    → bytes ≡ last.before ++ print last.tokens → tokens (print last.tokens) ≡ last.tokens
-    → new ≡ bytes ++ 10 ∷ [] → WritesObject old line a new
-object_written first last old bytes new line a before none added printed read ends =
-    let ts = object_of line a.text added.0 in
-    let all : last.tokens ≡ ts = added.2.tokens ∙ ap (λ (l : List Token). l ++ ts) none in (
-      added.0,
-      added.1,
-      subst (λ (l : List Token). tokens (print l) ≡ l) all read,
-      ends ∙ ap (λ (l : List ℕ). l ++ 10 ∷ [])
-          (printed ∙ ap (λ (l : List ℕ). l ++ print last.tokens) (added.2.before ∙ before)
-          ∙ ap (λ (l : List Token). old ++ print l) all),
-    )
 
 -- ---- the calls of a plan
 

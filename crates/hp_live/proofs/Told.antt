@@ -1,5 +1,5 @@
 -- Answers to what a line asks for.
-use Rattle.std.proofs.Common.{◌≡◌, ℕ, List, [], ◌∷◌, ◌++◌, Option, Some, Result, Ok, Err, refl, sym, ap, subst, ◌∙◌, inl}
+use Rattle.std.proofs.Common.{arith, ◌≡◌, ℕ, List, [], ◌∷◌, ◌++◌, Option, Some, Result, refl, ap, inl}
 use Rattle.std.specs.Prelude.{length, option_map, IsErr, OnErr}
 use Rattle.hp_units.specs.declared.events.Event.{Event}
 use Rattle.hp_units.specs.declared.plans.Item.{Item}
@@ -29,8 +29,7 @@ plan_answered m new cpu turns plan a t = ((t.0, t.1, ap (λ (x : AnswerValue). x
 
 -- with an error or without
 pub on_err : {T E P : Type 0} (r : Result T E) → P → OnErr r P
-on_err (Ok x) p = tt
-on_err (Err x) p = p
+on_err r p = grind arith
 
 pub event_done : (m new : MachineValue) (cpu : ℕ) (event : Event) (d : Did)
     → IsEventDone m cpu event d new → IsDone m cpu (asks.event event) new
@@ -53,8 +52,7 @@ seal_done m new cpu goes = (did_text (did.Sealed (length m.history)), (refl, goe
 -- ---- a line that was run and is kept, but not answered
 
 on_err_at : {T E P : Type 0} (r : Result T E) → IsErr r → OnErr r P → P
-on_err_at (Ok x) failed h = absurd cc
-on_err_at (Err x) failed h = h
+on_err_at r failed h = grind arith
 
 pub lost_line : {T E : Type 0} (ran : Result T E) (given : Lack) (names after : List (List ℕ))
     (lines kept : List Line) (m new : MachineValue) (text : List ℕ) (found : Option Line) (line : Line)
@@ -66,17 +64,4 @@ pub lost_line : {T E : Type 0} (ran : Result T E) (given : Lack) (names after : 
     → IsLost given (record { names = names; lines = lines; machine = m }) text
     (record { names = after; lines = kept; machine = new })
 lost_line ran given names after lines kept m new text found line is failed did at read keeps =
-    let done = on_err_at ran failed did in
-    let n : Numbered = record { names = after; line = line } in
-    let read_as : Some n ≡ line_in names text =
-    sym (ap (λ (o : Option Line). option_map {T = Line} {U = Numbered} (λ l. record {
-      names = after;
-      line = l;
-    }) o) at) ∙ read in
-    subst (λ (q : Lack). IsLost q (record { names = names; lines = lines; machine = m }) text
-    (record { names = after; lines = kept; machine = new })) (sym is) (
-      n,
-      done.0,
-      sym read_as,
-      (done.1, ap (λ (l : List Line). record { names = after; lines = l; machine = new }) keeps),
-    )
+    grind (arith, on_err_at)

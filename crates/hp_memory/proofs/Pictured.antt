@@ -115,12 +115,6 @@ pages-within m p =
     (subst (λ (v : PageFrames). ArePageFramesOf m.layout v) (sym (ap (λ (v : FrameView). v.pages) p.view))
     (are_page_frames m.layout (state_of m).pages fits))
 
-pub pages-settled : (m : Layers) → ArePlaced m → AreSettled m.pages.pages
-pages-settled m p =
-    let fits = (placed-fits m.layout (state_of m) p.one.layout p.placed).pages in
-    subst AreSettled (sym (ap (λ (v : FrameView). v.pages) p.view))
-    (settled_placed m.layout (state_of m) p.placed fits)
-
 pub table-none : (m : Layers) (table : List (List (Option ℕ))) → ArePlaced m
     → table ≡ replicate m.layout.owners (replicate m.layout.pages None)
     → AreCopied [] (replicate m.pages.layout.pages None) 0 m.pages.pages.table table

@@ -1,7 +1,7 @@
 -- What a contract sees of the layer of pages, and what its calls do.
 use Rattle.std.specs.Prelude.{◌≡◌, ℕ, ◌≤◌, ◌==◌, ◌&&◌, Bool, false, not, List, [], Option, Some, None, IfSome, is_some, length, map, option_map, slice_index, slice_index_or, slice_set, unwrap_or, if◌then◌else◌}
 use Rattle.std.specs.List.{AllByRecursion}
-use Rattle.std.specs.Option.{option_map_or}
+use Rattle.std.specs.Option.{option_and_then, option_map_or}
 use Rattle.hp_units.specs.LayoutParts.{LayoutParts}
 use Rattle.hp_units.specs.Arithmetic.{IsFrame, frame_count}
 use Rattle.hp_units.specs.Memory.{Pages, entry_of, with_entry}

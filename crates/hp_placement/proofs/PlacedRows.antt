@@ -39,16 +39,6 @@ all_rows rows number all each block = elim (cases_lt block number) [
   | inr past ↦ rw (get_or_past rows block offline_row (omega arith)) (refl, refl)
 ]
 
--- there are few pageblocks
-pub pageblocks_few : (l : LayoutParts) → IsLayout l → pageblock_count l ≤ 2 ^ 20
-pageblocks_few l layout =
-    let turned : l.blocks * (l.pageblocks * 2 ^ l.order) ≡ l.blocks * l.pageblocks * 2 ^ l.order =
-    grind arith in
-    let more : l.blocks * l.pageblocks * 1 ≤ l.blocks * l.pageblocks * 2 ^ l.order =
-    omega (arith, mul-le-mul_left (l.blocks * l.pageblocks) (pow_pos l.order)) in
-    let frames : l.blocks * (l.pageblocks * 2 ^ l.order) ≤ 2 ^ 20 = layout.frames in
-    omega arith
-
 -- the kind of a pageblock of an offline block fits an offline row
 plain_fits : (kind : Kind) (row : Row) → kind ≡ plain_kind → row ≡ offline_row → IsKind kind row
 plain_fits kind row k r = rw (k, r) (record { mobility = λ same. absurd (apart same); isolated = refl })

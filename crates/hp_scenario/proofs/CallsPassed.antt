@@ -1,5 +1,5 @@
 -- Lines that were taken one after another are those of the scenario.
-use Rattle.std.proofs.Common.{◌≡◌, ℕ, ◌<◌, List, [], ◌∷◌, ◌++◌, length, codes, Ok, refl, sym, ap, subst, ◌∙◌, arith}
+use Rattle.std.proofs.Common.{◌≡◌, ℕ, ◌<◌, List, [], ◌∷◌, ◌++◌, length, codes, Ok, refl, sym, ap, ◌∙◌, arith}
 use Rattle.json.specs.Token.{Token}
 use Rattle.json.specs.Lex.{tokens}
 use Rattle.hp_scenario.specs.Calls.{AreAll, Ends, HasPassed, IsOpened, Passes}
@@ -43,26 +43,19 @@ all_read bytes start new lines opened all =
     let b = opened.1.0 in
     let f = start.reader in
     let script : Script = record { names = new.names.keys; lines = lines } in
-    let layout_is : new.layout ≡ start.layout = over.2 ∙ passed.3 in
     let texts : AreTexts passed.0 f (Token.end_object ∷ []) = passed.1 ∙ ap (strings_then passed.0) over.0 in
     let read : lines_from 1 (record { names = start.names.keys; lines = [] }) passed.0 ≡ Ok script =
     passed.2 ∙ ap (λ (ns : List (List ℕ)). Ok (record { names = ns; lines = lines })) (sym over.1) in
-    let from_none =
-    subst (λ (ns : List (List ℕ)). lines_from 1 (record { names = ns; lines = [] }) passed.0 ≡ Ok script)
-    opened.2 read in
+    let from_none = rw opened.2 at read in
     let whole =
     scenario_read start.layout script (tokens bytes) (Token.key (codes "layout") ∷ b) b
     (Token.key (codes "calls") ∷ Token.begin_array ∷ f) f
     (Token.end_object ∷ []) opened.1.1 refl opened.1.2 refl (passed.0, texts, from_none) refl in
     scenario_is bytes bytes (record { layout = new.layout; names = new.names.keys; lines = lines })
-    opened.0 refl (rw layout_is whole)
+    opened.0 refl (rw (over.2 ∙ passed.3) whole)
 
 -- and so are the same lines as they are kept
 pub with_all : (bytes : List ℕ) (start new : Calls) (lines kept : List Line) → IsOpened bytes start
     → AreAll start lines new → kept ≡ lines
     → scenario_in bytes ≡ Ok (record { layout = new.layout; names = new.names.keys; lines = kept })
-with_all bytes start new lines kept opened all is =
-    subst
-    (λ (ls : List Line). scenario_in bytes
-    ≡ Ok (record { layout = new.layout; names = new.names.keys; lines = ls }))
-    (sym is) (all_read bytes start new lines opened all)
+with_all bytes start new lines kept opened all is = rw is (all_read bytes start new lines opened all)

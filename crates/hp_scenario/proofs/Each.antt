@@ -32,9 +32,7 @@ goes_on {B = B} f xs vs i v front new x total same lt e h grown so_far =
     let one : each_in f (items_view (drop i vs))
     ≡ option_and_then (λ ys. Some (x ∷ ys)) (each_in f (items_view (drop (i + 1) vs))) =
     ap (each_in f) (at_index xs vs i v same lt e) ∙ rw h refl in
-    ap (λ (ys : List B). after_front ys (each_in f (items_view (drop (i + 1) vs)))) grown
-    ∙ sym (after_front_step front x (each_in f (items_view (drop (i + 1) vs))))
-    ∙ ap (after_front front) (sym one) ∙ so_far
+    rw (grown, ← after_front_step front x (each_in f (items_view (drop (i + 1) vs))), ← one) so_far
 
 pub stops : {B : Type 0} (f : Data → Option B) (xs vs : List Value) (i : ℕ) (v : Value) (front : List B)
     (total : Option (List B))
@@ -44,8 +42,7 @@ unfolding each_in
 stops {B = B} f xs vs i v front total same lt e h so_far =
     let one : each_in f (items_view (drop i vs)) ≡ None =
     ap (each_in f) (at_index xs vs i v same lt e) ∙ rw h refl in
-    let none : total ≡ None = sym so_far ∙ ap (after_front front) one in
-    ap (or_fault BadShape) none
+    ap (or_fault BadShape) (sym so_far ∙ ap (after_front front) one)
 
 pub is_done : {B : Type 0} (f : Data → Option B) (xs vs : List Value) (i : ℕ) (front : List B)
     (total : Option (List B))
@@ -54,7 +51,5 @@ pub is_done : {B : Type 0} (f : Data → Option B) (xs vs : List Value) (i : ℕ
 unfolding each_in
 is_done {B = B} f xs vs i front total same le so_far =
     let none : drop i vs ≡ [] = ap (drop i) (sym same) ∙ drop_all _ _ le in
-    let all : total ≡ Some front =
-    sym so_far ∙ ap (λ (rest : List Value). after_front front (each_in f (items_view rest))) none
-    ∙ ap Some (append-nil front) in
+    let all : total ≡ Some front = rw (← so_far, none, append-nil front) in
     ap (or_fault BadShape) all

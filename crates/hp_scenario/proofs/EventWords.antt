@@ -18,29 +18,23 @@ of_one verb (a ∷ b ∷ words) d least below = absurd (omega (arith, below))
 pub of_two : (verb : List ℕ) (words : List Word) (d : Word) → 2 ≤ length words → length words < 3
     → event_of verb (texts words) ≡ request_of_two verb (get_or words 0 d).now (get_or words 1 d).now
 unfolding event_of
-of_two verb [] d least below = absurd (omega (arith, least))
-of_two verb (a ∷ []) d least below = absurd (omega (arith, least))
 of_two verb (a ∷ b ∷ []) d least below = refl
 of_two verb (a ∷ b ∷ e ∷ words) d least below = absurd (omega (arith, below))
+of_two verb _ d least below = absurd (omega (arith, least))
 
 pub of_three : (verb : List ℕ) (words : List Word) (d : Word) → 3 ≤ length words → length words < 4
     → event_of verb (texts words)
     ≡ request_of_three verb (get_or words 0 d).now (get_or words 1 d).now (get_or words 2 d).now
 unfolding event_of
-of_three verb [] d least below = absurd (omega (arith, least))
-of_three verb (a ∷ []) d least below = absurd (omega (arith, least))
-of_three verb (a ∷ b ∷ []) d least below = absurd (omega (arith, least))
 of_three verb (a ∷ b ∷ e ∷ []) d least below = refl
 of_three verb (a ∷ b ∷ e ∷ f ∷ words) d least below = absurd (omega (arith, below))
+of_three verb _ d least below = absurd (omega (arith, least))
 
 pub of_four : (verb : List ℕ) (words : List Word) (d : Word) → 4 ≤ length words → length words < 5
     → event_of verb (texts words)
     ≡ request_of_four verb (get_or words 0 d).now (get_or words 1 d).now (get_or words 2 d).now
     (get_or words 3 d).now
 unfolding event_of
-of_four verb [] d least below = absurd (omega (arith, least))
-of_four verb (a ∷ []) d least below = absurd (omega (arith, least))
-of_four verb (a ∷ b ∷ []) d least below = absurd (omega (arith, least))
-of_four verb (a ∷ b ∷ e ∷ []) d least below = absurd (omega (arith, least))
 of_four verb (a ∷ b ∷ e ∷ f ∷ []) d least below = refl
 of_four verb (a ∷ b ∷ e ∷ f ∷ g ∷ words) d least below = absurd (omega (arith, below))
+of_four verb _ d least below = absurd (omega (arith, least))

@@ -29,6 +29,4 @@ pub json_refused : (bytes : List ℕ) → (IsUtf8 bytes → read bytes ≡ None)
     → or_fault NotJson (json_of bytes) ≡ Err NotJson
 unfolding json_of
 json_refused bytes h =
-    let none : cond (is_utf8 bytes) (read bytes) None ≡ None =
-    none_if (is_utf8 bytes) (read bytes) (λ t. h (IsUtf8-from_is_utf8 bytes t)) in
-    rw none refl
+    rw (none_if (is_utf8 bytes) (read bytes) (λ t. h (IsUtf8-from_is_utf8 bytes t))) refl

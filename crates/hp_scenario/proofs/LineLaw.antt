@@ -3,7 +3,7 @@ use Rattle.std.proofs.Common.{◌≡◌, ℕ, ◌^◌, ◌<◌, List, Some, ◌�
 use Rattle.std.specs.Fmt.{decimal}
 use Rattle.std.specs.List.{join_with_byte, slice_split}
 use Rattle.std.proofs.lemmas.List.Splits.{join_with_byte-slice_split}
-use Rattle.hp_scenario.specs.Lines.{Said, words_say, line_says}
+use Rattle.hp_scenario.specs.Lines.{Said, line_says}
 use Rattle.hp_scenario.specs.Spelling.{request_words, line_text, CanBeSaid}
 use Rattle.hp_scenario.proofs.LinesRead.{read_said, spaceless_request}
 use Rattle.hp_scenario.proofs.LinesSpelled.{said_spelled}
@@ -21,10 +21,8 @@ line_is : (text : List ℕ) (said : Said) → (text ≡ line_text said) × CanBe
 unfolding line_says
 line_is text said h =
     let fits : said.cpu < 2 ^ 64 = omega (arith, h.1.0) in
-    ap (λ (t : List ℕ). words_say (slice_split is_space t)) h.0
-    ∙ ap words_say (split_joined (decimal said.cpu) (request_words said.request)
-    (decimal_spaceless said.cpu fits) (spaceless_request said.request h.1.1))
-    ∙ read_said said h.1
+    rw h.0 (rw (split_joined (decimal said.cpu) (request_words said.request) (decimal_spaceless said.cpu fits)
+    (spaceless_request said.request h.1.1)) (read_said said h.1))
 
 pub lines_law : (text : List ℕ) (said : Said)
     → (line_says text ≡ Some said) ↔ ((text ≡ line_text said) × CanBeSaid said)

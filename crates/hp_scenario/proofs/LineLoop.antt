@@ -1,5 +1,5 @@
 -- A loop over the lines, what is left of them, and the scenario that they make.
-use Rattle.std.proofs.Common.{◌≡◌, ℕ, suc, ◌+◌, ◌≤◌, List, [], ◌∷◌, ◌++◌, length, drop, slice_get, Option, Some, None, Result, Ok, Err, refl, sym, ap, ◌∙◌, add-one, option_map}
+use Rattle.std.proofs.Common.{◌≡◌, ℕ, ◌+◌, ◌≤◌, List, [], ◌∷◌, ◌++◌, length, drop, slice_get, Option, Some, None, Result, Ok, Err, refl, sym, ap, ◌∙◌, add-one, option_map}
 use Rattle.std.proofs.Math.Seq.{drop-cons}
 use Rattle.std.proofs.lemmas.List.{drop_all}
 use Rattle.std.proofs.lemmas.Option.{get_or_from_slice_get, slice_get_within}
@@ -8,7 +8,7 @@ use Rattle.hp_scenario.specs.declared.lines.Line.{Line}
 use Rattle.hp_scenario.specs.declared.fault.ScenarioFault.{ScenarioFault}
 use Rattle.hp_scenario.specs.declared.fault.ScenarioFault.TheVariants.{BadLine}
 use Rattle.hp_scenario.specs.Names.{Numbered, line_in}
-use Rattle.hp_scenario.specs.Scenario.{Script, with_line, nothing, lines_from, layout_or, scenario_if, scenario_with}
+use Rattle.hp_scenario.specs.Scenario.{Script, nothing, lines_from, layout_or, scenario_if, scenario_with}
 
 -- a line, with the names after it
 abbrev pub with_names : List (List ℕ) → Line → Numbered
@@ -18,9 +18,8 @@ with_names names line = record { names = names; line = line }
 text_at : (xs : List (List ℕ)) (i : ℕ) (text : List ℕ) → slice_get xs i ≡ Some text
     → drop i xs ≡ text ∷ drop (i + 1) xs
 text_at xs i text at =
-    drop-cons xs i text (slice_get_within xs i text at)
-    ∙ ap (λ (d : List ℕ). d ∷ drop (suc i) xs) (get_or_from_slice_get xs i text text at)
-    ∙ ap (λ (n : ℕ). text ∷ drop n xs) (sym (add-one i))
+    rw (drop-cons xs i text (slice_get_within xs i text at), get_or_from_slice_get xs i text text at)
+    (rw (← add-one i))
 
 -- a text that is a line: what is left goes on after it
 pub line_goes_on : (xs : List (List ℕ)) (i : ℕ) (text : List ℕ) (script : Script) (o : Option Line)
@@ -32,12 +31,8 @@ pub line_goes_on : (xs : List (List ℕ)) (i : ℕ) (text : List ℕ) (script : 
     → lines_from ((i + 1) + 1) (record { names = names; lines = lines }) (drop (i + 1) xs) ≡ total
 unfolding lines_from
 line_goes_on xs i text script o line names lines total at h some l so_far =
-    let says : line_in script.names text ≡ Some (with_names names line) =
-    sym h ∙ ap (option_map (with_names names)) some in
-    let two : lines_from (i + 1) script (drop i xs)
-    ≡ lines_from ((i + 1) + 1) (with_line script (with_names names line)) (drop (i + 1) xs) =
-    ap (lines_from (i + 1) script) (text_at xs i text at) ∙ rw says refl in
-    rw l (sym two ∙ so_far)
+    let says : line_in script.names text ≡ Some (with_names names line) = rw (← h, some) in
+    rw l (sym (ap (lines_from (i + 1) script) (text_at xs i text at) ∙ rw says refl) ∙ so_far)
 
 -- a text that is no line: the reading ends there
 pub line_stops : (xs : List (List ℕ)) (i : ℕ) (text : List ℕ) (script : Script) (o : Option Line)
@@ -48,9 +43,7 @@ pub line_stops : (xs : List (List ℕ)) (i : ℕ) (text : List ℕ) (script : Sc
 unfolding lines_from
 line_stops xs i text script o names total at h none so_far =
     let says : line_in script.names text ≡ None = sym h ∙ ap (option_map (with_names names)) none in
-    let two : lines_from (i + 1) script (drop i xs) ≡ Err (BadLine (i + 1)) =
-    ap (lines_from (i + 1) script) (text_at xs i text at) ∙ rw says refl in
-    sym so_far ∙ two
+    sym so_far ∙ (ap (lines_from (i + 1) script) (text_at xs i text at) ∙ rw says refl)
 
 -- no text is left
 pub lines_done : (xs : List (List ℕ)) (i : ℕ) (script : Script) (total : Result Script ScenarioFault)

@@ -52,10 +52,6 @@ unfolding request_of event_of event_of_number request_of_two request_of_three re
     plan_of echo_of cat_of seal_of
 read_request (plain (work.Event (KernelAlloc order))) fits = rw (read32 order fits) refl
 read_request (plain (work.Event (KernelFree frame))) fits = rw (read32 frame fits) refl
-read_request (plain (work.Event (Map owner page))) fits = absurd fits
-read_request (plain (work.Event (Unmap owner page))) fits = absurd fits
-read_request (plain (work.Event (Write owner page index value))) fits = absurd fits
-read_request (plain (work.Event (Read owner page index))) fits = absurd fits
 read_request (plain (work.Event (Drain cpu))) fits = rw (read32 cpu fits) refl
 read_request (plain (work.Event (Online block zone))) fits = rw (read32 block fits, read_zone zone) refl
 read_request (plain (work.Event (Begin items))) fits = rw (read_items items fits) refl
@@ -64,9 +60,7 @@ read_request (plain (work.Event (Migrate op))) fits = rw (read64 op fits) refl
 read_request (plain (work.Event (Commit op))) fits = rw (read64 op fits) refl
 read_request (plain (work.Event (Cancel op))) fits = rw (read64 op fits) refl
 read_request (plain (work.Event (UndoAfter serial))) fits = rw (read64 serial fits) refl
-read_request (plain (work.Event (Probe address))) fits = absurd fits
 read_request (plain (work.Event (Remove block))) fits = rw (read32 block fits) refl
-read_request (plain (work.Event (SetAuto auto))) fits = absurd fits
 read_request (plain (work.Plan items turns)) fits = rw (read32 turns fits.0, read_items items fits.1) refl
 read_request (plain (work.Echo echo)) fits =
     rw (read_text echo.word fits.0, read_text echo.path fits.1) refl
@@ -78,6 +72,7 @@ read_request (named name (access.Write page index value)) fits =
     rw (fits.0, read32 page fits.1.0, read32 index fits.1.1, read64 value fits.1.2) refl
 read_request (named name (access.Read page index)) fits =
     rw (fits.0, read32 page fits.1.0, read32 index fits.1.1) refl
+read_request _ fits = absurd fits
 
 pub read_said : (said : Said) → CanBeSaid said
     → words_say (decimal said.cpu ∷ request_words said.request) ≡ Some said

@@ -148,22 +148,19 @@ item_is wish block item e =
     let b = went_on _ (number_of 32 block) item a.2 in
     let w = wish_is wish a.0 a.1 in
     let n = word32 block b.0 b.1 in
-    subst (λ (x : Item). (wish ≡ wish_word x.wish) × (block ≡ decimal x.block) × (x.block < 2 ^ 32))
-    (same_Some (record { block = b.0; wish = a.0 }) item b.2) (w, n.0, n.1)
+    rw (← same_Some (record { block = b.0; wish = a.0 }) item b.2) (w, n.0, n.1)
 
 items_are : (words : List (List ℕ)) (items : List Item) → items_of words ≡ Some items
     → (words ≡ item_words items) × FitItems items
 unfolding items_of
-items_are [] items e =
-    subst (λ (xs : List Item). ([] ≡ item_words xs) × FitItems xs) (same_Some [] items e) (refl, tt)
+items_are [] items e = rw (← same_Some [] items e) (refl, tt)
 items_are (wish ∷ []) items e = absurd cc
 items_are (wish ∷ block ∷ rest) items e =
     let a = went_on _ (item_of wish block) items e in
     let b = went_on _ (items_of rest) items a.2 in
     let item = item_is wish block a.0 a.1 in
     let more = items_are rest b.0 b.1 in
-    subst (λ (xs : List Item). (wish ∷ block ∷ rest ≡ item_words xs) × FitItems xs)
-    (same_Some (a.0 ∷ b.0) items b.2) (both_words _ _ _ _ _ _ item.0 item.1 more.0, (item.2, more.1))
+    rw (← same_Some (a.0 ∷ b.0) items b.2) (both_words _ _ _ _ _ _ item.0 item.1 more.0, (item.2, more.1))
   where
     both_words : (a b c d : List ℕ) (xs ys : List (List ℕ)) → a ≡ b → c ≡ d → xs ≡ ys
         → (a ∷ c ∷ xs) ≡ (b ∷ d ∷ ys)
@@ -175,8 +172,7 @@ unfolding begin_of
 begin_spelled args r e =
     let m = mapped (λ items. event (Begin items)) (items_of args) r e in
     let s = items_are args m.0 m.1 in
-    subst (λ (q : Request). IsSpelled (codes "begin" ∷ args) q) m.2
-    (ap (λ (xs : List (List ℕ)). codes "begin" ∷ xs) s.0, s.1)
+    rw (← m.2) (ap (λ (xs : List (List ℕ)). codes "begin" ∷ xs) s.0, s.1)
 
 online_spelled : (block zone : List ℕ) (r : Request) → online_of block zone ≡ Some r
     → IsSpelled (codes "online" ∷ block ∷ zone ∷ []) r
@@ -232,8 +228,6 @@ plan_spelled (turns ∷ rest) r e =
 echo_spelled : (args : List (List ℕ)) (r : Request) → AreSpaceless args → echo_of args ≡ Some r
     → IsSpelled (codes "echo" ∷ args) r
 unfolding echo_of
-echo_spelled [] r h e = absurd cc
-echo_spelled (text ∷ []) r h e = absurd cc
 echo_spelled (text ∷ path ∷ []) r h e =
     let t = went_on _ (text_of text) r e in
     let p = went_on _ (text_of path) r t.2 in
@@ -241,17 +235,16 @@ echo_spelled (text ∷ path ∷ []) r h e =
     let path_at = text_is path p.0 h.1.0 p.1 in
     along _ (plain (work.Echo (record { path = p.0; word = t.0 }))) r p.2
     (same2 (codes "echo") _ _ _ _ text_at.0 path_at.0, (text_at.1, path_at.1))
-echo_spelled (text ∷ path ∷ next ∷ rest) r h e = absurd cc
+echo_spelled _ r h e = absurd cc
 
 cat_spelled : (args : List (List ℕ)) (r : Request) → AreSpaceless args → cat_of args ≡ Some r
     → IsSpelled (codes "cat" ∷ args) r
 unfolding cat_of
-cat_spelled [] r h e = absurd cc
 cat_spelled (path ∷ []) r h e =
     let m = mapped (λ p. plain (work.Cat p)) (text_of path) r e in
     let p = text_is path m.0 h.0 m.1 in
     subst (λ (q : Request). IsSpelled (codes "cat" ∷ path ∷ []) q) m.2 (same1 (codes "cat") _ _ p.0, p.1)
-cat_spelled (path ∷ next ∷ rest) r h e = absurd cc
+cat_spelled _ r h e = absurd cc
 
 seal_spelled : (args : List (List ℕ)) (r : Request) → seal_of args ≡ Some r
     → IsSpelled (codes "seal" ∷ args) r
@@ -264,7 +257,6 @@ seal_spelled (word ∷ rest) r e = absurd cc
 event_spelled : (verb : List ℕ) (args : List (List ℕ)) (r : Request) → event_of verb args ≡ Some r
     → IsSpelled (verb ∷ args) r
 unfolding event_of request_of_three request_of_four
-event_spelled verb [] r e = absurd cc
 event_spelled verb (word ∷ []) r e =
     let m = mapped event (event_of_number verb word) r e in
     subst (λ (q : Request). IsSpelled (verb ∷ word ∷ []) q) m.2 (number_spelled verb word m.0 m.1)
@@ -275,7 +267,7 @@ event_spelled verb (name ∷ page ∷ index ∷ []) r e =
 event_spelled verb (name ∷ page ∷ index ∷ value ∷ []) r e =
     choose verb (codes "write") (λ v. IsSpelled (v ∷ name ∷ page ∷ index ∷ value ∷ []) r)
     (write_of name page index value) None r (write_spelled name page index value r) (λ e. absurd cc) e
-event_spelled verb (a ∷ b ∷ c ∷ d ∷ next ∷ rest) r e = absurd cc
+event_spelled verb _ r e = absurd cc
 
 pub request_spelled : (words : List (List ℕ)) (r : Request) → AreSpaceless words → request_of words ≡ Some r
     → IsSpelled words r
@@ -298,8 +290,7 @@ said_spelled (cpu ∷ rest) said h e =
     let q = went_on _ (request_of rest) said c.2 in
     let cpu_at = word32 cpu c.0 c.1 in
     let request_at = request_spelled rest q.0 h.1 q.1 in
-    subst (λ (x : Said). (cpu ∷ rest ≡ decimal x.cpu ∷ request_words x.request) × CanBeSaid x)
-    (same_Some (record { cpu = c.0; request = q.0 }) said q.2)
+    rw (← same_Some (record { cpu = c.0; request = q.0 }) said q.2)
     (cons _ _ _ _ cpu_at.0 request_at.0, (cpu_at.1, request_at.1))
   where
     cons : (a b : List ℕ) (xs ys : List (List ℕ)) → a ≡ b → xs ≡ ys → (a ∷ xs) ≡ (b ∷ ys)

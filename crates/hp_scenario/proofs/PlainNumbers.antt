@@ -54,10 +54,9 @@ pub short_number : (i n c m : ℕ) → n < 10 ^ i → (leb 48 c && leb c 57) ≡
     → m < 10 ^ (i + 1)
 short_number i n c m lt digit next =
     let both = and_parts (leb 48 c) (leb c 57) digit in
-    let low = leb-true 48 c both.0 in
     let high = leb-true c 57 both.1 in
     let more : 10 ^ (i + 1) ≡ 10 ^ i * 10 = rw (add-one i) (pow-suc 10 i) in
-    omega (arith, lt, low, high, next, more)
+    omega (arith, lt, leb-true 48 c both.0, high, next, more)
 
 -- after fewer than 18 digits there is room for one more
 pub has_room : (i n len : ℕ) → n < 10 ^ i → i < len → len ≤ 18 → n * 10 + 9 < 18446744073709551616
@@ -74,8 +73,6 @@ has_room i n len lt before few =
 pub lone : (word : List ℕ) (n : ℕ) → length word ≡ 1
     → (leb 48 (get_or word 0 0) && leb (get_or word 0 0) 57) ≡ true → n ≡ get_or word 0 0 - 48
     → IsPlainNumber word n
-lone [] n one digit is = absurd cc
-lone (c ∷ d ∷ ds) n one digit is = absurd cc
 lone (c ∷ []) n one digit is =
     let both = and_parts (leb 48 c) (leb c 57) digit in
     let low = leb-true 48 c both.0 in
@@ -84,6 +81,7 @@ lone (c ∷ []) n one digit is =
     let all = none_left (c ∷ []) 1 n (omega arith) left in
     let signed : eqb c 43 ≡ false = ne_eqb c 43 (λ e. omega (arith, e, low)) in
     (rw signed refl, ap (λ b. b && ltb 0 1) all.0, all.1)
+lone _ n one digit is = absurd cc
 
 pub plain : (word : List ℕ) (r : Option ℕ) → 0 < length word → is_bare word ≡ true
     → IfSome r (λ n. all_ascii_digits word ≡ true) → IfSome r (λ n. digits_value 10 word ≡ n)

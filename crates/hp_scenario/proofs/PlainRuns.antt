@@ -18,10 +18,9 @@ agrees true b = b
 agrees false b = not b
 
 agree_is : (a b : Bool) → T (agrees a b) → a ≡ b
-agree_is true true h = refl
-agree_is false false h = refl
 agree_is true false h = absurd h
 agree_is false true h = absurd h
+agree_is _ _ h = refl
 
 -- a fact of each number below one, by computation
 abbrev pub all_below : (ℕ → Bool) → ℕ → Bool
@@ -69,8 +68,7 @@ pub masked : (f : ℕ → ℕ) (p : ℕ → Bool) (v z : List ℕ) → length v 
     → T (all_below (λ x. agrees (top 7 (f x)) (p x)) 256)
     → mask_l (map (top 7) z) % 2 ^ 64 ≡ mask_l (map p v)
 masked f p v z short fits e all =
-    ap (λ l. mask_l l % 2 ^ 64) (ap (map (top 7)) e ∙ each_byte f p all v fits)
-    ∙ mask_l-mod (map p v) 64 (omega (arith, length-map v p))
+    rw (e, each_byte f p all v fits) (mask_l-mod (map p v) 64 (omega (arith, length-map v p)))
 
 -- ---- runs
 
@@ -97,16 +95,11 @@ pub run_through : (d : List ℕ) (i n : ℕ) → i + n ≤ length d → mask_l (
     → prefix_len is_plain (drop i d) ≡ n + prefix_len is_plain (drop (i + n) d)
 run_through d i n room none =
     let c = chunk i n d in
-    split d i n
-    ∙ ap (λ b. cond b (length c + prefix_len is_plain (drop (i + n) d)) (prefix_len is_plain c))
-    (eq-eqb _ _ (leading_from_mask_l is_stop c none))
-    ∙ ap (λ k. k + prefix_len is_plain (drop (i + n) d)) (length-chunk i n d room)
+    rw (split d i n, eq-eqb _ _ (leading_from_mask_l is_stop c none), length-chunk i n d room)
 
 pub run_stops : (d : List ℕ) (i n : ℕ) → i + n ≤ length d → n ≤ 64 → 0 < mask_l (map is_stop (chunk i n d))
     → prefix_len is_plain (drop i d) ≡ count_trailing_zeros 64 (mask_l (map is_stop (chunk i n d)))
 run_stops d i n room short some =
     let c = chunk i n d in
-    split d i n
-    ∙ ap (λ b. cond b (length c + prefix_len is_plain (drop (i + n) d)) (prefix_len is_plain c))
-    (ne_eqb _ _ (λ (e : prefix_len is_plain c ≡ length c). omega (arith, all_pass c e)))
-    ∙ sym (trailing_mask_l is_stop 64 c (omega (arith, length-chunk i n d room)) some)
+    rw (split d i n) (rw (ne_eqb _ _ (λ (e : prefix_len is_plain c ≡ length c). omega (arith, all_pass c e)))
+    (rw (← trailing_mask_l is_stop 64 c (omega (arith, length-chunk i n d room)) some)))

@@ -1,5 +1,5 @@
 -- Plain texts token by token: what stands first, and what is left after it.
-use Rattle.std.proofs.Common.{◌≡◌, ◌≢◌, ℕ, suc, ◌+◌, ◌-◌, ◌<◌, ◌≤◌, Bool, true, false, cond, ◌||◌, ◌==◌, nat_lt, List, [], ◌∷◌, length, take, drop, get_or, Option, Some, None, lt_of_not-le, ◌⊎◌, inl, inr, refl, sym, ap, ◌∙◌, arith}
+use Rattle.std.proofs.Common.{◌≡◌, ◌≢◌, ℕ, suc, ◌+◌, ◌-◌, ◌<◌, ◌≤◌, Bool, true, false, cond, ◌||◌, ◌==◌, nat_lt, List, [], ◌∷◌, length, take, drop, get_or, Option, Some, lt_of_not-le, ◌⊎◌, inl, inr, refl, sym, ap, ◌∙◌, arith}
 use Rattle.std.specs.List.{prefix_len}
 use Rattle.std.specs.Char.{is_ascii_digit}
 use Rattle.std.specs.Str.{IsCharBoundary, IsUtf8}
@@ -8,9 +8,9 @@ use Rattle.std.proofs.lemmas.Bool.Decides.{nat_tests}
 use Rattle.std.proofs.lemmas.List.{get_or-drop, get_or_default, get_or_past, length-drop}
 use Rattle.std.proofs.lemmas.Str.{IsCharBoundary-after_ascii}
 use Rattle.json.specs.Token.{Token}
-use Rattle.json.specs.Text.{content, plain, after_backslash, prepend}
-use Rattle.json.specs.Word.{after_digits, after_exponent, after_number, after_sign, head, number_before, is_operator, is_space, word}
-use Rattle.json.specs.Lex.{Lexeme, token, Class, quote, backslash, operator, space, other, class, string_token, Mode, between, in_word, in_string, lex_byte, lex, begins_colon, may_begin, may_close, punctuate}
+use Rattle.json.specs.Text.{content, plain, prepend}
+use Rattle.json.specs.Word.{after_exponent, after_number, head, number_before, is_operator, is_space, word}
+use Rattle.json.specs.Lex.{Lexeme, token, Class, operator, space, other, class, string_token, Mode, between, in_word, in_string, lex_byte, lex, begins_colon, may_begin, may_close, punctuate}
 use Rattle.json.specs.Run.{is_plain}
 use Rattle.hp_scenario.specs.PlainReader.{place_of, tokens_at}
 use Rattle.hp_scenario.specs.declared.plain_reader.Place.{Place}
@@ -46,65 +46,46 @@ blank_passed (y ∷ ys) x e (inr is) = ap (λ (n : ℕ). lex between (n ∷ ys))
 pub comma_passed : (p : Place) (t : List ℕ) → may_begin (place_of p) ≡ false → head t ≡ 44
     → tokens_at AfterComma (drop 1 t) ≡ tokens_at p t
 unfolding lex punctuate
-comma_passed Fresh t may e = absurd cc
 comma_passed AfterValue t may e =
     sym (ap (λ (u : List ℕ). tokens_at AfterValue u) (front t 44 e (λ z. omega arith)))
-comma_passed AfterComma t may e = absurd cc
+comma_passed _ t may e = absurd cc
 
 -- ---- signs
 
 pub object_opens : (p : Place) (t rest : List ℕ) → head t ≡ 123 → may_begin (place_of p) ≡ true
     → rest ≡ drop 1 t → tokens_at p t ≡ Token.begin_object ∷ tokens_at Fresh rest
 unfolding lex punctuate
-object_opens Fresh t rest e may is =
-    ap (λ (u : List ℕ). tokens_at Fresh u) (front t 123 e (λ z. omega arith))
-    ∙ ap (λ (u : List ℕ). Token.begin_object ∷ tokens_at Fresh u) (sym is)
+object_opens Fresh t rest e may is = rw ((front t 123 e (λ z. omega arith)), ← is)
 object_opens AfterValue t rest e may is = absurd cc
-object_opens AfterComma t rest e may is =
-    ap (λ (u : List ℕ). tokens_at AfterComma u) (front t 123 e (λ z. omega arith))
-    ∙ ap (λ (u : List ℕ). Token.begin_object ∷ tokens_at Fresh u) (sym is)
+object_opens AfterComma t rest e may is = rw ((front t 123 e (λ z. omega arith)), ← is)
 
 pub array_opens : (p : Place) (t rest : List ℕ) → head t ≡ 91 → may_begin (place_of p) ≡ true
     → rest ≡ drop 1 t → tokens_at p t ≡ Token.begin_array ∷ tokens_at Fresh rest
 unfolding lex punctuate
-array_opens Fresh t rest e may is =
-    ap (λ (u : List ℕ). tokens_at Fresh u) (front t 91 e (λ z. omega arith))
-    ∙ ap (λ (u : List ℕ). Token.begin_array ∷ tokens_at Fresh u) (sym is)
+array_opens Fresh t rest e may is = rw ((front t 91 e (λ z. omega arith)), ← is)
 array_opens AfterValue t rest e may is = absurd cc
-array_opens AfterComma t rest e may is =
-    ap (λ (u : List ℕ). tokens_at AfterComma u) (front t 91 e (λ z. omega arith))
-    ∙ ap (λ (u : List ℕ). Token.begin_array ∷ tokens_at Fresh u) (sym is)
+array_opens AfterComma t rest e may is = rw ((front t 91 e (λ z. omega arith)), ← is)
 
 pub object_closes : (p : Place) (t rest : List ℕ) → head t ≡ 125 → may_close (place_of p) ≡ true
     → rest ≡ drop 1 t → tokens_at p t ≡ Token.end_object ∷ tokens_at AfterValue rest
 unfolding lex punctuate
-object_closes Fresh t rest e may is =
-    ap (λ (u : List ℕ). tokens_at Fresh u) (front t 125 e (λ z. omega arith))
-    ∙ ap (λ (u : List ℕ). Token.end_object ∷ tokens_at AfterValue u) (sym is)
-object_closes AfterValue t rest e may is =
-    ap (λ (u : List ℕ). tokens_at AfterValue u) (front t 125 e (λ z. omega arith))
-    ∙ ap (λ (u : List ℕ). Token.end_object ∷ tokens_at AfterValue u) (sym is)
+object_closes Fresh t rest e may is = rw ((front t 125 e (λ z. omega arith)), ← is)
+object_closes AfterValue t rest e may is = rw ((front t 125 e (λ z. omega arith)), ← is)
 object_closes AfterComma t rest e may is = absurd cc
 
 pub array_closes : (p : Place) (t rest : List ℕ) → head t ≡ 93 → may_close (place_of p) ≡ true
     → rest ≡ drop 1 t → tokens_at p t ≡ Token.end_array ∷ tokens_at AfterValue rest
 unfolding lex punctuate
-array_closes Fresh t rest e may is =
-    ap (λ (u : List ℕ). tokens_at Fresh u) (front t 93 e (λ z. omega arith))
-    ∙ ap (λ (u : List ℕ). Token.end_array ∷ tokens_at AfterValue u) (sym is)
-array_closes AfterValue t rest e may is =
-    ap (λ (u : List ℕ). tokens_at AfterValue u) (front t 93 e (λ z. omega arith))
-    ∙ ap (λ (u : List ℕ). Token.end_array ∷ tokens_at AfterValue u) (sym is)
+array_closes Fresh t rest e may is = rw ((front t 93 e (λ z. omega arith)), ← is)
+array_closes AfterValue t rest e may is = rw ((front t 93 e (λ z. omega arith)), ← is)
 array_closes AfterComma t rest e may is = absurd cc
 
 -- no token is left
 pub over : (p : Place) (t rest : List ℕ) → may_close (place_of p) ≡ true → lex between rest ≡ lex between t
     → rest ≡ [] → tokens_at p t ≡ []
 unfolding lex punctuate
-over Fresh t rest may same none = ap (λ (ls : List Lexeme). punctuate (place_of Fresh) ls) (sym same
-    ∙ ap (λ (u : List ℕ). lex between u) none)
-over AfterValue t rest may same none = ap (λ (ls : List Lexeme). punctuate (place_of AfterValue) ls) (sym same
-    ∙ ap (λ (u : List ℕ). lex between u) none)
+over Fresh t rest may same none = rw (← same, none)
+over AfterValue t rest may same none = rw (← same, none)
 over AfterComma t rest may same none = absurd cc
 
 -- ---- strings
@@ -128,10 +109,7 @@ unfolding lex
 inside_byte x xs is =
     let tests = plain_tests x is in
     let rest : Class = cond (is_operator x) operator (cond (is_space x) space other) in
-    ap (λ (b : Bool).
-    lex_byte in_string (cond b quote (cond (x == 92) backslash rest)) x xs (λ next. lex next xs)) tests.0
-    ∙ ap (λ (b : Bool). lex_byte in_string (cond b backslash rest) x xs (λ next. lex next xs)) tests.1
-    ∙ stays_inside (is_operator x) (is_space x) x xs (λ next. lex next xs)
+    rw (tests.0, tests.1) (stays_inside (is_operator x) (is_space x) x xs (λ next. lex next xs))
 
 content_byte : (x : ℕ) (xs : List ℕ) → is_plain x ≡ true
     → content plain (x ∷ xs) ≡ prepend (x ∷ []) (content plain xs)
@@ -139,10 +117,7 @@ unfolding content
 content_byte x xs is =
     let tests = plain_tests x is in
     let more : Option (List ℕ) = prepend (x ∷ []) (content plain xs) in
-    ap (λ (b : Bool).
-    cond b (Some []) (cond (x == 92) (content after_backslash xs) (cond (nat_lt x 32) None more))) tests.0
-    ∙ ap (λ (b : Bool). cond b (content after_backslash xs) (cond (nat_lt x 32) None more)) tests.1
-    ∙ ap (λ (b : Bool). cond b None more) tests.2
+    rw (tests.0, tests.1, tests.2)
 
 -- plain bytes up to a quote
 inside_run : (xs : List ℕ) → get_or xs (prefix_len is_plain xs) 0 ≡ 34
@@ -175,9 +150,8 @@ content_run (x ∷ xs) e = step (is_plain x) refl e (content_run xs)
     step false is e ih = ap (λ (n : ℕ). content plain (n ∷ xs)) e
     step true is e ih =
         let next : suc (prefix_len is_plain xs) ≡ 1 + prefix_len is_plain xs = omega arith in
-        content_byte x xs is
-        ∙ ap (λ (o : Option (List ℕ)). prepend (x ∷ []) o) (ih (ap (λ (k : ℕ). get_or (x ∷ xs) k 0) next ∙ e))
-        ∙ ap (λ (k : ℕ). Some (take k (x ∷ xs))) next
+        rw (content_byte x xs is, (ih (ap (λ (k : ℕ). get_or (x ∷ xs) k 0) next ∙ e)))
+        (ap (λ (k : ℕ). Some (take k (x ∷ xs))) next)
 
 -- a string with no escape stands first
 pub string_cut : (t : List ℕ) (end : ℕ) → head t ≡ 34 → end ≡ 1 + prefix_len is_plain (drop 1 t)
@@ -202,45 +176,31 @@ pub as_key : (p : Place) (t s rest after : List ℕ) → lex between t ≡ token
     → head rest ≡ 58 → may_begin (place_of p) ≡ true → after ≡ drop 1 rest
     → tokens_at p t ≡ Token.key s ∷ tokens_at Fresh after
 unfolding lex punctuate
-as_key Fresh t s rest after is colon may same =
-    ap (λ (ls : List Lexeme). punctuate (place_of Fresh) ls)
-    (is ∙ ap (λ (u : List ℕ). token (Token.string s) ∷ lex between u)
-    (front rest 58 colon (λ z. omega arith)))
-    ∙ ap (λ (u : List ℕ). Token.key s ∷ tokens_at Fresh u) (sym same)
+as_key Fresh t s rest after is colon may same = rw (is, (front rest 58 colon (λ z. omega arith)), ← same)
 as_key AfterValue t s rest after is colon may same = absurd cc
-as_key AfterComma t s rest after is colon may same =
-    ap (λ (ls : List Lexeme). punctuate (place_of AfterComma) ls)
-    (is ∙ ap (λ (u : List ℕ). token (Token.string s) ∷ lex between u)
-    (front rest 58 colon (λ z. omega arith)))
-    ∙ ap (λ (u : List ℕ). Token.key s ∷ tokens_at Fresh u) (sym same)
+as_key AfterComma t s rest after is colon may same = rw (is, (front rest 58 colon (λ z. omega arith)), ← same)
 
 -- a string, where another sign comes next
 no_colon : (t : List ℕ) (x : ℕ) → head t ≡ x → (x ≡ 44) ⊎ ((x ≡ 93) ⊎ (x ≡ 125))
     → begins_colon (lex between t) ≡ false
 unfolding lex
-no_colon t x e (inl is) =
-    ap (λ (u : List ℕ). begins_colon (lex between u)) (front t 44 (e ∙ is) (λ z. omega arith))
-no_colon t x e (inr (inl is)) =
-    ap (λ (u : List ℕ). begins_colon (lex between u)) (front t 93 (e ∙ is) (λ z. omega arith))
-no_colon t x e (inr (inr is)) =
-    ap (λ (u : List ℕ). begins_colon (lex between u)) (front t 125 (e ∙ is) (λ z. omega arith))
+no_colon t x e (inl is) = rw (front t 44 (e ∙ is) (λ z. omega arith))
+no_colon t x e (inr (inl is)) = rw (front t 93 (e ∙ is) (λ z. omega arith))
+no_colon t x e (inr (inr is)) = rw (front t 125 (e ∙ is) (λ z. omega arith))
 
 text_first : (p : Place) (s : List ℕ) (ls : List Lexeme) → begins_colon ls ≡ false
     → may_begin (place_of p) ≡ true
     → punctuate (place_of p) (token (Token.string s) ∷ ls)
     ≡ Token.string s ∷ punctuate (place_of AfterValue) ls
 unfolding punctuate
-text_first Fresh s ls none may = rw none refl
 text_first AfterValue s ls none may = absurd cc
-text_first AfterComma s ls none may = rw none refl
+text_first _ s ls none may = rw none refl
 
 pub as_string : (p : Place) (t s rest : List ℕ) (x : ℕ)
     → lex between t ≡ token (Token.string s) ∷ lex between rest
     → head rest ≡ x → (x ≡ 44) ⊎ ((x ≡ 93) ⊎ (x ≡ 125)) → may_begin (place_of p) ≡ true
     → tokens_at p t ≡ Token.string s ∷ tokens_at AfterValue rest
-as_string p t s rest x is e sign may =
-    ap (λ (ls : List Lexeme). punctuate (place_of p) ls) is
-    ∙ text_first p s (lex between rest) (no_colon rest x e sign) may
+as_string p t s rest x is e sign may = rw is (text_first p s (lex between rest) (no_colon rest x e sign) may)
 
 -- ---- numbers
 
@@ -248,14 +208,12 @@ number_first : (p : Place) (s : List ℕ) (ls : List Lexeme) → may_begin (plac
     → punctuate (place_of p) (token (Token.number s) ∷ ls)
     ≡ Token.number s ∷ punctuate (place_of AfterValue) ls
 unfolding punctuate
-number_first Fresh s ls may = refl
 number_first AfterValue s ls may = absurd cc
-number_first AfterComma s ls may = refl
+number_first _ s ls may = refl
 
 pub as_number : (p : Place) (t s rest : List ℕ) → lex between t ≡ token (Token.number s) ∷ lex between rest
     → may_begin (place_of p) ≡ true → tokens_at p t ≡ Token.number s ∷ tokens_at AfterValue rest
-as_number p t s rest is may =
-    ap (λ (ls : List Lexeme). punctuate (place_of p) ls) is ∙ number_first p s (lex between rest) may
+as_number p t s rest is may = rw is (number_first p s (lex between rest) may)
 
 digit_range : (x : ℕ) → is_ascii_digit x ≡ true → (48 ≤ x) × (x ≤ 57)
 digit_range x is = (low x is, high x is)
@@ -300,9 +258,8 @@ digits_run (x ∷ xs) e = step (is_ascii_digit x) refl e (digits_run xs)
     step true is e ih =
         let next : suc (prefix_len is_ascii_digit xs) ≡ 1 + prefix_len is_ascii_digit xs = omega arith in
         let range = digit_range x is in
-        ap (λ (k : Class). lex_byte in_word k x xs (λ mode. lex mode xs)) (digit_class x range.0 range.1)
-        ∙ ih (ap (λ (k : ℕ). get_or (x ∷ xs) k 0) next ∙ e)
-        ∙ ap (λ (k : ℕ). lex between (drop k (x ∷ xs))) next
+        rw (digit_class x range.0 range.1, (ih (ap (λ (k : ℕ). get_or (x ∷ xs) k 0) next ∙ e)))
+        (ap (λ (k : ℕ). lex between (drop k (x ∷ xs))) next)
 
 -- a number of digits
 number_word : (t : List ℕ) (end : ℕ) → end ≡ prefix_len is_ascii_digit t → 0 < end → 49 ≤ head t
@@ -315,12 +272,9 @@ number_word t end is some low high comma =
     get_or-drop end t 0 32 ∙ ap (λ (k : ℕ). get_or t k 32) (let sum : end + 0 ≡ end = omega arith in sum)
     ∙ get_or_default t end 32 0 within ∙ comma in
     let long : length t - length (drop end t) ≡ end = omega (arith, length-drop end t) in
-    let exponent : after_exponent (drop end t) ≡ Some (drop end t) =
-    ap (λ (x : ℕ). cond ((x == 101) || (x == 69)) (after_digits (after_sign (drop 1 (drop end t))))
-    (Some (drop end t))) there in
+    let exponent : after_exponent (drop end t) ≡ Some (drop end t) = rw there in
     let whole : Token = Token.number (take (length t - length (drop end t)) t) in
-    let ends : number_before t (Some (drop end t)) ≡ whole =
-    ap (λ (x : ℕ). cond (is_operator x || is_space x) whole Token.bad) there in
+    let ends : number_before t (Some (drop end t)) ≡ whole = rw there in
     rw (
       ne_eqb (head t) 116 (λ z. omega arith),
       ne_eqb (head t) 102 (λ z. omega arith),
@@ -330,8 +284,7 @@ number_word t end is some low high comma =
       ← is,
       ne_eqb end 0 (λ z. omega arith),
       there,
-    ) (ap (λ (o : Option (List ℕ)). number_before t o) exponent ∙ ends
-    ∙ ap (λ (k : ℕ). Token.number (take k t)) long)
+    ) (rw (exponent, ends, long))
 
 -- a number of digits stands first
 pub number_cut : (t : List ℕ) (end : ℕ) → end ≡ prefix_len is_ascii_digit t → 0 < end
@@ -348,10 +301,8 @@ number_cut (x ∷ xs) end is some nonzero comma =
     step true digit is_end =
         let range = digit_range x digit in
         let next : suc (prefix_len is_ascii_digit xs) ≡ end = omega (arith, is_end) in
-        ap (λ (k : Class). lex_byte between k x xs (λ mode. lex mode xs)) (digit_class x range.0 range.1)
-        ∙ ap (λ (w : Token). token w ∷ lex in_word xs)
-        (number_word (x ∷ xs) end is some (let ne : x ≢ 48 = nonzero in omega (arith, range.0, ne)) range.1
-        comma)
-        ∙ ap (λ (ls : List Lexeme). token (Token.number (take end (x ∷ xs))) ∷ ls)
+        rw (digit_class x range.0 range.1)
+        (rw (number_word (x ∷ xs) end is some (let ne : x ≢ 48 = nonzero in omega (arith, range.0, ne))
+        range.1 comma) (ap (λ (ls : List Lexeme). token (Token.number (take end (x ∷ xs))) ∷ ls)
         (digits_run xs (ap (λ (k : ℕ). get_or (x ∷ xs) k 0) next ∙ comma)
-        ∙ ap (λ (k : ℕ). lex between (drop k (x ∷ xs))) next)
+        ∙ ap (λ (k : ℕ). lex between (drop k (x ∷ xs))) next)))

@@ -1,5 +1,5 @@
 -- Lines that are dealt to the scripts of their processors, one after another.
-use Rattle.std.proofs.Common.{◌≡◌, ◌≢◌, ◌==◌, ℕ, ◌<◌, ◌≤◌, Bool, true, false, not, List, [], ◌∷◌, ◌++◌, length, map, cond, eqb, get_or, set, reverse, refl, sym, ap, subst, ◌∙◌, arith, Some, None}
+use Rattle.std.proofs.Common.{◌≡◌, ◌≢◌, ◌==◌, ℕ, ◌<◌, ◌≤◌, Bool, true, false, not, List, [], ◌∷◌, ◌++◌, length, map, cond, eqb, get_or, set, reverse, refl, sym, ap, ◌∙◌, arith, Some, None}
 use Rattle.std.specs.Bool.{nat_lt}
 use Rattle.std.specs.List.{All, list_all, position_or_len, range_with_len}
 use Rattle.std.proofs.lemmas.List.{append-nil, append_assoc, ext_get_or, get_or-set_other, length-set, reverse-append, reverse-reverse}
@@ -24,14 +24,12 @@ AreDealt lines left scripts =
 pub none_dealt : (lines left : List Line) (scripts : List (List Line)) (cpus : ℕ) → left ≡ reverse lines
     → scripts ≡ map (script_of []) (range_with_len 0 cpus) → AreDealt lines left scripts
 none_dealt lines left scripts cpus left_is scripts_are cpu within =
-    let count : length scripts ≡ cpus =
-    ap length scripts_are ∙ length-map-range_with_len (script_of []) 0 cpus in
+    let count : length scripts ≡ cpus = rw scripts_are (length-map-range_with_len (script_of []) 0 cpus) in
     let here : get_or scripts cpu [] ≡ [] =
     ap (λ (xs : List (List Line)). get_or xs cpu []) scripts_are ∙ get_or-map-range_with_len (script_of [])
     0 cpus cpu cpu [] (omega (arith, within, count)) (omega arith) in
     let all : reverse left ≡ lines = ap reverse left_is ∙ reverse-reverse lines in
-    ap (λ (xs : List Line). xs ++ script_of (reverse left) cpu) here
-    ∙ ap (λ (xs : List Line). script_of xs cpu) all
+    rw (here, all)
 
 -- a line more is dealt
 one_dealt : (lines old left : List Line) (line : Line) (scripts : List (List Line)) (own : List Line)
@@ -55,8 +53,7 @@ one_dealt lines old left line scripts own old_is own_is inside before cpu within
     by_cpu true e =
         let same : line.cpu ≡ cpu = eqb-true line.cpu cpu e in
         let here : get_or (set scripts line.cpu own) cpu [] ≡ get_or scripts cpu [] ++ line ∷ [] =
-        get_or-set_at scripts line.cpu cpu own [] (sym same) inside
-        ∙ (own_is ∙ ap (λ (k : ℕ). get_or scripts k [] ++ line ∷ []) same) in
+        rw (get_or-set_at scripts line.cpu cpu own [] (sym same) inside, own_is, same) in
         ap (λ (xs : List Line). xs ++ script_of (reverse left) cpu) here
         ∙ (append_assoc (get_or scripts cpu []) (line ∷ []) (script_of (reverse left) cpu)
         ∙ (ap (λ (t : Bool). get_or scripts cpu []
@@ -74,8 +71,7 @@ pub one_dealt_at : (lines old left : List Line) (line : Line) (scripts : List (L
     → place ≡ line.cpu → old ≡ left ++ line ∷ [] → own ≡ get_or scripts place [] ++ line ∷ []
     → place < length scripts → AreDealt lines old scripts → AreDealt lines left (set scripts place own)
 one_dealt_at lines old left line scripts own place is old_is own_is inside before =
-    subst (λ (k : ℕ). AreDealt lines left (set scripts k own)) (sym is)
-    (one_dealt lines old left line scripts own old_is
+    rw is (one_dealt lines old left line scripts own old_is
     (own_is ∙ ap (λ (k : ℕ). get_or scripts k [] ++ line ∷ []) is) (omega (arith, inside, is)) before)
 
 -- all lines are dealt
@@ -97,8 +93,7 @@ own_script : (cpu : ℕ) (lines : List Line) → list_all (λ line. line.cpu == 
 own_script cpu [] all = refl
 own_script cpu (line ∷ lines) all =
     let both = and_parts (eqb line.cpu cpu) (list_all (λ line. line.cpu == cpu) lines) all in
-    ap (λ (t : Bool). cond t (line ∷ script_of lines cpu) (script_of lines cpu)) both.0
-    ∙ ap (λ (xs : List Line). line ∷ xs) (own_script cpu lines both.1)
+    rw (both.0, own_script cpu lines both.1)
 
 -- and that of another processor
 other_script : (cpu other : ℕ) (lines : List Line) → other ≢ cpu
@@ -106,9 +101,7 @@ other_script : (cpu other : ℕ) (lines : List Line) → other ≢ cpu
 other_script cpu other [] apart all = refl
 other_script cpu other (line ∷ lines) apart all =
     let both = and_parts (eqb line.cpu cpu) (list_all (λ line. line.cpu == cpu) lines) all in
-    ap (λ (t : Bool). cond t (line ∷ script_of lines other) (script_of lines other))
-    (differs (eqb-true line.cpu cpu both.0))
-    ∙ other_script cpu other lines apart both.1
+    rw (differs (eqb-true line.cpu cpu both.0)) (other_script cpu other lines apart both.1)
   where
     differs : line.cpu ≡ cpu → eqb line.cpu other ≡ false
     differs same = ne_eqb line.cpu other (λ (e : line.cpu ≡ other). apart (sym e ∙ same))
@@ -149,9 +142,8 @@ all_together cpus cpu lines bare bare_is all inside =
     by_place at room false e =
         let apart : at ≢ cpu = eqb-false at cpu e in
         get_or-set_other bare cpu at lines [] apart
-        ∙ (ap (λ (xs : List (List Line)). get_or xs at []) bare_is
-        ∙ (get_or-map-range_with_len (script_of []) 0 cpus at at [] room (omega arith)
-        ∙ sym (other_script cpu at lines apart all.1)))
+        ∙ (rw bare_is (get_or-map-range_with_len (script_of []) 0 cpus at at [] room (omega arith) ∙ sym
+        (other_script cpu at lines apart all.1)))
 
 -- the search comes to the end
 reached : (cpus : ℕ) (lines : List Line) → first_unfit cpus lines ≡ None
@@ -181,8 +173,7 @@ pub all_but_last : (cpus : ℕ) (old left : List Line) (line : Line) → old ≡
 all_but_last cpus old left line old_is all =
     let both =
     and_parts (list_all (is_for_run cpus) left) (list_all (is_for_run
-    cpus) (line ∷ [])) (sym (list_all-append (is_for_run cpus) left (line ∷ [])) ∙ (ap
-    (list_all (is_for_run cpus)) (sym old_is) ∙ all)) in
+    cpus) (line ∷ [])) (rw (← list_all-append (is_for_run cpus) left (line ∷ []), ← old_is) all) in
     let last = and_parts (is_for_run cpus line) true both.1 in
     (both.0, ltb-true line.cpu cpus (and_parts (nat_lt line.cpu cpus) (not (is_cat line.work)) last.0).0)
 
@@ -192,10 +183,9 @@ pub all_reversed : (cpus : ℕ) (lines : List Line) → list_all (is_for_run cpu
 all_reversed cpus [] all = refl
 all_reversed cpus (line ∷ lines) all =
     let parts = and_parts (is_for_run cpus line) (list_all (is_for_run cpus) lines) all in
-    ap (list_all (is_for_run cpus)) (reverse-append (line ∷ []) lines)
-    ∙ (list_all-append (is_for_run cpus) (reverse lines) (line ∷ [])
-    ∙ and_from (list_all (is_for_run cpus) (reverse lines)) (list_all (is_for_run cpus) (line ∷ []))
-    (all_reversed cpus lines parts.1) (and_from (is_for_run cpus line) true parts.0 refl))
+    rw (reverse-append (line ∷ []) lines) (rw (list_all-append (is_for_run cpus) (reverse lines) (line ∷ []))
+    (and_from (list_all (is_for_run cpus) (reverse lines)) (list_all (is_for_run cpus) (line ∷ []))
+    (all_reversed cpus lines parts.1) (and_from (is_for_run cpus line) true parts.0 refl)))
 
 -- where no line is found that no worker may run, all may be
 pub all_fit : (cpus : ℕ) (lines : List Line) → first_unfit cpus lines ≡ None

@@ -1,5 +1,5 @@
 -- Values that are texts, and the list of these.
-use Rattle.std.proofs.Common.{◌≡◌, ℕ, ◌<◌, Bool, true, false, ◌&&◌, List, [], ◌∷◌, length, get_or, slice_get, map, Option, Some, None, is_some, option_map, option_and_then, refl, sym, ap, subst, ◌∙◌, true≢false}
+use Rattle.std.proofs.Common.{◌≡◌, ℕ, ◌<◌, Bool, true, false, ◌&&◌, List, [], ◌∷◌, length, get_or, slice_get, map, Option, Some, None, is_some, option_and_then, refl, sym, ap, subst, ◌∙◌, true≢false}
 use Rattle.std.proofs.lemmas.List.Folds.{list_all_at}
 use Rattle.std.proofs.lemmas.List.{length-map}
 use Rattle.std.proofs.lemmas.Option.{slice_get-map, slice_get_read}
@@ -44,10 +44,8 @@ text_read (Some t) text e = cc
 pub text_there : (vs : List Value) (i : ℕ) (v : Value) (text : List ℕ) → i < length (map text_of vs)
     → v ≡ get_or vs i v → as_str (view v) ≡ Some text → slice_get (map text_of vs) i ≡ Some text
 text_there vs i v text lt at e =
-    slice_get-map text_of vs i
-    ∙ ap (option_map text_of)
-    (slice_get_read vs (length vs) i v refl (subst (λ (n : ℕ). i < n) (length-map vs text_of) lt) at)
-    ∙ ap Some (text_read (as_str (view v)) text e)
+    rw (slice_get-map text_of vs i) (rw (slice_get_read vs (length vs) i v refl
+    (subst (λ (n : ℕ). i < n) (length-map vs text_of) lt) at) (rw (text_read (as_str (view v)) text e)))
 
 -- there is one at each place
 pub text_lacks : (vs : List Value) (i : ℕ) (v : Value) → list_all is_text vs ≡ true

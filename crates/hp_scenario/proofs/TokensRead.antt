@@ -7,7 +7,7 @@ use Rattle.json.specs.Lex.{tokens}
 use Rattle.json.proofs.Grammar.{items_end, items_more, members_end, members_more, value_is, value-begin_array, value-begin_object, skip_value-shorter, left}
 use Rattle.serde_json.specs.Data.{Num, number, unsigned, Data, array, object, Items, item, Members, no_members, put}
 use Rattle.serde_json.specs.Data as value_of
-use Rattle.serde_json.specs.Read.{number_of, of_json, of_items, of_members, converted, read}
+use Rattle.serde_json.specs.Read.{of_json, of_items, of_members, converted, read}
 use Rattle.hp_scenario.specs.Usual.{Reads, strings_then, AreTexts, texts_data, AreRows, put_rows}
 
 -- ---- what was converted
@@ -61,12 +61,7 @@ with_member k j d old e (Some p) = rw e
 -- a value takes a token
 pub shorter : (depth : ℕ) (d : Data) (old new : List Token) → Reads depth d old new → length new < length old
 shorter depth d old new e =
-    let j = converted_some of_json (value depth old) d new e in
-    skip_value-shorter depth old new (ap left j.1)
-
-pub reads_number : (depth : ℕ) (s : List ℕ) (x : Num) (new : List Token) → number_of s ≡ Some x
-    → Reads depth (number x) (Token.number s ∷ new) new
-reads_number depth s x new e = ap (converted of_json) (value_is depth (Token.number s ∷ new)) ∙ rw e refl
+    skip_value-shorter depth old new (ap left (converted_some of_json (value depth old) d new e).1)
 
 -- ---- arrays
 
@@ -77,31 +72,27 @@ ReadsItems depth ds old new =
 
 pub texts_read : (depth : ℕ) (texts : List (List ℕ)) (new : List Token)
     → ReadsItems depth (texts_data texts) (strings_then texts (Token.end_array ∷ new)) new
-texts_read depth [] new n enough =
-    ap (converted of_items) (items_end (value depth) n (Token.end_array ∷ new) new enough refl)
+texts_read depth [] new n enough = rw (items_end (value depth) n (Token.end_array ∷ new) new enough refl)
 texts_read depth (text ∷ texts) new n enough =
     let rest = strings_then texts (Token.end_array ∷ new) in
     let one = value_is depth (Token.string text ∷ rest) in
     let some : 0 < n = omega arith in
     let left_over : length rest ≤ n - 1 = omega arith in
-    ap (converted of_items)
-    (items_more (value depth) n (Token.string text ∷ rest) rest (json.string text) some refl one)
-    ∙ with_item (json.string text) (value_of.string text) refl (items (value depth) (n - 1) rest)
-    ∙ ap (parse_map (item (value_of.string text))) (texts_read depth texts new (n - 1) left_over)
+    rw (items_more (value depth) n (Token.string text ∷ rest) rest (json.string text) some refl one)
+    (rw (with_item (json.string text) (value_of.string text) refl (items (value depth) (n - 1) rest))
+    (rw (texts_read depth texts new (n - 1) left_over)))
 
 pub reads_array : (depth : ℕ) (ds : Items) (old new : List Token) → 0 < depth
     → ReadsItems (depth - 1) ds old new → Reads depth (array ds) (Token.begin_array ∷ old) new
 reads_array depth ds old new some h =
-    ap (converted of_json) (value-begin_array depth old some)
-    ∙ with_array (items (value (depth - 1)) (length old) old)
-    ∙ ap (parse_map array) (h (length old) (omega arith))
+    rw (value-begin_array depth old some, with_array (items (value (depth - 1)) (length old) old))
+    (rw (h (length old) (omega arith)))
 
 pub reads_texts : (depth : ℕ) (texts : List (List ℕ)) (old new : List Token) → 0 < depth
     → AreTexts texts old new → Reads depth (array (texts_data texts)) (Token.begin_array ∷ old) new
 reads_texts depth texts old new some e =
-    ap (λ (ts : List Token). converted of_json (value depth (Token.begin_array ∷ ts))) e
-    ∙ reads_array depth (texts_data texts) (strings_then texts (Token.end_array ∷ new)) new some
-    (texts_read (depth - 1) texts new)
+    rw e (reads_array depth (texts_data texts) (strings_then texts (Token.end_array ∷ new)) new some
+    (texts_read (depth - 1) texts new))
 
 -- ---- objects
 
@@ -112,8 +103,7 @@ Adds depth add old new = (n : ℕ) (before : Members) → length old ≤ n
 
 pub adds_none : (depth : ℕ) (new : List Token) → Adds depth (λ ms. ms) (Token.end_object ∷ new) new
 adds_none depth new n before enough =
-    ap (converted (λ ms. of_members ms before))
-    (members_end (value depth) n (Token.end_object ∷ new) new enough refl)
+    rw (members_end (value depth) n (Token.end_object ∷ new) new enough refl)
 
 pub adds_one : (depth : ℕ) (k : List ℕ) (d : Data) (add : Members → Members) (old mid new : List Token)
     → Reads depth d old mid → Adds depth add mid new
@@ -123,17 +113,14 @@ adds_one depth k d add old mid new e more n before enough =
     let less = shorter depth d old mid e in
     let some : 0 < n = omega arith in
     let left_over : length mid ≤ n - 1 = omega arith in
-    ap (converted (λ ms. of_members ms before))
-    (members_more (value depth) n k (Token.key k ∷ old) old mid j.0 some refl j.1)
-    ∙ with_member k j.0 d before j.2 (members (value depth) (n - 1) mid)
-    ∙ more (n - 1) (put k d before) left_over
+    rw (members_more (value depth) n k (Token.key k ∷ old) old mid j.0 some refl j.1) (rw (with_member k j.0 d
+    before j.2 (members (value depth) (n - 1) mid)) (rw (more (n - 1) (put k d before) left_over)))
 
 pub reads_object : (depth : ℕ) (add : Members → Members) (old new : List Token) → 0 < depth
     → Adds (depth - 1) add old new → Reads depth (object (add no_members)) (Token.begin_object ∷ old) new
 reads_object depth add old new some h =
-    ap (converted of_json) (value-begin_object depth old some)
-    ∙ with_object (members (value (depth - 1)) (length old) old)
-    ∙ ap (parse_map object) (h (length old) no_members (omega arith))
+    rw (value-begin_object depth old some) (rw (with_object (members (value (depth - 1)) (length old) old))
+    (rw (h (length old) no_members (omega arith))))
 
 pub adds_rows : (depth : ℕ) (rows : List (List ℕ × ℕ)) (add : Members → Members) (old mid new : List Token)
     → AreRows rows old mid → Adds depth add mid new → Adds depth (λ ms. add (put_rows rows ms)) old new
@@ -141,7 +128,7 @@ adds_rows depth [] add old mid new e more = rw e more
 adds_rows depth (row ∷ rows) add old mid new h more =
     let next = h.0 in
     let s = h.1.0 in
-    let one = reads_number depth s (unsigned row.1) next h.1.2 in
+    let one = ap (converted of_json) (value_is depth (Token.number s ∷ next)) ∙ rw h.1.2 refl in
     let rest = adds_rows depth rows add next mid new h.2 more in
     let whole = adds_one depth row.0 (number (unsigned row.1)) (λ ms. add (put_rows rows ms))
     (Token.number s ∷ next) next new one rest in

@@ -1,5 +1,5 @@
 -- The usual form of a scenario, and what it means.
-use Rattle.std.proofs.Common.{◌≡◌, ℕ, ◌+◌, List, [], ◌∷◌, ◌++◌, codes, Option, Some, None, Result, Ok, Err, option_and_then, refl, sym, ap, subst, ◌∙◌, arith}
+use Rattle.std.proofs.Common.{◌≡◌, ℕ, ◌+◌, List, [], ◌∷◌, ◌++◌, codes, Option, Some, None, Result, Ok, option_and_then, refl, sym, ap, subst, ◌∙◌, arith}
 use Rattle.json.specs.Token.{Token}
 use Rattle.json.specs.Lex.{tokens}
 use Rattle.serde_json.specs.Data.{Data, array, object, no_members, put}
@@ -14,7 +14,6 @@ use Rattle.hp_scenario.specs.Gives.{◌>>=◌, or_fault}
 use Rattle.hp_scenario.specs.Names.{Numbered, line_in}
 use Rattle.hp_scenario.specs.Scenario.{ScenarioValue, Script, with_line, nothing, lines_from, scenario_with, scenario_of, scenario_in}
 use Rattle.hp_scenario.specs.Usual.{Reads, strings_then, AreTexts, texts_data, AreRows, put_rows, rows_of, parts_from, EndsWithBoots, IsLayoutAt, AreLines, AreScenario}
-use Rattle.hp_scenario.specs.declared.lines.Line.{Line}
 use Rattle.std.specs.Prelude.{IfOk, IfSome}
 use Rattle.std.specs.declared.alloc.AllocError.{AllocError}
 use Rattle.hp_scenario.proofs.Json.{json_read}
@@ -25,8 +24,7 @@ use Rattle.hp_scenario.proofs.TokensRead.{Adds, adds_none, adds_one, adds_rows, 
 pub one_more_string : (texts : List (List ℕ)) (text : List ℕ) (rest : List Token)
     → strings_then texts (Token.string text ∷ rest) ≡ strings_then (texts ++ text ∷ []) rest
 one_more_string [] text rest = refl
-one_more_string (t ∷ texts) text rest =
-    ap (λ (ts : List Token). Token.string t ∷ ts) (one_more_string texts text rest)
+one_more_string (t ∷ texts) text rest = rw (one_more_string texts text rest)
 
 -- ---- blocks at boot
 
@@ -34,11 +32,10 @@ boot_then : (o : Option Boot) (rest more : Option (List Boot)) (bs : List Boot) 
     → option_and_then (λ x. option_and_then (λ xs. Some (x ∷ xs)) rest) o ≡ Some bs
     → ((ys : List Boot) → rest ≡ Some ys → more ≡ Some (ys ++ b ∷ []))
     → option_and_then (λ x. option_and_then (λ xs. Some (x ∷ xs)) more) o ≡ Some (bs ++ b ∷ [])
-boot_then None rest more bs b e h = absurd (cc)
-boot_then (Some x) None more bs b e h = absurd (cc)
 boot_then (Some x) (Some ys) more bs b e h =
     let same : x ∷ ys ≡ bs = cc in
     rw (h ys refl) (ap (λ (zs : List Boot). Some (zs ++ b ∷ [])) same)
+boot_then _ _ more bs b e h = absurd (cc)
 
 pub one_more_boot : (words : List (List ℕ)) (word : List ℕ) (bs : List Boot) (b : Boot)
     → each_in boot_at (texts_data words) ≡ Some bs → boot_of word ≡ Some b
@@ -110,8 +107,7 @@ layout_read n boot old start mid new opened rows ends sound =
     (Token.key (codes "boot") ∷ Token.begin_array ∷ m) new =
     adds_one 125 (codes "boot") list (λ ms. ms) (Token.begin_array ∷ m) (Token.end_object ∷ new) new one
     (adds_none 125 new) in
-    let rest : Adds 125 (λ ms. put (codes "boot") list ms) mid new =
-    subst (λ (ts : List Token). Adds 125 (λ ms. put (codes "boot") list ms) ts new) (sym ends.1) last in
+    let rest : Adds 125 (λ ms. put (codes "boot") list ms) mid new = rw ends.1 last in
     let all = adds_rows 125 (rows_of n) (λ ms. put (codes "boot") list ms) start mid new rows rest in
     let d = object (put (codes "boot") list (put_rows (rows_of n) no_members)) in
     let whole : Reads 126 d (Token.begin_object ∷ start) new =
@@ -135,16 +131,14 @@ scenario_read layout script old a b e f g opened named placed listed lines over 
     let dl = placed.0 in
     let texts = lines.0 in
     let dc = array (texts_data texts) in
-    let are : AreTexts texts f (Token.end_object ∷ []) =
-    subst (λ (ts : List Token). AreTexts texts f ts) over lines.1 in
+    let are : AreTexts texts f (Token.end_object ∷ []) = rw (← over) lines.1 in
     let calls : Reads 126 dc (Token.begin_array ∷ f) (Token.end_object ∷ []) =
     reads_texts 126 texts f (Token.end_object ∷ []) (omega arith) are in
     let last : Adds 126 (λ ms. put (codes "calls") dc ms)
     (Token.key (codes "calls") ∷ Token.begin_array ∷ f) [] =
     adds_one 126 (codes "calls") dc (λ ms. ms) (Token.begin_array ∷ f) (Token.end_object ∷ []) [] calls
     (adds_none 126 []) in
-    let rest : Adds 126 (λ ms. put (codes "calls") dc ms) e [] =
-    subst (λ (ts : List Token). Adds 126 (λ ms. put (codes "calls") dc ms) ts []) (sym listed) last in
+    let rest : Adds 126 (λ ms. put (codes "calls") dc ms) e [] = rw listed last in
     let both : Adds 126 (λ ms. put (codes "calls") dc (put (codes "layout") dl ms))
     (Token.key (codes "layout") ∷ b) [] =
     adds_one 126 (codes "layout") dl (λ ms. put (codes "calls") dc ms) b e [] placed.1 rest in
@@ -152,8 +146,7 @@ scenario_read layout script old a b e f g opened named placed listed lines over 
     let whole : Reads 127 d (Token.begin_object ∷ Token.key (codes "layout") ∷ b) [] =
     reads_object 127 (λ ms. put (codes "calls") dc (put (codes "layout") dl ms))
     (Token.key (codes "layout") ∷ b) [] (omega arith) both in
-    let same : Token.begin_object ∷ Token.key (codes "layout") ∷ b ≡ old =
-    ap (λ (ts : List Token). Token.begin_object ∷ ts) (sym named) ∙ sym opened in (
+    let same : Token.begin_object ∷ Token.key (codes "layout") ∷ b ≡ old = rw (← named, ← opened) in (
       d,
       subst (λ (ts : List Token). Reads 127 d ts []) same whole,
       of_form d (record { parts = layout; calls = texts }) script
@@ -166,8 +159,7 @@ pub scenario_is : (bytes text : List ℕ) (s : ScenarioValue) → IsUtf8 bytes �
 unfolding scenario_in
 scenario_is bytes text s utf same h =
     let d = h.0 in
-    let there : Reads 127 d (tokens bytes) [] =
-    subst (λ (t : List ℕ). Reads 127 d (tokens t) []) same h.1 in
+    let there : Reads 127 d (tokens bytes) [] = rw (← same) h.1 in
     ap (λ r. r >>= scenario_of) (json_read bytes d utf (reads_all bytes d there)) ∙ h.2
 
 -- ---- turns of the loops
@@ -201,13 +193,7 @@ no_boots bs e = ap Some (sym e)
 pub boots_grow : (words : List (List ℕ)) (word : List ℕ) (bs now : List Boot) (b : Boot)
     → each_in boot_at (texts_data words) ≡ Some bs → Some b ≡ boot_of word → now ≡ bs ++ b ∷ []
     → each_in boot_at (texts_data (words ++ word ∷ [])) ≡ Some now
-boots_grow words word bs now b so_far is grown =
-    one_more_boot words word bs b so_far (sym is) ∙ ap Some (sym grown)
-
-pub no_lines : (names : List (List ℕ)) (lines : List Line) → names ≡ [] → lines ≡ []
-    → lines_from 1 nothing [] ≡ Ok (record { names = names; lines = lines })
-unfolding lines_from
-no_lines names lines e h = rw (e, h) refl
+boots_grow words word bs now b so_far is grown = rw (one_more_boot words word bs b so_far (sym is), ← grown)
 
 -- ---- what is found
 
@@ -221,11 +207,10 @@ pub layout_found : (r : Result (Option LayoutParts) AllocError) (n : LayoutParts
     → boot ≡ blocks
     → IfOk r (λ o. IfSome o (λ l. (l ≡ parts_from n boot) × (layout_fault l ≡ None)))
     → IfOk r (λ o. IfSome o (λ l. IsLayoutAt l old new))
-layout_found (Err e) n boot blocks old start mid new opened rows ends same h = h
-layout_found (Ok None) n boot blocks old start mid new opened rows ends same h = h
 layout_found (Ok (Some l)) n boot blocks old start mid new opened rows ends same h =
     let is : l ≡ parts_from n blocks = h.0 ∙ ap (parts_from n) same in
     let sound : layout_fault (parts_from n blocks) ≡ None =
     subst (λ (p : LayoutParts). layout_fault p ≡ None) is h.1 in
     subst (λ (p : LayoutParts). IsLayoutAt p old new) (sym is)
     (layout_read n blocks old start mid new opened rows ends sound)
+layout_found _ n boot blocks old start mid new opened rows ends same h = h

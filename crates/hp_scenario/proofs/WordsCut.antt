@@ -1,5 +1,5 @@
 -- Words that are cut off a text one by one.
-use Rattle.std.proofs.Common.{◌≡◌, ℕ, ◌+◌, ◌<◌, Bool, true, false, cond, ltb, Some, None, List, [], ◌∷◌, ◌++◌, length, get_or, take, drop, map, Bor, refl, sym, ap, ◌∙◌, arith, append_assoc}
+use Rattle.std.proofs.Common.{◌≡◌, ℕ, ◌+◌, ◌<◌, Bool, true, false, cond, ltb, Some, None, List, [], ◌∷◌, ◌++◌, length, get_or, take, drop, map, Bor, refl, sym, arith, append_assoc}
 use Rattle.std.specs.List.{position, position_or_len}
 use Rattle.std.specs.Str.{IsCharBoundary, IsUtf8}
 use Rattle.std.proofs.lemmas.Bool.{eqb-true, ltb-false}
@@ -63,19 +63,15 @@ pub one_more_word : (before after : List (Bor (List ℕ))) (word : Bor (List ℕ
     → after ≡ before ++ word ∷ [] → left ≡ word.now ∷ rest → bytes_of before ++ left ≡ total
     → bytes_of after ++ rest ≡ total
 one_more_word before after word left rest total grown first so_far =
-    ap (λ (ws : List (Bor (List ℕ))). bytes_of ws ++ rest) grown
-    ∙ ap (λ (ws : List (List ℕ)). ws ++ rest) (map-append (λ (w : Bor (List ℕ)). w.now) before (word ∷ []))
-    ∙ append_assoc (bytes_of before) (word.now ∷ []) rest
-    ∙ ap (λ (ws : List (List ℕ)). bytes_of before ++ ws) (sym first) ∙ so_far
+    rw (grown, (map-append (λ (w : Bor (List ℕ)). w.now) before (word ∷ [])))
+    (rw (append_assoc (bytes_of before) (word.now ∷ []) rest, ← first) so_far)
 
 -- the last word
 pub last_word : (before after : List (Bor (List ℕ))) (word : Bor (List ℕ)) (left total : List (List ℕ))
     → after ≡ before ++ word ∷ [] → left ≡ word.now ∷ [] → bytes_of before ++ left ≡ total
     → bytes_of after ≡ total
 last_word before after word left total grown last so_far =
-    ap (λ (ws : List (Bor (List ℕ))). bytes_of ws) grown
-    ∙ map-append (λ (w : Bor (List ℕ)). w.now) before (word ∷ [])
-    ∙ ap (λ (ws : List (List ℕ)). bytes_of before ++ ws) (sym last) ∙ so_far
+    rw (grown, (map-append (λ (w : Bor (List ℕ)). w.now) before (word ∷ [])), ← last) so_far
 
 -- what a space says, and what it says that there is none
 pub ruleset cut_at_spaces = (before_space, after_space, first_word, only_word)

@@ -1,5 +1,5 @@
 -- Words that a line is made of: none has a space, so they are what a split at spaces gives.
-use Rattle.std.proofs.Common.{◌≡◌, ℕ, ◌^◌, ◌<◌, Bool, true, false, cond, not, ◌&&◌, ◌||◌, eqb, ltb, leb, List, [], ◌∷◌, ◌++◌, length, refl, ap, ◌∙◌, arith}
+use Rattle.std.proofs.Common.{◌≡◌, ℕ, ◌^◌, ◌<◌, Bool, true, false, cond, not, ◌&&◌, ◌||◌, eqb, ltb, leb, List, [], ◌∷◌, ◌++◌, length, refl, ap, arith}
 use Rattle.std.specs.Fmt.{decimal}
 use Rattle.std.specs.List.{join_with_byte, slice_split, onto_first, list_all}
 use Rattle.std.specs.Str.{all_ascii_digits}
@@ -64,8 +64,7 @@ split_word : (word rest : List ℕ) → is_spaceless word ≡ true
 split_word [] rest h = refl
 split_word (b ∷ bs) rest h =
     let p = and_parts (is_no_space b) (is_spaceless bs) h in
-    let no : eqb b 32 ≡ false = not_true (eqb b 32) p.0 in
-    rw (no, split_word bs rest p.1) refl
+    rw (not_true (eqb b 32) p.0, split_word bs rest p.1) refl
   where
     not_true : (t : Bool) → not t ≡ true → t ≡ false
     not_true true h = absurd cc
@@ -75,8 +74,7 @@ split_last : (word : List ℕ) → is_spaceless word ≡ true → slice_split is
 split_last [] h = refl
 split_last (b ∷ bs) h =
     let p = and_parts (is_no_space b) (is_spaceless bs) h in
-    let no : eqb b 32 ≡ false = not_true (eqb b 32) p.0 in
-    rw (no, split_last bs p.1) refl
+    rw (not_true (eqb b 32) p.0, split_last bs p.1) refl
   where
     not_true : (t : Bool) → not t ≡ true → t ≡ false
     not_true true h = absurd cc
@@ -91,8 +89,7 @@ pub split_joined : (word : List ℕ) (words : List (List ℕ)) → is_spaceless 
     → slice_split is_space (join_with_byte 32 (word ∷ words)) ≡ word ∷ words
 split_joined word [] h hs = split_last word h
 split_joined word (next ∷ words) h hs =
-    split_word word (join_with_byte 32 (next ∷ words)) h
-    ∙ ap (λ (ws : List (List ℕ)). word ∷ ws) (split_joined next words hs.0 hs.1)
+    rw (split_word word (join_with_byte 32 (next ∷ words)) h, split_joined next words hs.0 hs.1)
 
 -- the words of a split have no space
 onto_spaceless : (b : ℕ) (words : List (List ℕ)) → is_no_space b ≡ true → AreSpaceless words

@@ -4,7 +4,7 @@ use Rattle.hp_units.specs.LayoutParts.{LayoutParts}
 use Rattle.hp_history.specs.declared.volumes.Volume.{Volume}
 use Rattle.hp_machine.specs.Machine.{MachineValue, last_serial}
 use Rattle.hp_shared.specs.declared.closing.CloseFault.{CloseFault}
-use Rattle.hp_shared.specs.Closing.{AreCounted, AreReached, HasCause, HasFault, IsChecked, IsClosed}
+use Rattle.hp_shared.specs.Closing.{AreCounted, HasFault, IsChecked, IsClosed}
 use Rattle.hp_shared.specs.Shared.{IsShared, LockedValue, SeatValue}
 use Rattle.hp_shared.proofs.Sealing.{counted_all}
 
@@ -13,17 +13,13 @@ pub checked_here : (l : LayoutParts) (v : LockedValue) (m : MachineValue) (cpus 
     (seats : List SeatValue) (volumes : List Volume)
     → m ≡ v.machine → cpus ≡ l.cpus → IsChecked m cpus seats volumes count
     → IsChecked v.machine l.cpus seats volumes count
-checked_here l v m cpus count seats volumes own all checked =
-    subst (λ (n : ℕ). IsChecked v.machine n seats volumes count) all
-    (subst (λ (x : MachineValue). IsChecked x cpus seats volumes count) own checked)
+checked_here l v m cpus count seats volumes own all checked = rw (← all, ← own) checked
 
 pub fault_here : (l : LayoutParts) (v : LockedValue) (m : MachineValue) (cpus : ℕ) (seats : List SeatValue)
     (volumes : List Volume) (why : CloseFault)
     → m ≡ v.machine → cpus ≡ l.cpus → HasFault m cpus seats volumes why
     → HasFault v.machine l.cpus seats volumes why
-fault_here l v m cpus seats volumes why own all fault =
-    subst (λ (n : ℕ). HasFault v.machine n seats volumes why) all
-    (subst (λ (x : MachineValue). HasFault x cpus seats volumes why) own fault)
+fault_here l v m cpus seats volumes why own all fault = rw (← all, ← own) fault
 
 -- a machine that was checked is the shared one, with so many records
 pub closed : (l : LayoutParts) (v : LockedValue) (m : MachineValue) (count : ℕ) (seats : List SeatValue)
@@ -39,22 +35,9 @@ closed l v m count seats volumes kept own counted checked = record {
         total = all;
       });
   checked = subst (λ (x : MachineValue). IsChecked x l.cpus seats volumes count) (sym own) checked;
-  reached =
-      subst (AreReached l seats) (kept.total ∙ sym all) (counted checked.each.count).reached;
+  reached = rw (all, ← kept.total) (counted checked.each.count).reached;
 }
   where
     all : count ≡ last_serial v.machine
     all =
         checked.records ∙ sym (counted_all volumes v.machine (last_serial v.machine) checked.reach refl)
-
--- a machine that was not closed: the seats count what the lock showed
-pub caused : (l : LayoutParts) (old new : LockedValue) (seats same : List SeatValue) (volumes : List Volume)
-    (why : CloseFault)
-    → new ≡ old → same ≡ seats → (length seats ≡ l.cpus → AreCounted l seats old) → IsShared l new
-    → HasFault new.machine l.cpus same volumes why → HasCause l seats volumes why
-caused l old new seats same volumes why still back counted kept fault = record {
-  seen = new;
-  shared = kept;
-  all = λ each. subst (AreCounted l seats) (sym still) (counted each);
-  fault = subst (λ (xs : List SeatValue). HasFault new.machine l.cpus xs volumes why) back fault;
-}

@@ -1,5 +1,5 @@
 -- All marks after one more record, and the outcome of all seats.
-use Rattle.std.proofs.Common.{◌≡◌, ℕ, zero, suc, ◌+◌, ◌<◌, ◌≤◌, Bool, true, false, cond, List, [], ◌∷◌, ◌++◌, length, map, take, Option, Some, None, slice_get, refl, ap, sym, subst, ◌∙◌, arith, inl, inr, set, add-one}
+use Rattle.std.proofs.Common.{◌≡◌, ℕ, zero, suc, ◌+◌, ◌<◌, ◌≤◌, Bool, true, false, List, [], ◌∷◌, ◌++◌, length, map, take, Option, Some, None, slice_get, refl, ap, sym, subst, ◌∙◌, arith, inl, inr, set}
 use Rattle.std.specs.Prelude.{◌⊎◌, ◌≢◌, ◌==◌, filter}
 use Rattle.std.proofs.lemmas.Bool.{cases_eq, cases_lt, eqb-true}
 use Rattle.std.proofs.Math.ListN.{replicate}
@@ -10,13 +10,14 @@ use Rattle.std.proofs.lemmas.Option.{slice_get-get_or, slice_get_within}
 use Rattle.hp_units.specs.Receipts.{DifferAt, receipt_of, receipts_of}
 use Rattle.hp_units.specs.declared.replies.Receipt.{Receipt}
 use Rattle.hp_units.specs.declared.replies.Record.{Record}
-use Rattle.hp_laws.proofs.Lists.{get_end, get_left, get_push_cases, take_next}
+use Rattle.hp_laws.proofs.Lists.{get_end, get_left, get_push_cases}
 use Rattle.hp_machine.proofs.Replies.{receipts_more}
 use Rattle.hp_shared.specs.declared.marks.Compared.{Compared}
 use Rattle.hp_shared.specs.Marks.{AreMarks, AreSeated, IsMark, lower}
 use Rattle.hp_shared.specs.Comparing.{IsCompared, IsOutcome, IsSeatAt, IsSeatOf, IsSettled, IsTwinless, IsUnseated, MismatchesAt, StraysAt, StraysHere}
 use Rattle.hp_shared.specs.Shared.{SeatValue}
 use Rattle.hp_shared.proofs.Outcomes.{joined, mapped}
+use Rattle.hp_laws.proofs.Replays.{take_one}
 
 -- ---- lists
 
@@ -33,9 +34,8 @@ set_there : {X : Type 0} (xs : List X) (i k : ℕ) (x y : X) → k ≢ i → sli
     → slice_get (set xs i x) k ≡ Some y
 set_there [] i k x y other get = absurd cc
 set_there (z ∷ xs) zero zero x y other get = absurd (other refl)
-set_there (z ∷ xs) zero (suc k) x y other get = get
-set_there (z ∷ xs) (suc i) zero x y other get = get
 set_there (z ∷ xs) (suc i) (suc k) x y other get = set_there xs i k x y (λ e. other (ap suc e)) get
+set_there (z ∷ xs) _ _ x y other get = get
 
 -- ---- receipts
 
@@ -53,18 +53,14 @@ few_receipts cpu h =
 receipts_same : (cpu : ℕ) (h : List Record) (x : Record) → cpu ≢ x.cpu
     → receipts_of cpu (h ++ x ∷ []) ≡ receipts_of cpu h
 receipts_same cpu h x other =
-    ap (map receipt_of) (filter-append (λ (r : Record). r.cpu == cpu) h (x ∷ []))
-    ∙ (map-append receipt_of (filter (λ (r : Record). r.cpu == cpu) h)
-    (filter (λ (r : Record). r.cpu == cpu) (x ∷ []))
-    ∙ by_test (x.cpu == cpu) refl)
+    rw (filter-append (λ (r : Record). r.cpu == cpu) h (x ∷ [])) (rw (map-append receipt_of (filter (λ (r :
+    Record). r.cpu == cpu) h) (filter (λ (r : Record). r.cpu == cpu) (x ∷ []))) (by_test (x.cpu == cpu) refl))
   where
     by_test : (b : Bool) → (x.cpu == cpu) ≡ b
         → receipts_of cpu h ++ map receipt_of (filter (λ (r : Record). r.cpu == cpu) (x ∷ []))
         ≡ receipts_of cpu h
     by_test true is = absurd (other (sym (eqb-true x.cpu cpu is)))
-    by_test false is =
-        ap (λ (b : Bool). receipts_of cpu h ++ map receipt_of (cond b (x ∷ []) [])) is
-        ∙ append-nil (receipts_of cpu h)
+    by_test false is = rw is (append-nil (receipts_of cpu h))
 
 -- ---- one more record
 
@@ -76,8 +72,7 @@ pub counts_records : (history : List Record) (seats : List SeatValue) (marks : L
 counts_records history seats marks cpu place limit m are at here room =
     let found = are place at.0 at.1 in
     let same : found.0 ≡ m = same_item (slice_get marks place) found.0 m found.1 here in
-    let next : m.next ≡ length (receipts_of at.0.cpu history) =
-    ap (λ (x : Compared). x.next) (sym same) ∙ found.2.next in
+    let next : m.next ≡ length (receipts_of at.0.cpu history) = rw (← same) found.2.next in
     omega (arith, next, few_receipts at.0.cpu history, room)
 
 -- a mark stands at the place of each seat
@@ -107,9 +102,7 @@ marked seats marks latest place seat was new receipts apart at marked_was seat_t
     step_here mark =
         subst (λ (done : List Receipt). IsMark seat.receipts done new)
         (sym (receipts_more seat.cpu history latest (sym own)))
-        (subst (λ (rs : List Receipt). IsMark rs (receipts_of seat.cpu history ++ receipt_of latest ∷ []) new)
-        shown
-        (stepped (receipts_of seat.cpu history)
+        (rw (← shown) (stepped (receipts_of seat.cpu history)
         (subst (λ (rs : List Receipt). IsMark rs (receipts_of seat.cpu history) was) (sym shown) mark)))
 
     mark_here : IsMark seat.receipts (receipts_of seat.cpu history) was
@@ -126,10 +119,8 @@ marked seats marks latest place seat was new receipts apart at marked_was seat_t
         same_item (slice_get seats place) seat s seat_there
         (ap (λ (k : ℕ). slice_get seats k) (sym is) ∙ there) in (
           new,
-          ap (λ (k : ℕ). slice_get (set marks place new) k) is
-              ∙ set_here marks place new (slice_get_within marks place was marked_was),
-          subst (λ (x : SeatValue). IsMark x.receipts (receipts_of x.cpu (history ++ latest ∷ [])) new) same
-              (step_here mark_here),
+          rw is (set_here marks place new (slice_get_within marks place was marked_was)),
+          rw (← same) (step_here mark_here),
         )
     by_place (inr is) =
         let found = are p s there in
@@ -137,8 +128,7 @@ marked seats marks latest place seat was new receipts apart at marked_was seat_t
         λ e. is (sym (apart place p seat s seat_there there (own ∙ sym e))) in (
           found.0,
           set_there marks place p new found.0 is found.1,
-          subst (λ (done : List Receipt). IsMark s.receipts done found.0)
-              (sym (receipts_same s.cpu history latest other)) found.2,
+          rw (receipts_same s.cpu history latest other) found.2,
         )
 
 -- a record of no seat
@@ -148,34 +138,26 @@ unmarked seats marks latest none history are p s there =
     let found = are p s there in (
       found.0,
       found.1,
-      subst (λ (done : List Receipt). IsMark s.receipts done found.0)
-          (sym (receipts_same s.cpu history latest (none p s there))) found.2,
+      rw (receipts_same s.cpu history latest (none p s there)) found.2,
     )
 
 -- ---- beginnings of the history
 
-pub next_taken : {X : Type 0} (xs : List X) (at : ℕ) (x : X) → slice_get xs at ≡ Some x
-    → take (at + 1) xs ≡ take at xs ++ x ∷ []
-next_taken xs at x get = ap (λ (k : ℕ). take k xs) (add-one at) ∙ take_next xs at x get
-
 -- after no records, and after one more of them
 pub marks_none : (history : List Record) (seats : List SeatValue) (marks : List Compared)
     → AreMarks history seats marks → AreMarks (history ++ []) seats marks
-marks_none history seats marks are =
-    subst (λ (rs : List Record). AreMarks rs seats marks) (sym (append-nil history)) are
+marks_none history seats marks are = rw (append-nil history) are
 
 pub marks_next : (history records : List Record) (seats : List SeatValue) (marks : List Compared) (at : ℕ)
     (r : Record)
     → slice_get records at ≡ Some r → AreMarks ((history ++ take at records) ++ r ∷ []) seats marks
     → AreMarks (history ++ take (at + 1) records) seats marks
 marks_next history records seats marks at r get are =
-    subst (λ (rs : List Record). AreMarks rs seats marks) (append_assoc history (take at records) (r ∷ [])
-    ∙ ap (λ (rs : List Record). history ++ rs) (sym (next_taken records at r get))) are
+    rw (take_one records at r get, ← append_assoc history (take at records) (r ∷ [])) are
 
 pub short_take : {X : Type 0} (n : ℕ) (xs : List X) → length (take n xs) ≤ n
-short_take zero xs = omega arith
-short_take (suc n) [] = omega arith
 short_take (suc n) (x ∷ xs) = let rest = short_take n xs in omega arith
+short_take _ _ = omega arith
 
 pub take_all : {X : Type 0} (n : ℕ) (xs : List X) → length xs ≤ n → take n xs ≡ xs
 take_all zero [] long = refl
@@ -211,9 +193,7 @@ pub strays_next : (history : List Record) (seats : List SeatValue) (at : ℕ) (r
     → IsOutcome (AreSeated (take (at + 1) history) seats) (StraysAt (take (at + 1) history) seats) low
 strays_next history seats at r o here low get is found before =
     let h = take at history in
-    subst (λ (rs : List Record). IsOutcome (AreSeated rs seats) (StraysAt rs seats) low)
-    (sym (next_taken history at r get))
-    (subst (IsOutcome (AreSeated (h ++ r ∷ []) seats) (StraysAt (h ++ r ∷ []) seats)) (sym is)
+    rw (take_one history at r get, is)
     (joined (AreSeated h seats) (IsSeatOf seats r.cpu) (AreSeated (h ++ r ∷ []) seats) (StraysAt h seats)
     (StraysHere seats r) (StraysAt (h ++ r ∷ []) seats) o here before found
     (seated_never_stray h seats)
@@ -226,7 +206,7 @@ strays_next history seats at r o here low get is found before =
     (λ n s. elim (get_push_cases h r s.1 s.0 s.2) [
       | inl e ↦ inl (s.0, s.1, e, s.3)
       | inr e ↦ inr (subst (λ (y : Record). StraysHere seats y n) (sym e.1) s.3)
-    ])))
+    ]))
 
 -- an entry of two lists one after the other stands in the one or in the other
 either : {X : Type 0} (xs ys : List X) (k : ℕ) (x : X) → slice_get (xs ++ ys) k ≡ Some x
@@ -245,8 +225,7 @@ pub strays_both : (xs ys : List Record) (seats : List SeatValue) (o q low : Opti
     → IsOutcome (AreSeated ys seats) (StraysAt ys seats) q
     → IsOutcome (AreSeated (xs ++ ys) seats) (StraysAt (xs ++ ys) seats) low
 strays_both xs ys seats o q low is first second =
-    subst (IsOutcome (AreSeated (xs ++ ys) seats) (StraysAt (xs ++ ys) seats)) (sym is)
-    (joined (AreSeated xs seats) (AreSeated ys seats) (AreSeated (xs ++ ys) seats) (StraysAt xs seats)
+    rw is (joined (AreSeated xs seats) (AreSeated ys seats) (AreSeated (xs ++ ys) seats) (StraysAt xs seats)
     (StraysAt ys seats) (StraysAt (xs ++ ys) seats) o q first second
     (seated_never_stray xs seats)
     (seated_never_stray ys seats)
@@ -306,8 +285,7 @@ pub compared_next : (history : List Record) (seats : List SeatValue) (end : ℕ)
     (DifferAt seat.receipts (receipts_of seat.cpu history)) here
     → IsComparedBefore history seats end o → IsComparedBefore history seats (end + 1) low
 compared_next history seats end seat o here low get is found before =
-    subst (IsComparedBefore history seats (end + 1)) (sym is)
-    (joined (AreSeated history seats × AreSettledBefore history seats end) (seat.receipts
+    rw is (joined (AreSeated history seats × AreSettledBefore history seats end) (seat.receipts
     ≡ receipts_of seat.cpu history) (AreSeated history seats × AreSettledBefore history seats (end + 1))
     (λ n. StraysAt history seats n ⊎ SeatDiffersBefore history seats end n)
     (DifferAt seat.receipts (receipts_of seat.cpu history))
@@ -339,8 +317,7 @@ compared_next history seats end seat o here low get is found before =
         ⊎ DifferAt seat.receipts (receipts_of seat.cpu history) n
     differs_at n d (inl before) = inl (inr (d.0, d.1, before, d.3, d.4))
     differs_at n d (inr past) =
-        inr (subst (λ (x : SeatValue). DifferAt x.receipts (receipts_of x.cpu history) n)
-        (sym (the_seat d.0 d.1 d.3 past d.2)) d.4)
+        inr (rw (the_seat d.0 d.1 d.3 past d.2) d.4)
 
 -- after all
 pub compared_all : (history : List Record) (seats : List SeatValue) (end : ℕ) (o : Option ℕ)
@@ -370,10 +347,6 @@ pub finished : (history : List Record) (seats : List SeatValue) (marks : List Co
     (DifferAt seat.receipts (receipts_of seat.cpu history)) here
 finished history seats marks place seat m receipts here are there mark_there shown ends =
     let found = are place seat there in
-    let mark =
-    subst (IsMark seat.receipts (receipts_of seat.cpu history))
-    (same_item (slice_get marks place) found.0 m found.1 mark_there) found.2 in
-    subst (λ (rs : List Receipt).
-    IsOutcome (rs ≡ receipts_of seat.cpu history) (DifferAt rs (receipts_of seat.cpu history)) here) shown
-    (ends (receipts_of seat.cpu history)
+    let mark = rw (same_item (slice_get marks place) found.0 m found.1 mark_there) at found.2 in
+    rw (← shown) (ends (receipts_of seat.cpu history)
     (subst (λ (rs : List Receipt). IsMark rs (receipts_of seat.cpu history) m) (sym shown) mark))

@@ -39,8 +39,7 @@ differs_back receipts done b n d =
     elim (get_push_cases done b d.1 d.0 d.2) [
       | inl e ↦ inl (d.0, d.1, e, d.3)
       | inr e ↦
-          inr (subst (λ (k : ℕ). EntryDiffersAt (slice_get receipts k) b n) e.0
-          (subst (λ (x : Receipt). EntryDiffersAt (slice_get receipts d.0) x n) (sym e.1) d.3))
+          inr (rw (← e.0, e.1) d.3)
     ]
 
 pub mark_stepped : (receipts done : List Receipt) (b : Receipt) (m : Compared) (here low : Option ℕ)
@@ -50,18 +49,12 @@ pub mark_stepped : (receipts done : List Receipt) (b : Receipt) (m : Compared) (
 mark_stepped receipts done b m here low found is mark = record {
   next = omega (arith, mark.next, length-append done (b ∷ []));
   lowest =
-      subst (IsOutcome (Agrees receipts (done ++ b ∷ [])) (DiffersBefore receipts (done ++ b ∷ []))) (sym is)
-      (joined (Agrees receipts done) (slice_get receipts (length done) ≡ Some b) (Agrees receipts
-      (done ++ b ∷ [])) (DiffersBefore receipts done) (EntryDiffersAt (slice_get receipts (length done))
-      b) (DiffersBefore receipts (done ++ b ∷ [])) m.lowest here mark.lowest
-      (subst (λ (k : ℕ). IsOutcome (slice_get receipts k ≡ Some b) (EntryDiffersAt (slice_get receipts k) b)
-      here) mark.next found)
-      (agreed receipts done)
-      (λ same n d. d.0 same)
-      (agrees_on receipts done b)
-      (differs_on receipts done b)
-      (λ n d. (length done, b, get_end done b, d))
-      (differs_back receipts done b));
+      rw is (joined (Agrees receipts done) (slice_get receipts (length done) ≡ Some b)
+      (Agrees receipts (done ++ b ∷ [])) (DiffersBefore receipts done) (EntryDiffersAt (slice_get receipts
+      (length done)) b) (DiffersBefore receipts (done ++ b ∷ [])) m.lowest here mark.lowest (subst
+      (λ (k : ℕ). IsOutcome (slice_get receipts k ≡ Some b) (EntryDiffersAt (slice_get receipts k) b) here)
+      mark.next found) (agreed receipts done) (λ same n d. d.0 same) (agrees_on receipts done b) (differs_on
+      receipts done b) (λ n d. (length done, b, get_end done b, d)) (differs_back receipts done b));
 }
 
 -- ---- the receipts after the records

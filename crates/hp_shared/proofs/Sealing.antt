@@ -1,5 +1,5 @@
 -- The records of volumes, volume by volume.
-use Rattle.std.proofs.Common.{◌≡◌, ℕ, ◌+◌, ◌<◌, ◌≤◌, List, [], ◌∷◌, ◌++◌, length, take, Option, Some, slice_get, refl, ap, sym, subst, ◌∙◌, arith, inl, inr}
+use Rattle.std.proofs.Common.{◌≡◌, ℕ, ◌+◌, ◌<◌, ◌≤◌, List, [], ◌∷◌, ◌++◌, length, take, Option, Some, slice_get, refl, ap, sym, ◌∙◌, arith, inl, inr}
 use Rattle.std.specs.Prelude.{◌⊎◌}
 use Rattle.std.proofs.lemmas.Bool.{cases_lt}
 use Rattle.std.proofs.lemmas.List.{append_assoc, append-nil, length-append}
@@ -14,19 +14,18 @@ use Rattle.hp_shared.specs.Comparing.{IsOutcome, StraysAt}
 use Rattle.hp_shared.specs.Marks.{AreMarks, AreSeated, lower}
 use Rattle.hp_shared.specs.Shared.{SeatValue}
 use Rattle.hp_shared.specs.Volumes.{AreCountedBefore, ReachSealed, all_records, sealed_records}
-use Rattle.hp_shared.proofs.Comparisons.{next_taken, same_item, strays_both}
+use Rattle.hp_shared.proofs.Comparisons.{same_item, strays_both}
+use Rattle.hp_laws.proofs.Replays.{take_one}
 
 records_more : (vs : List Volume) (v : Volume)
     → sealed_records (vs ++ v ∷ []) ≡ sealed_records vs ++ v.records
 records_more [] v = append-nil v.records
-records_more (u ∷ us) v =
-    ap (λ (rs : List Record). u.records ++ rs) (records_more us v)
-    ∙ sym (append_assoc u.records (sealed_records us) v.records)
+records_more (u ∷ us) v = rw (records_more us v, ← append_assoc u.records (sealed_records us) v.records)
 
 -- one more volume
 pub records_next : (vs : List Volume) (at : ℕ) (v : Volume) → slice_get vs at ≡ Some v
     → sealed_records (take (at + 1) vs) ≡ sealed_records (take at vs) ++ v.records
-records_next vs at v get = ap sealed_records (next_taken vs at v get) ∙ records_more (take at vs) v
+records_next vs at v get = ap sealed_records (take_one vs at v get) ∙ records_more (take at vs) v
 
 -- their number is that of the records in the volumes
 pub length_sealed : (vs : List Volume) → length (sealed_records vs) ≡ records_in vs
@@ -47,7 +46,7 @@ count_next vs at count more v get is own =
       is,
       own,
       count_more (take at vs) v,
-      ap (λ (us : List Volume). records_in us) (next_taken vs at v get),
+      ap (λ (us : List Volume). records_in us) (take_one vs at v get),
     )
 
 -- all records are as many as the last serial
@@ -89,16 +88,14 @@ room_on vs at limit v records get own few =
 
 records_on : (vs : List Volume) (at : ℕ) (v : Volume) (records : List Record) → slice_get vs at ≡ Some v
     → records ≡ v.records → sealed_records (take at vs) ++ records ≡ sealed_records (take (at + 1) vs)
-records_on vs at v records get own =
-    ap (λ (rs : List Record). sealed_records (take at vs) ++ rs) own ∙ sym (records_next vs at v get)
+records_on vs at v records get own = rw (own, ← records_next vs at v get)
 
 pub marks_on : (vs : List Volume) (at : ℕ) (v : Volume) (records : List Record) (seats : List SeatValue)
     (marks : List Compared)
     → slice_get vs at ≡ Some v → records ≡ v.records
     → AreMarks (sealed_records (take at vs) ++ records) seats marks
     → AreMarks (sealed_records (take (at + 1) vs)) seats marks
-marks_on vs at v records seats marks get own are =
-    subst (λ (rs : List Record). AreMarks rs seats marks) (records_on vs at v records get own) are
+marks_on vs at v records seats marks get own are = rw (← records_on vs at v records get own) are
 
 pub strays_on : (vs : List Volume) (at : ℕ) (v : Volume) (records : List Record) (seats : List SeatValue)
     (o q low : Option ℕ)
@@ -109,8 +106,7 @@ pub strays_on : (vs : List Volume) (at : ℕ) (v : Volume) (records : List Recor
     → IsOutcome (AreSeated (sealed_records (take (at + 1) vs)) seats)
     (StraysAt (sealed_records (take (at + 1) vs)) seats) low
 strays_on vs at v records seats o q low get own is before here =
-    subst (λ (rs : List Record). IsOutcome (AreSeated rs seats) (StraysAt rs seats) low)
-    (records_on vs at v records get own)
+    rw (← records_on vs at v records get own)
     (strays_both (sealed_records (take at vs)) records seats o q low is before here)
 
 -- ---- their counts

@@ -10,7 +10,7 @@ use Rattle.hp_units.specs.declared.replies.CallFault.TheVariants.{HistoryFull, O
 use Rattle.hp_units.specs.declared.replies.Receipt.{Receipt}
 use Rattle.hp_units.specs.declared.replies.Reply.{Reply}
 use Rattle.hp_history.specs.Course.{receipt_for}
-use Rattle.hp_ops.specs.Ports.{IsBeginReply, IsDriverReply, IsGiven}
+use Rattle.hp_ops.specs.Ports.{IsGiven}
 use Rattle.hp_machine.proofs.Replies.{begin_known, driver_known}
 use Rattle.hp_shared.specs.Shared.{IsFilled, IsSeatCall, IsSeated, IsTurn, SeatValue, fulls_of, left_by}
 use Rattle.hp_shared.specs.SeatPorts.{AreTurns, port_value}
@@ -30,16 +30,12 @@ seated_is_given l old new event r fault seated =
     let cpus : m.layout.cpus ≡ l.cpus = ap (λ (parts : LayoutParts). parts.cpus) turn.shared.layout in
     record {
       asked = turn.asked;
-      value =
-          ap (λ (rs : List Receipt). record { receipts = rs; fault = None; cpus = l.cpus }) seated.receipts;
+      value = rw seated.receipts;
       begun =
-          λ plan is. subst IsBeginReply (sym reply) (subst
-          (λ (e : Event). IsBeginReply (reply_of m.layout m.base m.before found.0 old.cpu e)) (sym is)
-          (begin_known m.layout m.base m.before found.0 old.cpu plan));
+          λ plan is. rw (reply, is) (begin_known m.layout m.base m.before found.0 old.cpu plan);
       known = λ opened.
-          subst (λ (n : ℕ). IsDriverReply n event r.reply) cpus
-          (subst (IsDriverReply m.layout.cpus event) (sym reply) (driver_known m.layout m.base m.before
-          found.0 old.cpu event (subst (λ (n : ℕ). old.cpu < n) (sym cpus) seated.inside)));
+          rw (← cpus, reply) (driver_known m.layout m.base m.before found.0 old.cpu event
+          (subst (λ (n : ℕ). old.cpu < n) (sym cpus) seated.inside));
     }
 
 -- one turn, of which the port shows the receipt
@@ -58,8 +54,7 @@ pub seat_called : (l : LayoutParts) (cpu : ℕ) (was held now : List Receipt) (e
     → IsSeatCall l (seat_of cpu was sealed fulls) event answer.1 (seat_of cpu now kept told)
 seat_called l cpu was held now event copy answer share more sealed kept fulls told copied inside same pushed
     counted risen still untold late turn =
-    let receipts : now ≡ was ++ receipt_for copy answer ∷ [] =
-    pushed ∙ ap (λ (rs : List Receipt). rs ++ receipt_for copy answer ∷ []) same in
+    let receipts : now ≡ was ++ receipt_for copy answer ∷ [] = rw (pushed, same) in
     let amount : more ≡ length now =
     omega (
       arith,
@@ -77,9 +72,7 @@ seat_called l cpu was held now event copy answer share more sealed kept fulls to
         receipts = receipts;
         sealed = still;
         fulls = omega (arith, untold);
-        turn =
-            subst (λ (e : Event). IsTurn l cpu event (receipt_for e answer) (length now)) (sym copied)
-            (subst (IsTurn l cpu event (receipt_for event answer)) amount turn);
+        turn = rw (copied, ← amount) turn;
         late = late;
       };
     }

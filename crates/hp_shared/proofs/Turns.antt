@@ -10,7 +10,7 @@ use Rattle.hp_units.specs.Memory.{Memory}
 use Rattle.hp_units.specs.History.{IsLegal, net_of, reply_of, run, value_of}
 use Rattle.hp_units.specs.declared.events.Event.{Event}
 use Rattle.hp_units.specs.declared.replies.CallFault.{CallFault}
-use Rattle.hp_units.specs.declared.replies.CallFault.TheVariants.{HistoryFull, OutOfMemory}
+use Rattle.hp_units.specs.declared.replies.CallFault.TheVariants.{HistoryFull}
 use Rattle.hp_units.specs.declared.replies.Receipt.{Receipt}
 use Rattle.hp_units.specs.declared.replies.Record.{Record}
 use Rattle.hp_units.specs.declared.replies.Reply.{Reply}
@@ -27,14 +27,8 @@ use Rattle.hp_shared.specs.Shared.{IsFilled, IsFresh, IsLastOf, IsReached, IsSha
 called_history : (old new : MachineValue) (cpu : ℕ) (event : Event) (r : Receipt)
     → IsCalled old cpu event r new → IsHistory new
 called_history old new cpu event r called = record {
-  legal =
-      subst (λ (l : LayoutParts). IsLegal l new.base new.before new.history) (sym called.layout)
-      (subst (λ (b : Memory). IsLegal old.layout b new.before new.history) (sym called.base)
-      (subst (λ (n : ℕ). IsLegal old.layout old.base n new.history) (sym called.before) called.legal));
-  state =
-      called.state
-      ∙ (ap (λ (l : LayoutParts). value_of l old.base new.history) (sym called.layout)
-      ∙ ap (λ (b : Memory). value_of new.layout b new.history) (sym called.base));
+  legal = rw (called.layout, called.base, called.before) called.legal;
+  state = rw (called.state, ← called.layout, ← called.base);
 }
 
 -- its last serial is one higher
@@ -89,8 +83,7 @@ full_count m full = by_room (nat_le m.layout.history (length m.history)) (is_spe
     by_room true spent is so both =
         let within = leb-true m.layout.history (length m.history) is in inl (omega (arith, within))
     by_room false true is so both =
-        let last = leb-true 18446744073709551615 (m.before + length m.history) so in
-        inr (omega (arith, last))
+        inr (omega (arith, leb-true 18446744073709551615 (m.before + length m.history) so))
     by_room false false is so both = absurd cc
 
 -- and one with no further serial is full
@@ -141,9 +134,8 @@ reached_on {A} l m was total fulls told answer shared more full before counted s
 
     by_answer : (a : Result A CallFault) → ((a ≡ Err HistoryFull) ↔ IsTrue (is_full m))
         → told ≡ fulls + fulls_of a → IsReached l total
-    by_answer (Ok x) full counted = later (before (omega (arith, counted, some)))
     by_answer (Err HistoryFull) full counted = here (full_count m (full.0 refl))
-    by_answer (Err OutOfMemory) full counted = later (before (omega (arith, counted, some)))
+    by_answer _ full counted = later (before (omega (arith, counted, some)))
 
 -- a call that is recorded after one that found the history full has a serial above the limit
 pub late_on : (l : LayoutParts) (old new : MachineValue) (was fulls told cpu : ℕ) (event : Event)
@@ -205,9 +197,7 @@ sealed_on l old new was total shared is same =
     legal : IsLegal l (state_after l volumes) (records_in volumes) old.history
     legal =
         subst (λ (s : Memory). IsLegal l s (records_in volumes) old.history) shared.sealed.3
-        (subst (λ (n : ℕ). IsLegal l old.base n old.history) shared.sealed.2
-        (subst (λ (parts : LayoutParts). IsLegal parts old.base old.before old.history) shared.layout
-        shared.history.legal))
+        (rw (← shared.sealed.2, ← shared.layout) shared.history.legal)
 
     follows : FollowsVolumes l volumes (volume_of old)
     follows = record {
@@ -233,6 +223,5 @@ pub last_reply : (m : MachineValue) (cpu : ℕ) (r : Receipt) → IsHistory m �
     → (earlier : List Record) × (r.reply ≡ reply_of m.layout m.base m.before earlier cpu r.event)
 last_reply m cpu r kept last =
     let here : slice_get m.history (length last.earlier) ≡ Some (record_of cpu r) =
-    ap (λ (h : List Record). slice_get h (length last.earlier)) last.history
-    ∙ get_end last.earlier (record_of cpu r) in
+    rw last.history (get_end last.earlier (record_of cpu r)) in
     (take (length last.earlier) m.history, (kept.legal (length last.earlier) (record_of cpu r) here).reply)

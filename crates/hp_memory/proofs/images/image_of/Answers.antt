@@ -1,8 +1,9 @@
 -- Each part of the state in its turn.
 use Rattle.std.proofs.Common.{sym, ◌∙◌, ap}
 use Rattle.hp_layers.specs.Layers.{state_of}
-use Rattle.hp_memory.proofs.Pictured.{areas-is, areas-within, blocks-is, blocks-within, cached-none, contents-none, cpus-size, cpus-within, free-is, kernel-is, kernel-none, kernel-orders, kernel-size, kinds-none, lists-none, none-is, pages-is, pages-put, pages-settled, pages-within, rows-none, table-none}
+use Rattle.hp_memory.proofs.Pictured.{areas-is, areas-within, blocks-is, blocks-within, cached-none, contents-none, cpus-size, cpus-within, free-is, kernel-is, kernel-none, kernel-orders, kernel-size, kinds-none, lists-none, none-is, pages-is, pages-put, pages-within, rows-none, table-none}
 use Rattle.hp_memory.proofs.images.image_of.Goals as goal
+use Rattle.hp_layers.proofs.PageEvents.{settled}
 
 pub put_areas-requires-clause-layout : goal.put_areas-requires-clause-layout
 put_areas-requires-clause-layout c =
@@ -62,7 +63,7 @@ put_pages-requires-clause-pages c =
 
 pub put_pages-requires-clause-settled : goal.put_pages-requires-clause-settled
 put_pages-requires-clause-settled c =
-    pages-settled c.args.layers.now c.requires.placed
+    settled c.args.layers.now c.requires.placed
 
 pub put_pages-requires-clause-table : goal.put_pages-requires-clause-table
 put_pages-requires-clause-table c =

@@ -1,4 +1,4 @@
-use Rattle.std.proofs.Common.{ap, rules, sym}
+use Rattle.std.proofs.Common.{ap, sym}
 use Rattle.hp_scenario.specs.Form.{boot_of}
 use Rattle.hp_scenario.proofs.form.boot_from.Goals as goal
 
@@ -17,7 +17,3 @@ returns-in-movable c = sym (ap boot_of c.in-movable.is)
 pub returns-in-absent : goal.returns-in-absent
 unfolding boot_of
 returns-in-absent c = sym (ap boot_of c.in-absent.is)
-
-pub returns-in_default : goal.returns-in_default
-unfolding boot_of
-returns-in_default c = search rules

@@ -11,21 +11,18 @@ returns-in_err-order c =
 
 pub returns-in_err-blocks : goal.returns-in_err-blocks
 returns-in_err-blocks c =
-    ap (option_map parts_seen) c.from_residual-in_err-blocks.ensures
-    ∙ of_pairs c.args.boot.now (view c.args.layout.now) _ _ _ _ _ c.in_ok-order.ensures
-    c.in_err-blocks.ensures refl refl refl
+    rw c.from_residual-in_err-blocks.ensures (of_pairs c.args.boot.now (view c.args.layout.now) _ _ _ _ _
+    c.in_ok-order.ensures c.in_err-blocks.ensures refl refl refl)
 
 pub returns-in_err-batch : goal.returns-in_err-batch
 returns-in_err-batch c =
-    ap (option_map parts_seen) c.from_residual-in_err-batch.ensures
-    ∙ of_pairs c.args.boot.now (view c.args.layout.now) _ _ _ _ _ c.in_ok-order.ensures
-    c.in_ok-blocks.ensures c.in_err-batch.ensures refl refl
+    rw c.from_residual-in_err-batch.ensures (of_pairs c.args.boot.now (view c.args.layout.now) _ _ _ _ _
+    c.in_ok-order.ensures c.in_ok-blocks.ensures c.in_err-batch.ensures refl refl)
 
 pub returns-in_err-owners : goal.returns-in_err-owners
 returns-in_err-owners c =
-    ap (option_map parts_seen) c.from_residual-in_err-owners.ensures
-    ∙ of_pairs c.args.boot.now (view c.args.layout.now) _ _ _ _ _ c.in_ok-order.ensures
-    c.in_ok-blocks.ensures c.in_ok-batch.ensures c.in_err-owners.ensures refl
+    rw c.from_residual-in_err-owners.ensures (of_pairs c.args.boot.now (view c.args.layout.now) _ _ _ _ _
+    c.in_ok-order.ensures c.in_ok-blocks.ensures c.in_ok-batch.ensures c.in_err-owners.ensures refl)
 
 pub returns-in_err-words : goal.returns-in_err-words
 returns-in_err-words c =

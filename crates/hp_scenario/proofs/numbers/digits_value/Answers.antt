@@ -15,5 +15,4 @@ overflow_add-number c =
     c.loop-byte.invariant.1 c.loop-byte-test.true c.requires in
     let byte = get_or c.args.digits.now c.loop-byte.byte-index 0 in
     let digit : (leb 48 byte && leb byte 57) ≡ true = search rules in
-    let high = leb-true byte 57 (and_parts (leb 48 byte) (leb byte 57) digit).1 in
-    omega (arith, room, high)
+    omega (arith, room, leb-true byte 57 (and_parts (leb 48 byte) (leb byte 57) digit).1)

@@ -1,8 +1,6 @@
-use Rattle.std.proofs.Common.{◌≡◌, ◌+◌, List, ℕ, ◌∷◌, length, drop, get_or, ap, sym, ◌∙◌, arith}
+use Rattle.std.proofs.Common.{◌≡◌, ◌+◌, List, ℕ, length, drop, get_or, ap, arith}
 use Rattle.std.specs.List.{prefix_len}
 use Rattle.std.proofs.lemmas.Str.{IsCharBoundary-after_ascii}
-use Rattle.json.specs.Token.{Token}
-use Rattle.json.specs.Lex.{Lexeme, between, lex, token}
 use Rattle.json.specs.Run.{is_plain}
 use Rattle.hp_scenario.proofs.PlainTokens.{second_is_boundary, some_byte, string_cut}
 use Rattle.hp_scenario.proofs.plain_reader.cut_string.Goals as goal
@@ -14,12 +12,11 @@ range-requires-clause-start_boundary c inside =
 
 pub range_from-requires : goal.range_from-requires
 range_from-requires c inside =
-    let t = c.args.text.now in
     let end = c.plain_end-end.result in
     let same = c.as_bytes-bytes.ensures.value in
     let long = ap (λ (b : List ℕ). length b) same in
     let last = ap (λ (b : List ℕ). get_or b end 0) same in
-    IsCharBoundary-after_ascii t end c.utf8.text (omega (arith, long, c.if-end-bytes.false))
+    IsCharBoundary-after_ascii c.args.text.now end c.utf8.text (omega (arith, long, c.if-end-bytes.false))
     (omega (arith, last, c.if-bytes-end-ne34.false))
 
 pub returns : goal.returns
@@ -28,9 +25,6 @@ returns c =
     let end = c.plain_end-end.result in
     let same = c.as_bytes-bytes.ensures.value in
     let last = ap (λ (b : List ℕ). get_or b end 0) same in
-    let plain : end ≡ 1 + prefix_len is_plain (drop 1 t) =
-    c.plain_end-end.ensures.value ∙ ap (λ (b : List ℕ). 1 + prefix_len is_plain (drop 1 b)) same in
-    string_cut t end c.requires plain (omega (arith, last, c.if-bytes-end-ne34.false))
-    ∙ ap (λ (s : List ℕ). token (Token.string s) ∷ lex between (drop (end + 1) t)) (sym c.range.ensures.value)
-    ∙ ap (λ (ls : List Lexeme). token (Token.string c.range.result.now) ∷ ls)
-    (ap (λ (u : List ℕ). lex between u) (sym c.range_from.ensures.value) ∙ sym c.after_blanks.ensures)
+    let plain : end ≡ 1 + prefix_len is_plain (drop 1 t) = rw (c.plain_end-end.ensures.value, same) in
+    rw (string_cut t end c.requires plain (omega (arith, last, c.if-bytes-end-ne34.false)))
+    (rw (← c.range.ensures.value, ← c.range_from.ensures.value, ← c.after_blanks.ensures))

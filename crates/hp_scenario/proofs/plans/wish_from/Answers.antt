@@ -1,4 +1,4 @@
-use Rattle.std.proofs.Common.{ap, rules, sym}
+use Rattle.std.proofs.Common.{ap, sym}
 use Rattle.hp_scenario.specs.Lines.{wish_of}
 use Rattle.hp_scenario.proofs.plans.wish_from.Goals as goal
 
@@ -13,7 +13,3 @@ returns-in-normal c = sym (ap wish_of c.in-normal.is)
 pub returns-in-movable : goal.returns-in-movable
 unfolding wish_of
 returns-in-movable c = sym (ap wish_of c.in-movable.is)
-
-pub returns-in_default : goal.returns-in_default
-unfolding wish_of
-returns-in_default c = search rules

@@ -1,5 +1,4 @@
-use Rattle.std.proofs.Common.{◌≡◌, ◌∙◌, Option, Some, None, is_some, option_map, refl, ap}
-use Rattle.hp_scenario.specs.Lines.{Said}
+use Rattle.std.proofs.Common.{◌≡◌, Option, Some, None, is_some, option_map, refl}
 use Rattle.hp_scenario.specs.Seen.{said_seen}
 use Rattle.hp_scenario.proofs.requests.is_line.Goals as goal
 
@@ -8,7 +7,4 @@ still_some f (Some x) = refl
 still_some f None = refl
 
 pub returns : goal.returns
-returns c =
-    c.is_some.ensures
-    ∙ (still_some said_seen c.in_ok-line_says.field-0
-    ∙ ap (λ (o : Option Said). is_some o) c.in_ok-line_says.ensures)
+returns c = rw (c.is_some.ensures, still_some said_seen c.in_ok-line_says.field-0, c.in_ok-line_says.ensures)

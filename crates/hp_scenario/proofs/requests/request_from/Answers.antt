@@ -2,25 +2,13 @@ use Rattle.std.proofs.Common.{rules}
 use Rattle.hp_scenario.specs.Lines.{request_of}
 use Rattle.hp_scenario.proofs.requests.request_from.Goals as goal
 
-pub returns-in-begin : goal.returns-in-begin
-unfolding request_of
-returns-in-begin c = search rules
-
 pub returns-in-plan : goal.returns-in-plan
 unfolding request_of
 returns-in-plan c = search rules
 
-pub returns-in-echo : goal.returns-in-echo
-unfolding request_of
-returns-in-echo c = search rules
-
 pub returns-in-cat : goal.returns-in-cat
 unfolding request_of
 returns-in-cat c = search rules
-
-pub returns-in-seal : goal.returns-in-seal
-unfolding request_of
-returns-in-seal c = search rules
 
 pub returns-in_default-verb : goal.returns-in_default-verb
 unfolding request_of

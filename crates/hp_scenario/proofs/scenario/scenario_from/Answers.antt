@@ -1,4 +1,4 @@
-use Rattle.std.proofs.Common.{◌≡◌, ◌∙◌, true, ℕ, List, Option, Some, None, Result, Ok, Err, codes, option_map, refl, sym, ap, subst}
+use Rattle.std.proofs.Common.{◌≡◌, ◌∙◌, true, ℕ, List, Option, Some, None, Ok, codes, option_map, refl, sym, ap}
 use Rattle.std.specs.Borrow.{Bor}
 use Rattle.serde_json.specs.Data.{Data}
 use Rattle.serde_json.specs.Find.{get}
@@ -7,10 +7,8 @@ use Rattle.serde_json.specs.declared.value.Value.{Value}
 use Rattle.hp_units.specs.LayoutParts.{LayoutParts}
 use Rattle.hp_units.specs.declared.rows.Boot.{Boot}
 use Rattle.hp_scenario.specs.Form.{boots_at, form_of, has_keys, parts_of, parts_with, texts_at}
-use Rattle.hp_scenario.specs.Gives.{Gives, or_fault}
-use Rattle.hp_scenario.specs.Scenario.{ScenarioValue, scenario_if, scenario_of}
-use Rattle.hp_scenario.specs.Seen.{scenario_seen}
-use Rattle.hp_scenario.specs.declared.fault.ScenarioFault.{ScenarioFault}
+use Rattle.hp_scenario.specs.Gives.{or_fault}
+use Rattle.hp_scenario.specs.Scenario.{scenario_if, scenario_of}
 use Rattle.hp_scenario.specs.declared.fault.ScenarioFault.TheVariants.{BadShape}
 use Rattle.hp_scenario.proofs.scenario.scenario_from.Goals as goal
 
@@ -32,12 +30,10 @@ returns c =
     let layout = c.in_ok-layout.layout in
     let named =
     ap (option_map (λ (v : Bor Value). view v.now)) (sym c.in_ok-layout.ensures.ok_part) ∙ c.get.ensures in
-    subst (λ (s : Result ScenarioValue ScenarioFault). Gives scenario_seen c.scenario_with.result s)
-    (of_parts (view c.args.value.now) (view layout.now) c.in_ok-boot.boot.items _ c.texts_at.result
+    rw (← (of_parts (view c.args.value.now) (view layout.now) c.in_ok-boot.boot.items _ c.texts_at.result
     c.if-not-has_keys.ensures named c.if-not-has_keys-2.ensures c.in_ok-boot.ensures
-    (c.parts_with.ensures ∙ ap (λ (boot : List Boot). parts_with boot (view layout.now)) c.deref.ensures.value)
-    c.texts_at.ensures)
-    c.scenario_with.ensures
+    (c.parts_with.ensures ∙ ap (λ (boot : List Boot). parts_with boot (view layout.now))
+    c.deref.ensures.value) c.texts_at.ensures)) c.scenario_with.ensures
 
 pub returns-then-not-has_keys : goal.returns-then-not-has_keys
 unfolding scenario_of form_of

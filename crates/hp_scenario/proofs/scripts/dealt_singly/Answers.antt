@@ -1,9 +1,7 @@
-use Rattle.std.proofs.Common.{◌≡◌, ◌<◌, ◌++◌, ◌∷◌, [], List, length, get_or, ap, ◌∙◌, arith}
-use Rattle.std.specs.List.{list_all}
+use Rattle.std.proofs.Common.{◌≡◌, ◌<◌, ◌++◌, ◌∷◌, [], length, get_or, ◌∙◌, arith}
 use Rattle.std.proofs.lemmas.List.{get_or_default, length-set, nil_from_length}
 use Rattle.std.proofs.lemmas.List.FromFn.{length-map-range_with_len}
-use Rattle.hp_scenario.specs.Scripts.{is_for_run, script_of}
-use Rattle.hp_scenario.specs.declared.lines.Line.{Line}
+use Rattle.hp_scenario.specs.Scripts.{script_of}
 use Rattle.hp_scenario.proofs.ScriptLists.{none_dealt, one_dealt_at, all_dealt, all_reversed, all_but_last}
 use Rattle.hp_scenario.proofs.scripts.dealt_singly.Goals as goal
 
@@ -11,10 +9,8 @@ pub loop-line-init : goal.loop-line-init
 loop-line-init c = (
   none_dealt c.args.lines.items c.reverse.new.self.items c.args.scripts.items c.args.cpus
       c.reverse.ensures.items c.requires.bare,
-  ap (λ (scripts : List (List Line)). length scripts) c.requires.bare
-      ∙ length-map-range_with_len (script_of []) 0 c.args.cpus,
-  ap (list_all (is_for_run c.args.cpus)) c.reverse.ensures.items
-      ∙ all_reversed c.args.cpus c.args.lines.items c.requires.fit,
+  rw c.requires.bare (length-map-range_with_len (script_of []) 0 c.args.cpus),
+  rw c.reverse.ensures.items (all_reversed c.args.cpus c.args.lines.items c.requires.fit),
 )
 
 pub index_mut-requires : goal.index_mut-requires
@@ -33,9 +29,8 @@ loop-line-preserved c =
     let inside : c.place.result < length scripts =
     omega (arith, last.1, c.place.ensures, c.loop-line.invariant.1) in
     let own : c.push.new.self.items ≡ get_or scripts c.place.result [] ++ c.in-Some.line ∷ [] =
-    c.in_ok-push.ensures.items ∙ ap (λ (script : List Line). script ++ c.in-Some.line ∷ [])
-    (c.behind-scripts.view_is ∙ c.index_mut.ensures.value
-    ∙ get_or_default scripts c.place.result c.index_mut.result.now [] inside) in (
+    rw (c.in_ok-push.ensures.items, c.behind-scripts.view_is, c.index_mut.ensures.value)
+    (rw (get_or_default scripts c.place.result c.index_mut.result.now [] inside)) in (
       one_dealt_at c.args.lines.items c.loop-line.left.items c.pop.new.self.items c.in-Some.line scripts
           c.push.new.self.items c.place.result c.place.ensures c.in-Some.ensures.items own inside
           c.loop-line.invariant.0,

@@ -1,4 +1,4 @@
-use Rattle.std.proofs.Common.{◌∙◌, List, [], length, set, ap, arith}
+use Rattle.std.proofs.Common.{◌∙◌, List, [], length, ap, arith}
 use Rattle.std.proofs.lemmas.List.FromFn.{length-map-range_with_len}
 use Rattle.hp_scenario.specs.Scripts.{script_of}
 use Rattle.hp_scenario.specs.declared.lines.Line.{Line}
@@ -16,6 +16,5 @@ index_mut-requires c =
 pub returns : goal.returns
 returns c =
     let within = one_within c.args.cpus c.args.place c.args.lines.items c.requires.together c.requires.fit in
-    ap (λ (script : List Line). set c.args.scripts.items c.args.place script) c.new.ensures
-    ∙ all_together c.args.cpus c.args.place c.args.lines.items c.args.scripts.items c.requires.bare
-    c.requires.together within
+    rw c.new.ensures (all_together c.args.cpus c.args.place c.args.lines.items c.args.scripts.items
+    c.requires.bare c.requires.together within)

@@ -1,9 +1,6 @@
-use Rattle.std.proofs.Common.{◌<◌, List, ◌++◌, length, take, refl, subst, ◌∙◌, arith}
+use Rattle.std.proofs.Common.{◌<◌, ◌++◌, length, take, refl, ◌∙◌, arith}
 use Rattle.std.proofs.lemmas.List.{length-append}
 use Rattle.std.proofs.lemmas.Option.{slice_get_read}
-use Rattle.hp_units.specs.declared.replies.Record.{Record}
-use Rattle.hp_shared.specs.Marks.{AreMarks, AreSeated}
-use Rattle.hp_shared.specs.Comparing.{IsOutcome, StraysAt}
 use Rattle.hp_shared.proofs.Comparisons.{marks_next, marks_none, short_take, strays_next, take_all}
 use Rattle.hp_shared.proofs.comparing.mark_records.Goals as goal
 
@@ -51,13 +48,10 @@ loop-at-preserved g c =
 
 pub returns-clause-marks : goal.returns-clause-marks
 returns-clause-marks g c history are =
-    subst (λ (rs : List Record). AreMarks (history ++ rs) c.args.seats.now.items c.loop-at.marks.items)
-    (take_all c.loop-at.at c.args.records.now (omega (arith, c.loop-at-test.false, c.loop-at.auto)))
+    rw (← take_all c.loop-at.at c.args.records.now (omega (arith, c.loop-at-test.false, c.loop-at.auto)))
     (c.loop-at.invariant.1 history are)
 
 pub returns-clause-strays : goal.returns-clause-strays
 returns-clause-strays g c =
-    subst (λ (rs : List Record).
-    IsOutcome (AreSeated rs c.args.seats.now.items) (StraysAt rs c.args.seats.now.items) c.loop-at.lowest)
-    (take_all c.loop-at.at c.args.records.now (omega (arith, c.loop-at-test.false, c.loop-at.auto)))
+    rw (← take_all c.loop-at.at c.args.records.now (omega (arith, c.loop-at-test.false, c.loop-at.auto)))
     c.loop-at.invariant.2

@@ -1,9 +1,5 @@
-use Rattle.std.proofs.Common.{◌<◌, length, take, refl, subst, ◌∙◌, arith}
-use Rattle.std.specs.Prelude.{List}
+use Rattle.std.proofs.Common.{◌<◌, length, take, refl, ◌∙◌, arith}
 use Rattle.std.proofs.lemmas.Option.{slice_get_read}
-use Rattle.hp_history.specs.declared.volumes.Volume.{Volume}
-use Rattle.hp_shared.specs.Marks.{AreMarks, AreSeated}
-use Rattle.hp_shared.specs.Comparing.{IsOutcome, StraysAt}
 use Rattle.hp_shared.specs.Volumes.{sealed_records}
 use Rattle.hp_shared.proofs.Comparisons.{take_all}
 use Rattle.hp_shared.proofs.Sealing.{marks_on, room_on, strays_on}
@@ -44,15 +40,12 @@ loop-at-preserved g c =
 
 pub returns-clause-marks : goal.returns-clause-marks
 returns-clause-marks g c =
-    subst (λ (vs : List Volume). AreMarks (sealed_records vs) c.args.seats.now.items c.loop-at.marks.items)
-    (take_all c.loop-at.at c.args.volumes.now.items
+    rw (← take_all c.loop-at.at c.args.volumes.now.items
     (omega (arith, c.loop-at-test.false, c.loop-at.auto, c.len-at-end.ensures, c.args.volumes.now.ok.0)))
     c.loop-at.invariant.1
 
 pub returns-clause-strays : goal.returns-clause-strays
 returns-clause-strays g c =
-    subst (λ (vs : List Volume). IsOutcome (AreSeated (sealed_records vs) c.args.seats.now.items)
-    (StraysAt (sealed_records vs) c.args.seats.now.items) c.loop-at.lowest)
-    (take_all c.loop-at.at c.args.volumes.now.items
+    rw (← take_all c.loop-at.at c.args.volumes.now.items
     (omega (arith, c.loop-at-test.false, c.loop-at.auto, c.len-at-end.ensures, c.args.volumes.now.ok.0)))
     c.loop-at.invariant.2

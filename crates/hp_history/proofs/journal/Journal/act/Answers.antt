@@ -1,12 +1,10 @@
 -- The journal made its step.
-use Rattle.std.proofs.Common.{◌≡◌, ◌+◌, List, [], ◌∷◌, ◌++◌, length, refl, sym, subst, ◌∙◌}
+use Rattle.std.proofs.Common.{List, [], ◌∷◌, ◌++◌, refl, sym, ◌∙◌}
 use Rattle.hp_units.specs.declared.replies.Receipt.{Receipt}
-use Rattle.hp_history.specs.Course.{IsAnswered, record_of}
-use Rattle.hp_history.specs.Kept.{IsCourse}
-use Rattle.hp_history.specs.declared.remembered.Remembered.{Remembered}
+use Rattle.hp_history.specs.Course.{record_of}
 use Rattle.hp_history.proofs.Names.{Record}
 use Rattle.hp_history.specs.Seen.{seen}
-use Rattle.hp_history.proofs.Courses.{IsMade, one_more, value_with}
+use Rattle.hp_history.proofs.Courses.{IsMade, one_more}
 use Rattle.hp_history.proofs.NotedSteps.{IsLeft, made_answered, made_fields, made_off, made_start, tag-next}
 use Rattle.hp_history.proofs.journal.Journal.act.Goals as goal
 use Rattle.hp_history.proofs.journal.Journal.act.Goals.{After-and-past, After-is_step}
@@ -76,10 +74,7 @@ pub invariant_of-self-2 : goal.invariant_of-self-2
 invariant_of-self-2 c =
     let here = (goal.at.invariant_of-self-2 c).After-and-past in
     let step = (goal.at.invariant_of-self-2 c).After-is_step in
-    subst (λ (p : Remembered). IsCourse (value_with c.self.inside.before p.base p.history
-    c.keep_step.new.memory) c.keep_step.new.entries.items c.keep_step.new.deltas.deltas
-    × (c.self.inside.count + 1 ≡ length p.history))
-    (sym c.and-past.ensures) (
+    rw c.and-past.ensures (
       made_fields (seen c.self.inside) c.self.inside.entries.items c.self.inside.deltas.deltas c.args.cpu
           (receipt step) c.new-entry.result c.step.new.self c.step.new.tape.deltas c.is_step.result
           c.keep_step.new.memory (longer here) c.keep_step.new.entries.items c.keep_step.new.deltas.deltas
@@ -93,9 +88,7 @@ returns-clause-ok c =
     let here = (goal.at.returns-clause-ok c).After-and-past in
     let step = (goal.at.returns-clause-ok c).After-is_step in
     rw (← c.self.view_is)
-    (subst (λ (p : Remembered). IsAnswered (seen c.self.inside) c.args.cpu c.args.event.now (receipt step)
-    (value_with c.self.inside.before p.base p.history c.keep_step.new.memory)) (sym c.and-past.ensures)
-    (made_answered (seen c.self.inside) c.self.inside.entries.items c.self.inside.deltas.deltas c.args.cpu
-    (receipt step) c.new-entry.result c.step.new.self c.step.new.tape.deltas c.is_step.result
-    c.keep_step.new.memory (longer here) c.keep_step.new.entries.items c.keep_step.new.deltas.deltas
-    (made step) (left here)))
+    (rw c.and-past.ensures (made_answered (seen c.self.inside) c.self.inside.entries.items
+    c.self.inside.deltas.deltas c.args.cpu (receipt step) c.new-entry.result c.step.new.self
+    c.step.new.tape.deltas c.is_step.result c.keep_step.new.memory (longer here) c.keep_step.new.entries.items
+    c.keep_step.new.deltas.deltas (made step) (left here)))

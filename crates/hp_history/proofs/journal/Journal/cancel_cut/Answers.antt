@@ -1,10 +1,7 @@
 -- A Cancel goes back where it is not refused and its operation is sole.
-use Rattle.std.proofs.Common.{◌≡◌, true, false, List, ap, map, sym, subst, ◌∙◌}
+use Rattle.std.proofs.Common.{◌≡◌, true, false, map, sym, subst, ◌∙◌}
 use Rattle.hp_units.specs.History.{net_of}
 use Rattle.hp_units.specs.Marks.{sole_at, tag_of}
-use Rattle.hp_units.specs.declared.marks.Tag.{Tag}
-use Rattle.hp_history.specs.declared.entries.Entry.{Entry}
-use Rattle.hp_history.specs.Entries.{AreNumbered, tags_of}
 use Rattle.hp_history.specs.Course.{CourseValue}
 use Rattle.hp_history.specs.Kept.{may_cancel}
 use Rattle.hp_history.specs.Seen.{seen}
@@ -14,18 +11,13 @@ use Rattle.hp_history.proofs.journal.Journal.cancel_cut.Goals.{After-sole_place}
 
 pub sole_place-requires : goal.sole_place-requires
 sole_place-requires c =
-    subst (λ (es : List Entry). AreNumbered c.self.inside.before es) (sym c.as_slice-entries.ensures.value)
-    (entries_numbered (seen c.self.inside) c.self.inside.entries.items c.self.inside.deltas.deltas
-    c.self.invariant.0)
+    rw c.as_slice-entries.ensures.value (entries_numbered (seen c.self.inside) c.self.inside.entries.items
+    c.self.inside.deltas.deltas c.self.invariant.0)
 
 -- the place by the net of the history
 place : (c : After-sole_place)
     → c.sole_place.result ≡ sole_at c.args.op (map tag_of (net_of c.self.inside.past.history))
-place c =
-    c.sole_place.ensures
-    ∙ (ap (λ (es : List Entry). sole_at c.args.op (tags_of c.self.inside.before es))
-    c.as_slice-entries.ensures.value
-    ∙ ap (λ (ts : List Tag). sole_at c.args.op ts) c.self.invariant.0.journal.tagged)
+place c = rw (c.sole_place.ensures, c.as_slice-entries.ensures.value, c.self.invariant.0.journal.tagged)
 
 pub returns-then-may_cancel-clause-back : goal.returns-then-may_cancel-clause-back
 returns-then-may_cancel-clause-back c =

@@ -1,11 +1,6 @@
 -- The memory, the records of the proofs, and the count of what was sealed are the same.
-use Rattle.std.proofs.Common.{◌≡◌, ◌∙◌, List, ap, length, subst, sym}
-use Rattle.hp_memory.specs.Memory.{MemoryValue}
-use Rattle.hp_tape.specs.declared.deltas.Delta.{Delta}
-use Rattle.hp_history.specs.Course.{CourseValue}
-use Rattle.hp_history.specs.Kept.{IsCourse}
+use Rattle.std.proofs.Common.{◌≡◌, ◌∙◌, ap, length, sym}
 use Rattle.hp_history.specs.Seen.{seen}
-use Rattle.hp_history.specs.declared.entries.Entry.{Entry}
 use Rattle.hp_history.specs.declared.remembered.Remembered.{Remembered}
 use Rattle.hp_history.proofs.Courses.{value_with}
 use Rattle.hp_history.proofs.journal.Journal.copy.Goals as goal
@@ -15,21 +10,14 @@ use Rattle.hp_history.proofs.journal.Journal.copy.Goals.{After-again}
 same : (c : After-again)
     → value_with c.self.inside.before c.again.result.base c.again.result.history c.in_ok-memory.memory
     ≡ seen c.self.inside
-same c =
-    ap (λ (m : MemoryValue). value_with c.self.inside.before c.again.result.base c.again.result.history m)
-    c.in_ok-memory.ensures
-    ∙ ap (λ (p : Remembered). value_with c.self.inside.before p.base p.history c.self.inside.memory)
-    c.again.ensures
+same c = rw (c.in_ok-memory.ensures, c.again.ensures)
 
 pub invariant_of-result : goal.invariant_of-result
 invariant_of-result c =
     let here = (goal.at.invariant_of-result c).After-again in
     let ds = c.in_ok-deltas.deltas.deltas in (
-      subst (λ (m : CourseValue). IsCourse m c.in_ok-entries.entries.items ds) (sym (same here))
-          (subst (λ (es : List Entry). IsCourse (seen c.self.inside) es ds)
-          (sym (c.in_ok-entries.ensures.items ∙ c.as_slice.ensures.value))
-          (subst (λ (xs : List Delta). IsCourse (seen c.self.inside) c.self.inside.entries.items xs)
-          (sym c.in_ok-deltas.ensures.deltas) c.self.invariant.0)),
+      rw (same here, c.in_ok-entries.ensures.items, c.as_slice.ensures.value)
+          (rw c.in_ok-deltas.ensures.deltas c.self.invariant.0),
       c.self.invariant.1 ∙ sym (ap (λ (p : Remembered). length p.history) c.again.ensures),
     )
 

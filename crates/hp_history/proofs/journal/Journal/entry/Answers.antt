@@ -1,8 +1,6 @@
 -- The deltas between the beginnings of a step and of the next.
-use Rattle.std.proofs.Common.{◌≡◌, ℕ, ◌<◌, ◌≤◌, ◌+◌, List, ap, length, sym, subst, ◌∙◌, arith}
-use Rattle.std.specs.List.{slice_range}
+use Rattle.std.proofs.Common.{◌≡◌, ◌<◌, ◌+◌, List, ap, length, sym, subst, ◌∙◌, arith}
 use Rattle.hp_units.specs.History.{net_of}
-use Rattle.hp_tape.specs.declared.deltas.Delta.{Delta}
 use Rattle.hp_history.specs.declared.entries.Entry.{Entry}
 use Rattle.hp_history.specs.Entries.{IsEntry, start_of}
 use Rattle.hp_history.specs.Seen.{seen}
@@ -26,35 +24,24 @@ below c =
 start : (c : After-start_of-end)
     → c.start_of-start.result
     ≡ start_of c.self.inside.entries.items (length c.self.inside.deltas.deltas) c.args.at
-start c =
-    c.start_of-start.ensures
-    ∙ (ap (λ (es : List Entry). start_of es c.len-count.result c.args.at) c.as_slice-entries.ensures.value
-    ∙ ap (λ (n : ℕ). start_of c.self.inside.entries.items n c.args.at) c.len-count.ensures)
+start c = rw (c.start_of-start.ensures, c.as_slice-entries.ensures.value, c.len-count.ensures)
 
 end : (c : After-start_of-end)
     → c.start_of-end.result
     ≡ start_of c.self.inside.entries.items (length c.self.inside.deltas.deltas) (c.args.at + 1)
-end c =
-    c.start_of-end.ensures
-    ∙ (ap (λ (es : List Entry). start_of es c.len-count.result (c.args.at + 1))
-    c.as_slice-entries.ensures.value
-    ∙ ap (λ (n : ℕ). start_of c.self.inside.entries.items n (c.args.at + 1)) c.len-count.ensures)
+end c = rw (c.start_of-end.ensures, c.as_slice-entries.ensures.value, c.len-count.ensures)
 
 pub between-requires-clause-order : goal.between-requires-clause-order
 between-requires-clause-order c =
     let here = (goal.at.between-requires-clause-order c).After-start_of-end in
-    subst (λ (n : ℕ). n ≤ c.start_of-end.result) (sym (start here))
-    (subst (λ (n : ℕ). start_of c.self.inside.entries.items (length c.self.inside.deltas.deltas) c.args.at
-    ≤ n) (sym (end here)) (c.self.invariant.0.journal.rising c.args.at (c.args.at + 1) (omega arith)))
+    rw (start here, end here) (c.self.invariant.0.journal.rising c.args.at (c.args.at + 1) (omega arith))
 
 pub between-requires-clause-within : goal.between-requires-clause-within
 between-requires-clause-within c =
     let here = (goal.at.between-requires-clause-within c).After-start_of-end in
     let m = seen c.self.inside in
-    subst (λ (ds : List Delta). c.start_of-end.result ≤ length ds) (sym c.as_slice-deltas.ensures)
-    (subst (λ (n : ℕ). n ≤ length c.self.inside.deltas.deltas) (sym (end here))
-    (start_within m.layout m.base m.before (net_of m.history) c.self.inside.entries.items
-    c.self.inside.deltas.deltas (c.args.at + 1) c.self.invariant.0.journal))
+    rw (c.as_slice-deltas.ensures, end here) (start_within m.layout m.base m.before (net_of m.history)
+    c.self.inside.entries.items c.self.inside.deltas.deltas (c.args.at + 1) c.self.invariant.0.journal)
 
 pub returns : goal.returns
 returns c =
@@ -63,9 +50,6 @@ returns c =
     let ds = c.self.inside.deltas.deltas in
     let shown =
     c.between.ensures
-    ∙ (ap (λ (xs : List Delta). slice_range xs c.start_of-start.result c.start_of-end.result)
-    c.as_slice-deltas.ensures
-    ∙ (ap (λ (n : ℕ). slice_range ds n c.start_of-end.result) (start here)
-    ∙ ap (λ (n : ℕ). slice_range ds (start_of es (length ds) c.args.at) n) (end here))) in
+    ∙ (rw (c.as_slice-deltas.ensures, start here, end here)) in
     rw (← c.self.view_is) (subst (IsEntry (seen c.self.inside) c.args.at) (sym shown)
     (entry_shown (seen c.self.inside) es ds c.args.at c.self.invariant.0 (below here)))

@@ -1,17 +1,15 @@
 -- The journal went back to the first steps.
-use Rattle.std.proofs.Common.{◌≡◌, ℕ, ◌+◌, ◌≤◌, List, [], ◌∷◌, ◌++◌, ap, drop, length, refl, sym, subst, take, ◌∙◌}
+use Rattle.std.proofs.Common.{◌≡◌, ℕ, List, [], ◌∷◌, ◌++◌, ap, drop, length, refl, take, ◌∙◌}
 use Rattle.hp_units.specs.History.{net_of, run}
 use Rattle.hp_units.specs.declared.replies.Receipt.{Receipt}
 use Rattle.hp_memory.specs.Memory.{LeadsBack}
-use Rattle.hp_history.specs.declared.entries.Entry.{Entry}
-use Rattle.hp_history.specs.declared.remembered.Remembered.{Remembered}
 use Rattle.hp_history.proofs.Names.{Record}
-use Rattle.hp_history.specs.Entries.{IsUndone, start_of}
-use Rattle.hp_history.specs.Course.{IsAnswered, record_of}
-use Rattle.hp_history.specs.Kept.{IsCourse, IsCut}
+use Rattle.hp_history.specs.Entries.{start_of}
+use Rattle.hp_history.specs.Course.{record_of}
+use Rattle.hp_history.specs.Kept.{IsCut}
 use Rattle.hp_history.specs.Seen.{seen}
 use Rattle.hp_history.proofs.Journals.{start_within, way_back}
-use Rattle.hp_history.proofs.Courses.{IsBack, cut_answered, cut_fields, one_more, value_with}
+use Rattle.hp_history.proofs.Courses.{IsBack, cut_answered, cut_fields, one_more}
 use Rattle.hp_history.proofs.Undone.{cut_undone}
 use Rattle.hp_history.proofs.journal.Journal.go_back.Goals as goal
 use Rattle.hp_history.proofs.journal.Journal.go_back.Goals.{After-and-past, After-start_of-start}
@@ -20,10 +18,7 @@ use Rattle.hp_history.proofs.journal.Journal.go_back.Goals.{After-and-past, Afte
 start : (c : After-start_of-start)
     → c.start_of-start.result
     ≡ start_of c.self.inside.entries.items (length c.self.inside.deltas.deltas) c.args.keep
-start c =
-    c.start_of-start.ensures
-    ∙ (ap (λ (es : List Entry). start_of es c.len-count.result c.args.keep) c.as_slice.ensures.value
-    ∙ ap (λ (n : ℕ). start_of c.self.inside.entries.items n c.args.keep) c.len-count.ensures)
+start c = rw (c.start_of-start.ensures, c.as_slice.ensures.value, c.len-count.ensures)
 
 cut : (c : After-start_of-start)
     → IsCut (seen c.self.inside) c.args.cpu c.args.event.now c.args.keep c.args.reply.now
@@ -37,17 +32,14 @@ leads : (c : After-start_of-start)
     (take c.args.keep (net_of c.self.inside.past.history)))
 leads c =
     let m = seen c.self.inside in
-    subst (λ (n : ℕ). LeadsBack m.layout (drop n c.self.inside.deltas.deltas) m.state
-    (run m.layout m.base (take c.args.keep (net_of m.history)))) (sym (start c))
-    (way_back m c.self.inside.entries.items c.self.inside.deltas.deltas c.args.keep c.self.invariant.0
-    (cut c).within)
+    rw (start c) (way_back m c.self.inside.entries.items c.self.inside.deltas.deltas c.args.keep
+    c.self.invariant.0 (cut c).within)
 
 pub back-requires-clause-mark : goal.back-requires-clause-mark
 back-requires-clause-mark c =
     let here = (goal.at.back-requires-clause-mark c).After-start_of-start in
     let m = seen c.self.inside in
-    subst (λ (n : ℕ). n ≤ length c.self.inside.deltas.deltas) (sym (start here))
-    (start_within m.layout m.base m.before (net_of m.history) c.self.inside.entries.items
+    rw (start here) (start_within m.layout m.base m.before (net_of m.history) c.self.inside.entries.items
     c.self.inside.deltas.deltas c.args.keep c.self.invariant.0.journal)
 
 pub back-requires-clause-leads : goal.back-requires-clause-leads
@@ -94,9 +86,7 @@ pub invariant_of-self : goal.invariant_of-self
 invariant_of-self c =
     let here = (goal.at.invariant_of-self c).After-start_of-start in
     let end = (goal.at.invariant_of-self c).After-and-past in
-    subst (λ (p : Remembered). IsCourse (value_with c.self.inside.before p.base p.history c.back.new.self)
-    c.truncate.new.self.items c.back.new.tape.deltas × (c.self.inside.count + 1 ≡ length p.history))
-    (sym c.and-past.ensures) (
+    rw c.and-past.ensures (
       cut_fields (seen c.self.inside) c.self.inside.entries.items c.self.inside.deltas.deltas c.args.cpu
           c.args.keep (receipt end) c.back.new.self (longer end) c.truncate.new.self.items
           c.back.new.tape.deltas (back end (start here) (cut here) (leads here)),
@@ -109,19 +99,15 @@ returns-clause-answered c =
     let here = (goal.at.returns-clause-answered c).After-start_of-start in
     let end = (goal.at.returns-clause-answered c).After-and-past in
     rw (← c.self.view_is)
-    (subst (λ (p : Remembered). IsAnswered (seen c.self.inside) c.args.cpu c.args.event.now (receipt end)
-    (value_with c.self.inside.before p.base p.history c.back.new.self)) (sym c.and-past.ensures)
-    (cut_answered (seen c.self.inside) c.self.inside.entries.items c.self.inside.deltas.deltas c.args.cpu
-    c.args.keep (receipt end) c.back.new.self (longer end) c.truncate.new.self.items
-    c.back.new.tape.deltas (back end (start here) (cut here) (leads here))))
+    (rw c.and-past.ensures (cut_answered (seen c.self.inside) c.self.inside.entries.items
+    c.self.inside.deltas.deltas c.args.cpu c.args.keep (receipt end) c.back.new.self (longer end)
+    c.truncate.new.self.items c.back.new.tape.deltas (back end (start here) (cut here) (leads here))))
 
 pub returns-clause-back : goal.returns-clause-back
 returns-clause-back c =
     let here = (goal.at.returns-clause-back c).After-start_of-start in
     let end = (goal.at.returns-clause-back c).After-and-past in
     rw (← c.self.view_is)
-    (subst (λ (p : Remembered). IsUndone (seen c.self.inside)
-    (value_with c.self.inside.before p.base p.history c.back.new.self)) (sym c.and-past.ensures)
-    (cut_undone (seen c.self.inside) c.self.inside.entries.items c.self.inside.deltas.deltas c.args.cpu
-    c.args.keep (receipt end) c.back.new.self (longer end) c.truncate.new.self.items
-    c.back.new.tape.deltas (back end (start here) (cut here) (leads here))))
+    (rw c.and-past.ensures (cut_undone (seen c.self.inside) c.self.inside.entries.items
+    c.self.inside.deltas.deltas c.args.cpu c.args.keep (receipt end) c.back.new.self (longer end)
+    c.truncate.new.self.items c.back.new.tape.deltas (back end (start here) (cut here) (leads here))))

@@ -1,8 +1,6 @@
 -- A journal without records keeps what every journal keeps.
-use Rattle.std.proofs.Common.{◌≡◌, [], length, refl, sym, subst, arith}
-use Rattle.hp_history.specs.Kept.{IsCourse}
-use Rattle.hp_history.specs.declared.remembered.Remembered.{Remembered}
-use Rattle.hp_history.proofs.Courses.{new_course, value_with}
+use Rattle.std.proofs.Common.{[], refl, arith}
+use Rattle.hp_history.proofs.Courses.{new_course}
 use Rattle.hp_history.proofs.journal.Journal.start.Goals as goal
 
 pub invariant_of-result : goal.invariant_of-result
@@ -10,8 +8,7 @@ invariant_of-result c =
     let v = c.args.memory in
     let es = c.new.result.items in
     let ds = c.in_ok-deltas.deltas.deltas in
-    subst (λ (p : Remembered). IsCourse (value_with c.args.before p.base p.history v) es ds
-    × (0 ≡ length p.history)) (sym c.start-past.ensures) (
+    rw c.start-past.ensures (
       new_course v.layout v.state c.args.before v [] es ds c.is_placed.ensures.layout
           c.is_placed.ensures.placed refl refl c.new.ensures.items c.in_ok-deltas.ensures.none (omega arith),
       refl,

@@ -1,9 +1,8 @@
 -- The three replies to an undo, and where each cuts.
-use Rattle.std.proofs.Common.{◌≡◌, ℕ, ◌<◌, ◌≤◌, ◌-◌, true, false, List, Some, length, slice_get, ap, sym, subst, ◌∙◌, arith}
+use Rattle.std.proofs.Common.{◌≡◌, ◌<◌, ◌≤◌, ◌-◌, true, false, List, length, ap, sym, subst, ◌∙◌, arith}
 use Rattle.hp_units.specs.LayoutParts.{LayoutParts}
-use Rattle.hp_units.specs.declared.marks.Tag.{Tag}
 use Rattle.hp_history.specs.declared.entries.Entry.{Entry}
-use Rattle.hp_history.specs.Entries.{AreNumbered, tags_of}
+use Rattle.hp_history.specs.Entries.{tags_of}
 use Rattle.hp_history.specs.Kept.{is_gone}
 use Rattle.hp_history.specs.Course.{CourseValue}
 use Rattle.hp_history.specs.Seen.{seen}
@@ -12,9 +11,8 @@ use Rattle.hp_history.proofs.journal.Journal.undo_cut.Goals as goal
 
 pub kept_len-keep-requires : goal.kept_len-keep-requires
 kept_len-keep-requires c =
-    subst (λ (es : List Entry). AreNumbered c.self.inside.before es) (sym c.as_slice-entries.ensures.value)
-    (entries_numbered (seen c.self.inside) c.self.inside.entries.items c.self.inside.deltas.deltas
-    c.self.invariant.0)
+    rw c.as_slice-entries.ensures.value (entries_numbered (seen c.self.inside) c.self.inside.entries.items
+    c.self.inside.deltas.deltas c.self.invariant.0)
 
 pub returns-then-cpu-cpus : goal.returns-then-cpu-cpus
 returns-then-cpu-cpus c =
@@ -67,14 +65,11 @@ returns-else-is_gone c =
     let len = ap (λ (es : List Entry). length es) c.as_slice-entries.ensures.value in
     let keep = c.kept_len-keep.result in
     let same : tags_of c.self.inside.before c.as_slice-entries.result.now
-    ≡ tags_of c.self.inside.before c.self.inside.entries.items =
-    ap (λ (es : List Entry). tags_of c.self.inside.before es) c.as_slice-entries.ensures.value in
+    ≡ tags_of c.self.inside.before c.self.inside.entries.items = rw c.as_slice-entries.ensures.value in
     rw (← c.self.view_is) (undo_done (seen c.self.inside) c.self.inside.entries.items
     c.self.inside.deltas.deltas c.args.cpu c.args.serial keep
     ((length c.as_slice-entries.result.now) - keep)
     c.self.invariant.0 inside there (omega (arith, c.kept_len-keep.ensures.within, len))
     (omega (arith, c.kept_len-keep.ensures.within, len))
-    (subst (λ (ts : List Tag). (i : ℕ) (t : Tag) → keep ≤ i → slice_get ts i ≡ Some t
-    → c.args.serial < t.serial) same c.kept_len-keep.ensures.above)
-    (subst (λ (ts : List Tag). (t : Tag) → 0 < keep → slice_get ts (keep - 1) ≡ Some t
-    → t.serial ≤ c.args.serial) same c.kept_len-keep.ensures.below))
+    (rw (← same) c.kept_len-keep.ensures.above)
+    (rw (← same) c.kept_len-keep.ensures.below))

@@ -1,9 +1,7 @@
 -- The deltas from the beginning of a step on.
-use Rattle.std.proofs.Common.{◌≡◌, ℕ, ◌≤◌, List, ap, length, sym, subst, ◌∙◌, arith}
-use Rattle.std.specs.List.{slice_range}
+use Rattle.std.proofs.Common.{◌≡◌, ◌≤◌, List, ap, length, sym, subst, ◌∙◌, arith}
 use Rattle.std.proofs.lemmas.List.{take_rest}
 use Rattle.hp_units.specs.History.{net_of}
-use Rattle.hp_tape.specs.declared.deltas.Delta.{Delta}
 use Rattle.hp_history.specs.declared.entries.Entry.{Entry}
 use Rattle.hp_history.specs.Entries.{IsWayBack, start_of}
 use Rattle.hp_history.specs.Seen.{seen}
@@ -25,20 +23,14 @@ reach c =
 start : (c : After-start_of-start)
     → c.start_of-start.result
     ≡ start_of c.self.inside.entries.items (length c.self.inside.deltas.deltas) c.args.at
-start c =
-    c.start_of-start.ensures
-    ∙ (ap (λ (es : List Entry). start_of es c.len-count.result c.args.at) c.as_slice-entries.ensures.value
-    ∙ ap (λ (n : ℕ). start_of c.self.inside.entries.items n c.args.at) c.len-count.ensures)
+start c = rw (c.start_of-start.ensures, c.as_slice-entries.ensures.value, c.len-count.ensures)
 
 pub between-requires-clause-order : goal.between-requires-clause-order
 between-requires-clause-order c =
     let here = (goal.at.between-requires-clause-order c).After-start_of-start in
     let m = seen c.self.inside in
-    subst (λ (n : ℕ). n ≤ c.len-count.result) (sym (start here))
-    (subst (λ (n : ℕ). start_of c.self.inside.entries.items (length c.self.inside.deltas.deltas) c.args.at
-    ≤ n) (sym c.len-count.ensures)
-    (start_within m.layout m.base m.before (net_of m.history) c.self.inside.entries.items
-    c.self.inside.deltas.deltas c.args.at c.self.invariant.0.journal))
+    rw (start here, c.len-count.ensures) (start_within m.layout m.base m.before (net_of m.history)
+    c.self.inside.entries.items c.self.inside.deltas.deltas c.args.at c.self.invariant.0.journal)
 
 pub returns : goal.returns
 returns c =
@@ -47,10 +39,7 @@ returns c =
     let ds = c.self.inside.deltas.deltas in
     let shown =
     c.between.ensures
-    ∙ (ap (λ (xs : List Delta). slice_range xs c.start_of-start.result c.len-count.result)
-    c.as_slice-deltas.ensures
-    ∙ (ap (λ (n : ℕ). slice_range ds n c.len-count.result) (start here)
-    ∙ (ap (λ (n : ℕ). slice_range ds (start_of es (length ds) c.args.at) n) c.len-count.ensures
-    ∙ take_rest ds (start_of es (length ds) c.args.at)))) in
+    ∙ (rw (c.as_slice-deltas.ensures, start here, c.len-count.ensures)
+    (take_rest ds (start_of es (length ds) c.args.at))) in
     rw (← c.self.view_is) (subst (IsWayBack (seen c.self.inside) c.args.at) (sym shown)
     (way_back (seen c.self.inside) es ds c.args.at c.self.invariant.0 (reach here)))

@@ -57,11 +57,10 @@ module _ {M : Type 1} {𝓤 : Ura M} (𝓛 : Logic 𝓤) (at_mem : program.Memor
         (WpFn 𝓤 H C Λ function ((walk_of 𝓛 ended stayed held).args z) Post)
     walks =
         let a = z.0.3 in
-        let vss = z.0.4 in
         let u : Val = vptr a.0.ref_ptr.0 a.0.ref_ptr.1 in
         let made : (Remembered.the_row).Denot = record { base = a.0.now.state; history = [] } in
         qed 𝓛 ((raw (alive 𝓛 ended.signature z.0.0 z.0.1)
-        ⊛ ‵ (owns (types_at ended.signature.params z.0.0) a vss))
+        ⊛ ‵ (owns (types_at ended.signature.params z.0.0) a z.0.4))
         ∷ raw ((held z.0.0 a).requires z.1) ∷ []) ∵
         keep ! (0 ∷ []) $ split ! $ move ! (1 ∷ []) $
         fsplit ! $ fsplit ! $ feq_l ! (λ is0. drop ! $ drop ! $

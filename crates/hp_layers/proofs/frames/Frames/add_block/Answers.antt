@@ -9,9 +9,8 @@ use Rattle.hp_layers.proofs.frames.Frames.add_block.Goals as goal
 -- `number` pageblocks and one more
 further : (first number size : ℕ) → (first + number) * size + size ≡ (first + (number + 1)) * size
 further first number size =
-    let e = suc-mul (first + number) size in
     let next : suc (first + number) ≡ first + (number + 1) = omega arith in
-    sym e ∙ ap (λ (n : ℕ). n * size) next
+    sym (suc-mul (first + number) size) ∙ ap (λ (n : ℕ). n * size) next
 
 -- the last of them is among those of the block
 among : (first number count size : ℕ) → number < count
@@ -29,10 +28,9 @@ not_yet : (at first number count size : ℕ) (p q : ℕ → ℕ) → at ≡ firs
 not_yet at first number count size p q here low later none o above below =
     let a = subst (λ (n : ℕ). n * size ≤ o) here above in
     let b = subst (λ (n : ℕ). o < n * size + size) here below in
-    let from = from_first first number size in
     let past = further first number size in
     let inside = among first number count size low in
-    later o a ∙ none o (omega (arith, from, a)) (omega (arith, b, past, inside))
+    later o a ∙ none o (omega (arith, from_first first number size, a)) (omega (arith, b, past, inside))
 
 -- the pageblocks after it have the places that they had
 behind : (at first number size : ℕ) (new p q : ℕ → ℕ) → at ≡ first + number

@@ -19,6 +19,5 @@ loop-number-preserved c =
 
 pub is_free_start-requires : goal.is_free_start-requires
 is_free_start-requires c =
-    let l = c.args.layout.now in
     let le = div-mul-le_self c.args.frame (2 ^ c.loop-number.number) in
     rw c.requires.same (omega (arith, le, c.ancestor.ensures, c.requires.frame))

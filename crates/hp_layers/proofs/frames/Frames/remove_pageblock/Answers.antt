@@ -7,7 +7,6 @@ use Rattle.hp_layers.proofs.frames.Frames.remove_pageblock.Goals as goal
 
 pub remove_pageblock-requires-clause-free : goal.remove_pageblock-requires-clause-free
 remove_pageblock-requires-clause-free c =
-    let f = c.args.self.now in
     rw (c.requires.tidy.layout, c.requires.same) c.requires.free
 
 pub returns-clause-given : goal.returns-clause-given
@@ -26,8 +25,7 @@ returns-clause-given c =
 pub returns-clause-stays : goal.returns-clause-stays
 returns-clause-stays c =
     let f = c.args.self.now in
-    let lists = c.requires.tidy.areas.areas.lists in
     let order = ap (λ (l : LayoutParts). l.order) c.requires.same in
     λ other ne on. removed-stays c.args.layout.now f.buddy.layout c.args.zone f.buddy.areas
     c.remove_pageblock.new.self.areas c.args.pageblock other (c.requires.tidy.layout ∙ c.requires.same)
-    c.remove_pageblock.ensures.removed (omega (arith, lists, order)) ne on
+    c.remove_pageblock.ensures.removed (omega (arith, c.requires.tidy.areas.areas.lists, order)) ne on

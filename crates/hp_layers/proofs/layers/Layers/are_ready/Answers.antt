@@ -10,7 +10,6 @@ loop-block-preserved c =
     let p : ℕ → Bool = is_ready c.args.self.now.layout (state_of c.args.self.now) in
     let blocks = c.args.blocks.now in
     let i : ℕ = c.loop-block.block-index in
-    let block : ℕ = c.block-item.result in
     let below : i < length blocks = omega arith in
-    c.loop-block.invariant ∙ all-step p blocks i block true below
+    c.loop-block.invariant ∙ all-step p blocks i c.block-item.result true below
     (ap p (sym c.block-item.is) ∙ sym c.is_ready.ensures ∙ c.if-not-is_ready.false)

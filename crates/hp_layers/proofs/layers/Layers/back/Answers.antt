@@ -1,7 +1,7 @@
 use Rattle.std.proofs.Common.{◌≡◌, refl, sym, ◌∙◌, ap}
 use Rattle.hp_units.specs.Memory.{Blocks}
 use Rattle.hp_tape.specs.declared.deltas.Delta.{Delta}
-use Rattle.hp_tape.specs.declared.deltas.Delta.TheVariants.{Link, Unlink, Kind as KindDelta, Kernel as KernelDelta, Map as MapDelta, Swap, Word as WordDelta, LargeWord, Filled, Emptied, Row as RowDelta, Auto as AutoDelta}
+use Rattle.hp_tape.specs.declared.deltas.Delta.TheVariants.{Link, Unlink, Kind as KindDelta, Kernel as KernelDelta, Map as MapDelta, Swap, Word as WordDelta, LargeWord, Filled, Emptied}
 use Rattle.hp_tape.specs.declared.deltas.ListId.TheVariants.{Area, Cpu}
 use Rattle.hp_tape.specs.Deltas.{FrameView, blocks_undo, undo}
 use Rattle.hp_layers.specs.declared.parts.Part.TheVariants.{Blocks as BlocksPart}
@@ -26,8 +26,7 @@ rows-alone (WordDelta index frame was now) v is = absurd cc
 rows-alone (LargeWord index frame change) v is = absurd cc
 rows-alone (Filled index frame now) v is = absurd cc
 rows-alone (Emptied frame words) v is = absurd cc
-rows-alone (RowDelta change) v is = refl
-rows-alone (AutoDelta was now) v is = refl
+rows-alone _ v is = refl
 
 pub returns-in-Blocks-clause-back : goal.returns-in-Blocks-clause-back
 returns-in-Blocks-clause-back c =

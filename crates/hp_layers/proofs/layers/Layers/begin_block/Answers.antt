@@ -4,7 +4,6 @@ use Rattle.hp_layers.proofs.layers.Layers.begin_block.Goals as goal
 
 pub returns-in-Some : goal.returns-in-Some
 returns-in-Some c =
-    let m = c.args.self.now in
-    let bound = moved_block_bound m.layout in
+    let bound = moved_block_bound c.args.self.now.layout in
     let one : bound ≡ 1 * bound = omega arith in
     rw (← c.wish_of.ensures, c.in-Some.is, ← one) c.claim_block.ensures

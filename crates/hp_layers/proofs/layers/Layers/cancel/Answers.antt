@@ -35,6 +35,5 @@ release_blocks-requires-clause-within c = rw c.deref.ensures.value c.in_ok-block
 
 pub release_blocks-requires-clause-room : goal.release_blocks-requires-clause-room
 release_blocks-requires-clause-room c =
-    let tape = c.reserve.new.self in
     rw (c.deref.ensures.len, ← c.len.ensures, ← c.moved_block_room-each.ensures.is)
     c.in_ok-reserve.ensures.room

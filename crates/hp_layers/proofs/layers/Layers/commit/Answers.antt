@@ -16,11 +16,9 @@ commit_blocks-requires-clause-rise c =
 pub commit_blocks-requires-clause-ready : goal.commit_blocks-requires-clause-ready
 commit_blocks-requires-clause-ready c =
     let m = c.args.self.now in
-    let ready : list_all (is_ready m.layout (state_of m)) c.as_slice-blocks.result.now ≡ true =
-    c.in_default.ensures in
     let within = rw (← c.as_slice-blocks.ensures.value) at c.in_ok-held.ensures.within in
     blocks-grantable m.layout (state_of m) c.args.op c.as_slice-blocks.result.now
-    (c.as_slice-blocks.ensures.value ∙ c.in_ok-held.ensures.blocks) within ready
+    (c.as_slice-blocks.ensures.value ∙ c.in_ok-held.ensures.blocks) within c.in_default.ensures
 
 pub returns-in-Some-clause-ok : goal.returns-in-Some-clause-ok
 returns-in-Some-clause-ok c =

@@ -11,6 +11,5 @@ layers_of l f p k b = record { layout = l; frames = f; pages = p; kernel = k; bl
 
 pub returns : goal.returns
 returns c =
-    let m = c.args.self.now in
     rw (c.in_ok-copy.ensures, c.in_ok-copy-2.ensures, c.in_ok-copy-3.ensures, c.in_ok-copy-4.ensures)
     (rw c.in_ok-copy-5.ensures)

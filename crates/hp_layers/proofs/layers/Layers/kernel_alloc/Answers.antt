@@ -62,7 +62,6 @@ kernel_block-requires-clause-order c =
 
 pub kernel_block-requires-clause-room : goal.kernel_block-requires-clause-room
 kernel_block-requires-clause-room c =
-    let m = c.args.self.now in
     rw (c.requires.placed.one.cpus, ← c.kernel_block_room-room.ensures)
     (room-less c.reserve.new.self c.kernel_block_room-room.result 1 c.in_ok-reserve.ensures.room)
 

@@ -1,4 +1,4 @@
-use Rattle.std.proofs.Common.{◌≡◌, Some, ◌<◌, [], ◌∷◌, sym, ◌∙◌, arith}
+use Rattle.std.proofs.Common.{◌≡◌, Some, ◌<◌, [], ◌∷◌, sym, ◌∙◌}
 use Rattle.std.specs.Prelude.{nat_le}
 use Rattle.std.proofs.lemmas.Bool.{le-leb, lt-leb}
 use Rattle.hp_units.specs.Choices.{unless_some}
@@ -19,9 +19,6 @@ within c = read-lt c.if-frame-frames.false c.frame.view_is c.frames.ensures.is
 
 order_is : (c : In-Some) → kernel_order (state_of c.args.self.now) c.args.frame ≡ Some c.in-Some.order
 order_is c = sym c.order_at.ensures ∙ c.in-Some.is
-
-pub overflow_add-room : goal.overflow_add-room
-overflow_add-room c = omega (arith, c.give_back_room-room.ensures.small)
 
 pub give_back-requires-clause-tidy : goal.give_back-requires-clause-tidy
 give_back-requires-clause-tidy c = tidy-placed c.args.self.now c.requires.placed

@@ -9,8 +9,7 @@ use Rattle.hp_layers.proofs.layers.Layers.lowest_in_use.Goals as goal
 
 pub loop-number-init : goal.loop-number-init
 loop-number-init c =
-    let l = c.args.self.now.layout in
-    let p : ℕ → Bool = is_in_use l (state_of c.args.self.now) in
+    let p : ℕ → Bool = is_in_use c.args.self.now.layout (state_of c.args.self.now) in
     let size : ℕ = c.block_size-size.result in
     let at : c.block.inside.0 * size ≡ c.block.inside.0 * size + 0 = omega arith in
     let all : size ≡ size - 0 = omega arith in
@@ -45,16 +44,13 @@ pub returns-then-free-eq0 : goal.returns-then-free-eq0
 returns-then-free-eq0 c =
     let size : ℕ = c.block_size-size.result in
     let number : ℕ = c.loop-number.number in
-    let at : ℕ = c.block.inside.0 * size + number in
     let p : ℕ → Bool = is_in_use c.args.self.now.layout (state_of c.args.self.now) in
-    let rest : ℕ = size - number - 1 in
-    let left : size - number ≡ suc rest = omega (arith, c.loop-number-test.true) in
+    let left : size - number ≡ suc (size - number - 1) = omega (arith, c.loop-number-test.true) in
     sym (rw (c.loop-number.invariant, left, c.free_from-free.ensures.used c.if-free-eq0.true))
 
 pub returns : goal.returns
 returns c =
-    let size : ℕ = c.block_size-size.result in
     let number : ℕ = c.loop-number.number in
     let p : ℕ → Bool = is_in_use c.args.self.now.layout (state_of c.args.self.now) in
-    let none : size - number ≡ 0 = omega (arith, c.loop-number-test.false) in
+    let none : c.block_size-size.result - number ≡ 0 = omega (arith, c.loop-number-test.false) in
     sym (rw (c.loop-number.invariant, none))

@@ -21,5 +21,4 @@ lowest-requires-clause-small c =
 
 pub returns : goal.returns
 returns c =
-    let m = c.args.self.now in
     rw (c.lowest.ensures, c.block.view_is, c.block_size-size.ensures.is)

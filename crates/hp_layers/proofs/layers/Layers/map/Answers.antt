@@ -104,7 +104,6 @@ map-requires-clause-frame c =
 
 pub page_frame-requires-clause-room : goal.page_frame-requires-clause-room
 page_frame-requires-clause-room c =
-    let m = c.args.self.now in
     rw (c.requires.placed.one.cpus, ← c.page_frame_room-room.ensures)
     (room-less c.reserve.new.self c.page_frame_room-room.result 1 c.in_ok-reserve.ensures.room)
 

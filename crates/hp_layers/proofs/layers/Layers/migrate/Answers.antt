@@ -98,9 +98,6 @@ move_page-requires-clause-free c =
     taken-free c.args.self.now _ _ _ _ _ c.in-Some-migration_target.to c.requires.placed
     c.in-Some-migration_target.ensures
 
-pub give-requires-clause-tidy : goal.give-requires-clause-tidy
-give-requires-clause-tidy c = c.migration_target.ensures.tidy
-
 -- what is left of the room that was reserved
 enough : (c : In-Some) (t : TapeValue) (order more : ℕ) → HasRoom t (2 * order + 5)
     → order ≡ c.args.self.now.layout.order → more ≤ order + 3

@@ -18,9 +18,8 @@ pub skipped : (c : In-Some)
     ≡ source_from c.args.self.now.layout (state_of c.args.self.now) c.args.op c.in-Some.block
     (c.args.self.now.layout.blocks - c.in-Some.block)
 skipped c =
-    let lt = within c in
     source-between c.args.self.now.layout (state_of c.args.self.now) c.args.op c.loop-block.first
-    c.in-Some.block c.args.self.now.layout.blocks c.in-Some.ensures.some.low (omega (arith, lt))
+    c.in-Some.block c.args.self.now.layout.blocks c.in-Some.ensures.some.low (omega (arith, within c))
     c.in-Some.ensures.some.below
 
 pub returns-in-Some-source_of : goal.returns-in-Some-source_of

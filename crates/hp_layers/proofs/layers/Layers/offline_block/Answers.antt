@@ -19,5 +19,4 @@ returns c =
 
 pub remove_block-requires-clause-free : goal.remove_block-requires-clause-free
 remove_block-requires-clause-free c =
-    let m = c.args.self.now in
     rw c.zone_of_block-zone.ensures c.requires.free

@@ -32,15 +32,11 @@ loop-block-init c =
           reworked-none m (0 * moved_block_bound m.layout) c.args.tape.now c.requires.one c.requires.tidy;
     }
 
-pub release_block-requires-clause-one : goal.release_block-requires-clause-one
-release_block-requires-clause-one c = c.loop-block.invariant.done.one
-
 pub release_block-requires-clause-tidy : goal.release_block-requires-clause-tidy
 release_block-requires-clause-tidy c = c.loop-block.invariant.done.tidy
 
 pub release_block-requires-clause-block : goal.release_block-requires-clause-block
 release_block-requires-clause-block c =
-    let m = c.args.self.now in
     let here : get_or c.args.blocks.now c.loop-block.block-index 0 ≡ c.block-item.result =
     sym (get_or_read c.args.blocks.now c.loop-block.block-index c.block-item.result
     c.loop-block-test.true c.block-item.is 0) in

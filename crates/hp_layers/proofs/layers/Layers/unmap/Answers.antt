@@ -79,9 +79,6 @@ give_back_room-room-requires-clause-frame c =
     page-inside c.args.self.now c.args.owner c.args.page c.in-Some.frame c.requires.placed
     (sym c.frame_at.ensures.frame ∙ c.in-Some.is)
 
-pub overflow_add-room : goal.overflow_add-room
-overflow_add-room c = omega (arith, c.give_back_room-room.ensures.small)
-
 pub give_back-requires-clause-room : goal.give_back-requires-clause-room
 give_back-requires-clause-room c =
     rw (c.requires.placed.one.cpus, ← c.give_back_room-room.ensures.is)

@@ -1,7 +1,7 @@
-use Rattle.std.proofs.Common.{◌≡◌, ℕ, ◌+◌, List, length, Some, Err, sym, ap, subst, ◌∙◌}
+use Rattle.std.proofs.Common.{◌≡◌, ℕ, ◌+◌, List, Some, Err, sym, ap, ◌∙◌}
 use Rattle.std.proofs.lemmas.List.FromFn.{length-map-range_with_len}
 use Rattle.hp_scenario.specs.Scenario.{ScenarioValue}
-use Rattle.hp_scenario.specs.Scripts.{AreForRun, first_unfit, script_of, scripts_of, scripts_unless}
+use Rattle.hp_scenario.specs.Scripts.{first_unfit, script_of, scripts_of}
 use Rattle.hp_scenario.specs.Seen.{scenario_seen}
 use Rattle.hp_scenario.specs.declared.fault.ScenarioFault.TheVariants.{NotForRun}
 use Rattle.hp_scenario.specs.declared.lines.Line.{Line}
@@ -11,9 +11,7 @@ use Rattle.hp_scenario.proofs.scenario.Scenario.scripts.Goals as goal
 refused : (s : ScenarioValue) (cpus : ℕ) (lines : List Line) (at : ℕ) → cpus ≡ s.layout.cpus
     → lines ≡ s.lines → Some at ≡ first_unfit cpus lines → scripts_of s ≡ Err (NotForRun (at + 1))
 unfolding scripts_of
-refused s cpus lines at count same found =
-    ap (scripts_unless s) (ap (λ (n : ℕ). first_unfit n s.lines) (sym count)
-    ∙ (ap (first_unfit cpus) (sym same) ∙ sym found))
+refused s cpus lines at count same found = rw (← count, ← same, ← found)
 
 pub returns-in-Some-clause-scripts : goal.returns-in-Some-clause-scripts
 returns-in-Some-clause-scripts c =
@@ -27,14 +25,12 @@ dealt-requires c =
 
 pub returns-clause-count : goal.returns-clause-count
 returns-clause-count c =
-    ap (λ (scripts : List (List Line)). length scripts) c.in_ok-dealt.ensures
-    ∙ (length-map-range_with_len (script_of c.into_vec-lines.result.items) 0 c.cpus-cpus.result
-    ∙ c.cpus-cpus.ensures.is)
+    rw c.in_ok-dealt.ensures (rw (length-map-range_with_len (script_of c.into_vec-lines.result.items) 0
+    c.cpus-cpus.result) c.cpus-cpus.ensures.is)
 
 pub returns-clause-run : goal.returns-clause-run
 returns-clause-run c =
     let all =
     all_fit c.cpus-cpus.result c.into_vec-lines.result.items (ap (λ (lines : List Line).
     first_unfit c.cpus-cpus.result lines) (sym c.deref.ensures.value) ∙ sym c.in_default.ensures) in
-    subst AreForRun (sym c.in_ok-dealt.ensures)
-    (all_for_run c.cpus-cpus.result c.into_vec-lines.result.items all)
+    rw c.in_ok-dealt.ensures (all_for_run c.cpus-cpus.result c.into_vec-lines.result.items all)

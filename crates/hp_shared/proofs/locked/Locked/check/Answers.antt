@@ -58,32 +58,17 @@ returns-then-not-has_each-clause-err g c =
     c.machine-machine.ensures.machine c.cpus.ensures.is
     (c.has_each.ensures.missing c.if-not-has_each.true)
 
-pub returns-then-not-has_each-clause-ok : goal.returns-then-not-has_each-clause-ok
-returns-then-not-has_each-clause-ok g c = tt
-
 pub returns-in-Some-clause-ok : goal.returns-in-Some-clause-ok
 returns-in-Some-clause-ok g c = tt
-
-pub returns-in-Ok-None-clause-err : goal.returns-in-Ok-None-clause-err
-returns-in-Ok-None-clause-err g c = tt
 
 pub returns-in-Ok-Some-clause-ok : goal.returns-in-Ok-Some-clause-ok
 returns-in-Ok-Some-clause-ok g c = tt
 
-pub returns-in-Err-clause-ok : goal.returns-in-Err-clause-ok
-returns-in-Err-clause-ok g c = tt
-
 pub returns-then-not-has_each-clause-shown : goal.returns-then-not-has_each-clause-shown
 returns-then-not-has_each-clause-shown g c = c.machine-machine.ensures.kept
 
-pub returns-in-Some-clause-shown : goal.returns-in-Some-clause-shown
-returns-in-Some-clause-shown g c = c.machine-machine.ensures.kept
-
 pub returns-in-Ok-None-clause-shown : goal.returns-in-Ok-None-clause-shown
 returns-in-Ok-None-clause-shown g c = c.machine-machine.ensures.kept
-
-pub returns-in-Ok-Some-clause-shown : goal.returns-in-Ok-Some-clause-shown
-returns-in-Ok-Some-clause-shown g c = c.machine-machine.ensures.kept
 
 pub returns-in-Err-clause-shown : goal.returns-in-Err-clause-shown
 returns-in-Err-clause-shown g c = c.machine-machine.ensures.kept

@@ -1,6 +1,6 @@
-use Rattle.std.proofs.Common.{◌≡◌, List, length, refl, ap, subst, sym, ◌∙◌}
-use Rattle.hp_shared.specs.Closing.{AreCounted, HasFault, IsClosed}
-use Rattle.hp_shared.specs.Shared.{IsShared, LockedValue, SeatValue}
+use Rattle.std.proofs.Common.{◌≡◌, List, length, refl, subst, sym}
+use Rattle.hp_shared.specs.Closing.{AreCounted, IsClosed}
+use Rattle.hp_shared.specs.Shared.{SeatValue}
 use Rattle.hp_shared.proofs.Closings.{closed}
 use Rattle.hp_shared.proofs.locked.Locked.close.Goals as goal
 
@@ -18,18 +18,10 @@ returns-in-Ok-clause-ok g c =
     c.check.ensures.shown c.into_machine.ensures counted c.in-Ok.ensures.ok)
 
 pub returns-in-Ok-clause-machine : goal.returns-in-Ok-clause-machine
-returns-in-Ok-clause-machine g c =
-    c.into_machine.ensures ∙ ap (λ (v : LockedValue). v.machine) c.audit_all.ensures.locked
-
-pub returns-in-Ok-clause-counted : goal.returns-in-Ok-clause-counted
-returns-in-Ok-clause-counted g c = c.audit_all.ensures.all
+returns-in-Ok-clause-machine g c = rw (c.into_machine.ensures, c.audit_all.ensures.locked)
 
 pub returns-in-Ok-clause-shown : goal.returns-in-Ok-clause-shown
-returns-in-Ok-clause-shown g c =
-    subst (IsShared g.L.Job.layout) c.audit_all.ensures.locked c.check.ensures.shown
-
-pub returns-in-Err-clause-same : goal.returns-in-Err-clause-same
-returns-in-Err-clause-same g c = c.audit_all.ensures.locked
+returns-in-Ok-clause-shown g c = rw (← c.audit_all.ensures.locked) c.check.ensures.shown
 
 pub returns-in-Err-clause-back : goal.returns-in-Err-clause-back
 returns-in-Err-clause-back g c = (c.audit_all.ensures.seats, refl)
@@ -38,13 +30,7 @@ pub returns-in-Err-clause-err : goal.returns-in-Err-clause-err
 returns-in-Err-clause-err g c =
     let l = g.L.Job.layout in
     let volumes = c.args.volumes.items in
-    subst (λ (v : LockedValue). HasFault v.machine l.cpus c.args.seats.items volumes c.in-Err.fault)
-    c.audit_all.ensures.locked (subst (λ (seats : List SeatValue). HasFault c.audit_all.new.locked.machine
-    l.cpus seats volumes c.in-Err.fault) c.audit_all.ensures.seats c.in-Err.ensures.err)
-
-pub returns-in-Err-clause-counted : goal.returns-in-Err-clause-counted
-returns-in-Err-clause-counted g c = c.audit_all.ensures.all
+    rw (← c.audit_all.ensures.locked, ← c.audit_all.ensures.seats) c.in-Err.ensures.err
 
 pub returns-in-Err-clause-shown : goal.returns-in-Err-clause-shown
-returns-in-Err-clause-shown g c =
-    subst (IsShared g.L.Job.layout) c.audit_all.ensures.locked c.check.ensures.shown
+returns-in-Err-clause-shown g c = rw (← c.audit_all.ensures.locked) c.check.ensures.shown

@@ -1,13 +1,13 @@
-use Rattle.std.proofs.Common.{ℕ, List, length, refl, ap, subst, sym, ◌∙◌, arith}
+use Rattle.std.proofs.Common.{List, length, refl, ap, subst, sym, ◌∙◌, arith}
 use Rattle.std.proofs.lemmas.Result.{IfOk-from_err}
 use Rattle.hp_units.specs.declared.replies.Record.{Record}
 use Rattle.hp_history.specs.Volumes.{volume_of}
 use Rattle.hp_history.specs.declared.volumes.Volume.{Volume}
-use Rattle.hp_machine.specs.Machine.{MachineValue, sealed}
+use Rattle.hp_machine.specs.Machine.{sealed}
 use Rattle.hp_shared.specs.Shared.{IsReached, IsShared, LockedValue}
 use Rattle.hp_shared.proofs.Turns.{sealed_on}
 use Rattle.hp_shared.proofs.Sealing.{handed_on}
-use Rattle.hp_shared.proofs.Values.{locked_of, on_err}
+use Rattle.hp_shared.proofs.Values.{on_err}
 use Rattle.hp_shared.proofs.locked.Locked.seal.Goals as goal
 
 pub invariant_of-self-2 : goal.invariant_of-self-2
@@ -31,9 +31,7 @@ returns-clause-kept g c =
 pub returns-in_err-volume-clause-err : goal.returns-in_err-volume-clause-err
 returns-in_err-volume-clause-err g c =
     on_err c.from_residual.result _ (
-      ap (λ (m : MachineValue). locked_of m c.audit.new.self.total) c.in_err-volume.ensures.err
-          ∙ ap (λ (n : ℕ). locked_of c.self.inside.machine n) c.audit.ensures.total
-          ∙ c.self.view_is,
+      rw (c.in_err-volume.ensures.err, c.audit.ensures.total) c.self.view_is,
       c.audit-2.ensures.amount,
     )
 
@@ -59,12 +57,7 @@ returns-in_err-volume-clause-shown g c = subst (IsShared g.L.Job.layout) c.self.
 
 pub returns-in_err-volume-clause-kept : goal.returns-in_err-volume-clause-kept
 returns-in_err-volume-clause-kept g c =
-    subst (IsShared g.L.Job.layout)
-    (sym (ap (λ (m : MachineValue). locked_of m c.audit.new.self.total) c.in_err-volume.ensures.err
-    ∙ ap (λ (n : ℕ). locked_of c.self.inside.machine n) c.audit.ensures.total)) c.self.invariant.0
-
-pub returns-clause-err : goal.returns-clause-err
-returns-clause-err g c = tt
+    rw (c.in_err-volume.ensures.err, c.audit.ensures.total) c.self.invariant.0
 
 pub returns-clause-volume : goal.returns-clause-volume
 returns-clause-volume g c =
@@ -89,9 +82,6 @@ returns-clause-shown g c = subst (IsShared g.L.Job.layout) c.self.view_is c.self
 
 pub returns-in_err-volume-clause-counted : goal.returns-in_err-volume-clause-counted
 returns-in_err-volume-clause-counted g c = IfOk-from_err c.from_residual.result _ c.from_residual.ensures.0
-
-pub returns-in_err-volume-clause-parts : goal.returns-in_err-volume-clause-parts
-returns-in_err-volume-clause-parts g c = c.audit-2.ensures.parts
 
 pub returns-clause-counted : goal.returns-clause-counted
 returns-clause-counted g c =

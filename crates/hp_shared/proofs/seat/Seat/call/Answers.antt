@@ -3,20 +3,11 @@ use Rattle.std.proofs.Common.{◌∙◌, length, sym, rules}
 use Rattle.hp_shared.proofs.SeatCalls.{fills, full_still, left_so, seat_called}
 use Rattle.hp_shared.proofs.seat.Seat.call.Goals as goal
 
-pub returns-in_default-clause-ok : goal.returns-in_default-clause-ok
-returns-in_default-clause-ok g c = search rules
-
 pub returns-in_default-clause-err : goal.returns-in_default-clause-err
 returns-in_default-clause-err g c = search rules
 
-pub returns-in_default-clause-only : goal.returns-in_default-clause-only
-returns-in_default-clause-only g c = search rules
-
 pub returns-in_default-copy-clause-ok : goal.returns-in_default-copy-clause-ok
 returns-in_default-copy-clause-ok g c = search rules
-
-pub returns-in_default-copy-clause-err : goal.returns-in_default-copy-clause-err
-returns-in_default-copy-clause-err g c = search rules
 
 pub returns-in_default-copy-clause-only : goal.returns-in_default-copy-clause-only
 returns-in_default-copy-clause-only g c = search rules
@@ -32,14 +23,8 @@ returns-in-Ok-turn-clause-ok g c =
     c.in-Ok-turn.ensures.handed.0 c.in-Ok-turn.ensures.told.0 c.in-Ok-turn.ensures.late
     c.in-Ok-turn.ensures.ok)
 
-pub returns-in-Ok-turn-clause-err : goal.returns-in-Ok-turn-clause-err
-returns-in-Ok-turn-clause-err g c = search rules
-
 pub returns-in-Ok-turn-clause-only : goal.returns-in-Ok-turn-clause-only
 returns-in-Ok-turn-clause-only g c = search rules
-
-pub returns-in-Err-clause-ok : goal.returns-in-Err-clause-ok
-returns-in-Err-clause-ok g c = search rules
 
 pub returns-in-Err-clause-err : goal.returns-in-Err-clause-err
 returns-in-Err-clause-err g c =

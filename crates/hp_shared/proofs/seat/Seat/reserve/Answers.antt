@@ -1,6 +1,5 @@
 use Rattle.std.proofs.Common.{List, length, ap, sym, ◌∙◌}
 use Rattle.hp_units.specs.declared.replies.Receipt.{Receipt}
-use Rattle.hp_shared.proofs.Values.{seat_of}
 use Rattle.hp_shared.proofs.seat.Seat.reserve.Goals as goal
 
 pub invariant_of-self : goal.invariant_of-self
@@ -14,7 +13,4 @@ invariant_of-self g c = (
 )
 
 pub returns : goal.returns
-returns g c =
-    ap (λ (rs : List Receipt). seat_of c.self.inside.cpu rs c.self.inside.sealed.amount
-    c.self.inside.fulls.amount) c.reserve.ensures.items
-    ∙ c.self.view_is
+returns g c = rw c.reserve.ensures.items c.self.view_is
