@@ -10,9 +10,7 @@ ghost use Rattle.hp_search.specs.FoundTexts.{absent_told, found_text, schedule_t
 ghost use Rattle.hp_search.specs.declared.found.FindResult.TheVariants.{Unknown};
 
 use crate::lab_fault::LabFault;
-use crate::{
-    FindResult, FindText, Prepared, ScheduleForm, found_object, nearest_text, prepare,
-};
+use crate::{FindResult, FindText, Prepared, ScheduleForm, found_object, nearest_text, prepare};
 use hp_explore::{ExploreFault, FindFault, Found, Watch, changes_of, find};
 use hp_questions::{Wanted, first_past};
 use hp_units::{Cpu, Record};

@@ -1,24 +1,20 @@
 -- What is told is what the search found.
 use Rattle.std.proofs.Common.{List, string_bytes, subst, sym}
-use Rattle.std.proofs.lemmas.Result.{IfErr-weaker, IfOk-weaker}
 use Rattle.hp_schedules.specs.declared.scripts.Step.{Step}
 use Rattle.hp_explore.specs.Settings.{setting}
-use Rattle.hp_explore.specs.FindFaults.{IsFindCause, find_fault_from}
-use Rattle.hp_explore.specs.declared.exploring.ExploreFault.{ExploreFault}
-use Rattle.hp_explore.specs.declared.fault.FindFault.{FindFault}
 use Rattle.hp_search.specs.Findings.{IsFoundOn, IsFoundTold}
-use Rattle.hp_search.specs.Prepared.{before_of, names_of, setting_of}
+use Rattle.hp_search.specs.Prepared.{before_of, names_of}
 use Rattle.hp_search.proofs.Findings.{found_on}
 use Rattle.hp_search.proofs.finding.found.Goals as goal
 
-pub returns-in-Ok-clause-ok : goal.returns-in-Ok-clause-ok
-returns-in-Ok-clause-ok g c =
+pub returns-in_ok-finding-in-Ok-clause-ok : goal.returns-in_ok-finding-in-Ok-clause-ok
+returns-in_ok-finding-in-Ok-clause-ok g c =
     let p = c.args.prepared.now in
-    let f = c.in_ok-finding.finding in
+    let f = c.in_ok-finding-in-Ok.finding in
     let told =
     subst (λ (ss : List (List Step)). IsFoundTold c.args.form (names_of p) (before_of p)
     (setting p.start.machine ss) c.in-Ok.found (string_bytes f.text) f.result)
-    (sym c.as_slice-scripts.ensures.value) c.in_ok-finding.ensures in
+    (sym c.as_slice-scripts.ensures.value) c.in_ok-finding-in-Ok.ensures in
     subst (λ (ss : List (List Step)). IsFoundOn c.args.form (names_of p) (before_of p)
     (setting p.start.machine ss) c.args.wanted.now (string_bytes f.text) f.result)
     c.as_slice-scripts.ensures.value
