@@ -8,10 +8,10 @@ alone it takes the folder of the crates:
 On so many scenarios that are drawn at random, with events of all kinds and plans, where 0 may stand
 for an operation of the setup, with at most 120 orders each that all have room: `explore` tells the
 ends of the orders, each with its count and its first order, in the order of these; past a limit,
-those of the first orders. An interleaving is found where an order has an end with the lines; it is
-one of those orders, with the fewest changes of processor; and where there is none, as many
-interleavings are told as there are orders; past a limit a search finds what has few changes or is
-among the first. `--never` prints the same with the other status, `--scenario 1` writes what is
+those of the first orders, also where memory or time ends the search. An interleaving is found where an order has an end with the lines; it is
+one of those orders, with the fewest changes of processor; and where there is none, that is told.
+With a limit of states, without memory and without time a search tells the same, or that it does not
+know, after which states and by which option. `--never` prints the same with the other status, `--scenario 1` writes what is
 found as a scenario with the setup's lines before the calls, `--json` the same as an object, scripts
 that use 0 before a begin are told, and a text that no end has as a line ends with status 2.
 
@@ -279,12 +279,12 @@ def check_search(checks, programs, scenario, setup, orders, texts):
     turned = programs.find(scenario, setup, "--never", texts)
     checks.holds(where, turned == (3 - status, text), f"--never says {turned}")
     if not found:
-        absent = (3, f"interleavings: {len(orders)}\nends so: 0\n")
+        absent = (3, "ends so: 0\n")
         checks.holds(where, (status, text) == absent, f"says {status}, {text!r}")
         replay = programs.find(scenario, setup, "--find", texts, "--scenario", "1")
         checks.holds(where, replay == (3, ""), f"--scenario 1 says {replay}")
         check_object(checks, programs, scenario, setup, texts,
-                     (3, {"found": False, "interleavings": len(orders)}))
+                     (3, {"found": False}))
         return
     head, _, quoted = text.partition("\nfirst:\n")
     calls = json.loads(f"[{quoted}]")
@@ -299,18 +299,27 @@ def check_search(checks, programs, scenario, setup, orders, texts):
                  (0, {"found": True, "changes": fewest, "first": calls}))
 
 
-def check_within(checks, programs, scenario, setup, orders, texts, limit):
-    """Past a limit an interleaving is found where it has fewer than three changes, or where one of
-    the first ends so."""
-    where = f"--find {texts} --limit {limit} --setup {setup} {json.dumps(scenario)}"
-    found = [(at, calls) for at, (calls, end) in enumerate(orders)
-             if all(has_line(end, text) for text in texts)]
-    expected = (1, f"hotplug_lab: none of the first {limit} interleavings ends so, and there are "
-                   "more\n")
-    if any(at < limit or changes_of(calls) < 3 for at, calls in found):
-        expected = programs.find(scenario, setup, "--find", texts)
-    told = programs.find(scenario, setup, "--find", texts, "--limit", str(limit))
-    checks.holds(where, told == expected, f"says {told}")
+UNKNOWN = {(): "ends so: unknown\n", ("--json",): '{"found": null}\n', ("--scenario", "1"): ""}
+
+
+def check_budgets(checks, programs, draw, scenario, setup, texts):
+    """With a limit of states, without memory and without time a search tells what it tells without
+    them, or that it does not know; then it says after how many states it stopped, and why."""
+    form = draw.choice(list(UNKNOWN))
+    for option, number in (("--limit", draw.randrange(12)), ("--limit", 10**6), ("--memory", 0),
+                           ("--seconds", 0), ("--seconds", 1000)):
+        for search in ("--find", "--never"):
+            where = f"{search} {texts} {option} {number} {form} --setup {setup} {json.dumps(scenario)}"
+            told = programs.find(scenario, setup, search, texts, *form, option, str(number))
+            said = programs.said.removesuffix(warnings_of(scenario, setup))
+            stopped = re.fullmatch(r"hotplug_lab: stopped after (\d+) states \((--[a-z]+)\)\n", said)
+            if stopped:
+                checks.holds(where, told == (3, UNKNOWN[form]), f"says {told}, but {said!r}")
+                is_so = stopped[2] == option and (option != "--limit" or int(stopped[1]) == number)
+                checks.holds(where, is_so and number < 1000, f"says {said!r}")
+            else:
+                whole = programs.find(scenario, setup, search, texts, *form)
+                checks.holds(where, told == whole, f"{told} in place of {whole}, and {said!r}")
 
 
 def check_first(checks, programs, scenario, setup, orders, limit):
@@ -325,6 +334,21 @@ def check_first(checks, programs, scenario, setup, orders, limit):
     checks.holds(where, (status, parts[0]) == (3, head), f"says {status}, {parts[0]!r}")
     told = [end_of(part) for part in parts[1:]]
     checks.holds(where, told == expected, f"tells {told} in place of {expected}")
+
+
+def check_ended(checks, programs, scenario, setup, orders):
+    """Without memory and without time the ends are those of the first orders, with their number."""
+    for option in ("--memory", "--seconds"):
+        where = f"{option} 0 --setup {setup} {json.dumps(scenario)}"
+        status, text = programs.search(scenario, setup, option, "0")
+        head, *parts = text.rstrip("\n").split("\n\n")
+        first = re.search(r"these are the first (\d+)\n", head)
+        if first is None:
+            checks.holds(where, (status, text) == programs.search(scenario, setup), f"says {status}, {text!r}")
+            continue
+        told = [end_of(part) for part in parts]
+        expected = counted(orders[:int(first[1])])
+        checks.holds(where, (status, told) == (3, expected), f"tells {told} in place of {expected}")
 
 
 def check_object(checks, programs, scenario, setup, texts, expected):
@@ -573,13 +597,14 @@ def check_drawn(checks, programs, draw, drawn):
     limit = draw.randrange(len(orders))
     check_ends(checks, programs, scenario, setup, orders)
     check_first(checks, programs, scenario, setup, orders, limit)
+    check_ended(checks, programs, scenario, setup, orders)
     check_groups(checks, programs, scenario, setup, orders, limit)
     check_parts(checks, programs, draw, scenario, setup, drawn % SPOILED == 0)
     if drawn % SPOILED == 0:
         check_part_limit(checks, programs, scenario, setup, orders)
     for texts in drawn_texts(draw, [end for _, end in orders]):
         check_search(checks, programs, scenario, setup, orders, texts)
-        check_within(checks, programs, scenario, setup, orders, texts, limit)
+        check_budgets(checks, programs, draw, scenario, setup, texts)
     return True
 
 

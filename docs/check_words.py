@@ -27,7 +27,7 @@ CALLS = ["0 map db 0", "0 write db 0 0 7", "1 map db 1", "0 kalloc 0", "1 unmap 
 READS = 13
 READ_ORDERS = 10400600
 NO_COMMAND = "hotplug: serial, run or audit\n"
-NO_SCENARIO = "hotplug_lab: no such interleaving, so no scenario is written\n"
+NO_SCENARIO = "hotplug_lab: no such interleaving was found, so no scenario is written\n"
 
 
 class Checks:
@@ -121,17 +121,16 @@ def check_explore(checks, lab):
     check_progress(checks, lab)
     many = scenario_of([f"{cpu} read db 0 0" for cpu in (0, 1)] * READS)
     status, out, _ = lab.call("explore", scenario=many)
-    checks.same("explore by default",
-                (3, f"{READ_ORDERS} interleavings; these are the first 10000000"),
-                (status, out.split("\n")[0]))
-    status, out, _ = lab.call("explore", "--limit", str(READ_ORDERS), scenario=many)
-    checks.same(f"explore --limit {READ_ORDERS}", (0, f"interleavings: {READ_ORDERS}"),
+    checks.same("explore by default", (0, f"interleavings: {READ_ORDERS}"), (status, out.split("\n")[0]))
+    status, out, _ = lab.call("explore", "--limit", str(READ_ORDERS - 1), scenario=many)
+    checks.same(f"explore --limit {READ_ORDERS - 1}",
+                (3, f"{READ_ORDERS} interleavings; these are the first {READ_ORDERS - 1}"),
                 (status, out.split("\n")[0]))
 
 
 def check_limits(checks, lab, scripts):
-    """Past the limit the first interleavings are told; a search that finds nothing has a fault, and
-    so has a history that is too short."""
+    """Past the limit the first interleavings are told; a search for an end is ended by its limit, its
+    memory and its time; a history that is too short has a fault."""
     ends = [json.loads(line) for line in
             lab.call("explore", "--setup", "1", "--json", scenario=scripts)[1].splitlines()]
     for limit in range(11):
@@ -155,11 +154,26 @@ def check_limits(checks, lab, scripts):
                               scenario=scenario_of(["0 plan 2 off 1", "1 drain 0"]))
     checks.same("explore of a plan", (3, "more than 2 interleavings; these are the first 2"),
                 (status, out.split("\n")[0]))
-    for option in ("--find", "--never"):
-        options = ("--setup", "1", "--limit", "4", option, "refused Busy")
-        lost = "hotplug_lab: none of the first 4 interleavings ends so, and there are more\n"
-        checks.same(f"explore {options}", (1, "", lost),
-                    lab.call("explore", *options, scenario=scripts))
+    for option, absent in (("--find", 3), ("--never", 0)):
+        options = ("--setup", "1", option, "refused Busy")
+        for budget, number in (("--limit", "0"), ("--limit", "1"), ("--memory", "0"), ("--seconds", "0")):
+            status, out, error = lab.call("explore", *options, budget, number, scenario=scripts)
+            checks.same(f"explore {options} {budget} {number}", (3, "ends so: unknown\n"), (status, out))
+            said = rf"hotplug_lab: stopped after \d+ states \({budget}\)\n"
+            checks.holds(f"explore {options} {budget} {number}", re.fullmatch(said, error), f"says {error!r}")
+        for budget, number in (("--limit", "1000000"), ("--memory", "1"), ("--seconds", "1000")):
+            checks.same(f"explore {options} {budget} {number}", (absent, "ends so: 0\n", ""),
+                        lab.call("explore", *options, budget, number, scenario=scripts))
+    for budget, number in (("--memory", "0"), ("--seconds", "0")):
+        status, out, error = lab.call("explore", "--setup", "1", budget, number, scenario=scripts)
+        checks.same(f"explore {budget} {number}", 3, status)
+        checks.holds(f"explore {budget} {number}",
+                     re.match(r"10 interleavings; these are the first \d\nends: ", out), f"writes {out!r}")
+        said = rf"hotplug_lab: stopped after \d+ states \({budget}\)\n"
+        checks.holds(f"explore {budget} {number}", re.fullmatch(said, error), f"says {error!r}")
+    for budget, number in (("--memory", "1"), ("--seconds", "1000")):
+        checks.same(f"explore {budget} {number}", lab.call("explore", scenario=scripts),
+                    lab.call("explore", budget, number, scenario=scripts))
     short = {"layout": {**LAYOUT, "history": 5}, "calls": CALLS[:6]}
     full = "hotplug_lab: no room in the history for all calls of an interleaving"
     checks.same("explore with a short history", (1, "", f"{full}: it needs 6 records\n"),
@@ -176,6 +190,11 @@ def check_progress(checks, lab):
         status, out, error = lab.call("explore", *options, scenario=scenario)
         checks.same(f"explore {options}", (0, "interleavings: 3432"), (status, out.split("\n")[0]))
         checks.holds(f"explore {options}", re.fullmatch(form, error), f"says {error!r}")
+    options = ("--never", "word 3", "--progress")
+    status, out, error = lab.call("explore", *options, scenario=scenario)
+    checks.same(f"explore {options}", (0, "ends so: 0\n"), (status, out))
+    form = r"(\d+ states so far, \d+ a second\n)+"
+    checks.holds(f"explore {options}", re.fullmatch(form, error), f"says {error!r}")
 
 
 def check_groups(checks, lab, scripts):
@@ -351,6 +370,7 @@ def check_lab(checks, lab):
                   ("explore", "--part", "1/2", "--scenario", "1"),
                   ("explore", "--part", "1/2", "--jobs", "2"),
                   ("explore", "--jobs", "2", "--find", "done"),
+                  ("explore", "--jobs", "2", "--seconds", "9"),
                   ("explore", "--group"), ("explore", "--group", "blocks", "--part", "1/2"),
                   ("explore", "--group", "blocks", "--scenario", "1"),
                   ("explore", "--group", "answers", "--find", "done"),

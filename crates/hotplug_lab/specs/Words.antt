@@ -17,6 +17,8 @@ use Rattle.hp_part_files.specs.Parts.{IsFullPart, IsPartOf}
 use Rattle.hp_part_files.specs.Sums.{IsSumOf}
 use Rattle.hp_lab_shell.specs.Checks.{IsCheckOf}
 use Rattle.hp_lab_shell.specs.Shown.{HasJson, HasLog, HasRows, HasTrace}
+use Rattle.hp_search.specs.declared.found.FindResult.{FindResult}
+use Rattle.hp_search.specs.declared.found.FindResult.TheVariants.{Absent, Found, Unknown}
 use Rattle.hp_search.specs.declared.groups.GroupBy.{GroupBy}
 use Rattle.hp_search.specs.declared.lab_fault.LabFault.{LabFault}
 use Rattle.hp_search.specs.declared.lab_fault.LabFault.TheVariants.{OutOfMemory}
@@ -28,38 +30,44 @@ use Rattle.hp_lab_shell.specs.declared.words.Word.{Word}
 use Rattle.hp_lab_shell.specs.declared.words.Word.TheVariants.{Check, Explore, Find, Log, Never, Part, Picture, Sum, Told, Trace}
 use Rattle.hp_lab_shell.specs.Needs.{HasLines, IsPastEnd}
 
--- the text of an exploration; the status is 0 if it finds what was asked for, and 3 if not
+-- the text of an exploration, whatever ended it; the status is 0 if it finds what was asked for, and 3 if not
 abbrev pub IsExploringOf : ExploreOptions → EndsForm → Option GroupBy → (input text : List ℕ)
     → (status : ℕ) → Type 0
 IsExploringOf asked form by input text status =
-    (found : Bool) × IsExplorationOf form by input asked.setup asked.limit text found
+    (found : Bool) × IsExplorationOf form by input asked.setup asked.limit (Unit {0}) text found
     × (status ≡ (if found then 0 else 3))
 
 -- the text of one part; the text of the sum
 abbrev pub IsPartialOf : ExploreOptions → NumberValue → (input text : List ℕ) → (status : ℕ) → Type 0
 IsPartialOf asked part input text status =
-    (found : Bool) × IsPartOf part input asked.setup asked.limit text found
+    (found : Bool) × IsPartOf part input asked.setup asked.limit (Unit {0}) text found
     × (status ≡ (if found then 0 else 3))
 
 abbrev pub IsAddedOf : EndsForm → (input text : List ℕ) → (status : ℕ) → Type 0
 IsAddedOf form input text status =
     (found : Bool) × IsSumOf form input text found × (status ≡ (if found then 0 else 3))
 
--- the text of a search; one status if it finds an interleaving, and another if there is none
-abbrev pub IsSearchOf : ExploreOptions → List Wanted → ScheduleForm → (found_status absent_status : ℕ)
+-- the text of a search; one status if it finds an interleaving, another if there is none, and 3 if it
+-- does not know
+abbrev pub find_status : FindResult → (found_status absent_status : ℕ) → ℕ
+find_status Found found_status absent_status = found_status
+find_status Absent found_status absent_status = absent_status
+find_status Unknown found_status absent_status = 3
+
+abbrev pub IsSearchOf : (setup : ℕ) → List Wanted → ScheduleForm → (found_status absent_status : ℕ)
     → (input text : List ℕ) → (status : ℕ) → Type 0
-IsSearchOf asked wanted form found_status absent_status input text status =
-    (found : Bool) × IsFindingOf form input asked.setup asked.limit wanted text found
-    × (status ≡ (if found then found_status else absent_status))
+IsSearchOf setup wanted form found_status absent_status input text status =
+    (result : FindResult) × IsFindingOf form input setup wanted text result
+    × (status ≡ find_status result found_status absent_status)
 
 abbrev pub IsAnswerOf : Word → (input text : List ℕ) → (status : ℕ) → Type 0
 IsAnswerOf (Check setup) input text status = IsCheckOf setup input text status
 IsAnswerOf (Explore asked form by jobs) input text status = IsExploringOf asked form by input text status
 IsAnswerOf (Part asked part) input text status = IsPartialOf asked part.now input text status
 IsAnswerOf (Sum form) input text status = IsAddedOf form input text status
-IsAnswerOf (Find asked wanted form) input text status = IsSearchOf asked wanted.now form 0 3 input text status
-IsAnswerOf (Never asked wanted form) input text status =
-    IsSearchOf asked wanted.now form 3 0 input text status
+IsAnswerOf (Find setup wanted form) input text status = IsSearchOf setup wanted.now form 0 3 input text status
+IsAnswerOf (Never setup wanted form) input text status =
+    IsSearchOf setup wanted.now form 3 0 input text status
 IsAnswerOf (Trace view) input text status = HasTrace view input text × (status ≡ 0)
 IsAnswerOf (Picture drawing) input text status = HasRows drawing.view input × (status ≡ 0)
 IsAnswerOf Log input text status = HasLog input × (status ≡ 0)
@@ -75,11 +83,10 @@ abbrev pub IsLabCause : Word → (input : List ℕ) → LabFault → Type 0
 IsLabCause (Check setup) input fault = fault ≡ OutOfMemory
 IsLabCause (Explore asked form by jobs) input fault = IsFaultWithin input asked.setup asked.limit fault
 IsLabCause (Part asked part) input fault =
-    IsFaultOf input asked.setup asked.limit fault × IsFullPart part.now input asked.setup asked.limit fault
+    IsFaultOf input asked.setup fault × IsFullPart part.now input asked.setup asked.limit fault
 IsLabCause (Sum form) input fault = fault ≡ OutOfMemory
-IsLabCause (Find asked wanted form) input fault = IsFindFaultOf input asked.setup asked.limit wanted.now fault
-IsLabCause (Never asked wanted form) input fault =
-    IsFindFaultOf input asked.setup asked.limit wanted.now fault
+IsLabCause (Find setup wanted form) input fault = IsFindFaultOf input setup wanted.now fault
+IsLabCause (Never setup wanted form) input fault = IsFindFaultOf input setup wanted.now fault
 IsLabCause (Trace view) input fault = fault ≡ OutOfMemory
 IsLabCause (Picture drawing) input fault = fault ≡ OutOfMemory
 IsLabCause Log input fault = fault ≡ OutOfMemory
@@ -90,8 +97,8 @@ IsScenarioCause (Check setup) input fault = ⊥
 IsScenarioCause (Explore asked form by jobs) input fault = ⊥
 IsScenarioCause (Part asked part) input fault = ⊥
 IsScenarioCause (Sum form) input fault = ⊥
-IsScenarioCause (Find asked wanted form) input fault = ⊥
-IsScenarioCause (Never asked wanted form) input fault = ⊥
+IsScenarioCause (Find setup wanted form) input fault = ⊥
+IsScenarioCause (Never setup wanted form) input fault = ⊥
 IsScenarioCause (Trace view) input fault = Fails fault (scenario_in input)
 IsScenarioCause (Picture drawing) input fault = Fails fault (scenario_in input)
 IsScenarioCause Log input fault = Fails fault (scenario_in input)

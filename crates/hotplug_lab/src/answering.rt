@@ -1,7 +1,7 @@
 //! The text and the exit status of each word, from a scenario's bytes.
 
 ghost use Rattle.std.specs.Prelude.{◌≡◌, if◌then◌else◌, IfErr, IfOk, string_bytes};
-ghost use Rattle.hotplug_lab.specs.Words.{IsAddedOf, IsAnswerOf, IsExploringOf, IsPartialOf, IsSearchOf, IsUnanswered};
+ghost use Rattle.hotplug_lab.specs.Words.{IsAddedOf, IsAnswerOf, IsExploringOf, IsPartialOf, IsSearchOf, IsUnanswered, find_status};
 ghost use Rattle.hp_lab_shell.specs.declared.words.Word.TheVariants.{Explore, Find, Never, Part, Sum};
 
 use hp_lab_shell::{ExploreOptions, TextAndStatus, Word, checked, drawn, logged, told, traced};
@@ -9,7 +9,8 @@ use hp_part_files::{part_text, sum_text};
 use hp_questions::Wanted;
 use hp_schedules::ShardId;
 use hp_search::{
-    EndsForm, GroupBy, LabProgramFault, ScheduleForm, SearchText, explore_text_with_jobs, find_text,
+    EndsForm, FindResult, FindText, GroupBy, LabProgramFault, ScheduleForm, SearchText,
+    explore_text_with_jobs, find_text,
 };
 use hp_states::Watch;
 use std::alloc::Global;
@@ -39,15 +40,15 @@ pub(crate) fn answer_to<W: Watch>(
         Word::Part { asked, part } => partial(alloc, input, asked, part, watch),
         Word::Sum(form) => summed(alloc, input, form),
         Word::Find {
-            asked,
+            setup,
             wanted,
             form,
-        } => found(alloc, input, asked, wanted, form, watch),
+        } => found(alloc, input, setup, wanted, form, watch),
         Word::Never {
-            asked,
+            setup,
             wanted,
             form,
-        } => never(alloc, input, asked, wanted, form, watch),
+        } => never(alloc, input, setup, wanted, form, watch),
         Word::Trace(view) => traced(alloc, input, view),
         Word::Picture(drawing) => drawn(alloc, input, drawing),
         Word::Log => logged(alloc, input),
@@ -102,38 +103,56 @@ fn summed(alloc: Global, input: &[u8], form: EndsForm) -> Result<TextAndStatus, 
 }
 
 /// Searches for an interleaving whose end has each of the wanted lines. The status is 0 if there is
-/// one, and 3 if there is none.
+/// one, and 3 if there is none or it is not known.
 fn found<W: Watch>(
     alloc: Global,
     input: &[u8],
-    asked: ExploreOptions,
+    setup: u64,
     wanted: &[Wanted],
     form: ScheduleForm,
     watch: &mut W,
 ) -> Result<TextAndStatus, LabProgramFault>
     ensures ok { IfOk result (λ answer.
-        IsSearchOf asked wanted.now form 0 3 input.now (string_bytes answer.text) answer.status) }
-    ensures err { IfErr result (IsUnanswered (Find asked wanted.entry form) input.now) }
+        IsSearchOf setup wanted.now form 0 3 input.now (string_bytes answer.text) answer.status) }
+    ensures err { IfErr result (IsUnanswered (Find setup wanted.entry form) input.now) }
 {
-    let finding = find_text(alloc, input, asked.setup, asked.limit, wanted, form, watch)?;
-    Ok(answer_with(finding, 0, 3))
+    let finding = find_text(alloc, input, setup, wanted, form, watch)?;
+    Ok(find_answer(finding, 0, 3))
 }
 
-/// Searches in the same way, with the status the other way round: 3 if there is one.
+/// Searches in the same way. The status is 0 if there is none, and 3 if there is one or it is not
+/// known.
 fn never<W: Watch>(
     alloc: Global,
     input: &[u8],
-    asked: ExploreOptions,
+    setup: u64,
     wanted: &[Wanted],
     form: ScheduleForm,
     watch: &mut W,
 ) -> Result<TextAndStatus, LabProgramFault>
     ensures ok { IfOk result (λ answer.
-        IsSearchOf asked wanted.now form 3 0 input.now (string_bytes answer.text) answer.status) }
-    ensures err { IfErr result (IsUnanswered (Never asked wanted.entry form) input.now) }
+        IsSearchOf setup wanted.now form 3 0 input.now (string_bytes answer.text) answer.status) }
+    ensures err { IfErr result (IsUnanswered (Never setup wanted.entry form) input.now) }
 {
-    let finding = find_text(alloc, input, asked.setup, asked.limit, wanted, form, watch)?;
-    Ok(answer_with(finding, 3, 0))
+    let finding = find_text(alloc, input, setup, wanted, form, watch)?;
+    Ok(find_answer(finding, 3, 0))
+}
+
+/// Returns the text of a search for an end, with the status `found` if it found one, `absent` if
+/// there is none, and 3 if it does not know.
+fn find_answer(finding: FindText, found: u8, absent: u8) -> TextAndStatus
+    ensures text { string_bytes result.text ≡ string_bytes finding.text }
+    ensures status { result.status ≡ find_status finding.result found absent }
+{
+    let status = match finding.result {
+        FindResult::Found => found,
+        FindResult::Absent => absent,
+        FindResult::Unknown => 3,
+    };
+    TextAndStatus {
+        text: finding.text,
+        status,
+    }
 }
 
 /// Returns a search's text, with the status `found` if it found something, and `absent` if not.

@@ -7,10 +7,10 @@
 //! command line, the files and the messages; this program serves the other words.
 //!
 //! The exit status is 0; 1 after a fault, which standard error names, and after a check that finds
-//! faults; 2 for a wrong command line; 3 if a search finds nothing, or finds what it should not; if
-//! there is no end with the number that was asked for; if only the first interleavings are counted;
-//! and if a log is unlawful. It is the same if standard error takes no text. The help is a text
-//! like any other: if standard output does not take it, the status is 1.
+//! faults; 2 for a wrong command line; 3 if a search finds nothing, finds what it should not, or is
+//! ended before it knows; if there is no end with the number that was asked for; if only the first
+//! interleavings are counted; and if a log is unlawful. It is the same if standard error takes no
+//! text. The help is a text like any other: if standard output does not take it, the status is 1.
 #![tactic(auto)]
 
 mod answering;

@@ -1,3 +1,4 @@
+pub mod Budgets
 pub mod Checks
 pub mod Faults
 pub mod Needs

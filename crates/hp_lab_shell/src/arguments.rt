@@ -36,6 +36,9 @@ pub(crate) const JOBS: &str = "jobs";
 /// The option that bounds the memory of a search.
 pub(crate) const MEMORY: &str = "memory";
 
+/// The option that bounds the time of a search.
+pub(crate) const SECONDS: &str = "seconds";
+
 /// The option that writes the log of a scenario.
 pub(crate) const LOG: &str = "log";
 

@@ -13,7 +13,7 @@ use hp_search::LabProgramFault;
 use std::alloc::{AllocError, Global};
 
 /// The most interleavings that are counted if no limit is given.
-pub(crate) const LIMIT: u64 = 10_000_000;
+const LIMIT: u64 = 10_000_000;
 
 /// The number of setup lines that means all of a scenario.
 pub(crate) const ALL: u64 = u64::MAX;

@@ -66,8 +66,9 @@ fn without_words<'a>(alloc: Global) -> Command<'a> {
         .after_help(
             "Exit status: 0; 1 after a fault, which standard error names, and after a check that \
              finds faults (warnings alone: 0); 2 for a wrong command line; 3 where --find finds \
-             nothing, where --never finds something, where no end has the number of --scenario, \
-             where explore stops at its limit (but for --scenario), and where a log is unlawful.",
+             nothing, where --never finds something, where either is ended before it knows, where \
+             no end has the number of --scenario, where explore stops at its limit (but for \
+             --scenario), and where a log is unlawful.",
         )
         .subcommand_required(true)
 }

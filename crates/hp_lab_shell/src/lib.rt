@@ -14,6 +14,7 @@
 #![tactic(auto)]
 
 mod arguments;
+mod budgets;
 mod checks;
 mod command;
 mod files;

@@ -17,10 +17,10 @@ pub fn unbegun_of(alloc: Global, input: &[u8], word: Word<'_>) -> Result<Vec<Unb
     ensures { IfOk result (λ found. found.items ≡ unbegun_of word.entry (scenario_in input.now)) }
 {
     match word {
-        Word::Explore { asked, .. }
-        | Word::Part { asked, .. }
-        | Word::Find { asked, .. }
-        | Word::Never { asked, .. } => unbegun_in(alloc, input, asked.setup),
+        Word::Explore { asked, .. } | Word::Part { asked, .. } => {
+            unbegun_in(alloc, input, asked.setup)
+        }
+        Word::Find { setup, .. } | Word::Never { setup, .. } => unbegun_in(alloc, input, setup),
         Word::Check(_) => Ok(Vec::new(alloc)),
         Word::Sum(_) => Ok(Vec::new(alloc)),
         Word::Trace(_) => Ok(Vec::new(alloc)),
@@ -67,10 +67,8 @@ fn last_named(word: Word<'_>) -> u64
 {
     match word {
         Word::Check(setup) => setup_named(setup),
-        Word::Explore { asked, .. }
-        | Word::Part { asked, .. }
-        | Word::Find { asked, .. }
-        | Word::Never { asked, .. } => asked.setup,
+        Word::Explore { asked, .. } | Word::Part { asked, .. } => asked.setup,
+        Word::Find { setup, .. } | Word::Never { setup, .. } => setup,
         Word::Sum(_) => 0,
         Word::Trace(view) => first_shown(view),
         Word::Picture(drawing) => first_shown(drawing.view),

@@ -2,7 +2,7 @@
 
 use crate::arguments::{
     Argument, FILE, FIND, GROUP, JOBS, JSON, MEMORY, NEVER, PART, PROGRESS, SCENARIO, SCENARIO_FILE,
-    SUMMARY, Takes,
+    SECONDS, SUMMARY, Takes,
 };
 
 /// The option that writes an interleaving as a scenario.
@@ -26,7 +26,7 @@ const SUMMARY_HELP: &str =
     "Writes a line of each end: its count, its share, how many calls were refused, and its blocks";
 
 /// The arguments of `explore`.
-pub(crate) const EXPLORE: [Argument; 13] = [
+pub(crate) const EXPLORE: [Argument; 14] = [
     Argument {
         name: "setup",
         takes: Takes::Number,
@@ -36,14 +36,21 @@ pub(crate) const EXPLORE: [Argument; 13] = [
     Argument {
         name: "limit",
         takes: Takes::Number,
-        help: "Counts at most so many interleavings, the first ones (10000000)",
+        help: "Counts at most so many interleavings, the first ones (any number); with --find or --never \
+               reaches at most so many states",
         against: &[],
     },
     Argument {
         name: MEMORY,
         takes: Takes::Number,
-        help: "Keeps at most so many MiB of states (2048)",
+        help: "Ends where so many MiB of states are kept (2048)",
         against: &[],
+    },
+    Argument {
+        name: SECONDS,
+        takes: Takes::Number,
+        help: "Ends after so many seconds",
+        against: &[JOBS],
     },
     Argument {
         name: FIND,

@@ -32,7 +32,8 @@ fn serve_request<L: Laboratory, T: Threads + Sync>(
 ) -> u8 {
     let watching = Watching {
         shown: shown_on(rt.stderr().is_terminal(), request.progress),
-        memory: request.memory,
+        shows_states: request.is_search,
+        budgets: request.budgets,
     };
     match request.files {
         [] => {
@@ -94,7 +95,7 @@ fn serve_input<L: Laboratory, T: Threads + Sync, R: Read + Drop>(
 ) -> Result<u8, LabProgramFault> {
     let mut reader = Counted::new(input);
     let mut writer = Output::new(rt.stdout());
-    let progress = Progress::new(rt.stderr(), watching);
+    let progress = Progress::new(rt.stderr(), rt, watching);
     let served = lab.serve(
         threads,
         rt.alloc(),
@@ -116,7 +117,7 @@ fn serve_bytes<L: Laboratory, T: Threads + Sync>(
     watching: Watching,
 ) -> Result<u8, LabProgramFault> {
     let mut writer = Output::new(rt.stdout());
-    let progress = Progress::new(rt.stderr(), watching);
+    let progress = Progress::new(rt.stderr(), rt, watching);
     let served = lab.serve_text(threads, rt.alloc(), word, bytes, &mut writer, progress);
     told_status(rt, word, served, writer.is_left())
 }
@@ -134,7 +135,7 @@ fn told_status(
             say_unbegun(rt, &served.unbegun);
             if lacks_scenario(word, served.status) {
                 let _ = eprintln!(rt;
-                    "hotplug_lab: no such interleaving, so no scenario is written"
+                    "hotplug_lab: no such interleaving was found, so no scenario is written"
                 );
             }
             Ok(served.status)

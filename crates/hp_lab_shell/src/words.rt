@@ -1,9 +1,11 @@
 //! The words that the program is called with.
 
 use crate::arguments::{
-    FILE, FIND, GROUP, HTML, JOBS, JSON, LOG, MEMORY, NEVER, PART, PROGRESS, SCENARIO, SUMMARY,
+    FILE, FIND, GROUP, HTML, JOBS, JSON, LOG, MEMORY, NEVER, PART, PROGRESS, SCENARIO, SECONDS,
+    SUMMARY,
 };
-use crate::checks::{ALL, LIMIT};
+use crate::budgets::Budgets;
+use crate::checks::ALL;
 use clap::ArgMatches;
 use hp_numbers::number64;
 use hp_questions::Wanted;
@@ -85,15 +87,15 @@ pub enum Word<'a> {
     },
     /// Add up all parts, whose texts come in place of a scenario.
     Sum(EndsForm),
-    /// Find an interleaving whose end has each of these lines.
+    /// Find an interleaving whose end has each of these lines, after `setup` lines.
     Find {
-        asked: ExploreOptions,
+        setup: u64,
         wanted: &'a [Wanted],
         form: ScheduleForm,
     },
     /// Expect that no interleaving has such an end.
     Never {
-        asked: ExploreOptions,
+        setup: u64,
         wanted: &'a [Wanted],
         form: ScheduleForm,
     },
@@ -116,8 +118,10 @@ pub(crate) struct Request<'m, 'a, 'w> {
     pub files: &'m [&'a str],
     /// Whether progress is printed even if standard error is no terminal.
     pub progress: bool,
-    /// The number of bytes of states that a search may keep.
-    pub memory: u64,
+    /// Whether it is a search for an end.
+    pub is_search: bool,
+    /// How far a search may go.
+    pub budgets: Budgets,
 }
 
 /// Returns the texts of the lines that the parsed words want of an end, if they want any.
@@ -183,20 +187,38 @@ pub(crate) fn request_from<'m, 'a, 'w>(
             word: word_from(name, words, wanted, part)?,
             files: files_of(words.get_strs(FILE)),
             progress: name == "explore" && words.get_flag(PROGRESS),
-            memory: memory_from(name, words),
+            is_search: is_search(name, words),
+            budgets: budgets_from(name, words),
         }),
         None => Err(NO_WORD),
     }
 }
 
-/// Returns the number of bytes of states that a search may keep.
-fn memory_from(name: &str, words: &ArgMatches<'_>) -> u64 {
-    let asked = if name == "explore" {
-        words.get_one::<u64>(MEMORY)
+/// Returns whether a subcommand asks for a search for an end.
+fn is_search(name: &str, words: &ArgMatches<'_>) -> bool {
+    name == "explore" && (words.get_strs(FIND).is_some() || words.get_strs(NEVER).is_some())
+}
+
+/// Returns how far a search may go. The limit is on the states of a search for an end.
+fn budgets_from(name: &str, words: &ArgMatches<'_>) -> Budgets {
+    if name != "explore" {
+        return Budgets {
+            limit: None,
+            memory: MEMORY_MIB << 20,
+            seconds: None,
+        };
+    }
+    let limit = if is_search(name, words) {
+        words.get_one::<u64>("limit")
     } else {
         None
     };
-    asked.unwrap_or(MEMORY_MIB).saturating_mul(1 << 20)
+    let memory = words.get_one::<u64>(MEMORY).unwrap_or(MEMORY_MIB);
+    Budgets {
+        limit,
+        memory: memory.saturating_mul(1 << 20),
+        seconds: words.get_one::<u64>(SECONDS),
+    }
 }
 
 /// Returns what a subcommand asks for with its options, or why it cannot be served.
@@ -222,17 +244,18 @@ fn exploring_word<'a>(
     part: Option<&'a ShardId>,
 ) -> Result<Word<'a>, &'static str> {
     let asked = exploration_from(words);
+    let setup = asked.setup;
     let form = schedule_form_from(words);
     if words.get_strs(FIND).is_some() {
         return Ok(Word::Find {
-            asked,
+            setup,
             wanted,
             form,
         });
     }
     if words.get_strs(NEVER).is_some() {
         return Ok(Word::Never {
-            asked,
+            setup,
             wanted,
             form,
         });
@@ -318,7 +341,7 @@ fn drawing_from(words: &ArgMatches<'_>, view: View) -> Result<Drawing, &'static 
 fn exploration_from(words: &ArgMatches<'_>) -> ExploreOptions {
     ExploreOptions {
         setup: words.get_one::<u64>("setup").unwrap_or(0),
-        limit: words.get_one::<u64>("limit").unwrap_or(LIMIT),
+        limit: words.get_one::<u64>("limit").unwrap_or(u64::MAX),
     }
 }
 

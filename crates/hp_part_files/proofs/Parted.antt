@@ -1,13 +1,16 @@
 -- From what the search of a part says to what its text promises.
-use Rattle.std.proofs.Common.{◌≡◌, ℕ, ◌<◌, ◌≤◌, ◌*◌, ◌^◌, List, length, Option, Some, None, Result, Err, drop, take, refl, subst, ap}
+use Rattle.std.proofs.Common.{◌≡◌, ℕ, ◌<◌, ◌≤◌, ◌*◌, ◌^◌, Bool, List, length, Option, Some, None, Result, Err, drop, take, refl, subst, ap, inl, inr}
+use Rattle.std.specs.Prelude.{◌⊎◌}
 use Rattle.std.specs.Str.{IsUtf8}
+use Rattle.hp_explore.specs.Settings.{setting}
+use Rattle.hp_schedules.specs.declared.tally.Ending.{Ending}
 use Rattle.hp_explore.specs.declared.exploring.Exploration.{Exploration}
 use Rattle.hp_explore.specs.declared.exploring.ExploreFault.{ExploreFault}
 use Rattle.hp_explore.specs.declared.exploring.ExploreFault.TheVariants as explore
 use Rattle.hp_schedules.specs.declared.multinomials.HowMany.{HowMany}
 use Rattle.hp_schedules.specs.Ends.{AreCounted}
 use Rattle.hp_schedules.specs.Orders.{HasMoreThan}
-use Rattle.hp_explore.specs.Fronts.{AreFirstInPart, IfFirst, IfWhole}
+use Rattle.hp_explore.specs.Fronts.{AreFirstInPart, IfFirst, IfWhole, counted}
 use Rattle.hp_schedules.specs.Schedules.{Setting}
 use Rattle.hp_units.specs.LayoutParts.{LayoutParts}
 use Rattle.hp_explore.specs.Faults.{FillsPart, IsCause, IsCausePartWithin}
@@ -25,17 +28,58 @@ use Rattle.hp_scenario.specs.declared.fault.ScenarioFault.TheVariants.{NotJson}
 use Rattle.hp_scenario.proofs.Json.{json_refused}
 use Rattle.serde_json.specs.Data.{Data}
 use Rattle.hp_schedules.specs.PartNumbers.{NumberValue, part_by}
-use Rattle.hp_part_files.specs.Parts.{ArePartEnds, FillsPartOf, IsCallsFor, IsFullPart, IsPartCause}
+use Rattle.hp_part_files.specs.Parts.{ArePartEnds, FillsPartOf, IsCallsFor, IsFullPart, IsPartCause, IsPartOf}
 
 -- the ends are all of the part, or its first ones
-pub part_explored : (g : Setting) (part : PartValue) (limit : ℕ) (x : Exploration) (more : Option HowMany)
+pub part_explored : (g : Setting) (part : PartValue) (limit : ℕ) (ended : Type 0) (x : Exploration)
+    (more : Option HowMany)
     → IfWhole x (AreCounted (EndsInPart g part))
     → IfWhole x (λ _. HasMoreThan (IsCompleteInPart g part) limit → ⊥)
-    → IfWhole x (λ _. FillsPart g part → ⊥) → IfFirst x (AreFirstInPart g part limit)
-    → IfFirst x (λ _. HasMoreThan (IsCompleteInPart g part) limit) → IsMore g.scripts x.is_whole more
-    → ArePartEnds g part limit x.ends.items more
-part_explored g part limit x None whole few room first many h = (whole h, few h, room h)
-part_explored g part limit x (Some known) whole few room first many h = (first h.0, many h.0, h.1)
+    → IfWhole x (λ _. FillsPart g part → ⊥)
+    → IfFirst x (λ ends. AreFirstInPart g part (counted ends) ends)
+    → IfFirst x (λ ends. HasMoreThan (IsCompleteInPart g part) (counted ends))
+    → IfFirst x (λ ends. (counted ends ≡ limit) ⊎ ended) → IsMore g.scripts x.is_whole more
+    → ArePartEnds g part limit ended x.ends.items more
+part_explored g part limit ended x None whole few room first many stopped h = (whole h, few h, room h)
+part_explored g part limit ended x (Some known) whole few room first many stopped h =
+    (first h.0, many h.0, stopped h.0, h.1)
+
+-- the same without why a search stopped
+part_loosely : (g : Setting) (part : PartValue) (limit : ℕ) (ended : Type 0) (ends : List Ending)
+    (more : Option HowMany)
+    → ArePartEnds g part limit ended ends more → ArePartEnds g part limit (Unit {0}) ends more
+part_loosely g part limit ended ends None h = h
+part_loosely g part limit ended ends (Some known) h =
+    (h.0, h.1, elim h.2 [ inl full ↦ inl full | inr why ↦ inr tt ], h.3)
+
+pub loosely : (n : NumberValue) (input : List ℕ) (setup limit : ℕ) (ended : Type 0) (text : List ℕ)
+    (found : Bool)
+    → IsPartOf n input setup limit ended text found → IsPartOf n input setup limit (Unit {0}) text found
+loosely n input setup limit ended text found h =
+    let on = h.after.holds in
+    record {
+      scenario = h.scenario;
+      read = h.read;
+      fit = h.fit;
+      after = record {
+        start = h.after.start;
+        scripts = h.after.scripts;
+        begun = h.after.begun;
+        holds = record {
+          calls = on.calls;
+          ends = on.ends;
+          more = on.more;
+          by = on.by;
+          are =
+              part_loosely (setting h.after.start h.after.scripts) (part_by n on.calls) limit ended on.ends
+              on.more on.are;
+          ordered = on.ordered;
+          within = on.within;
+          told = on.told;
+          is_found = on.is_found;
+        };
+      };
+    }
 
 -- by how many first calls the parts go
 pub calls_known : (processors scripts parts of calls : ℕ) → processors ≡ scripts → parts ≡ of
@@ -75,14 +119,13 @@ stopped_weaker P Q input setup f h = (
 
 -- what fills the history in a part's search fills it in that of all
 pub part_fault : (n : NumberValue) (input : List ℕ) (setup limit : ℕ) (fault : LabFault)
-    → IsFaultWith (λ g. ⊥) (IsPartCause n limit) input setup limit fault → IsFaultOf input setup limit fault
+    → IsFaultWith (IsPartCause n limit) input setup fault → IsFaultOf input setup fault
 part_fault n input setup limit lab.NotJson h = h
 part_fault n input setup limit lab.BadShape h = h
 part_fault n input setup limit (lab.Layout f) h = h
 part_fault n input setup limit (lab.BadLine line) h = h
 part_fault n input setup limit (lab.NotForScript line why) h = h
 part_fault n input setup limit (lab.PastLayout k) h = absurd h
-part_fault n input setup limit (lab.TooMany most) h = absurd (h.1.2.1.holds)
 part_fault n input setup limit (lab.HistoryFull needed) h =
     stopped_weaker (IsFull (IsPartCause n limit) needed) (IsFull IsCause needed) input setup
     (λ g x. ((x.0.2.place, x.0.2.call), x.1)) h
@@ -90,7 +133,7 @@ part_fault n input setup limit lab.OutOfMemory h = tt
 
 -- and a schedule of the part does
 pub full_part : (n : NumberValue) (input : List ℕ) (setup limit : ℕ) (fault : LabFault)
-    → IsFaultWith (λ g. ⊥) (IsPartCause n limit) input setup limit fault
+    → IsFaultWith (IsPartCause n limit) input setup fault
     → IsFullPart n input setup limit fault
 full_part n input setup limit lab.NotJson h = tt
 full_part n input setup limit lab.BadShape h = tt
@@ -98,12 +141,10 @@ full_part n input setup limit (lab.Layout f) h = tt
 full_part n input setup limit (lab.BadLine line) h = tt
 full_part n input setup limit (lab.NotForScript line why) h = tt
 full_part n input setup limit (lab.PastLayout k) h = tt
-full_part n input setup limit (lab.TooMany most) h = tt
 full_part n input setup limit (lab.HistoryFull needed) h =
     stopped_weaker (IsFull (IsPartCause n limit) needed) (FillsPartOf n limit) input setup (λ g x. x.0) h
 full_part n input setup limit lab.OutOfMemory h = tt
 
 -- bytes that are no text are no scenario
-pub no_text : (input : List ℕ) (setup limit : ℕ) → (IsUtf8 input → ⊥)
-    → IsFaultOf input setup limit lab.NotJson
-no_text input setup limit none = (NotJson, refused input none, refl)
+pub no_text : (input : List ℕ) (setup : ℕ) → (IsUtf8 input → ⊥) → IsFaultOf input setup lab.NotJson
+no_text input setup none = (NotJson, refused input none, refl)

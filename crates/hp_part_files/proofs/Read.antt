@@ -219,7 +219,6 @@ not_played names g s v text count schedule fault line h =
     by_fault (lab.BadLine n) h = absurd h
     by_fault (lab.NotForScript place why) h = absurd h
     by_fault (lab.PastLayout n) h = absurd h
-    by_fault (lab.TooMany n) h = absurd h
     by_fault (lab.HistoryFull needed) h = ((count, schedule, line, h.0), h.1)
     by_fault lab.OutOfMemory h = tt
 

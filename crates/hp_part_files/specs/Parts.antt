@@ -1,5 +1,5 @@
 -- What the search of one part promises.
-use Rattle.std.specs.Prelude.{◌≡◌, ℕ, ◌-◌, ◌*◌, ◌<◌, ◌≤◌, ◌^◌, Bool, List, Option, Some, None, length, sum_by}
+use Rattle.std.specs.Prelude.{◌≡◌, ◌⊎◌, ℕ, ◌-◌, ◌*◌, ◌<◌, ◌≤◌, ◌^◌, Bool, List, Option, Some, None, length, sum_by}
 use Rattle.std.specs.Option.{is_none}
 use Rattle.hp_explore.specs.declared.exploring.Exploration.{Exploration}
 use Rattle.hp_schedules.specs.declared.multinomials.HowMany.{HowMany}
@@ -14,7 +14,7 @@ use Rattle.hp_search.specs.Ends.{IsMore}
 use Rattle.hp_search.specs.Holding.{HoldsIn, InScenario, IsStoppedAfter}
 use Rattle.hp_search.specs.declared.lab_fault.LabFault.{LabFault}
 use Rattle.hp_search.specs.declared.lab_fault.LabFault.TheVariants.{HistoryFull}
-use Rattle.hp_explore.specs.Fronts.{AreFirstInPart}
+use Rattle.hp_explore.specs.Fronts.{AreFirstInPart, counted}
 use Rattle.hp_schedules.specs.Parts.{EndsInPart, IsCompleteInPart, PartValue}
 use Rattle.hp_explore.specs.Faults.{FillsPart, FillsPartWithin}
 use Rattle.hp_schedules.specs.PartNumbers.{NumberValue, part_by}
@@ -22,14 +22,16 @@ use Rattle.hp_part_files.specs.Heads.{SearchValue}
 use Rattle.hp_part_files.specs.Texts.{part_text}
 
 -- the ends are those of all complete schedules of the part, at most `limit`, and none fills the
--- history; or there are more, and the ends are those of the first `limit`
-abbrev pub ArePartEnds : Setting → PartValue → (limit : ℕ) → List Ending → Option HowMany → Type 0
-ArePartEnds g part limit ends None =
+-- history; or they are those of the first ones, and there are more: they are as many as the limit, or
+-- the watch has ended the search
+abbrev pub ArePartEnds : Setting → PartValue → (limit : ℕ) → (ended : Type 0) → List Ending → Option HowMany
+    → Type 0
+ArePartEnds g part limit ended ends None =
     AreCounted (EndsInPart g part) ends × (HasMoreThan (IsCompleteInPart g part) limit → ⊥)
     × (FillsPart g part → ⊥)
-ArePartEnds g part limit ends (Some known) =
-    AreFirstInPart g part limit ends × HasMoreThan (IsCompleteInPart g part) limit
-    × IsKnown g.scripts (2 ^ 64 - 1) known
+ArePartEnds g part limit ended ends (Some known) =
+    AreFirstInPart g part (counted ends) ends × HasMoreThan (IsCompleteInPart g part) (counted ends)
+    × ((counted ends ≡ limit) ⊎ ended) × IsKnown g.scripts (2 ^ 64 - 1) known
 
 -- how many first calls decide a part (hp_explore): the fewest with at least 64 schedules per part, if
 -- no script ends before them
@@ -45,13 +47,13 @@ search_of n calls setup scenario =
     record { of = n.of; calls = calls; setup = setup; scenario = scenario }
 
 -- the text has the ends of a part, in the order of their first schedules
-pub record IsPartOn (n : NumberValue) (setup : ℕ) (scenario : List ℕ) (limit : ℕ) (text : List ℕ)
-    (found : Bool) (names : List (List ℕ)) (g : Setting) : Type 0 where
+pub record IsPartOn (n : NumberValue) (setup : ℕ) (scenario : List ℕ) (limit : ℕ) (ended : Type 0)
+    (text : List ℕ) (found : Bool) (names : List (List ℕ)) (g : Setting) : Type 0 where
   pub calls : ℕ
   pub ends : List Ending
   pub more : Option HowMany
   pub by : IsCallsFor (length g.scripts) n.of calls
-  pub are : ArePartEnds g (part_by n calls) limit ends more
+  pub are : ArePartEnds g (part_by n calls) limit ended ends more
   pub ordered : AreInOrder ends
   pub within : sum_by (λ e. e.count) ends ≤ limit
   pub told : text ≡ part_text names g (search_of n calls setup scenario) n.number ends more
@@ -75,10 +77,10 @@ IsPartCause n limit g explore.HistoryFull = FillsPartOf n limit g
 IsPartCause n limit g explore.OutOfMemory = Unit {0}
 
 -- the text is that of a part of the scenario
-abbrev pub IsPartOf : NumberValue → (input : List ℕ) → (setup limit : ℕ) → (text : List ℕ) → (found : Bool)
-    → Type 0
-IsPartOf n input setup limit text found =
-    HoldsIn (λ names before g. IsPartOn n setup input limit text found names g) input setup
+abbrev pub IsPartOf : NumberValue → (input : List ℕ) → (setup limit : ℕ) → (ended : Type 0)
+    → (text : List ℕ) → (found : Bool) → Type 0
+IsPartOf n input setup limit ended text found =
+    HoldsIn (λ names before g. IsPartOn n setup input limit ended text found names g) input setup
 
 -- if the history is full, a schedule of the part fills it, within the limit
 abbrev pub IsFullPart : NumberValue → (input : List ℕ) → (setup limit : ℕ) → LabFault → Type 0

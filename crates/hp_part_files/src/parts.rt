@@ -20,9 +20,10 @@ use std::alloc::Global;
 /// head.
 ///
 /// If the part has more interleavings than `limit`, its ends are those of the first `limit`, a last
-/// object reports that, and nothing is found.
+/// object reports that, and nothing is found. So it is if `watch` ends the search, with the ends of
+/// the first ones up to there.
 ///
-/// While the search runs, `watch` gets the number of interleavings counted so far.
+/// While the search runs, `watch` gets its progress, and may end it.
 ///
 /// Errors: those of `explore_text`, but `HistoryFull` only if the history has no room for a call
 /// that this part's search makes before it has counted more interleavings than the limit.
@@ -35,8 +36,9 @@ pub fn part_text<W: Watch>(
     watch: &mut W,
 ) -> Result<SearchText, LabFault>
     ensures ok { IfOk result
-        (λ f. IsPartOf number input.now setup limit (string_bytes f.text) f.is_found) }
-    ensures err { IfErr result (IsFaultOf input.now setup limit) }
+        (λ f. IsPartOf number input.now setup limit (W.has_ended watch.new) (string_bytes f.text)
+        f.is_found) }
+    ensures err { IfErr result (IsFaultOf input.now setup) }
     ensures full { IfErr result (IsFullPart number input.now setup limit) }
 {
     let Ok(scenario) = from_utf8(input) else {
@@ -60,7 +62,7 @@ fn part_on<W: Watch>(
 ) -> Result<SearchText, ExploreFault>
     requires { length prepared.now.start.scripts.items < 2 ^ 32 }
     ensures ok { IfOk result (λ f. IsPartOn number prepared.now.setup scenario.now limit
-        (string_bytes f.text) f.is_found (names_of prepared.now) (setting_of prepared.now)) }
+        (W.has_ended watch.new) (string_bytes f.text) f.is_found (names_of prepared.now) (setting_of prepared.now)) }
     ensures err { IfErr result (IsPartCause number limit (setting_of prepared.now)) }
 {
     let machine = &prepared.start.machine;

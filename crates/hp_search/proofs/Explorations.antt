@@ -1,13 +1,15 @@
 -- From what an exploration says to what its text promises.
-use Rattle.std.proofs.Common.{◌≡◌, ℕ, ◌≤◌, Bool, List, Option, Some, None, sum_by, sym, subst}
+use Rattle.std.proofs.Common.{◌≡◌, ℕ, ◌≤◌, Bool, List, Option, Some, None, sum_by, sym, subst, inl, inr}
 use Rattle.hp_explore.specs.declared.exploring.Exploration.{Exploration}
+use Rattle.std.specs.Prelude.{◌⊎◌}
 use Rattle.hp_schedules.specs.declared.multinomials.HowMany.{HowMany}
+use Rattle.hp_schedules.specs.declared.tally.Ending.{Ending}
 use Rattle.hp_schedules.specs.Ends.{AreEnds, AreInOrder}
 use Rattle.hp_explore.specs.Faults.{FillsHistory, IsCause, IsCauseWithin}
 use Rattle.hp_explore.specs.declared.exploring.ExploreFault.{ExploreFault}
 use Rattle.hp_explore.specs.declared.exploring.ExploreFault.TheVariants.{HistoryFull, OutOfMemory}
 use Rattle.hp_schedules.specs.Orders.{HasMoreThan}
-use Rattle.hp_explore.specs.Fronts.{AreFirst, IfFirst, IfWhole}
+use Rattle.hp_explore.specs.Fronts.{AreFirst, IfFirst, IfWhole, counted}
 use Rattle.hp_explore.specs.Settings.{setting}
 use Rattle.hp_schedules.specs.declared.scripts.Step.{Step}
 use Rattle.hp_schedules.specs.Schedules.{IsComplete, Setting}
@@ -20,47 +22,84 @@ use Rattle.hp_search.specs.Faults.{IsFaultOf, IsToldAs}
 use Rattle.hp_search.specs.Prepared.{IsPrepared, IsUnprepared, before_of, names_of, setting_of}
 use Rattle.hp_search.specs.declared.prepared.Prepared.{Prepared}
 use Rattle.hp_search.proofs.Known.{unprepared_known, untold, untold_in}
-use Rattle.hp_search.specs.Explorations.{AreExplored, IsExploredOn, IsFaultWithin}
+use Rattle.hp_search.specs.Explorations.{AreExplored, IsExplorationOf, IsExploredOn, IsFaultWithin}
 
 -- the ends are all, or the first ones
-explored_told : (g : Setting) (limit : ℕ) (x : Exploration) (more : Option HowMany)
+explored_told : (g : Setting) (limit : ℕ) (ended : Type 0) (x : Exploration) (more : Option HowMany)
     → IfWhole x (AreEnds g) → IfWhole x (λ _. HasMoreThan (IsComplete g) limit → ⊥)
-    → IfWhole x (λ _. FillsHistory g → ⊥) → IfFirst x (AreFirst g limit)
-    → IfFirst x (λ _. HasMoreThan (IsComplete g) limit) → IsMore g.scripts x.is_whole more
-    → AreExplored g limit x.ends.items more
-explored_told g limit x None whole few room first many h = (whole h, few h, room h)
-explored_told g limit x (Some known) whole few room first many h = (first h.0, many h.0, h.1)
+    → IfWhole x (λ _. FillsHistory g → ⊥) → IfFirst x (λ ends. AreFirst g (counted ends) ends)
+    → IfFirst x (λ ends. HasMoreThan (IsComplete g) (counted ends))
+    → IfFirst x (λ ends. (counted ends ≡ limit) ⊎ ended) → IsMore g.scripts x.is_whole more
+    → AreExplored g limit ended x.ends.items more
+explored_told g limit ended x None whole few room first many stopped h = (whole h, few h, room h)
+explored_told g limit ended x (Some known) whole few room first many stopped h =
+    (first h.0, many h.0, stopped h.0, h.1)
 
 -- and they, or their groups, are told, where the scripts are those of a scenario that was made ready
 pub is_explored : (form : EndsForm) (by : Option GroupBy) (p : Prepared) (scripts : List (List Step))
-    (limit : ℕ) (x shown : Exploration) (text : List ℕ) (found : Bool)
+    (limit : ℕ) (ended : Type 0) (x shown : Exploration) (text : List ℕ) (found : Bool)
     → scripts ≡ p.start.scripts.items → IfWhole x (AreEnds (setting p.start.machine scripts))
     → IfWhole x (λ _. HasMoreThan (IsComplete (setting p.start.machine scripts)) limit → ⊥)
     → IfWhole x (λ _. FillsHistory (setting p.start.machine scripts) → ⊥)
-    → IfFirst x (AreFirst (setting p.start.machine scripts) limit)
-    → IfFirst x (λ _. HasMoreThan (IsComplete (setting p.start.machine scripts)) limit)
+    → IfFirst x (λ ends. AreFirst (setting p.start.machine scripts) (counted ends) ends)
+    → IfFirst x (λ ends. HasMoreThan (IsComplete (setting p.start.machine scripts)) (counted ends))
+    → IfFirst x (λ ends. (counted ends ≡ limit) ⊎ ended)
     → AreInOrder x.ends.items → sum_by (λ e. e.count) x.ends.items ≤ limit
     → AreShown by x.ends.items shown.ends.items → shown.is_whole ≡ x.is_whole
     → IsTold form (names_of p) (before_of p) (setting_of p) shown text found
-    → IsExploredOn form by (names_of p) (before_of p) (setting_of p) limit text found
-is_explored form by p scripts limit x shown text found same whole few room first many ordered within grouped
-    is_whole told =
+    → IsExploredOn form by (names_of p) (before_of p) (setting_of p) limit ended text found
+is_explored form by p scripts limit ended x shown text found same whole few room first many stopped ordered
+    within grouped is_whole told =
     let more =
     subst (λ (w : Bool). IsMore (setting_of p).scripts w told.0) is_whole told.1 in
     record {
       ends = x.ends.items;
       more = told.0;
       are =
-          subst
-          (λ (ss : List (List Step)). AreExplored (setting p.start.machine ss) limit x.ends.items told.0)
-          same (explored_told (setting p.start.machine scripts) limit x told.0 whole few room first many
-          (subst (λ (ss : List (List Step)). IsMore ss x.is_whole told.0) (sym same) more));
+          subst (λ (ss : List (List Step)). AreExplored (setting p.start.machine ss) limit ended x.ends.items
+          told.0) same
+          (explored_told (setting p.start.machine scripts) limit ended x told.0 whole few room first many
+          stopped (subst (λ (ss : List (List Step)). IsMore ss x.is_whole told.0) (sym same) more));
       ordered = ordered;
       within = within;
       shown = shown.ends.items;
       grouped = grouped;
       told = told.2;
     }
+
+-- the same without why a search stopped
+first_loosely : (g : Setting) (limit : ℕ) (ended : Type 0) (ends : List Ending) (more : Option HowMany)
+    → AreExplored g limit ended ends more → AreExplored g limit (Unit {0}) ends more
+first_loosely g limit ended ends None h = h
+first_loosely g limit ended ends (Some known) h =
+    (h.0, h.1, elim h.2 [ inl full ↦ inl full | inr why ↦ inr tt ], h.3)
+
+pub loosely : (form : EndsForm) (by : Option GroupBy) (input : List ℕ) (setup limit : ℕ) (ended : Type 0)
+    (text : List ℕ) (found : Bool)
+    → IsExplorationOf form by input setup limit ended text found
+    → IsExplorationOf form by input setup limit (Unit {0}) text found
+loosely form by input setup limit ended text found h = record {
+  scenario = h.scenario;
+  read = h.read;
+  fit = h.fit;
+  after = record {
+    start = h.after.start;
+    scripts = h.after.scripts;
+    begun = h.after.begun;
+    holds = record {
+      ends = h.after.holds.ends;
+      more = h.after.holds.more;
+      are =
+          first_loosely (setting h.after.start h.after.scripts) limit ended h.after.holds.ends
+          h.after.holds.more h.after.holds.are;
+      ordered = h.after.holds.ordered;
+      within = h.after.holds.within;
+      shown = h.after.holds.shown;
+      grouped = h.after.holds.grouped;
+      told = h.after.holds.told;
+    };
+  };
+}
 
 -- ---- faults
 
@@ -74,19 +113,19 @@ cause_known g limit OutOfMemory cause = tt
 pub not_explored : (input : List ℕ) (setup limit : ℕ) (p : Prepared) (fault : ExploreFault) (told : LabFault)
     → IsPrepared input setup p → IsToldAs (setting_of p) fault told
     → IsCauseWithin (setting_of p) limit fault
-    → IsFaultOf input setup limit told × IsFaultWithin input setup limit told
+    → IsFaultOf input setup told × IsFaultWithin input setup limit told
 not_explored input setup limit p fault told ready is cause =
     let C = λ (g : Setting). IsCauseWithin g limit in (
-      untold_in (λ (g : Setting). ⊥) IsCause input setup limit p told ready
+      untold_in IsCause input setup p told ready
           (untold IsCause (setting_of p) fault told is (cause_known (setting_of p) limit fault cause)),
-      untold_in (λ (g : Setting). ⊥) C input setup limit p told ready
+      untold_in C input setup p told ready
           (untold C (setting_of p) fault told is cause),
     )
 
 -- those of what is not made ready
 pub not_prepared : (input : List ℕ) (setup limit : ℕ) (fault : LabFault) → IsUnprepared input setup fault
-    → IsFaultOf input setup limit fault × IsFaultWithin input setup limit fault
+    → IsFaultOf input setup fault × IsFaultWithin input setup limit fault
 not_prepared input setup limit fault why = (
-  unprepared_known (λ (g : Setting). ⊥) IsCause input setup limit fault why,
-  unprepared_known (λ (g : Setting). ⊥) (λ (g : Setting). IsCauseWithin g limit) input setup limit fault why,
+  unprepared_known IsCause input setup fault why,
+  unprepared_known (λ (g : Setting). IsCauseWithin g limit) input setup fault why,
 )

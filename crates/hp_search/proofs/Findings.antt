@@ -1,44 +1,51 @@
--- Why a search of a scenario has no answer.
-use Rattle.std.proofs.Common.{ℕ, List, refl, sym, subst}
-use Rattle.hp_explore.specs.declared.exploring.ExploreFault.TheVariants as explore
-use Rattle.hp_explore.specs.FindFaults.{IsFindCause}
-use Rattle.hp_explore.specs.declared.fault.FindFault.{FindFault}
-use Rattle.hp_explore.specs.declared.fault.FindFault.TheVariants as search
+-- Why a search of a scenario has no answer, and what its answer says.
+use Rattle.std.proofs.Common.{◌≡◌, ℕ, List, sym, subst}
+use Rattle.hp_explore.specs.declared.exploring.ExploreFault.{ExploreFault}
+use Rattle.hp_explore.specs.FindFaults.{IsFindCause, IsRecorded, SparesHistory, find_fault_from}
+use Rattle.hp_explore.specs.Reaching.{IsFound}
+use Rattle.hp_explore.specs.declared.finding.Found.{Found as Sought}
+use Rattle.hp_explore.specs.declared.finding.Found.TheVariants as sought
 use Rattle.hp_questions.specs.Limits.{AreWithin}
 use Rattle.hp_questions.specs.declared.wanted.Wanted.{Wanted}
+use Rattle.hp_scenario.specs.declared.lines.Line.{Line}
+use Rattle.hp_schedules.specs.Schedules.{Setting}
+use Rattle.hp_search.specs.declared.forms.ScheduleForm.{ScheduleForm}
+use Rattle.hp_search.specs.declared.found.FindResult.{FindResult}
 use Rattle.hp_search.specs.declared.lab_fault.LabFault.{LabFault}
-use Rattle.hp_search.specs.declared.lab_fault.LabFault.TheVariants.{NotJson, BadShape, Layout, BadLine, NotForScript, PastLayout, TooMany, HistoryFull, OutOfMemory}
-use Rattle.hp_search.specs.Faults.{IsFaultWith}
+use Rattle.hp_search.specs.declared.lab_fault.LabFault.TheVariants.{NotJson, BadShape, Layout, BadLine, NotForScript, PastLayout, HistoryFull, OutOfMemory}
+use Rattle.hp_search.specs.Faults.{IsFaultWith, IsToldAs}
 use Rattle.hp_search.specs.Prepared.{IsPrepared, setting_of}
 use Rattle.hp_search.specs.declared.prepared.Prepared.{Prepared}
-use Rattle.hp_search.proofs.Known.{stopped_in, untold, untold_in}
-use Rattle.hp_search.specs.Findings.{IsFindFaultOf, IsFindTold, IsSearchCause, IsTooMany}
+use Rattle.hp_search.proofs.Known.{untold, untold_in}
+use Rattle.hp_search.specs.Findings.{IsFindFaultOf, IsFoundOn, IsFoundTold, IsSearchCause}
+
+-- what a search found is told
+pub found_on : (form : ScheduleForm) (names : List (List ℕ)) (before : List Line) (g : Setting)
+    (wanted : List Wanted) (what : Sought) (text : List ℕ) (result : FindResult)
+    → AreWithin g.layout wanted → IsFound g wanted what → SparesHistory g what → IsRecorded g what
+    → IsFoundTold form names before g what text result → IsFoundOn form names before g wanted text result
+found_on form names before g wanted (sought.Nearest s) text result within is room along told =
+    subst (IsFoundOn form names before g wanted text) (sym told.1) (s.items, within, is, along, told.0)
+found_on form names before g wanted sought.Absent text result within is room along told =
+    subst (IsFoundOn form names before g wanted text) (sym told.1) (within, is, room, told.0)
 
 -- a fault that any search of a scenario has
-pub not_past : (input : List ℕ) (setup limit : ℕ) (wanted : List Wanted) (fault : LabFault)
-    → IsFaultWith (IsTooMany wanted limit) (IsSearchCause wanted limit) input setup limit fault
-    → IsFindFaultOf input setup limit wanted fault
-not_past input setup limit wanted NotJson h = h
-not_past input setup limit wanted BadShape h = h
-not_past input setup limit wanted (Layout f) h = h
-not_past input setup limit wanted (BadLine n) h = h
-not_past input setup limit wanted (NotForScript place why) h = h
-not_past input setup limit wanted (PastLayout n) h = absurd h
-not_past input setup limit wanted (TooMany most) h = h
-not_past input setup limit wanted (HistoryFull needed) h = h
-not_past input setup limit wanted OutOfMemory h = tt
+pub not_past : (input : List ℕ) (setup : ℕ) (wanted : List Wanted) (fault : LabFault)
+    → IsFaultWith (IsSearchCause wanted) input setup fault → IsFindFaultOf input setup wanted fault
+not_past input setup wanted NotJson h = h
+not_past input setup wanted BadShape h = h
+not_past input setup wanted (Layout f) h = h
+not_past input setup wanted (BadLine n) h = h
+not_past input setup wanted (NotForScript place why) h = h
+not_past input setup wanted (PastLayout n) h = absurd h
+not_past input setup wanted (HistoryFull needed) h = h
+not_past input setup wanted OutOfMemory h = tt
 
-pub not_found : (input : List ℕ) (setup limit : ℕ) (wanted : List Wanted) (p : Prepared) (fault : FindFault)
+pub not_found : (input : List ℕ) (setup : ℕ) (wanted : List Wanted) (p : Prepared) (fault : ExploreFault)
     (told : LabFault)
-    → IsPrepared input setup p → AreWithin (setting_of p).layout wanted
-    → IsFindTold limit (setting_of p) fault told → IsFindCause (setting_of p) wanted limit fault
-    → IsFindFaultOf input setup limit wanted told
-not_found input setup limit wanted p search.TooMany told ready within is cause =
-    subst (IsFindFaultOf input setup limit wanted) (sym is)
-    (refl, stopped_in (IsTooMany wanted limit) input setup p ready (within, cause))
-not_found input setup limit wanted p search.HistoryFull told ready within is cause =
-    not_past input setup limit wanted told
-    (untold_in (IsTooMany wanted limit) (IsSearchCause wanted limit) input setup limit p told ready
-    (untold (IsSearchCause wanted limit) (setting_of p) explore.HistoryFull told is (within, cause)))
-not_found input setup limit wanted p search.OutOfMemory told ready within is cause =
-    subst (IsFindFaultOf input setup limit wanted) (sym is) tt
+    → IsPrepared input setup p → AreWithin (setting_of p).layout wanted → IsToldAs (setting_of p) fault told
+    → IsFindCause (setting_of p) wanted (find_fault_from fault) → IsFindFaultOf input setup wanted told
+not_found input setup wanted p fault told ready within is cause =
+    not_past input setup wanted told
+    (untold_in (IsSearchCause wanted) input setup p told ready
+    (untold (IsSearchCause wanted) (setting_of p) fault told is (within, cause)))

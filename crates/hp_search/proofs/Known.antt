@@ -10,7 +10,7 @@ use Rattle.hp_schedules.specs.declared.tally.Ending.{Ending}
 use Rattle.hp_schedules.specs.Schedules.{Setting}
 use Rattle.hp_search.specs.FaultOrigins.{start_fault_from}
 use Rattle.hp_search.specs.declared.lab_fault.LabFault.{LabFault}
-use Rattle.hp_search.specs.declared.lab_fault.LabFault.TheVariants.{NotJson, BadShape, Layout, BadLine, NotForScript, PastLayout, TooMany, HistoryFull, OutOfMemory}
+use Rattle.hp_search.specs.declared.lab_fault.LabFault.TheVariants.{NotJson, BadShape, Layout, BadLine, NotForScript, PastLayout, HistoryFull, OutOfMemory}
 use Rattle.hp_search.specs.Ends.{IsNumbered}
 use Rattle.hp_search.specs.Faults.{IsFaultWith, IsFull, IsFullTold, IsToldAs, IsUntold}
 use Rattle.hp_search.specs.Holding.{HoldsIn, InScenario, IsStoppedAfter}
@@ -41,7 +41,6 @@ untold C g explore.HistoryFull told is cause = by_told told is
     by_told (BadLine n) is = absurd is
     by_told (NotForScript place why) is = absurd is
     by_told (PastLayout n) is = absurd is
-    by_told (TooMany n) is = absurd is
     by_told (HistoryFull needed) is = (cause, is)
     by_told OutOfMemory is = tt
 untold C g explore.OutOfMemory told is cause = subst (IsUntold C g) (sym is) tt
@@ -81,33 +80,29 @@ stopped_in P input setup p ready h = (
 )
 
 -- why there is no answer there
-pub untold_in : (Many : Setting → Type 0) (C : Setting → ExploreFault → Type 0) (input : List ℕ)
-    (setup limit : ℕ) (p : Prepared) (fault : LabFault)
-    → IsPrepared input setup p → IsUntold C (setting_of p) fault → IsFaultWith Many C input setup limit fault
-untold_in Many C input setup limit p NotJson ready h = absurd h
-untold_in Many C input setup limit p BadShape ready h = absurd h
-untold_in Many C input setup limit p (Layout f) ready h = absurd h
-untold_in Many C input setup limit p (BadLine n) ready h = absurd h
-untold_in Many C input setup limit p (NotForScript place why) ready h = absurd h
-untold_in Many C input setup limit p (PastLayout n) ready h = absurd h
-untold_in Many C input setup limit p (TooMany most) ready h = absurd h
-untold_in Many C input setup limit p (HistoryFull needed) ready h =
-    stopped_in (IsFull C needed) input setup p ready h
-untold_in Many C input setup limit p OutOfMemory ready h = tt
+pub untold_in : (C : Setting → ExploreFault → Type 0) (input : List ℕ) (setup : ℕ) (p : Prepared)
+    (fault : LabFault)
+    → IsPrepared input setup p → IsUntold C (setting_of p) fault → IsFaultWith C input setup fault
+untold_in C input setup p NotJson ready h = absurd h
+untold_in C input setup p BadShape ready h = absurd h
+untold_in C input setup p (Layout f) ready h = absurd h
+untold_in C input setup p (BadLine n) ready h = absurd h
+untold_in C input setup p (NotForScript place why) ready h = absurd h
+untold_in C input setup p (PastLayout n) ready h = absurd h
+untold_in C input setup p (HistoryFull needed) ready h = stopped_in (IsFull C needed) input setup p ready h
+untold_in C input setup p OutOfMemory ready h = tt
 
 -- or why it was not made ready, which has nothing to do with the search
-pub unprepared_known : (Many : Setting → Type 0) (C : Setting → ExploreFault → Type 0) (input : List ℕ)
-    (setup limit : ℕ) (fault : LabFault)
-    → IsUnprepared input setup fault → IsFaultWith Many C input setup limit fault
-unprepared_known Many C input setup limit NotJson h = h
-unprepared_known Many C input setup limit BadShape h = h
-unprepared_known Many C input setup limit (Layout f) h = h
-unprepared_known Many C input setup limit (BadLine n) h = h
-unprepared_known Many C input setup limit (NotForScript place why) h = h
-unprepared_known Many C input setup limit (PastLayout n) h = absurd h
-unprepared_known Many C input setup limit (TooMany most) h = absurd (h.1.2.1.holds)
-unprepared_known Many C input setup limit (HistoryFull needed) h = absurd (h.2.1.holds.0)
-unprepared_known Many C input setup limit OutOfMemory h = tt
+pub unprepared_known : (C : Setting → ExploreFault → Type 0) (input : List ℕ) (setup : ℕ) (fault : LabFault)
+    → IsUnprepared input setup fault → IsFaultWith C input setup fault
+unprepared_known C input setup NotJson h = h
+unprepared_known C input setup BadShape h = h
+unprepared_known C input setup (Layout f) h = h
+unprepared_known C input setup (BadLine n) h = h
+unprepared_known C input setup (NotForScript place why) h = h
+unprepared_known C input setup (PastLayout n) h = absurd h
+unprepared_known C input setup (HistoryFull needed) h = absurd (h.2.1.holds.0)
+unprepared_known C input setup OutOfMemory h = tt
 
 -- ---- the number of an end
 

@@ -1,5 +1,5 @@
 -- What an exploration promises.
-use Rattle.std.specs.Prelude.{ℕ, ◌-◌, ◌^◌, ◌≤◌, Bool, List, Option, Some, None, sum_by}
+use Rattle.std.specs.Prelude.{◌≡◌, ◌⊎◌, ℕ, ◌-◌, ◌^◌, ◌≤◌, Bool, List, Option, Some, None, sum_by}
 use Rattle.hp_schedules.specs.declared.multinomials.HowMany.{HowMany}
 use Rattle.hp_schedules.specs.declared.tally.Ending.{Ending}
 use Rattle.hp_schedules.specs.Ends.{AreEnds, AreInOrder}
@@ -7,7 +7,7 @@ use Rattle.hp_schedules.specs.Interleavings.{IsKnown}
 use Rattle.hp_schedules.specs.Orders.{HasMoreThan}
 use Rattle.hp_schedules.specs.Schedules.{IsComplete, Setting}
 use Rattle.hp_explore.specs.Faults.{FillsHistory, IsCauseWithin}
-use Rattle.hp_explore.specs.Fronts.{AreFirst}
+use Rattle.hp_explore.specs.Fronts.{AreFirst, counted}
 use Rattle.hp_scenario.specs.declared.lines.Line.{Line}
 use Rattle.hp_search.specs.declared.forms.EndsForm.{EndsForm}
 use Rattle.hp_search.specs.declared.lab_fault.LabFault.{LabFault}
@@ -19,21 +19,23 @@ use Rattle.hp_search.specs.Holding.{HoldsIn}
 
 -- ---- on a machine
 
--- the ends are those of all complete schedules, at most `limit`, and none fills the history; or
--- there are more, and the ends are those of the first `limit`
-abbrev pub AreExplored : Setting → (limit : ℕ) → List Ending → Option HowMany → Type 0
-AreExplored g limit ends None =
+-- the ends are those of all complete schedules, at most `limit`, and none fills the history; or they
+-- are those of the first ones, and there are more: they are as many as the limit, or the watch has
+-- ended the search
+abbrev pub AreExplored : Setting → (limit : ℕ) → (ended : Type 0) → List Ending → Option HowMany → Type 0
+AreExplored g limit ended ends None =
     AreEnds g ends × (HasMoreThan (IsComplete g) limit → ⊥) × (FillsHistory g → ⊥)
-AreExplored g limit ends (Some known) =
-    AreFirst g limit ends × HasMoreThan (IsComplete g) limit × IsKnown g.scripts (2 ^ 64 - 1) known
+AreExplored g limit ended ends (Some known) =
+    AreFirst g (counted ends) ends × HasMoreThan (IsComplete g) (counted ends)
+    × ((counted ends ≡ limit) ⊎ ended) × IsKnown g.scripts (2 ^ 64 - 1) known
 
 -- the text has the ends of at most `limit` schedules, in the order of their first schedules, or
 -- their groups
-pub record IsExploredOn (form : EndsForm) (by : Option GroupBy) (names : List (List ℕ)) (before : List Line) (g : Setting)
-    (limit : ℕ) (text : List ℕ) (found : Bool) : Type 0 where
+pub record IsExploredOn (form : EndsForm) (by : Option GroupBy) (names : List (List ℕ)) (before : List Line)
+    (g : Setting) (limit : ℕ) (ended : Type 0) (text : List ℕ) (found : Bool) : Type 0 where
   pub ends : List Ending
   pub more : Option HowMany
-  pub are : AreExplored g limit ends more
+  pub are : AreExplored g limit ended ends more
   pub ordered : AreInOrder ends
   pub within : sum_by (λ e. e.count) ends ≤ limit
   pub shown : List Ending
@@ -43,13 +45,12 @@ pub record IsExploredOn (form : EndsForm) (by : Option GroupBy) (names : List (L
 -- ---- in a scenario
 
 -- the text is that of an exploration of the scenario's scripts
-abbrev pub IsExplorationOf : EndsForm → Option GroupBy → (input : List ℕ) → (setup limit : ℕ) → (text : List ℕ)
-    → (found : Bool)
-    → Type 0
-IsExplorationOf form by input setup limit text found =
-    HoldsIn (λ names before g. IsExploredOn form by names before g limit text found) input setup
+abbrev pub IsExplorationOf : EndsForm → Option GroupBy → (input : List ℕ) → (setup limit : ℕ)
+    → (ended : Type 0) → (text : List ℕ) → (found : Bool) → Type 0
+IsExplorationOf form by input setup limit ended text found =
+    HoldsIn (λ names before g. IsExploredOn form by names before g limit ended text found) input setup
 
 -- the cause of each fault; for a full history, a call that the search makes within its limit
 abbrev pub IsFaultWithin : (input : List ℕ) → (setup limit : ℕ) → LabFault → Type 0
 IsFaultWithin input setup limit fault =
-    IsFaultWith (λ g. ⊥) (λ g. IsCauseWithin g limit) input setup limit fault
+    IsFaultWith (λ g. IsCauseWithin g limit) input setup fault

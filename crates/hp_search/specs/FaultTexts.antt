@@ -6,7 +6,7 @@ use Rattle.hp_scenario.specs.Unfit.{unfit_text}
 use Rattle.hp_scenario.specs.declared.fault.ScenarioFault.{ScenarioFault}
 use Rattle.hp_scenario.specs.declared.fault.ScenarioFault.TheVariants as scenario
 use Rattle.hp_search.specs.declared.lab_fault.LabFault.{LabFault}
-use Rattle.hp_search.specs.declared.lab_fault.LabFault.TheVariants.{NotJson, BadShape, Layout, BadLine, NotForScript, PastLayout, TooMany, HistoryFull, OutOfMemory}
+use Rattle.hp_search.specs.declared.lab_fault.LabFault.TheVariants.{NotJson, BadShape, Layout, BadLine, NotForScript, PastLayout, HistoryFull, OutOfMemory}
 use Rattle.hp_search.specs.declared.part_fault.PartFault.{PartFault}
 use Rattle.hp_search.specs.declared.part_fault.PartFault.TheVariants as parts
 use Rattle.hp_search.specs.declared.program_fault.LabProgramFault.{LabProgramFault}
@@ -24,8 +24,6 @@ fault_text (NotForScript line why) =
     codes "line " ++ decimal line ++ codes " not for a script: " ++ unfit_text why
 fault_text (PastLayout number) =
     codes "wanted line " ++ decimal number ++ codes " names what is past the layout"
-fault_text (TooMany limit) =
-    codes "none of the first " ++ decimal limit ++ codes " interleavings ends so, and there are more"
 fault_text (HistoryFull None) = codes "no room in the history for all calls of an interleaving"
 fault_text (HistoryFull (Some needed)) =
     codes "no room in the history for all calls of an interleaving: it needs " ++ decimal needed

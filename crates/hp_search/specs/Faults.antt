@@ -11,7 +11,7 @@ use Rattle.hp_scenario.specs.Scenario.{scenario_in}
 use Rattle.hp_questions.specs.Starts.{IsUnfitAfter}
 use Rattle.hp_search.specs.FaultOrigins.{fault_from}
 use Rattle.hp_search.specs.declared.lab_fault.LabFault.{LabFault}
-use Rattle.hp_search.specs.declared.lab_fault.LabFault.TheVariants.{NotJson, BadShape, Layout, BadLine, NotForScript, PastLayout, TooMany, HistoryFull, OutOfMemory}
+use Rattle.hp_search.specs.declared.lab_fault.LabFault.TheVariants.{NotJson, BadShape, Layout, BadLine, NotForScript, PastLayout, HistoryFull, OutOfMemory}
 use Rattle.hp_search.specs.Holding.{InScenario, IsStoppedAfter}
 
 -- ---- on a machine
@@ -48,23 +48,20 @@ IsUntold C g fault = ⊥
 abbrev pub IsUnread : (input : List ℕ) → LabFault → Type 0
 IsUnread input fault = (why : ScenarioFault) × (scenario_in input ≡ Err why) × (fault ≡ fault_from why)
 
--- when each fault comes, given `Many`, when there are too many interleavings, and `C`, why a call
--- fails; `PastLayout` comes only from a search for an end
-abbrev pub IsFaultWith : (Many : Setting → Type 0) → (C : Setting → ExploreFault → Type 0) → (input : List ℕ)
-    → (setup limit : ℕ) → LabFault → Type 0
-IsFaultWith Many C input setup limit NotJson = IsUnread input NotJson
-IsFaultWith Many C input setup limit BadShape = IsUnread input BadShape
-IsFaultWith Many C input setup limit (Layout fault) = IsUnread input (Layout fault)
-IsFaultWith Many C input setup limit (BadLine line) = IsUnread input (BadLine line)
-IsFaultWith Many C input setup limit (NotForScript line why) =
-    InScenario input (IsUnfitAfter setup line why)
-IsFaultWith Many C input setup limit (PastLayout number) = ⊥
-IsFaultWith Many C input setup limit (TooMany most) =
-    (most ≡ limit) × InScenario input (IsStoppedAfter Many setup)
-IsFaultWith Many C input setup limit (HistoryFull needed) =
+-- when each fault comes, given `C`, why a call fails; `PastLayout` comes only from a search for an
+-- end
+abbrev pub IsFaultWith : (C : Setting → ExploreFault → Type 0) → (input : List ℕ) → (setup : ℕ) → LabFault
+    → Type 0
+IsFaultWith C input setup NotJson = IsUnread input NotJson
+IsFaultWith C input setup BadShape = IsUnread input BadShape
+IsFaultWith C input setup (Layout fault) = IsUnread input (Layout fault)
+IsFaultWith C input setup (BadLine line) = IsUnread input (BadLine line)
+IsFaultWith C input setup (NotForScript line why) = InScenario input (IsUnfitAfter setup line why)
+IsFaultWith C input setup (PastLayout number) = ⊥
+IsFaultWith C input setup (HistoryFull needed) =
     InScenario input (IsStoppedAfter (IsFull C needed) setup)
-IsFaultWith Many C input setup limit OutOfMemory = Unit {0}
+IsFaultWith C input setup OutOfMemory = Unit {0}
 
--- the faults of an exploration; it never has too many interleavings
-abbrev pub IsFaultOf : (input : List ℕ) → (setup limit : ℕ) → LabFault → Type 0
-IsFaultOf input setup limit fault = IsFaultWith (λ g. ⊥) IsCause input setup limit fault
+-- the faults of an exploration
+abbrev pub IsFaultOf : (input : List ℕ) → (setup : ℕ) → LabFault → Type 0
+IsFaultOf input setup fault = IsFaultWith IsCause input setup fault

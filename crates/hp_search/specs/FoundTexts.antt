@@ -1,13 +1,13 @@
--- The text of a schedule that was found, or that there is none.
-use Rattle.std.specs.Prelude.{ℕ, List, [], Option}
+-- The text of a schedule that was found, or that there is none, or that it is not known.
+use Rattle.std.specs.Prelude.{ℕ, List, [], Option, codes}
 use Rattle.hp_units.specs.LayoutParts.{LayoutParts}
 use Rattle.hp_units.specs.declared.replies.Record.{Record}
 use Rattle.hp_schedules.specs.Schedules.{Setting, plays}
 use Rattle.hp_explore.specs.Changes.{changes}
 use Rattle.hp_scenario.specs.declared.lines.Line.{Line}
-use Rattle.hp_search.specs.Objects.{absent_object, found_object}
+use Rattle.hp_search.specs.Objects.{found_object}
 use Rattle.hp_search.specs.Replays.{replayed_text}
-use Rattle.hp_search.specs.Words.{absent_text, nearest_text}
+use Rattle.hp_search.specs.Words.{nearest_text}
 use Rattle.hp_search.specs.declared.forms.ScheduleForm.{ScheduleForm}
 use Rattle.hp_search.specs.declared.forms.ScheduleForm.TheVariants.{Words, Object, Scenario}
 
@@ -23,8 +23,13 @@ abbrev pub found_text : ScheduleForm → (names : List (List ℕ)) → (before :
 found_text form names before g schedule =
     schedule_text form names before g.layout schedule (plays g schedule)
 
--- none of `schedules` interleavings ends as wanted; there is no scenario then
-abbrev pub absent_told : ScheduleForm → (schedules : ℕ) → List ℕ
-absent_told Words schedules = absent_text schedules
-absent_told Object schedules = absent_object schedules
-absent_told Scenario schedules = []
+-- no interleaving ends as wanted, or it is not known whether one does; there is no scenario then
+abbrev pub absent_told : ScheduleForm → List ℕ
+absent_told Words = codes "ends so: 0\n"
+absent_told Object = codes "{\"found\": false}\n"
+absent_told Scenario = []
+
+abbrev pub unknown_told : ScheduleForm → List ℕ
+unknown_told Words = codes "ends so: unknown\n"
+unknown_told Object = codes "{\"found\": null}\n"
+unknown_told Scenario = []

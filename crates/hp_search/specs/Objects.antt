@@ -58,12 +58,9 @@ abbrev pub more_object : (counted : ℕ) → Option HowMany → List ℕ
 more_object counted None = []
 more_object counted (Some known) = first_object counted known
 
--- ---- a search: the schedule that was found, or that there is none
+-- ---- a search: the schedule that was found
 
 abbrev pub found_object : (names : List (List ℕ)) → (changes : ℕ) → (calls : Option (List Record)) → List ℕ
 found_object names changes calls =
     codes "{\"found\": true, \"changes\": " ++ decimal changes ++ codes ", \"first\": ["
     ++ played_list names calls ++ codes "]}\n"
-
-abbrev pub absent_object : (schedules : ℕ) → List ℕ
-absent_object schedules = codes "{\"found\": false, \"interleavings\": " ++ decimal schedules ++ codes "}\n"

@@ -36,7 +36,7 @@ pub record IsPrepared (input : List ℕ) (setup : ℕ) (p : Prepared) : Type 0 w
 -- why bytes are not made ready: a fault of reading them, or of a line after the setup; or out of
 -- memory
 abbrev pub IsUnprepared : (input : List ℕ) → (setup : ℕ) → LabFault → Type 0
-IsUnprepared input setup fault = IsFaultWith (λ g. ⊥) (λ g f. ⊥) input setup 0 fault
+IsUnprepared input setup fault = IsFaultWith (λ g f. ⊥) input setup fault
 
 -- the calls after the setup of a machine that a schedule led to, and that it has at least the
 -- setup's records; `None` if the schedule cannot be played

@@ -71,7 +71,3 @@ counts_text ends more =
 abbrev pub nearest_text : (names : List (List ℕ)) → (changes : ℕ) → (calls : Option (List Record)) → List ℕ
 nearest_text names changes calls =
     codes "changes: " ++ decimal changes ++ codes "\nfirst:\n" ++ played_text names calls
-
--- none of `schedules` interleavings ends as wanted
-abbrev pub absent_text : (schedules : ℕ) → List ℕ
-absent_text schedules = codes "interleavings: " ++ decimal schedules ++ codes "\nends so: 0\n"

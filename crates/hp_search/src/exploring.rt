@@ -12,21 +12,21 @@ use hp_explore::{ExploreFault, Watch, explore};
 use std::alloc::Global;
 
 /// Explores the scenario in `input`: counts all interleavings of its scripts' calls, or the first
-/// `limit` if there are more. The first `setup` lines are run in order; each later line goes to the
+/// `limit` if there are more. If `watch` ends the search, it counts the first ones up to there. The first `setup` lines are run in order; each later line goes to the
 /// script of its processor, where operation 0 is the one that the processor began last.
 ///
 /// As words, the text has the number of interleavings, and for each different end how many lead to
 /// it, the processors' replies, the states of the memory blocks, and the calls of the first
 /// interleaving that leads to it. As objects, it has one line of JSON per end, and as a summary one
-/// line of words. In these forms nothing is found if there are more interleavings than the limit,
-/// and the text reports that. As a scenario, it has the layout, the lines of the setup, and the
+/// line of words. In these forms nothing is found if there are more interleavings than those that
+/// were counted, and the text reports that. As a scenario, it has the layout, the lines of the setup, and the
 /// calls of the first interleaving that leads to the end with the number; if no end has that
 /// number, there is no text, and nothing is found.
 ///
 /// With `by`, ends that agree in this part of their outcome are put together, and the text has
 /// their groups in place of the ends.
 ///
-/// While the search runs, `watch` gets the number of interleavings counted so far.
+/// While the search runs, `watch` gets its progress, and may end it.
 ///
 /// Errors: those of reading the scenario; `NotForScript` with the first line after the setup that
 /// may not be in a script; `HistoryFull` if the history has no room for a call that the search
@@ -41,9 +41,9 @@ pub fn explore_text<W: Watch>(
     by: Option<GroupBy>,
     watch: &mut W,
 ) -> Result<SearchText, LabFault>
-    ensures ok { IfOk result (λ f.
-        IsExplorationOf form by input.now setup limit (string_bytes f.text) f.is_found) }
-    ensures err { IfErr result (IsFaultOf input.now setup limit) }
+    ensures ok { IfOk result (λ f. IsExplorationOf form by input.now setup limit
+        (W.has_ended watch.new) (string_bytes f.text) f.is_found) }
+    ensures err { IfErr result (IsFaultOf input.now setup) }
     ensures full { IfErr result (IsFaultWithin input.now setup limit) }
 {
     let prepared = prepare(alloc, input, setup)?;
@@ -64,7 +64,7 @@ fn explored<W: Watch>(
 ) -> Result<SearchText, ExploreFault>
     requires { length prepared.now.start.scripts.items < 2 ^ 32 }
     ensures ok { IfOk result (λ f. IsExploredOn form by (names_of prepared.now) (before_of prepared.now)
-        (setting_of prepared.now) limit (string_bytes f.text) f.is_found) }
+        (setting_of prepared.now) limit (W.has_ended watch.new) (string_bytes f.text) f.is_found) }
     ensures err { IfErr result (IsCauseWithin (setting_of prepared.now) limit) }
 {
     let machine = &prepared.start.machine;

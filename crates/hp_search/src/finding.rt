@@ -1,16 +1,16 @@
 //! Searches a scenario for an end.
-ghost use Rattle.std.specs.Prelude.{◌≡◌, ◌^◌, ◌<◌, IfErr, IfOk, length, option_map, string_bytes};
-ghost use Rattle.hp_explore.specs.FindFaults.{IsFindCause};
+ghost use Rattle.std.specs.Prelude.{◌≡◌, ◌^◌, ◌<◌, ◌⊎◌, IfErr, IfOk, length, option_map, string_bytes};
+ghost use Rattle.hp_explore.specs.FindFaults.{IsFindCause, find_fault_from};
+ghost use Rattle.hp_explore.specs.declared.exploring.ExploreFault.TheVariants.{OutOfMemory};
+ghost use Rattle.hp_explore.specs.declared.fault.FindFault.TheVariants.{Stopped};
 ghost use Rattle.hp_search.specs.Prepared.{before_of, names_of, setting_of};
 ghost use Rattle.hp_questions.specs.Limits.{AreWithin};
-ghost use Rattle.hp_search.specs.Findings.{IsFindFaultOf, IsFindTold, IsFindingOf, IsFoundOn, IsFoundTold};
-ghost use Rattle.hp_search.specs.FoundTexts.{absent_told, found_text, schedule_text};
+ghost use Rattle.hp_search.specs.Findings.{IsFindFaultOf, IsFindingOf, IsFoundOn, IsFoundTold};
+ghost use Rattle.hp_search.specs.FoundTexts.{absent_told, found_text, schedule_text, unknown_told};
+ghost use Rattle.hp_search.specs.declared.found.FindResult.TheVariants.{Unknown};
 
 use crate::lab_fault::LabFault;
-use crate::{
-    Prepared, ScheduleForm, SearchText, absent_object, absent_text, found_object, nearest_text,
-    prepare,
-};
+use crate::{FindResult, FindText, Prepared, ScheduleForm, found_object, nearest_text, prepare};
 use hp_explore::{ExploreFault, FindFault, Found, Watch, changes_of, find};
 use hp_questions::{Wanted, first_past};
 use hp_units::{Cpu, Record};
@@ -20,39 +20,37 @@ use std::alloc::{AllocError, Global};
 /// with the fewest changes of processor. The first `setup` lines are run in order; each later line
 /// goes to the script of its processor, as for `explore_text`.
 ///
-/// If there is such an interleaving, the text has one: as words or as an object with its number of
-/// changes and its calls, or as a scenario. If there is none, the text has the number of
-/// interleavings, which is at most `limit`; as a scenario it is empty.
+/// If there is such an interleaving, the text has the first one with the fewest changes: as words
+/// or as an object with its number of changes and its calls, or as a scenario. If there is none,
+/// the text reports that; if `watch` ended the search, it reports that nothing is known. As a
+/// scenario it is empty in both cases.
 ///
-/// The search tries schedules with few changes first; after these, `watch` gets the number of
-/// interleavings counted so far.
+/// `watch` gets the number of states that the search has reached.
 ///
 /// Errors: those of reading the scenario; `NotForScript` with the first line after the setup that
 /// may not be in a script; `PastLayout` with the first wanted line that names something past the
-/// layout; `TooMany` if there are more interleavings than `limit`, and neither one with fewer than
-/// three changes nor one of the first `limit` ends as wanted; `HistoryFull` if the history has no
-/// room for a call that the search makes, as for `find` of hp_explore; `OutOfMemory`, which may come
-/// in place of any other result.
+/// layout; `HistoryFull` if the history has no room for a call that the search makes, as for `find`
+/// of hp_explore; `OutOfMemory`, which may come in place of any other result.
 pub fn find_text<W: Watch>(
     alloc: Global,
     input: &[u8],
     setup: u64,
-    limit: u64,
     wanted: &[Wanted],
     form: ScheduleForm,
     watch: &mut W,
-) -> Result<SearchText, LabFault>
+) -> Result<FindText, LabFault>
     ensures ok { IfOk result (λ f.
-        IsFindingOf form input.now setup limit wanted.now (string_bytes f.text) f.is_found) }
-    ensures err { IfErr result (IsFindFaultOf input.now setup limit wanted.now) }
+        IsFindingOf form input.now setup wanted.now (string_bytes f.text) f.result) }
+    ensures unknown { IfOk result (λ f. f.result ≡ Unknown → W.has_ended watch.new) }
+    ensures err { IfErr result (IsFindFaultOf input.now setup wanted.now) }
 {
     let prepared = prepare(alloc, input, setup)?;
     if let Some(number) = first_past(wanted, prepared.start.machine.layout()) {
         return Err(LabFault::PastLayout { number });
     }
-    match found(alloc, &prepared, wanted, form, limit, watch) {
+    match found(alloc, &prepared, wanted, form, watch) {
         Ok(finding) => Ok(finding),
-        Err(fault) => Err(told_fault(alloc, &prepared, limit, fault)),
+        Err(fault) => Err(prepared.told_fault(alloc, fault)),
     }
 }
 
@@ -62,30 +60,44 @@ fn found<W: Watch>(
     prepared: &Prepared,
     wanted: &[Wanted],
     form: ScheduleForm,
-    limit: u64,
     watch: &mut W,
-) -> Result<SearchText, FindFault>
+) -> Result<FindText, ExploreFault>
     requires few { length prepared.now.start.scripts.items < 2 ^ 32 }
     requires within { AreWithin (setting_of prepared.now).layout wanted.now }
     ensures ok { IfOk result (λ f. IsFoundOn form (names_of prepared.now) (before_of prepared.now)
-        (setting_of prepared.now) wanted.now limit (string_bytes f.text) f.is_found) }
-    ensures err { IfErr result (IsFindCause (setting_of prepared.now) wanted.now limit) }
+        (setting_of prepared.now) wanted.now (string_bytes f.text) f.result) }
+    ensures unknown { IfOk result (λ f. f.result ≡ Unknown → W.has_ended watch.new) }
+    ensures err { IfErr result
+        (λ fault. IsFindCause (setting_of prepared.now) wanted.now (find_fault_from fault)) }
 {
     let machine = &prepared.start.machine;
     let scripts = prepared.start.scripts.as_slice();
-    let found = find(alloc, machine, scripts, wanted, limit, watch)?;
-    let finding = found_told(alloc, prepared, &found, form)?;
-    Ok(finding)
+    match find(alloc, machine, scripts, wanted, watch) {
+        Ok(found) => {
+            let finding = found_told(alloc, prepared, &found, form)?;
+            Ok(finding)
+        }
+        Err(fault) => unknown_or(alloc, form, fault),
+    }
 }
 
-/// Returns the laboratory's fault for a fault of the search.
-fn told_fault(alloc: Global, prepared: &Prepared, limit: u64, fault: FindFault) -> LabFault
-    ensures { IsFindTold limit (setting_of prepared.now) fault result }
+/// Returns the text of a search that was ended, or the fault of one that failed.
+fn unknown_or(alloc: Global, form: ScheduleForm, fault: FindFault) -> Result<FindText, ExploreFault>
+    ensures ok { IfOk result (λ f.
+        (fault ≡ Stopped) × (f.result ≡ Unknown) × (string_bytes f.text ≡ unknown_told form)) }
+    ensures err { IfErr result (λ e. (find_fault_from e ≡ fault) ⊎ (e ≡ OutOfMemory)) }
 {
     match fault {
-        FindFault::TooMany => LabFault::TooMany { limit },
-        FindFault::HistoryFull => prepared.told_fault(alloc, ExploreFault::HistoryFull),
-        FindFault::OutOfMemory => LabFault::OutOfMemory,
+        FindFault::HistoryFull => Err(ExploreFault::HistoryFull),
+        FindFault::OutOfMemory => Err(ExploreFault::OutOfMemory),
+        FindFault::Stopped => {
+            let told = unknown_told(form);
+            let text = format!(in alloc; "{told}")?;
+            Ok(FindText {
+                text,
+                result: FindResult::Unknown,
+            })
+        }
     }
 }
 
@@ -95,23 +107,24 @@ fn found_told(
     prepared: &Prepared,
     found: &Found,
     form: ScheduleForm,
-) -> Result<SearchText, AllocError>
+) -> Result<FindText, AllocError>
     ensures { IfOk result (λ f. IsFoundTold form (names_of prepared.now) (before_of prepared.now)
-        (setting_of prepared.now) found.now (string_bytes f.text) f.is_found) }
+        (setting_of prepared.now) found.now (string_bytes f.text) f.result) }
 {
     match found {
         Found::Nearest(schedule) => {
             let text = schedule_told(alloc, prepared, schedule.as_slice(), form)?;
-            Ok(SearchText {
+            Ok(FindText {
                 text,
-                is_found: true,
+                result: FindResult::Found,
             })
         }
-        Found::Absent(schedules) => {
-            let text = absent_told(alloc, *schedules, form)?;
-            Ok(SearchText {
+        Found::Absent => {
+            let told = absent_told(form);
+            let text = format!(in alloc; "{told}")?;
+            Ok(FindText {
                 text,
-                is_found: false,
+                result: FindResult::Absent,
             })
         }
     }
@@ -155,14 +168,25 @@ fn text_of(
     }
 }
 
-/// Returns, as text in `form`, that none of the `schedules` interleavings ends as wanted. As a
-/// scenario there is no text.
-fn absent_told(alloc: Global, schedules: u128, form: ScheduleForm) -> Result<String, AllocError>
-    ensures { IfOk result (λ text. string_bytes text ≡ absent_told form schedules) }
+/// Returns, as text in `form`, that no interleaving ends as wanted. As a scenario there is no text.
+fn absent_told(form: ScheduleForm) -> &'static str
+    ensures { result.now ≡ absent_told form }
 {
     match form {
-        ScheduleForm::Words => absent_text(alloc, schedules),
-        ScheduleForm::Object => absent_object(alloc, schedules),
-        ScheduleForm::Scenario => Ok(String::new(alloc)),
+        ScheduleForm::Words => "ends so: 0\n",
+        ScheduleForm::Object => "{\"found\": false}\n",
+        ScheduleForm::Scenario => "",
+    }
+}
+
+/// Returns, as text in `form`, that it is not known whether one does. As a scenario there is no
+/// text.
+fn unknown_told(form: ScheduleForm) -> &'static str
+    ensures { result.now ≡ unknown_told form }
+{
+    match form {
+        ScheduleForm::Words => "ends so: unknown\n",
+        ScheduleForm::Object => "{\"found\": null}\n",
+        ScheduleForm::Scenario => "",
     }
 }

@@ -26,9 +26,6 @@ pub enum LabFault {
     /// A wanted line names a processor, a memory block or a frame past the layout's last; wanted
     /// lines are counted from 1.
     PastLayout { number: u64 },
-    /// There are more interleavings than the limit, and none of those looked at ends as wanted:
-    /// neither those with few changes of processor, nor the first `limit`.
-    TooMany { limit: u64 },
     /// The layout's history has no room for all calls of an interleaving. It needs room for
     /// `needed` records; `None` if a script holds a plan, since its calls are not known before.
     HistoryFull { needed: Option<u64> },
@@ -54,10 +51,6 @@ impl fmt::Display for LabFault {
             LabFault::PastLayout { number } => {
                 write!(f, "wanted line {number} names what is past the layout")
             }
-            LabFault::TooMany { limit } => write!(
-                f,
-                "none of the first {limit} interleavings ends so, and there are more"
-            ),
             LabFault::HistoryFull { needed } => match needed {
                 Some(needed) => write!(
                     f,

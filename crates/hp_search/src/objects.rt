@@ -2,7 +2,7 @@
 ghost use Rattle.std.specs.Prelude.{◌≡◌, ◌++◌, IfOk, OnOk, codes, option_map, string_bytes, true};
 ghost use Rattle.hp_text.specs.Separated.{separated};
 ghost use Rattle.hp_text.specs.State.{zone_word};
-ghost use Rattle.hp_search.specs.Objects.{absent_object, answer_list, block_string, first_object, found_object, keys_text, more_object, played_list, reply_string};
+ghost use Rattle.hp_search.specs.Objects.{answer_list, block_string, first_object, found_object, keys_text, more_object, played_list, reply_string};
 
 use hp_schedules::{Ending, HowMany, Replies};
 use hp_text::{write_calls, write_mark, write_reply_words};
@@ -174,11 +174,4 @@ pub fn found_object(
     write_played(&mut text, names, calls)?;
     text.push_str("]}\n")?;
     Ok(text)
-}
-
-/// Returns the object that reports that none of `schedules` interleavings ends as wanted.
-pub fn absent_object(alloc: Global, schedules: u128) -> Result<String, AllocError>
-    ensures { IfOk result (λ text. string_bytes text ≡ absent_object schedules) }
-{
-    format!(in alloc; "{{\"found\": false, \"interleavings\": {schedules}}}\n")
 }

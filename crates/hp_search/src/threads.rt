@@ -27,9 +27,9 @@ pub fn explore_text_with_jobs<W: Watch>(
     jobs: u32,
     watch: &mut W,
 ) -> Result<SearchText, LabFault>
-    ensures ok { IfOk result (λ f.
-        IsExplorationOf form by input.now setup limit (string_bytes f.text) f.is_found) }
-    ensures err { IfErr result (IsFaultOf input.now setup limit) }
+    ensures ok { IfOk result (λ f. IsExplorationOf form by input.now setup limit
+        (W.has_ended watch.new) (string_bytes f.text) f.is_found) }
+    ensures err { IfErr result (IsFaultOf input.now setup) }
     ensures full { IfErr result (IsFaultWithin input.now setup limit) }
 {
     let prepared = prepare(alloc, input, setup)?;
@@ -52,7 +52,7 @@ fn explored<W: Watch>(
 ) -> Result<SearchText, ExploreFault>
     requires { length prepared.now.start.scripts.items < 2 ^ 32 }
     ensures ok { IfOk result (λ f. IsExploredOn form by (names_of prepared.now) (before_of prepared.now)
-        (setting_of prepared.now) limit (string_bytes f.text) f.is_found) }
+        (setting_of prepared.now) limit (W.has_ended watch.new) (string_bytes f.text) f.is_found) }
     ensures err { IfErr result (IsCauseWithin (setting_of prepared.now) limit) }
 {
     let machine = &prepared.start.machine;

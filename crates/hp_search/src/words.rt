@@ -3,7 +3,7 @@ ghost use Rattle.std.specs.Prelude.{◌≡◌, ◌++◌, IfOk, OnOk, option_map,
 ghost use Rattle.std.specs.List.{flat_map};
 ghost use Rattle.hp_text.specs.Answers.{bare_reply_line};
 ghost use Rattle.hp_text.specs.State.{block_line};
-ghost use Rattle.hp_search.specs.Words.{absent_text, answers_text, blocks_text, counts_text, end_text, nearest_text, played_text, processors_text, total_text};
+ghost use Rattle.hp_search.specs.Words.{answers_text, blocks_text, counts_text, end_text, nearest_text, played_text, processors_text, total_text};
 
 use hp_schedules::{Ending, HowMany, Replies, total_of};
 use hp_text::{write_calls, write_reply, write_row};
@@ -157,11 +157,4 @@ pub fn nearest_text(
     let mut text = format!(in alloc; "changes: {changes}\nfirst:\n")?;
     write_played(&mut text, names, calls)?;
     Ok(text)
-}
-
-/// Returns the text that reports that none of `schedules` interleavings ends as wanted.
-pub fn absent_text(alloc: Global, schedules: u128) -> Result<String, AllocError>
-    ensures { IfOk result (λ text. string_bytes text ≡ absent_text schedules) }
-{
-    format!(in alloc; "interleavings: {schedules}\nends so: 0\n")
 }

@@ -4,8 +4,9 @@ use hp_search::{EndsForm, GroupBy, explore_text};
 use std::alloc::{AllocError, Global};
 use std::test::Fail;
 
-/// An offline against a map, where each finds one free frame outside the block. What each order of
-/// the four calls answers was taken from another program, written by hand.
+/// An offline against a map, with one free frame outside the block, which both may need. The
+/// expected replies in each order of the four calls are those of a separate program, written by
+/// hand.
 const RACE: &str =
     "0 map db 0;0 write db 0 0 7;0 kalloc 0;0 begin off 1;0 migrate 0;0 commit 0;1 map web 0";
 
@@ -47,7 +48,7 @@ const BLOCKS_SUMMARY: &str =
     "interleavings: 4\nends: 2\nend 1: 2, 50.0 %, 1 refused, 0:N 1:off\n\
      end 2: 2, 50.0 %, 2 refused, 0:N 1:M>off\n";
 
-/// A setup with a line of each kind, after which one line brings the block online again.
+/// A setup with a line of each kind, and one line after it that brings the block online again.
 const SETUP: &str = "0 cat buddyinfo;0 map db 0;0 unmap db 0;0 echo offline memory1/state;0 seal;\
      0 echo online_movable memory1/state;1 plan 4 off 1;0 echo x memory1/state;\
      0 echo 1 memory1/online";
@@ -60,7 +61,7 @@ const NO_SCRIPT_TEXT: &str =
     "interleavings: 1\nends: 1\n\nend 1\ninterleavings: 1\ncpu 0\ncpu 1\nblock 0 online normal\n\
      block 1 offline\nfirst:\n";
 
-/// A plan, whose calls are steps of their own.
+/// A plan, each of whose calls is a step of its own.
 const PLAN: &str = "1 echo offline memory1/state";
 
 const PLAN_TEXT: &str =
@@ -69,14 +70,14 @@ const PLAN_TEXT: &str =
      \"1 begin off 1\",\n\"1 drainfor 1 0\",\n\"1 drainfor 1 1\",\n\"1 migrate 1\",\n\
      \"1 commit 1\"\n";
 
-/// An offline that the setup begins.
+/// An offline that begins in the setup.
 const BEGUN: &str = "0 begin off 1;0 drainfor 0 0;0 drainfor 0 1;0 migrate 0;0 commit 0";
 
 const BEGUN_TEXT: &str = "interleavings: 1\nends: 1\n\nend 1\ninterleavings: 1\ncpu 0\ndone\ndone\n\
      refused NothingToMove\ndone\ncpu 1\nblock 0 online normal\nblock 1 offline\nfirst:\n\
      \"0 drainfor 1 0\",\n\"0 drainfor 1 1\",\n\"0 migrate 1\",\n\"0 commit 1\"\n";
 
-/// One that the setup begins and seals; then one that its script begins; and no one's.
+/// Operations that begin in the setup and in a script, and a line of a processor that began none.
 const AGAIN: &str = "0 begin off 1;0 seal;0 cancel 0;0 begin off 1;0 commit 0;1 commit 0";
 
 const AGAIN_TEXT: &str =
@@ -84,8 +85,8 @@ const AGAIN_TEXT: &str =
      cpu 1\nrefused NoOp\nblock 0 online normal\nblock 1 offline\nfirst:\n\
      \"0 cancel 1\",\n\"0 begin off 1\",\n\"0 commit 3\",\n\"1 commit 0\"\n";
 
-/// The lines of a scenario, how many of them are run first, and the text of its exploration in a form,
-/// with its ends put together by a part.
+/// The lines of a scenario, the length of the setup, and the text of its exploration in a form, with
+/// its ends put together by a part.
 type Explored = (
     &'static str,
     u64,
@@ -112,8 +113,8 @@ const EXPLORED: &[Explored] = &[
     (RACE, 3, EndsForm::Summary, BLOCKS, BLOCKS_SUMMARY),
 ];
 
-/// The scenario of these lines, on a layout of two memory blocks of one pageblock of two frames,
-/// with room for so many records.
+/// Returns the scenario of these lines, on a layout of two memory blocks of one pageblock of two
+/// frames, with room for `history` records.
 pub fn scenario(alloc: Global, history: u64, lines: &str) -> Result<String, AllocError> {
     let calls = lines.replace(alloc, ";", "\",\"")?;
     format!(in alloc;
@@ -123,7 +124,7 @@ pub fn scenario(alloc: Global, history: u64, lines: &str) -> Result<String, Allo
     )
 }
 
-/// Whether the exploration of a scenario after so many lines has its text.
+/// Returns whether an exploration has the expected text.
 fn explores(alloc: Global, row: &Explored) -> Result<bool, AllocError> {
     let (lines, setup, form, by, text) = row;
     let scenario = scenario(alloc, 40, lines)?;
@@ -142,7 +143,8 @@ fn explorations_have_their_text(rt: HostRuntime) -> Result<(), Fail> {
     Ok(())
 }
 
-/// The first two interleavings of the race; and none, which are told as objects.
+/// The text for the first two interleavings of the race; then the objects for a limit of 0, of the
+/// race and of a plan.
 const FIRST_TEXT: &str =
     "4 interleavings; these are the first 2\nends: 1\n\nend 1\ninterleavings: 2\ncpu 0\n\
      opened 0\nmoved 2 1\ndone\ncpu 1\nrefused NoFrame\nblock 0 online normal\nblock 1 offline\n\
@@ -152,8 +154,7 @@ const NO_OBJECTS: &str = "{\"first\": 0, \"interleavings\": 4}\n";
 
 const NO_OBJECTS_OF_A_PLAN: &str = "{\"first\": 0, \"interleavings\": null}\n";
 
-/// The lines of a scenario, how many of them are run first, the limit, and the text in a form of the
-/// interleavings that come first.
+/// The lines of a scenario, the length of the setup, the limit, and the expected text in a form.
 type Limited = (&'static str, u64, u64, EndsForm, &'static str);
 
 const LIMITED: &[Limited] = &[
@@ -162,7 +163,7 @@ const LIMITED: &[Limited] = &[
     (PLAN, 0, 0, EndsForm::Objects, NO_OBJECTS_OF_A_PLAN),
 ];
 
-/// Whether the exploration of a scenario stops at a limit, with its text.
+/// Returns whether an exploration stops at its limit with the expected text.
 fn stops(alloc: Global, row: &Limited) -> Result<bool, AllocError> {
     let (lines, setup, limit, form, text) = row;
     let scenario = scenario(alloc, 40, lines)?;

@@ -1,8 +1,8 @@
 //! Searches for an end, and their text.
 use super::explorations::scenario;
-use hp_explore::Silent;
+use hp_explore::{KEPT_BYTES, Silent, Watch};
 use hp_questions::{Wanted, wanted_line};
-use hp_search::{LabFault, ScheduleForm, find_text};
+use hp_search::{FindResult, LabFault, ScheduleForm, find_text};
 use std::alloc::{AllocError, Global};
 use std::test::Fail;
 
@@ -18,12 +18,16 @@ const REFUSED: &str =
 const MOVED_TOO_LATE: &str =
     "changes: 2\nfirst:\n\"0 begin off 1\",\n\"1 map web 0\",\n\"0 migrate 4\",\n\"0 commit 4\"\n";
 
-const ABSENT: &str = "interleavings: 4\nends so: 0\n";
+const ABSENT: &str = "ends so: 0\n";
+
+const UNKNOWN: &str = "ends so: unknown\n";
 
 const REFUSED_OBJECT: &str = "{\"found\": true, \"changes\": 1, \"first\": [\"1 map web 0\", \
      \"0 begin off 1\", \"0 migrate 5\", \"0 commit 5\"]}\n";
 
-const ABSENT_OBJECT: &str = "{\"found\": false, \"interleavings\": 4}\n";
+const ABSENT_OBJECT: &str = "{\"found\": false}\n";
+
+const UNKNOWN_OBJECT: &str = "{\"found\": null}\n";
 
 const REFUSED_SCENARIO: &str =
     "{\"layout\": {\"order\": 1, \"pageblocks\": 1, \"blocks\": 2, \"cpus\": 2, \
@@ -52,20 +56,43 @@ fn wanted_of(alloc: Global, texts: &[&str]) -> Result<Vec<Wanted>, AllocError> {
     Ok(wanted)
 }
 
-/// Returns whether a search for an end has the expected text and status.
+/// A watch that ends a search which has reached more states than this.
+#[derive(Drop)]
+struct EndsAfter(u64);
+
+impl Watch for EndsAfter {
+    ghost has_ended = { λ _. Unit {0} };
+
+    fn counted(&mut self, _schedules: u64) {}
+
+    fn memory(&self) -> u64 {
+        KEPT_BYTES
+    }
+
+    fn goes_on(&mut self, places: u64, _bytes: u64) -> bool {
+        places <= self.0
+    }
+}
+
+/// Returns whether a search for an end has the expected text and result.
 fn finds(alloc: Global, searched: &Searched) -> Result<bool, AllocError> {
-    let (texts, form, text, is_found) = searched;
+    let (texts, form, text, result) = searched;
     let wanted = wanted_of(alloc, texts)?;
     let scenario = scenario(alloc, 40, RACE)?;
     let input = scenario.as_bytes();
-    match find_text(alloc, input, 3, 100, &wanted, *form, &mut Silent) {
-        Ok(finding) => Ok(finding.is_found == *is_found && finding.text.as_str() == *text),
+    match find_text(alloc, input, 3, &wanted, *form, &mut Silent) {
+        Ok(finding) => Ok(finding.result == *result && finding.text.as_str() == *text),
         Err(_fault) => Ok(false),
     }
 }
 
-/// The wanted lines of an end, the form of the search, its text, and whether it finds one.
-type Searched = (&'static [&'static str], ScheduleForm, &'static str, bool);
+/// The wanted lines of an end, the form of the search, its text, and what it comes to.
+type Searched = (
+    &'static [&'static str],
+    ScheduleForm,
+    &'static str,
+    FindResult,
+);
 
 /// The lines of two ends of the race, `NOT_FREE` and `TOO_LATE`, and lines that no end has.
 const NOT_FREE: &[&str] = &["refused NotFree"];
@@ -75,16 +102,16 @@ const TOO_LATE: &[&str] = &["0: refused NoFrame", "block 1 going movable", "1: d
 const NOT_THERE: &[&str] = &["block 1 offline", "1: done"];
 
 const IN_WORDS: &[Searched] = &[
-    (NOT_FREE, ScheduleForm::Words, REFUSED, true),
-    (TOO_LATE, ScheduleForm::Words, MOVED_TOO_LATE, true),
-    (NOT_THERE, ScheduleForm::Words, ABSENT, false),
+    (NOT_FREE, ScheduleForm::Words, REFUSED, FindResult::Found),
+    (TOO_LATE, ScheduleForm::Words, MOVED_TOO_LATE, FindResult::Found),
+    (NOT_THERE, ScheduleForm::Words, ABSENT, FindResult::Absent),
 ];
 
 const IN_OTHER_FORMS: &[Searched] = &[
-    (NOT_FREE, ScheduleForm::Object, REFUSED_OBJECT, true),
-    (NOT_THERE, ScheduleForm::Object, ABSENT_OBJECT, false),
-    (NOT_FREE, ScheduleForm::Scenario, REFUSED_SCENARIO, true),
-    (NOT_THERE, ScheduleForm::Scenario, "", false),
+    (NOT_FREE, ScheduleForm::Object, REFUSED_OBJECT, FindResult::Found),
+    (NOT_THERE, ScheduleForm::Object, ABSENT_OBJECT, FindResult::Absent),
+    (NOT_FREE, ScheduleForm::Scenario, REFUSED_SCENARIO, FindResult::Found),
+    (NOT_THERE, ScheduleForm::Scenario, "", FindResult::Absent),
 ];
 
 /// Returns the place of the first search with another text.
@@ -103,6 +130,33 @@ fn the_fewest_changes_are_found(rt: HostRuntime) -> Result<(), Fail> {
     Ok(())
 }
 
+/// Returns whether a search that is ended after this many states has this text.
+fn ends_unknown(
+    alloc: Global,
+    states: u64,
+    form: ScheduleForm,
+    text: &str,
+) -> Result<bool, AllocError> {
+    let wanted = wanted_of(alloc, NOT_THERE)?;
+    let scenario = scenario(alloc, 40, RACE)?;
+    let input = scenario.as_bytes();
+    match find_text(alloc, input, 3, &wanted, form, &mut EndsAfter(states)) {
+        Ok(finding) => {
+            Ok(finding.result == FindResult::Unknown && finding.text.as_str() == text)
+        }
+        Err(_fault) => Ok(false),
+    }
+}
+
+#[test]
+fn a_search_that_is_ended_knows_nothing(rt: HostRuntime) -> Result<(), Fail> {
+    assert!(rt; ends_unknown(rt.alloc(), 0, ScheduleForm::Words, UNKNOWN)?);
+    assert!(rt; ends_unknown(rt.alloc(), 2, ScheduleForm::Object, UNKNOWN_OBJECT)?);
+    assert!(rt; ends_unknown(rt.alloc(), 1, ScheduleForm::Scenario, "")?);
+    assert!(rt; !ends_unknown(rt.alloc(), 1000, ScheduleForm::Words, UNKNOWN)?);
+    Ok(())
+}
+
 /// Wanted lines. The third names a frame past the layout, which has four.
 const PAST: &[&str] = &["1: done", "block 1 offline", "frame 4"];
 
@@ -112,7 +166,7 @@ fn what_is_past_the_layout_is_not_searched(rt: HostRuntime) -> Result<(), Fail> 
     let scenario = scenario(rt.alloc(), 40, RACE)?;
     let input = scenario.as_bytes();
     let form = ScheduleForm::Words;
-    let found = find_text(rt.alloc(), input, 3, 100, &wanted, form, &mut Silent);
+    let found = find_text(rt.alloc(), input, 3, &wanted, form, &mut Silent);
     assert!(rt; matches!(found, Err(LabFault::PastLayout { number: 3 })));
     Ok(())
 }

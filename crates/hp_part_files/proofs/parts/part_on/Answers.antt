@@ -30,19 +30,20 @@ returns-clause-ok g c =
     let x = c.in_ok-explored.explored in
     let seen = c.as_slice-scripts.result.now in
     let told = c.in-Ok.ensures.ok in
+    let ended : Type 0 = g.W.Watch.has_ended c.explore_part.new.watch in
     record {
       calls = calls;
       ends = x.ends.items;
       more = told.0;
       by = by_calls g (goal.at.returns-clause-ok g c).After-calls_for-calls;
       are =
-          subst (λ (q : PartValue). ArePartEnds (setting_of p) q c.args.limit x.ends.items told.0)
+          subst (λ (q : PartValue). ArePartEnds (setting_of p) q c.args.limit ended x.ends.items told.0)
           c.part.ensures
           (subst (λ (ss : List (List Step)). ArePartEnds (setting p.start.machine ss) c.part.result
-          c.args.limit x.ends.items told.0) c.as_slice-scripts.ensures.value
-          (part_explored (setting p.start.machine seen) c.part.result c.args.limit x told.0
+          c.args.limit ended x.ends.items told.0) c.as_slice-scripts.ensures.value
+          (part_explored (setting p.start.machine seen) c.part.result c.args.limit ended x told.0
           c.in_ok-explored.ensures.ok c.in_ok-explored.ensures.few c.in_ok-explored.ensures.room
-          c.in_ok-explored.ensures.first c.in_ok-explored.ensures.many
+          c.in_ok-explored.ensures.first c.in_ok-explored.ensures.many c.in_ok-explored.ensures.stopped
           (subst (λ (ss : List (List Step)). IsMore ss x.is_whole told.0)
           (sym c.as_slice-scripts.ensures.value) told.1)));
       ordered = c.in_ok-explored.ensures.ordered;

@@ -2,7 +2,6 @@
 use Rattle.std.proofs.Common.{List, string_bytes, subst, ℕ}
 use Rattle.std.proofs.lemmas.Result.{err_from_is_err_and}
 use Rattle.hp_explore.specs.Faults.{IsCause}
-use Rattle.hp_schedules.specs.Schedules.{Setting}
 use Rattle.hp_search.specs.Prepared.{names_of, setting_of}
 use Rattle.hp_search.proofs.Known.{held_in, unprepared_known, untold, untold_in}
 use Rattle.hp_part_files.specs.Parts.{IsPartCause, IsPartOn}
@@ -10,15 +9,14 @@ use Rattle.hp_part_files.proofs.Parted.{full_part, no_text, part_fault}
 use Rattle.hp_part_files.proofs.parts.part_text.Goals as goal
 
 pub returns-in_default-clause-err : goal.returns-in_default-clause-err
-returns-in_default-clause-err g c = no_text c.args.input.now c.args.setup c.args.limit c.in_default.ensures
+returns-in_default-clause-err g c = no_text c.args.input.now c.args.setup c.in_default.ensures
 
 pub returns-in_err-prepared-clause-err : goal.returns-in_err-prepared-clause-err
 returns-in_err-prepared-clause-err g c =
     let p =
     err_from_is_err_and c.from_residual.result c.from_residual.ensures.1 in
     rw (p.1, p.2)
-    (unprepared_known (λ (s : Setting). ⊥) IsCause c.args.input.now c.args.setup c.args.limit _
-    c.in_err-prepared.ensures.err)
+    (unprepared_known IsCause c.args.input.now c.args.setup _ c.in_err-prepared.ensures.err)
 
 pub returns-in_err-prepared-clause-full : goal.returns-in_err-prepared-clause-full
 returns-in_err-prepared-clause-full g c =
@@ -26,8 +24,8 @@ returns-in_err-prepared-clause-full g c =
     err_from_is_err_and c.from_residual.result c.from_residual.ensures.1 in
     rw (p.1, p.2)
     (full_part c.args.number c.args.input.now c.args.setup c.args.limit _
-    (unprepared_known (λ (s : Setting). ⊥) (IsPartCause c.args.number c.args.limit) c.args.input.now
-    c.args.setup c.args.limit _ c.in_err-prepared.ensures.err))
+    (unprepared_known (IsPartCause c.args.number c.args.limit) c.args.input.now c.args.setup _
+    c.in_err-prepared.ensures.err))
 
 pub returns-in-Ok-part_on-clause-ok : goal.returns-in-Ok-part_on-clause-ok
 returns-in-Ok-part_on-clause-ok g c =
@@ -35,12 +33,13 @@ returns-in-Ok-part_on-clause-ok g c =
     let input = c.args.input.now in
     let p = c.in_ok-prepared.prepared in
     let f = c.in-Ok-part_on.finding in
+    let ended : Type 0 = g.W.Watch.has_ended c.part_on.new.watch in
     held_in
-    (λ names before s. IsPartOn n c.args.setup input c.args.limit (string_bytes f.text) f.is_found names s)
+    (λ names before s. IsPartOn n c.args.setup input c.args.limit ended (string_bytes f.text) f.is_found names s)
     input c.args.setup p c.in_ok-prepared.ensures.ok
-    (subst (λ (k : ℕ). IsPartOn n k input c.args.limit (string_bytes f.text) f.is_found (names_of p)
+    (subst (λ (k : ℕ). IsPartOn n k input c.args.limit ended (string_bytes f.text) f.is_found (names_of p)
     (setting_of p)) c.in_ok-prepared.ensures.ok.number
-    (subst (λ (t : List ℕ). IsPartOn n p.setup t c.args.limit (string_bytes f.text) f.is_found (names_of p)
+    (subst (λ (t : List ℕ). IsPartOn n p.setup t c.args.limit ended (string_bytes f.text) f.is_found (names_of p)
     (setting_of p)) c.in-Ok.ensures.0 c.in-Ok-part_on.ensures.ok))
 
 pub returns-clause-err : goal.returns-clause-err
@@ -49,9 +48,7 @@ returns-clause-err g c =
     let p = c.in_ok-prepared.prepared in
     let told = c.told_fault.result in
     part_fault n c.args.input.now c.args.setup c.args.limit told
-    (untold_in (λ (s : Setting). ⊥) (IsPartCause n c.args.limit) c.args.input.now c.args.setup
-    c.args.limit p told
-    c.in_ok-prepared.ensures.ok
+    (untold_in (IsPartCause n c.args.limit) c.args.input.now c.args.setup p told c.in_ok-prepared.ensures.ok
     (untold (IsPartCause n c.args.limit) (setting_of p) c.in-Err.fault told c.told_fault.ensures
     c.in-Err.ensures.err))
 
@@ -61,8 +58,6 @@ returns-clause-full g c =
     let p = c.in_ok-prepared.prepared in
     let told = c.told_fault.result in
     full_part n c.args.input.now c.args.setup c.args.limit told
-    (untold_in (λ (s : Setting). ⊥) (IsPartCause n c.args.limit) c.args.input.now c.args.setup
-    c.args.limit p told
-    c.in_ok-prepared.ensures.ok
+    (untold_in (IsPartCause n c.args.limit) c.args.input.now c.args.setup p told c.in_ok-prepared.ensures.ok
     (untold (IsPartCause n c.args.limit) (setting_of p) c.in-Err.fault told c.told_fault.ensures
     c.in-Err.ensures.err))

@@ -22,7 +22,8 @@ pub returns-in-Ok-clause-ok : goal.returns-in-Ok-clause-ok
 returns-in-Ok-clause-ok g c =
     let f = c.in-Ok.finding in
     held_in
-    (λ names before s. IsExploredOn c.args.form c.args.by names before s c.args.limit (string_bytes f.text) f.is_found)
+    (λ names before s. IsExploredOn c.args.form c.args.by names before s c.args.limit
+    (g.W.Watch.has_ended c.explored.new.watch) (string_bytes f.text) f.is_found)
     c.args.input.now c.args.setup c.in_ok-prepared.prepared c.in_ok-prepared.ensures.ok c.in-Ok.ensures.ok
 
 pub returns-clause-err : goal.returns-clause-err

@@ -12,9 +12,9 @@ returns-clause-ok g c =
     let h = c.in_ok-explored.ensures in
     let f = c.in-Ok.finding in
     let s = c.in_ok-shown.ensures in
-    is_explored c.args.form c.args.by c.args.prepared.now c.as_slice-scripts.result.now c.args.limit
+    is_explored c.args.form c.args.by c.args.prepared.now c.as_slice-scripts.result.now c.args.limit _
     c.in_ok-explored.explored c.in_ok-shown.shown (string_bytes f.text) f.is_found
-    c.as_slice-scripts.ensures.value h.ok h.few h.room h.first h.many h.ordered h.within s.ends s.whole
+    c.as_slice-scripts.ensures.value h.ok h.few h.room h.first h.many h.stopped h.ordered h.within s.ends s.whole
     c.in-Ok.ensures.ok
 
 pub returns-in_err-explored-clause-err : goal.returns-in_err-explored-clause-err
