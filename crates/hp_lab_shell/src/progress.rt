@@ -214,12 +214,7 @@ fn rate_of(states: u64, millis: u128) -> u128 {
 }
 
 /// Prints after how many states a search was ended, and which option ended it.
-fn say_stopped<W: Write>(
-    out: &mut W,
-    is_open: bool,
-    states: u64,
-    option: &str,
-) -> io::Result<()> {
+fn say_stopped<W: Write>(out: &mut W, is_open: bool, states: u64, option: &str) -> io::Result<()> {
     if is_open {
         writeln!(out)?;
     }

@@ -1,8 +1,8 @@
 //! The arguments of the words that search: `explore`, and `sum` of its parts.
 
 use crate::arguments::{
-    Argument, FILE, FIND, GROUP, JOBS, JSON, MEMORY, NEVER, PART, PROGRESS, SCENARIO, SCENARIO_FILE,
-    SECONDS, SUMMARY, Takes,
+    Argument, FILE, FIND, GROUP, JOBS, JSON, MEMORY, NEVER, PART, PROGRESS, SCENARIO,
+    SCENARIO_FILE, SECONDS, SUMMARY, Takes,
 };
 
 /// The option that writes an interleaving as a scenario.

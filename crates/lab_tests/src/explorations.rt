@@ -40,12 +40,10 @@ const RACE_BLOCKS: &str =
      block 1 going movable\nfirst:\n\"0 begin off 1\",\n\"1 map web 0\",\n\"0 migrate 4\",\n\
      \"0 commit 4\"\n";
 
-const RACE_SUMMARY: &str =
-    "interleavings: 4\nends: 3\nend 1: 2, 50.0 %, 1 refused, 0:N 1:off\n\
+const RACE_SUMMARY: &str = "interleavings: 4\nends: 3\nend 1: 2, 50.0 %, 1 refused, 0:N 1:off\n\
      end 2: 1, 25.0 %, 2 refused, 0:N 1:M>off\nend 3: 1, 25.0 %, 1 refused, 0:N 1:M>off\n";
 
-const BLOCKS_SUMMARY: &str =
-    "interleavings: 4\nends: 2\nend 1: 2, 50.0 %, 1 refused, 0:N 1:off\n\
+const BLOCKS_SUMMARY: &str = "interleavings: 4\nends: 2\nend 1: 2, 50.0 %, 1 refused, 0:N 1:off\n\
      end 2: 2, 50.0 %, 2 refused, 0:N 1:M>off\n";
 
 /// A setup with a line of each kind, and one line after it that brings the block online again.
@@ -87,13 +85,7 @@ const AGAIN_TEXT: &str =
 
 /// The lines of a scenario, the length of the setup, and the text of its exploration in a form, with
 /// its ends put together by a part.
-type Explored = (
-    &'static str,
-    u64,
-    EndsForm,
-    Option<GroupBy>,
-    &'static str,
-);
+type Explored = (&'static str, u64, EndsForm, Option<GroupBy>, &'static str);
 
 const BLOCKS: Option<GroupBy> = Some(GroupBy::Blocks);
 

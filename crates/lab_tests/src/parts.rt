@@ -56,7 +56,15 @@ fn has_sum(alloc: Global, text: &str, form: EndsForm, whole: &str) -> bool {
 /// Returns whether the parts in `text` add up to the exploration of the race.
 fn adds_up(alloc: Global, text: &str, form: EndsForm) -> Result<bool, AllocError> {
     let scenario = scenario(alloc, 40, RACE)?;
-    match explore_text(alloc, scenario.as_bytes(), SETUP, 100, form, None, &mut Silent) {
+    match explore_text(
+        alloc,
+        scenario.as_bytes(),
+        SETUP,
+        100,
+        form,
+        None,
+        &mut Silent,
+    ) {
         Ok(whole) => Ok(has_sum(alloc, text, form, whole.text.as_str())),
         Err(_fault) => Ok(false),
     }

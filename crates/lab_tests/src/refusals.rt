@@ -30,7 +30,15 @@ const MISFITS: &[Misfit] = &[
 /// Returns whether an exploration is refused with this fault.
 fn is_refused(alloc: Global, scenario: &str, setup: u64, fault: LabFault) -> bool {
     let form = EndsForm::Words;
-    match explore_text(alloc, scenario.as_bytes(), setup, 9, form, None, &mut Silent) {
+    match explore_text(
+        alloc,
+        scenario.as_bytes(),
+        setup,
+        9,
+        form,
+        None,
+        &mut Silent,
+    ) {
         Ok(_finding) => false,
         Err(found) => found == fault,
     }

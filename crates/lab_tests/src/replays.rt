@@ -28,7 +28,15 @@ fn replays(
     is_found: bool,
 ) -> bool {
     let form = EndsForm::Scenario(number);
-    match explore_text(alloc, scenario.as_bytes(), setup, 100, form, None, &mut Silent) {
+    match explore_text(
+        alloc,
+        scenario.as_bytes(),
+        setup,
+        100,
+        form,
+        None,
+        &mut Silent,
+    ) {
         Ok(finding) => finding.is_found == is_found && finding.text.as_str() == text,
         Err(_fault) => false,
     }

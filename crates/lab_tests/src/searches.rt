@@ -103,14 +103,34 @@ const NOT_THERE: &[&str] = &["block 1 offline", "1: done"];
 
 const IN_WORDS: &[Searched] = &[
     (NOT_FREE, ScheduleForm::Words, REFUSED, FindResult::Found),
-    (TOO_LATE, ScheduleForm::Words, MOVED_TOO_LATE, FindResult::Found),
+    (
+        TOO_LATE,
+        ScheduleForm::Words,
+        MOVED_TOO_LATE,
+        FindResult::Found,
+    ),
     (NOT_THERE, ScheduleForm::Words, ABSENT, FindResult::Absent),
 ];
 
 const IN_OTHER_FORMS: &[Searched] = &[
-    (NOT_FREE, ScheduleForm::Object, REFUSED_OBJECT, FindResult::Found),
-    (NOT_THERE, ScheduleForm::Object, ABSENT_OBJECT, FindResult::Absent),
-    (NOT_FREE, ScheduleForm::Scenario, REFUSED_SCENARIO, FindResult::Found),
+    (
+        NOT_FREE,
+        ScheduleForm::Object,
+        REFUSED_OBJECT,
+        FindResult::Found,
+    ),
+    (
+        NOT_THERE,
+        ScheduleForm::Object,
+        ABSENT_OBJECT,
+        FindResult::Absent,
+    ),
+    (
+        NOT_FREE,
+        ScheduleForm::Scenario,
+        REFUSED_SCENARIO,
+        FindResult::Found,
+    ),
     (NOT_THERE, ScheduleForm::Scenario, "", FindResult::Absent),
 ];
 
