@@ -8,22 +8,24 @@ alone it takes the folder of the crates:
 On so many scenarios that are drawn at random, with events of all kinds and plans, where 0 may stand
 for an operation of the setup, with at most 120 orders each that all have room: `explore` tells the
 ends of the orders, each with its count and its first order, in the order of these; past a limit,
-those of the first orders, also where memory or time ends the search. An interleaving is found where an order has an end with the lines; it is
-one of those orders, with the fewest changes of processor; and where there is none, that is told.
-With a limit of states, without memory and without time a search tells the same, or that it does not
-know, after which states and by which option. `--never` prints the same with the other status, `--scenario 1` writes what is
-found as a scenario with the setup's lines before the calls, `--json` the same as an object, scripts
-that use 0 before a begin are told, and a text that no end has as a line ends with status 2.
+those of the first orders, also where memory or time ends the search. An interleaving is found where
+an order has an end with the lines; it is one of those orders, with the fewest changes of processor;
+and where there is none, that is told. With a limit of states, without memory and without time a
+search tells the same, or that it does not know, after which states and by which option. `--never`
+prints the same with the other status, `--scenario 1` writes what is found as a scenario with the
+setup's lines before the calls, `--json` the same as an object, scripts that use 0 before a begin
+are told, and a text that no end has as a line ends with status 2.
 
 `--group` puts those ends together that agree in their blocks, or in their answers, and adds their
-counts, in words and as JSON, also past a limit; `--summary` has a line of each end or group with its
-count, its share, how many calls were refused, and the blocks, neighbours that are alike joined.
+counts, in words and as JSON, also past a limit; `--summary` has a line of each end or group with
+its count, its share, how many calls were refused, and the blocks, neighbours that are alike joined.
 
 Of each: the parts of 1, of 3 and of 7, in any order, add up to what `explore` prints, in words and
 as JSON, and `--jobs 2` prints the same; of one in four also from files and with an end as a
 scenario. There a sum is refused where a part is missing, comes twice, was cut off, is of another
 scenario or stopped at its limit, and where a schedule or an answer was changed. That a count was
-changed is not found out. The last line is 'find: N passed, M failed'; the exit status is 0 where nothing failed, else 1.
+changed is not found out. The last line is 'find: N passed, M failed'; the exit status is 0 where
+nothing failed, else 1.
 """
 import json
 import random
@@ -299,6 +301,7 @@ def check_search(checks, programs, scenario, setup, orders, texts):
                  (0, {"found": True, "changes": fewest, "first": calls}))
 
 
+STOPPED = r"hotplug_lab: stopped after (\d+) states \((--[a-z]+)\)\n"
 UNKNOWN = {(): "ends so: unknown\n", ("--json",): '{"found": null}\n', ("--scenario", "1"): ""}
 
 
@@ -309,10 +312,11 @@ def check_budgets(checks, programs, draw, scenario, setup, texts):
     for option, number in (("--limit", draw.randrange(12)), ("--limit", 10**6), ("--memory", 0),
                            ("--seconds", 0), ("--seconds", 1000)):
         for search in ("--find", "--never"):
-            where = f"{search} {texts} {option} {number} {form} --setup {setup} {json.dumps(scenario)}"
+            words = f"{search} {texts} {option} {number} {form}"
+            where = f"{words} --setup {setup} {json.dumps(scenario)}"
             told = programs.find(scenario, setup, search, texts, *form, option, str(number))
             said = programs.said.removesuffix(warnings_of(scenario, setup))
-            stopped = re.fullmatch(r"hotplug_lab: stopped after (\d+) states \((--[a-z]+)\)\n", said)
+            stopped = re.fullmatch(STOPPED, said)
             if stopped:
                 checks.holds(where, told == (3, UNKNOWN[form]), f"says {told}, but {said!r}")
                 is_so = stopped[2] == option and (option != "--limit" or int(stopped[1]) == number)
@@ -344,7 +348,8 @@ def check_ended(checks, programs, scenario, setup, orders):
         head, *parts = text.rstrip("\n").split("\n\n")
         first = re.search(r"these are the first (\d+)\n", head)
         if first is None:
-            checks.holds(where, (status, text) == programs.search(scenario, setup), f"says {status}, {text!r}")
+            whole = programs.search(scenario, setup)
+            checks.holds(where, (status, text) == whole, f"says {status}, {text!r}")
             continue
         told = [end_of(part) for part in parts]
         expected = counted(orders[:int(first[1])])
@@ -554,7 +559,8 @@ def check_groups(checks, programs, scenario, setup, orders, limit):
         past = ("--limit", str(limit), *words)
         _, text = programs.search(scenario, setup, *past)
         told = [end_of(part) for part in text.rstrip("\n").split("\n\n")[1:]]
-        checks.holds(f"{past} {where}", told == grouped(counted(orders[:limit]), part), f"tells {told}")
+        first = grouped(counted(orders[:limit]), part)
+        checks.holds(f"{past} {where}", told == first, f"tells {told}")
         check_summary(checks, programs, scenario, setup, grouped(counted(orders), part), *words)
     check_summary(checks, programs, scenario, setup, counted(orders))
 

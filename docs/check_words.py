@@ -121,7 +121,8 @@ def check_explore(checks, lab):
     check_progress(checks, lab)
     many = scenario_of([f"{cpu} read db 0 0" for cpu in (0, 1)] * READS)
     status, out, _ = lab.call("explore", scenario=many)
-    checks.same("explore by default", (0, f"interleavings: {READ_ORDERS}"), (status, out.split("\n")[0]))
+    checks.same("explore by default", (0, f"interleavings: {READ_ORDERS}"),
+                (status, out.split("\n")[0]))
     status, out, _ = lab.call("explore", "--limit", str(READ_ORDERS - 1), scenario=many)
     checks.same(f"explore --limit {READ_ORDERS - 1}",
                 (3, f"{READ_ORDERS} interleavings; these are the first {READ_ORDERS - 1}"),
@@ -129,8 +130,8 @@ def check_explore(checks, lab):
 
 
 def check_limits(checks, lab, scripts):
-    """Past the limit the first interleavings are told; a search for an end is ended by its limit, its
-    memory and its time; a history that is too short has a fault."""
+    """Past the limit the first interleavings are told; memory and time end each search, and a limit
+    one for an end; a history that is too short has a fault."""
     ends = [json.loads(line) for line in
             lab.call("explore", "--setup", "1", "--json", scenario=scripts)[1].splitlines()]
     for limit in range(11):
@@ -156,19 +157,21 @@ def check_limits(checks, lab, scripts):
                 (status, out.split("\n")[0]))
     for option, absent in (("--find", 3), ("--never", 0)):
         options = ("--setup", "1", option, "refused Busy")
-        for budget, number in (("--limit", "0"), ("--limit", "1"), ("--memory", "0"), ("--seconds", "0")):
+        for budget, number in (("--limit", "0"), ("--limit", "1"), ("--memory", "0"),
+                               ("--seconds", "0")):
+            where = f"explore {options} {budget} {number}"
             status, out, error = lab.call("explore", *options, budget, number, scenario=scripts)
-            checks.same(f"explore {options} {budget} {number}", (3, "ends so: unknown\n"), (status, out))
+            checks.same(where, (3, "ends so: unknown\n"), (status, out))
             said = rf"hotplug_lab: stopped after \d+ states \({budget}\)\n"
-            checks.holds(f"explore {options} {budget} {number}", re.fullmatch(said, error), f"says {error!r}")
+            checks.holds(where, re.fullmatch(said, error), f"says {error!r}")
         for budget, number in (("--limit", "1000000"), ("--memory", "1"), ("--seconds", "1000")):
             checks.same(f"explore {options} {budget} {number}", (absent, "ends so: 0\n", ""),
                         lab.call("explore", *options, budget, number, scenario=scripts))
     for budget, number in (("--memory", "0"), ("--seconds", "0")):
         status, out, error = lab.call("explore", "--setup", "1", budget, number, scenario=scripts)
         checks.same(f"explore {budget} {number}", 3, status)
-        checks.holds(f"explore {budget} {number}",
-                     re.match(r"10 interleavings; these are the first \d\nends: ", out), f"writes {out!r}")
+        is_so = re.match(r"10 interleavings; these are the first \d\nends: ", out)
+        checks.holds(f"explore {budget} {number}", is_so, f"writes {out!r}")
         said = rf"hotplug_lab: stopped after \d+ states \({budget}\)\n"
         checks.holds(f"explore {budget} {number}", re.fullmatch(said, error), f"says {error!r}")
     for budget, number in (("--memory", "1"), ("--seconds", "1000")):
@@ -198,24 +201,27 @@ def check_progress(checks, lab):
 
 
 def check_groups(checks, lab, scripts):
-    """Ends are put together by blocks or by answers, and by nothing else; a line of a summary has at
-    most 100 columns, however many memory blocks there are."""
+    """Ends are put together by blocks or by answers, and by nothing else; a line of a summary has
+    at most 100 columns, however many memory blocks there are."""
     for by in ("blocks", "answers"):
         status, out, error = lab.call("explore", "--group", by, scenario=scripts)
         checks.same(f"explore --group {by}", (0, "interleavings: 15", ""),
                     (status, out.split("\n")[0], error))
     for by in ("", "block", "Blocks", "ends", "blocks,answers"):
-        checks.same(f"explore --group={by}", (2, "", "hotplug_lab: --group may be blocks or answers\n"),
+        refused = "hotplug_lab: --group may be blocks or answers\n"
+        checks.same(f"explore --group={by}", (2, "", refused),
                     lab.call("explore", f"--group={by}", scenario=scripts))
     for boot, shown in ((["normal", "movable"] * 16, "0:N 1:M 2:N"),
-                        (["normal"] * 20 + ["movable"] * 11 + ["offline"], "0-19:N 20-30:M 31:off")):
+                        (["normal"] * 20 + ["movable"] * 11 + ["offline"],
+                         "0-19:N 20-30:M 31:off")):
         wide = {"layout": {**LAYOUT, "blocks": len(boot), "boot": boot}, "calls": ["0 drain 0"]}
         status, out, error = lab.call("explore", "--summary", scenario=wide)
         checks.same("explore --summary", (0, ["interleavings: 1", "ends: 1"], ""),
                     (status, out.splitlines()[:2], error))
         line = out.splitlines()[2]
         start = f"end 1: 1, 100.0 %, {shown}"
-        checks.holds("explore --summary", line.startswith(start) and len(line) <= 100, f"writes {line!r}")
+        is_so = line.startswith(start) and len(line) <= 100
+        checks.holds("explore --summary", is_so, f"writes {line!r}")
         checks.same(f"explore --summary of {shown}", "31:off" not in shown, line.endswith(" .."))
 
 
