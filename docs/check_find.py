@@ -302,6 +302,7 @@ def check_search(checks, programs, scenario, setup, orders, texts):
 
 
 STOPPED = r"hotplug_lab: stopped after (\d+) states \((--[a-z]+)\)\n"
+NO_SCENARIO = "hotplug_lab: no such interleaving was found, so no scenario is written\n"
 UNKNOWN = {(): "ends so: unknown\n", ("--json",): '{"found": null}\n', ("--scenario", "1"): ""}
 
 
@@ -315,7 +316,8 @@ def check_budgets(checks, programs, draw, scenario, setup, texts):
             words = f"{search} {texts} {option} {number} {form}"
             where = f"{words} --setup {setup} {json.dumps(scenario)}"
             told = programs.find(scenario, setup, search, texts, *form, option, str(number))
-            said = programs.said.removesuffix(warnings_of(scenario, setup))
+            said = programs.said.removesuffix(NO_SCENARIO)
+            said = said.removesuffix(warnings_of(scenario, setup))
             stopped = re.fullmatch(STOPPED, said)
             if stopped:
                 checks.holds(where, told == (3, UNKNOWN[form]), f"says {told}, but {said!r}")
