@@ -10,7 +10,7 @@ for an operation of the setup, with at most 120 orders each that all have room: 
 ends of the orders, each with its count and its first order, in the order of these; past a limit,
 those of the first orders, also where memory or time ends the search. An interleaving is found where
 an order has an end with the lines; it is one of those orders, with the fewest changes of processor;
-and where there is none, that is told. Of one in four, with a limit of states, no memory or no time a
+and where there is none, that is told. Of one in four, with a limit of states, no memory or time a
 search tells the same, or that it does not know, after which states and by which option. `--never`
 prints the same with the other status, `--scenario 1` writes what is found as a scenario with the
 setup's lines before the calls, `--json` the same as an object, scripts that use 0 before a begin
