@@ -1,6 +1,10 @@
+pub mod AfterLines
 pub mod Alike
+pub mod Answered
+pub mod AnswersAt
 pub mod Apart
 pub mod Asked
+pub mod Begun
 pub mod ClosedNets
 pub mod Coefficients
 pub mod Compared
@@ -13,6 +17,7 @@ pub mod InRows
 pub mod Interleaved
 pub mod Interleavings
 pub mod Known
+pub mod LineAnswers
 pub mod Lines
 pub mod Numberings
 pub mod OneCalls

@@ -5,6 +5,7 @@ pub mod Digests
 pub mod Ends
 pub mod Exchanges
 pub mod Interleavings
+pub mod LineAnswers
 pub mod Multinomials
 pub mod Notes
 pub mod Numbers

@@ -1,8 +1,9 @@
 //! Laws of schedules, as contracts of functions with empty bodies.
-ghost use Rattle.std.specs.Prelude.{◌≡◌, ◌↔◌, ◌++◌, ℕ, List, Some};
+ghost use Rattle.std.specs.Prelude.{◌≡◌, ◌≢◌, ◌↔◌, ◌++◌, ◌∷◌, ℕ, [], List, Some};
 ghost use Rattle.hp_units.specs.declared.replies.Record.{Record};
 ghost use Rattle.hp_schedules.specs.Alike.{AreAlike, UndoNothing};
 ghost use Rattle.hp_schedules.specs.Continuing.{ContinueAlike, ContinuesAs};
+ghost use Rattle.hp_schedules.specs.LineAnswers.{Grow, answers_at};
 ghost use Rattle.hp_schedules.specs.Orders.{HasCount, HasOneCount};
 ghost use Rattle.hp_schedules.specs.Outcomes.{OutcomeValue};
 ghost use Rattle.hp_schedules.specs.Interleavings.{AreOneCalls, IsCountOfLengths, IsInterleaving};
@@ -42,4 +43,13 @@ pub fn alike_beginnings_continue_alike()
     ensures { (g : Setting) (p q rest : List ℕ) (h k end : List Record) → UndoNothing g.scripts
         → plays g p ≡ Some h → plays g q ≡ Some k → ContinueAlike g h k → plays g (p ++ rest) ≡ Some end
         → ContinuesAs g q rest h k end }
+{}
+
+/// Answers stay: whatever records follow, a processor's finished lines keep their answers, and only
+/// further lines get some. A record of another processor adds none.
+pub fn answers_only_grow()
+    ensures later { (g : Setting) (cpu : ℕ) (news more : List Record)
+        → Grow (answers_at g cpu news) (answers_at g cpu (news ++ more)) }
+    ensures others { (g : Setting) (cpu : ℕ) (news : List Record) (latest : Record) → latest.cpu ≢ cpu
+        → answers_at g cpu (news ++ latest ∷ []) ≡ answers_at g cpu news }
 {}

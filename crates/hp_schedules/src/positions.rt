@@ -3,10 +3,12 @@ ghost use Rattle.std.specs.Prelude.{◌≡◌, ◌<◌, ◌++◌, ◌∷◌, ℕ
 ghost use Rattle.hp_units.specs.Receipts.{receipts_of};
 ghost use Rattle.hp_units.specs.declared.replies.Record.{Record as NewRecord};
 ghost use Rattle.hp_schedules.specs.Cursors.{AreCursors, IsCalledFor, IsSteered, cursor_at};
-ghost use Rattle.hp_schedules.specs.Schedules.{Setting};
+ghost use Rattle.hp_schedules.specs.LineAnswers.{IsAnswered, answers_at};
+ghost use Rattle.hp_schedules.specs.Schedules.{Setting, next_call};
 ghost use Rattle.hp_schedules.specs.Scripts.{own_operation};
 
 use crate::cursors::{Cursor, NextCall};
+use crate::line_answers::FinishedLine;
 use crate::scripts::CallScript;
 use hp_units::{Cpu, Record, Serial};
 use std::alloc::{AllocError, Global};
@@ -56,6 +58,32 @@ impl Positions {
     {
         let cursor = &self.cursors[cpu as usize];
         cursor.op
+    }
+
+    /// Returns how many lines of its script the processor has finished.
+    pub fn finished(&self, scripts: &[CallScript], cpu: u32) -> usize
+        requires scripts { cpu < length scripts.now }
+        requires cursors { cpu < length self.now.cursors.items }
+        ensures { (g : Setting) (news : List NewRecord) → g.scripts ≡ scripts.now
+            → AreCursors g news self.now.cursors.items → result ≡ length (answers_at g cpu news) }
+    {
+        let place = cpu as usize;
+        self.cursors[place].finished(scripts[place].lines())
+    }
+
+    /// Returns the line that the call of the latest record finished, or `None` if it finished none.
+    /// To be called after `go_on` with that record.
+    pub fn answered(&self, scripts: &[CallScript], latest: &Record) -> Option<FinishedLine>
+        requires scripts { latest.now.cpu < length scripts.now }
+        requires cursors { latest.now.cpu < length self.now.cursors.items }
+        ensures { (g : Setting) (news : List NewRecord) → g.scripts ≡ scripts.now
+            → next_call g latest.now.cpu news ≡ Some latest.now.event
+            → AreCursors g (news ++ latest.now ∷ []) self.now.cursors.items
+            → IsAnswered (answers_at g latest.now.cpu news) result
+            (answers_at g latest.now.cpu (news ++ latest.now ∷ [])) }
+    {
+        let place = latest.cpu.0 as usize;
+        self.cursors[place].answered(scripts[place].lines(), &latest.reply)
     }
 
     /// Appends five numbers that the processor's further calls depend on, beside the replies to
