@@ -25,7 +25,7 @@ of_script g cpu news lines here =
     option_map_or (λ ls. answers_in g.layout.cpus ls (receipts_of cpu news)) o []) here
 
 -- as they are read
-within_shown : (g : Setting) (cpu : ℕ) (scripts : List (List Step)) (lines shown : List Step)
+pub within_shown : (g : Setting) (cpu : ℕ) (scripts : List (List Step)) (lines shown : List Step)
     → g.scripts ≡ scripts → slice_get scripts cpu ≡ Some lines → shown ≡ lines
     → slice_get g.scripts cpu ≡ Some shown
 within_shown g cpu scripts lines shown scripts_is here same =

@@ -5,6 +5,8 @@ pub mod AnswersAt
 pub mod Apart
 pub mod Asked
 pub mod Begun
+pub mod Caused
+pub mod CausesAt
 pub mod ClosedNets
 pub mod Coefficients
 pub mod Compared
@@ -33,3 +35,4 @@ pub mod Steps
 pub mod Trails
 pub mod Uniqueness
 pub mod Unnumbered
+pub mod UpTo

@@ -1,4 +1,5 @@
 pub mod Alike
+pub mod Causes
 pub mod Continuing
 pub mod Cursors
 pub mod Digests

@@ -4,6 +4,7 @@ ghost use Rattle.std.specs.Option.{option_map_or};
 ghost use Rattle.hp_units.specs.Receipts.{receipt_of};
 ghost use Rattle.hp_units.specs.declared.events.Event.{Event as AnyEvent};
 ghost use Rattle.hp_units.specs.declared.replies.Receipt.{Receipt};
+ghost use Rattle.hp_schedules.specs.Causes.{cause_in, met_at};
 ghost use Rattle.hp_schedules.specs.Cursors.{IsAsked, IsCursor, IsRequested, IsSettled, asks, asks_at, carried, cursor_at, driver_before, first_driver, has_carried, is_carrying, steering_of};
 ghost use Rattle.hp_schedules.specs.LineAnswers.{IsAnswered, answers_in};
 ghost use Rattle.hp_schedules.specs.Scripts.{next_of};
@@ -11,7 +12,7 @@ ghost use Rattle.hp_schedules.specs.Scripts.{next_of};
 use crate::line_answers::{FinishedLine, LineAnswer, plan_answer};
 use crate::scripts::{CallScript, Step, later_operation};
 use hp_ops::Driver;
-use hp_units::{Event, Record, Reply, Serial};
+use hp_units::{Event, Record, Refusal, Reply, Serial};
 use std::alloc::{AllocError, Global};
 
 /// A processor's position in its script: its line, the operation that it began last, and the driver
@@ -170,6 +171,30 @@ impl Cursor {
             line: self.line - 1,
             answer: Some(LineAnswer::Reply(*reply)),
         })
+    }
+
+    /// Returns the last refusal that the plan in progress met, if any.
+    pub(crate) fn cause(&self, lines: &[Step]) -> Option<Refusal>
+        ensures { (cpus : ℕ) (receipts : List Receipt) → IsCursor cpus lines.now receipts self.now
+            → result ≡ cause_in cpus lines.now receipts }
+    {
+        let Some(line) = lines.get(self.line) else {
+            return None;
+        };
+        self.met_at(line)
+    }
+
+    /// Returns the last refusal that the line's plan met, if the plan is in progress.
+    fn met_at(&self, line: &Step) -> Option<Refusal>
+        ensures { result ≡ met_at self.now line.now }
+    {
+        if line.is_one_call() {
+            return None;
+        }
+        if self.driver.is_over() {
+            return None;
+        }
+        self.driver.why()
     }
 
     /// Returns whether the cursor's line is a plan whose driver has taken a reply.

@@ -2,7 +2,9 @@
 ghost use Rattle.std.specs.Prelude.{◌≡◌, ◌≢◌, ◌↔◌, ◌++◌, ◌∷◌, ℕ, [], List, Some};
 ghost use Rattle.hp_units.specs.declared.replies.Record.{Record};
 ghost use Rattle.hp_schedules.specs.Alike.{AreAlike, UndoNothing};
+ghost use Rattle.hp_schedules.specs.Causes.{AnswerAlike, IsCaused};
 ghost use Rattle.hp_schedules.specs.Continuing.{ContinueAlike, ContinuesAs};
+ghost use Rattle.hp_schedules.specs.Cursors.{IsSteered};
 ghost use Rattle.hp_schedules.specs.LineAnswers.{Grow, answers_at};
 ghost use Rattle.hp_schedules.specs.Orders.{HasCount, HasOneCount};
 ghost use Rattle.hp_schedules.specs.Outcomes.{OutcomeValue};
@@ -52,4 +54,13 @@ pub fn answers_only_grow()
         → Grow (answers_at g cpu news) (answers_at g cpu (news ++ more)) }
     ensures others { (g : Setting) (cpu : ℕ) (news : List Record) (latest : Record) → latest.cpu ≢ cpu
         → answers_at g cpu (news ++ latest ∷ []) ≡ answers_at g cpu news }
+{}
+
+/// Two beginnings with equal numbers of a processor, by `push_steering` and `push_causes`, have
+/// finished equally many of its lines. If the same records follow both, they give its further lines
+/// the same answers.
+pub fn alike_positions_answer_alike()
+    ensures { (g : Setting) (cpu : ℕ) (h k more : List Record) (steering causes : List ℕ)
+        → IsSteered g cpu h steering → IsSteered g cpu k steering
+        → IsCaused g cpu h causes → IsCaused g cpu k causes → AnswerAlike g cpu h k more }
 {}

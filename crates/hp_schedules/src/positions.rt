@@ -1,12 +1,14 @@
 //! Positions of all processors in their scripts.
-ghost use Rattle.std.specs.Prelude.{◌≡◌, ◌<◌, ◌++◌, ◌∷◌, ℕ, true, [], IfOk, List, Some, length, map, slice_set};
+ghost use Rattle.std.specs.Prelude.{◌≡◌, ◌<◌, ◌++◌, ◌∷◌, ℕ, true, [], IfOk, List, OnOk, Some, length, map, slice_set};
 ghost use Rattle.hp_units.specs.Receipts.{receipts_of};
 ghost use Rattle.hp_units.specs.declared.replies.Record.{Record as NewRecord};
+ghost use Rattle.hp_schedules.specs.Causes.{IsCaused};
 ghost use Rattle.hp_schedules.specs.Cursors.{AreCursors, IsCalledFor, IsSteered, cursor_at};
 ghost use Rattle.hp_schedules.specs.LineAnswers.{IsAnswered, answers_at};
 ghost use Rattle.hp_schedules.specs.Schedules.{Setting, next_call};
 ghost use Rattle.hp_schedules.specs.Scripts.{own_operation};
 
+use crate::causes::cause_numbers;
 use crate::cursors::{Cursor, NextCall};
 use crate::line_answers::FinishedLine;
 use crate::scripts::CallScript;
@@ -103,6 +105,27 @@ impl Positions {
             numbers.push(number)?;
         }
         Ok(true)
+    }
+
+    /// Appends two numbers that the answer of the processor's plan in progress depends on, beside
+    /// the numbers of `push_steering` and the replies to further calls: the last refusal that the
+    /// plan met. They are 0 if there is none.
+    pub fn push_causes(
+        &self,
+        scripts: &[CallScript],
+        cpu: u32,
+        numbers: &mut Vec<u32>,
+    ) -> Result<(), AllocError>
+        requires scripts { cpu < length scripts.now }
+        requires cursors { cpu < length self.now.cursors.items }
+        ensures { OnOk result ((part : List ℕ)
+            × (numbers.new.items ≡ numbers.old.items ++ part) × (length part ≡ 2)
+            × ((g : Setting) (news : List NewRecord) → g.scripts ≡ scripts.now
+            → AreCursors g news self.now.cursors.items → IsCaused g cpu news part)) }
+    {
+        let place = cpu as usize;
+        let cause = self.cursors[place].cause(scripts[place].lines());
+        numbers.extend_from_slice(&cause_numbers(cause))
     }
 
     /// Moves the processor past its call and returns its former position, for `go_back`.

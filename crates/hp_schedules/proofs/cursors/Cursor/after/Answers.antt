@@ -3,7 +3,7 @@ use Rattle.std.proofs.Common.{◌+◌, ◌∙◌, ap, length, refl, sym}
 use Rattle.std.proofs.lemmas.Option.{slice_get_read}
 use Rattle.hp_units.specs.Receipts.{receipt_of}
 use Rattle.hp_schedules.specs.Cursors.{cursor_at}
-use Rattle.hp_schedules.proofs.Answered.{settled_run}
+use Rattle.hp_schedules.proofs.UpTo.{settled_run}
 use Rattle.hp_schedules.proofs.Asked.{answered_new, answered_run}
 use Rattle.hp_schedules.proofs.cursors.Cursor.after.Goals as goal
 

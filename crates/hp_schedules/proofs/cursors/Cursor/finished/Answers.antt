@@ -1,7 +1,7 @@
 -- The lines before the cursor, and its own line where that is a plan at its end.
 use Rattle.std.proofs.Common.{◌∙◌, arith, false, length, refl, sym, true}
 use Rattle.std.proofs.lemmas.Option.{slice_get_past, slice_get_read}
-use Rattle.hp_schedules.proofs.Answered.{finished_here, finished_past}
+use Rattle.hp_schedules.proofs.UpTo.{finished_here, finished_past}
 use Rattle.hp_schedules.proofs.cursors.Cursor.finished.Goals as goal
 
 pub returns-in_default : goal.returns-in_default
