@@ -54,7 +54,8 @@ carried_answered cpus lines receipts r c is carrying = by_line (slice_get lines 
     finish line old new front on new_is old_is many = by_end (is_over c.driver.stage) refl
       where
         one : (b : Bool) → is_one_call line ≡ b → cond b false (has_begun c.driver.stage) ≡ true
-            → here_at c (Some line) ≡ cond (is_over c.driver.stage) (option_map Carried (end_in c.driver.stage) ∷ []) []
+            → here_at c (Some line)
+            ≡ cond (is_over c.driver.stage) (option_map Carried (end_in c.driver.stage) ∷ []) []
         one true e off = absurd cc
         one false e on =
             ap (λ (b : Bool). cond (cond b false (is_over c.driver.stage))
@@ -73,7 +74,8 @@ carried_answered cpus lines receipts r c is carrying = by_line (slice_get lines 
               sym many ∙ ap length (sym old_is),
               new_is ∙ (ap (λ (xs : List (Option LineAnswer)). front ++ xs) (here_is ∙ ap (λ (b : Bool).
                   cond b (option_map Carried (end_in c.driver.stage) ∷ []) []) over)
-                  ∙ ap (λ (xs : List (Option LineAnswer)). xs ++ option_map Carried (end_in c.driver.stage) ∷ [])
+                  ∙ ap (λ (xs : List (Option LineAnswer)).
+                  xs ++ option_map Carried (end_in c.driver.stage) ∷ [])
                   (sym old_is)),
             )
         by_end false on_still =
@@ -91,7 +93,8 @@ carried_answered cpus lines receipts r c is carrying = by_line (slice_get lines 
         → answers_in cpus (line ∷ drop (c.line + 1) lines) front ≡ []
     unfinished line front last own_is at = by_rest (after_line cpus 0 line [] front) refl
       where
-        whole : after_line cpus 0 line [] (front ++ last ∷ []) ≡ after_line cpus 0 line (front ++ last ∷ []) []
+        whole : after_line cpus 0 line [] (front ++ last ∷ [])
+            ≡ after_line cpus 0 line (front ++ last ∷ []) []
         whole =
             ap (after_line cpus 0 line []) (sym own_is ∙ sym (append-nil is.own))
             ∙ (at.1 0 [] ∙ ap (λ (xs : List Receipt). after_line cpus 0 line xs []) own_is)
@@ -100,7 +103,8 @@ carried_answered cpus lines receipts r c is carrying = by_line (slice_get lines 
         ends rest some = by_next _ refl
           where
             by_next : (o : Option Event) → line_next cpus 0 line (front ++ last ∷ []) ≡ o → rest ≡ []
-            by_next None none = same_Some rest [] (sym some ∙ over_now cpus 0 line (front ++ last ∷ []) [] none)
+            by_next None none =
+                same_Some rest [] (sym some ∙ over_now cpus 0 line (front ++ last ∷ []) [] none)
             by_next (Some e) next =
                 absurd (none-some rest (sym (goes_on_all cpus 0 line (front ++ last ∷ []) e next) ∙ some))
 
@@ -129,10 +133,12 @@ carried_answered cpus lines receipts r c is carrying = by_line (slice_get lines 
         (answers_kept cpus (take c.line lines) receipts (r ∷ []) push.front split.0))
         (ap (λ (ls : List Step). answers_in cpus ls receipts) (sym (take-append-drop c.line lines))
         ∙ (answers_past cpus (take c.line lines) (drop c.line lines) receipts push.front split.0
-        ∙ (ap (λ (ls : List Step). answers_in cpus (take c.line lines) receipts ++ answers_in cpus ls push.front)
+        ∙ (ap (λ (ls : List Step).
+        answers_in cpus (take c.line lines) receipts ++ answers_in cpus ls push.front)
         (lines_here lines c.line line here)
         ∙ (ap (λ (xs : List (Option LineAnswer)). answers_in cpus (take c.line lines) receipts ++ xs)
-        (unfinished line push.front push.last push.list_is (at_first cpus lines (receipts ++ r ∷ []) c line is here))
+        (unfinished line push.front push.last push.list_is
+        (at_first cpus lines (receipts ++ r ∷ []) c line is here))
         ∙ append-nil (answers_in cpus (take c.line lines) receipts)))))
         (before_many cpus lines receipts c.line push.front is.within split.0)
 
@@ -208,7 +214,8 @@ took_last cpus lines receipts r k line here one passed = by_left split.left spli
     split : Before cpus 0 (take k lines) (line ∷ []) (receipts ++ r ∷ []) []
     split =
         lines_before cpus 0 (take k lines) (line ∷ []) (receipts ++ r ∷ []) []
-        (ap (λ (ls : List Step). after_lines cpus 0 ls (receipts ++ r ∷ [])) (sym (take_one lines k line here))
+        (ap (λ (ls : List Step). after_lines cpus 0 ls (receipts ++ r ∷ []))
+        (sym (take_one lines k line here))
         ∙ passed)
 
     over : after_line cpus 0 line [] split.left ≡ Some []
@@ -284,7 +291,8 @@ once_answered cpus lines receipts r c e settles is off asked = by_place c.line r
             ≡ answers_in cpus (take k lines) receipts ++ Some (Replied r.reply) ∷ []
         new =
             parts (receipts ++ r ∷ []) (r ∷ []) (lines_more cpus 0 (take k lines) receipts (r ∷ []) [] before)
-            ∙ (ap (λ (xs : List (Option LineAnswer)). xs ++ answers_in cpus (line ∷ drop (k + 1) lines) (r ∷ []))
+            ∙ (ap (λ (xs : List (Option LineAnswer)).
+            xs ++ answers_in cpus (line ∷ drop (k + 1) lines) (r ∷ []))
             (answers_kept cpus (take k lines) receipts (r ∷ []) [] before)
             ∙ ap (λ (xs : List (Option LineAnswer)). answers_in cpus (take k lines) receipts ++ xs) one_more)
 

@@ -62,7 +62,8 @@ answered_at g news r scripts lines shown cursors cursor f scripts_is here same t
     (sym (of_script g r.cpu (news ++ r ∷ []) shown within
     ∙ ap (answers_in g.layout.cpus shown) (receipts_own news r)))
     (answers g.layout.cpus (receipts_of r.cpu news) (receipt_of r) refl
-    (sym (asked_is g news g.layout.cpus r.cpu shown (next_of g.layout.cpus shown (receipts_of r.cpu news)) refl
+    (sym (asked_is g news g.layout.cpus r.cpu shown
+    (next_of g.layout.cpus shown (receipts_of r.cpu news)) refl
     within refl) ∙ called)
     (subst (λ (rs : List Receipt). IsCursor g.layout.cpus shown rs cursor) (receipts_own news r)
     (all.each r.cpu shown cursor within there))

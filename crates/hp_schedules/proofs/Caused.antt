@@ -79,7 +79,8 @@ from_over cpus line lines xs ys later x_over y_over = record {
         → answers_in cpus (line ∷ lines) zs ≡ answer_of line (without zs []) ∷ []
     one zs over =
         first_over cpus line lines zs [] over
-        ∙ ap (λ (all : List (Option LineAnswer)). answer_of line (without zs []) ∷ all) (none_begun cpus lines)
+        ∙ ap (λ (all : List (Option LineAnswer)). answer_of line (without zs []) ∷ all)
+        (none_begun cpus lines)
 
     more : (zs : List Receipt) → after_line cpus 0 line [] zs ≡ Some []
         → answers_in cpus (line ∷ lines) (zs ++ later)
@@ -96,9 +97,11 @@ end_alike : (xs ys own : List Receipt) → IsPush own → cause_of xs ≡ cause_
 end_alike xs ys own push same = by_last xs ∙ (ends ∙ sym (by_last ys))
   where
     cause_in_front : (zs : List Receipt) → cause_of (zs ++ push.front)
-        ≡ fold (λ (cause : Option Refusal) (r : Receipt). cause_after cause r.event r.reply) (cause_of zs) push.front
+        ≡ fold (λ (cause : Option Refusal) (r : Receipt). cause_after cause r.event r.reply) (cause_of zs)
+        push.front
     cause_in_front zs =
-        fold-append (λ (cause : Option Refusal) (r : Receipt). cause_after cause r.event r.reply) None zs push.front
+        fold-append (λ (cause : Option Refusal) (r : Receipt). cause_after cause r.event r.reply) None zs
+        push.front
 
     ends : end_after (cause_after (cause_of (xs ++ push.front)) push.last.event push.last.reply)
         push.last.event push.last.reply
@@ -171,7 +174,9 @@ from_on : (cpus turns : ℕ) (plan : List Item) (lines : List Step) (xs ys later
 from_on cpus turns plan lines xs ys later d e key x_at y_at same on = record {
   many = ap length (none_yet xs x_on ∙ sym (none_yet ys y_on));
   added = answers_in cpus (Carry plan turns ∷ lines) (xs ++ later);
-  first = ap (λ (all : List (Option LineAnswer)). all ++ answers_in cpus (Carry plan turns ∷ lines) (xs ++ later))
+  first =
+      ap (λ (all : List (Option LineAnswer)).
+      all ++ answers_in cpus (Carry plan turns ∷ lines) (xs ++ later))
       (sym (none_yet xs x_on));
   second =
       sym (in_plan cpus turns plan lines xs ys later (x_at.1 0 later) (y_at.1 0 later)
@@ -315,15 +320,19 @@ answer_alike g cpu h k more steering causes first second one other = by_script (
     by_script None here = record {
       many = ap length (none_at h here ∙ sym (none_at k here));
       later = [];
-      first = none_at (h ++ more) here ∙ ap (λ (all : List (Option LineAnswer)). all ++ []) (sym (none_at h here));
-      second = none_at (k ++ more) here ∙ ap (λ (all : List (Option LineAnswer)). all ++ []) (sym (none_at k here));
+      first =
+          none_at (h ++ more) here
+          ∙ ap (λ (all : List (Option LineAnswer)). all ++ []) (sym (none_at h here));
+      second =
+          none_at (k ++ more) here
+          ∙ ap (λ (all : List (Option LineAnswer)). all ++ []) (sym (none_at k here));
     }
     by_script (Some lines) here =
         let a = first lines here in
         let b = second lines here in
         let on =
-        script_alike g.layout.cpus lines (receipts_of cpu h) (receipts_of cpu k) (receipts_of cpu more) a.0 b.0
-        a.1 b.1 (sym a.2 ∙ b.2)
+        script_alike g.layout.cpus lines (receipts_of cpu h) (receipts_of cpu k) (receipts_of cpu more) a.0
+        b.0 a.1 b.1 (sym a.2 ∙ b.2)
         (sym (cause_of_script g cpu h lines here) ∙ (cause ∙ cause_of_script g cpu k lines here)) in
         record {
           many =
@@ -342,4 +351,5 @@ answer_alike g cpu h k more steering causes first second one other = by_script (
         at news lines here added is =
             of_script g cpu (news ++ more) lines here
             ∙ (ap (answers_in g.layout.cpus lines) (receipts_later cpu news more)
-            ∙ (is ∙ ap (λ (all : List (Option LineAnswer)). all ++ added) (sym (of_script g cpu news lines here))))
+            ∙ (is ∙ ap (λ (all : List (Option LineAnswer)). all ++ added)
+            (sym (of_script g cpu news lines here))))

@@ -48,7 +48,8 @@ pub first_more : (cpus : ℕ) (line : Step) (lines : List Step) (receipts more r
     → answers_in cpus (line ∷ lines) (receipts ++ more)
     ≡ answer_of line (without receipts rest) ∷ answers_in cpus lines (rest ++ more)
 first_more cpus line lines receipts more rest is =
-    first_over cpus line lines (receipts ++ more) (rest ++ more) (after_more cpus 0 line [] receipts more rest is)
+    first_over cpus line lines (receipts ++ more) (rest ++ more)
+    (after_more cpus 0 line [] receipts more rest is)
     ∙ ap (λ (own : List Receipt). answer_of line own ∷ answers_in cpus lines (rest ++ more)) same
   where
     same : without (receipts ++ more) (rest ++ more) ≡ without receipts rest
@@ -71,7 +72,8 @@ none_begun cpus (Carry plan turns ∷ lines) = refl
 
 pub answers_past : (cpus : ℕ) (lines others : List Step) (receipts rest : List Receipt)
     → after_lines cpus 0 lines receipts ≡ Some rest
-    → answers_in cpus (lines ++ others) receipts ≡ answers_in cpus lines receipts ++ answers_in cpus others rest
+    → answers_in cpus (lines ++ others) receipts
+    ≡ answers_in cpus lines receipts ++ answers_in cpus others rest
 answers_past cpus [] others receipts rest is = ap (answers_in cpus others) (same_rest is)
   where
     same_rest : Some receipts ≡ Some rest → receipts ≡ rest

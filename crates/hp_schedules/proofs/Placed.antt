@@ -139,7 +139,8 @@ cursors_more : (g : Setting) (news : List Record) (r : Record) (cursors : List C
     (later : Cursor)
     → slice_get g.scripts r.cpu ≡ Some lines
     → IsCursor g.layout.cpus lines (receipts_of r.cpu news ++ receipt_of r ∷ []) later
-    → IsSettled lines later → AreCursors g news cursors → AreCursors g (news ++ r ∷ []) (set cursors r.cpu later)
+    → IsSettled lines later → AreCursors g news cursors
+    → AreCursors g (news ++ r ∷ []) (set cursors r.cpu later)
 cursors_more g news r cursors lines later here is settles all =
     record { many = length-set cursors r.cpu later ∙ all.many; each = each; settled = settled }
   where

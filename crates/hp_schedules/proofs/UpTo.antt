@@ -141,7 +141,8 @@ pub finished_here : (cpus : ℕ) (lines : List Step) (receipts : List Receipt) (
     → slice_get lines c.line ≡ Some line → has_carried c line ≡ over → IsCursor cpus lines receipts c
     → c.line + cond over 1 0 ≡ length (answers_in cpus lines receipts)
 finished_here cpus lines receipts c line over here at_end is =
-    sym (many_finished cpus lines receipts c (Some line) here is ∙ ap (λ (n : ℕ). c.line + n) (one over at_end))
+    sym (many_finished cpus lines receipts c (Some line) here is
+    ∙ ap (λ (n : ℕ). c.line + n) (one over at_end))
   where
     one : (b : Bool) → has_carried c line ≡ b → length (here_at c (Some line)) ≡ cond b 1 0
     one true e = ap (λ (b : Bool). length (cond b (option_map Carried (end_in c.driver.stage) ∷ []) [])) e

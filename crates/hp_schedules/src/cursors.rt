@@ -115,8 +115,8 @@ impl Cursor {
 
     /// Returns the position after the current line's call, given the record of that call.
     pub(crate) fn after(&self, cpus: u32, lines: &[Step], latest: &Record) -> Cursor
-        ensures moved { (receipts : List Receipt) (event : AnyEvent) → IsCursor cpus lines.now receipts self.now
-            → asks_at self.now lines.now ≡ Some event
+        ensures moved { (receipts : List Receipt) (event : AnyEvent)
+            → IsCursor cpus lines.now receipts self.now → asks_at self.now lines.now ≡ Some event
             → IsCursor cpus lines.now (receipts ++ receipt_of latest.now ∷ []) result }
         ensures settled { (receipts : List Receipt) (event : AnyEvent)
             → IsCursor cpus lines.now receipts self.now → asks_at self.now lines.now ≡ Some event

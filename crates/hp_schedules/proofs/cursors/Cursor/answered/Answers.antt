@@ -29,5 +29,6 @@ returns c =
     (sym c.is_carrying.ensures ∙ c.if-is_carrying.false) asked in (
       omega (arith, once.at, once.many),
       once.more
-          ∙ ap (λ (reply : Reply). answers_in cpus c.args.lines.now receipts ++ Some (Replied reply) ∷ []) same,
+          ∙ ap (λ (reply : Reply). answers_in cpus c.args.lines.now receipts ++ Some (Replied reply) ∷ [])
+          same,
     )
