@@ -7,9 +7,30 @@ use Rattle.hp_units.specs.declared.events.Event.{Event}
 use Rattle.hp_units.specs.declared.replies.Receipt.{Receipt}
 use Rattle.hp_schedules.specs.Scripts.{after_line, after_lines, line_next, next_in}
 use Rattle.hp_schedules.specs.declared.scripts.Step.{Step}
+use Rattle.hp_schedules.specs.declared.scripts.Step.TheVariants.{Ask, Own, Carry}
 use Rattle.hp_schedules.proofs.Lines.{goes_on, goes_on_all, over_now}
 
 -- ---- one line
+
+-- what is left does not depend on the number of the operation
+pub any_operation : (cpus op : ℕ) (line : Step) (earlier later : List Receipt)
+    → after_line cpus op line earlier later ≡ after_line cpus 0 line earlier later
+any_operation cpus op (Own work) (x ∷ earlier) later =
+    over_now cpus op (Own work) (x ∷ earlier) later refl
+    ∙ sym (over_now cpus 0 (Own work) (x ∷ earlier) later refl)
+any_operation cpus op (Own work) [] [] = refl
+any_operation cpus op (Own work) [] (r ∷ rs) =
+    over_now cpus op (Own work) (r ∷ []) rs refl ∙ sym (over_now cpus 0 (Own work) (r ∷ []) rs refl)
+any_operation cpus op (Ask event) earlier [] = refl
+any_operation cpus op (Ask event) earlier (r ∷ rs) =
+    ap (λ (rest : Option (List Receipt)).
+    option_map_or (λ e. rest) (line_next cpus 0 (Ask event) earlier) (Some (r ∷ rs)))
+    (any_operation cpus op (Ask event) (earlier ++ r ∷ []) rs)
+any_operation cpus op (Carry plan turns) earlier [] = refl
+any_operation cpus op (Carry plan turns) earlier (r ∷ rs) =
+    ap (λ (rest : Option (List Receipt)).
+    option_map_or (λ e. rest) (line_next cpus 0 (Carry plan turns) earlier) (Some (r ∷ rs)))
+    (any_operation cpus op (Carry plan turns) (earlier ++ r ∷ []) rs)
 
 -- what is left of more receipts
 pub after_more : (cpus op : ℕ) (line : Step) (earlier later more rest : List Receipt)

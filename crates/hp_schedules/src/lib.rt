@@ -35,7 +35,8 @@ pub use digests::{key_digest, learn, mixed};
 pub use exchanges::Exchanges;
 pub use laws::{
     alike_beginnings_continue_alike, alike_places_go_on_alike, alike_positions_answer_alike,
-    answers_only_grow, counts_are_unique, interleavings_are_counted, schedules_are_interleavings,
+    answers_only_grow, counts_are_unique, interleavings_are_counted, lines_finish_alike,
+    schedules_are_interleavings,
 };
 pub use line_answers::{FinishedLine, LineAnswer};
 pub use multinomials::{HowMany, call_count, interleavings_of};
