@@ -79,21 +79,22 @@ IsRequested cpus lines receipts (Some q) =
     (next_of cpus lines receipts ≡ Some q.event) × IsCursor cpus lines receipts q.from
     × (asks_at q.from lines ≡ Some q.event)
 
--- the cursor is in the middle of a plan or after it: the plan's driver has taken a reply
+-- the cursor is in the middle of a plan or at its end: the plan's driver has taken a reply
 abbrev pub carries : Cursor → Step → Bool
 carries c line = cond (is_one_call line) false (has_begun c.driver.stage)
 
--- and it asks for nothing more
+abbrev pub is_carrying : Cursor → List Step → Bool
+is_carrying c lines = option_map_or (carries c) (slice_get lines c.line) false
+
+-- the cursor is at the end of a plan: the plan's driver asks for nothing more
 abbrev pub has_carried : Cursor → Step → Bool
 has_carried c line = cond (is_one_call line) false (is_over c.driver.stage)
 
+-- the line of a plan with the plan's end, if the driver is at the end
 abbrev pub carried : Cursor → Option FinishedLine
 carried c =
     cond (is_over c.driver.stage)
     (Some (record { line = c.line; answer = option_map Carried (end_in c.driver.stage) })) None
-
-abbrev pub is_carrying : Cursor → List Step → Bool
-is_carrying c lines = option_map_or (carries c) (slice_get lines c.line) false
 
 -- a cursor stays at the line of a plan after it. So if it is at the beginning of a line, the line
 -- before was one call
