@@ -1,5 +1,5 @@
 -- How far the driver of a plan is after receipts.
-use Rattle.std.specs.Prelude.{◌≡◌, ℕ, ◌+◌, ◌-◌, List, [], ◌∷◌, ◌++◌, Option, Some, None, nat_lt}
+use Rattle.std.specs.Prelude.{◌≡◌, ℕ, ◌+◌, ◌-◌, Bool, true, false, List, [], ◌∷◌, ◌++◌, Option, Some, None, nat_lt}
 use Rattle.hp_units.specs.Driver.{cause_of, end_after, end_of, next_after, next_drain, next_event, tried}
 use Rattle.hp_ops.specs.declared.stages.DriverKey.{DriverKey}
 use Rattle.hp_ops.specs.Names.{Item, Event, Begin, DrainFor, Migrate, Commit, Cancel, Reply, Refused, Refusal, NoOp, Receipt, OpEnd, EndsUndone, Driver, Stage, Begins, DrainsFor, Migrates, Commits, Cancels, Ended}
@@ -29,6 +29,15 @@ event_in plan stage = work_in stage
 abbrev pub end_in : Stage → Option OpEnd
 end_in (Ended end) = end
 end_in stage = None
+
+-- the driver has taken a reply, and its run is over
+abbrev pub has_begun : Stage → Bool
+has_begun Begins = false
+has_begun stage = true
+
+abbrev pub is_over : Stage → Bool
+is_over (Ended end) = true
+is_over stage = false
 
 -- a stage by two numbers: which stage it is, with the processor of a drain, and the operation that it
 -- works on, or 0

@@ -2,7 +2,7 @@
 ghost use Rattle.std.specs.Prelude.{◌≡◌, ◌-◌, ◌≤◌, ℕ, [], IfOk, List, None, OnErr, Some, cond};
 ghost use Rattle.hp_units.specs.Driver.{cause_after, is_migrate};
 ghost use Rattle.hp_ops.specs.Names.{Begin, Cancel, Commit, DrainFor, Item, Migrate};
-ghost use Rattle.hp_ops.specs.Stages.{EndsAs, Follows, IsAfter, IsRound, MovesOn, end_in, event_in, key_of, stage_number, stage_op, undone_by, work_in};
+ghost use Rattle.hp_ops.specs.Stages.{EndsAs, Follows, IsAfter, IsRound, MovesOn, end_in, event_in, has_begun, is_over, key_of, stage_number, stage_op, undone_by, work_in};
 
 use hp_units::{Cpu, Event, OpEnd, Plan, Refusal, Reply, Serial};
 use std::alloc::{AllocError, Global};
@@ -97,6 +97,38 @@ impl Driver {
             stage: self.stage.number(),
             op: self.stage.operation(),
         }
+    }
+
+    /// Returns whether the driver has taken a reply.
+    pub fn has_begun(&self) -> bool
+        ensures { result ≡ has_begun self.now.stage }
+    {
+        !matches!(self.stage, Stage::Begin)
+    }
+
+    /// Returns whether the run is over: the driver asks for nothing more.
+    pub fn is_over(&self) -> bool
+        ensures { result ≡ is_over self.now.stage }
+    {
+        matches!(self.stage, Stage::Ended(_))
+    }
+
+    /// Returns how the run ended, or `None` if it goes on, or ended by a reply that no machine
+    /// gives.
+    pub fn ended(&self) -> Option<OpEnd>
+        ensures { result ≡ end_in self.now.stage }
+    {
+        match self.stage {
+            Stage::Ended(end) => end,
+            _ => None,
+        }
+    }
+
+    /// Returns the last refusal of a migration or a commit, if any.
+    pub fn why(&self) -> Option<Refusal>
+        ensures { result ≡ self.now.why }
+    {
+        self.why
     }
 
     /// Returns the event to ask for next, if it is work on the operation.

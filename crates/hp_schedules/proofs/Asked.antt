@@ -1,11 +1,12 @@
 -- A cursor after a call, and where its line is over.
-use Rattle.std.proofs.Common.{◌≡◌, ℕ, zero, suc, ◌+◌, ◌-◌, ◌≤◌, true, false, List, [], ◌∷◌, ◌++◌, length, drop, Option, Some, None, slice_get, add-one, refl, ap, sym, subst, ◌∙◌, arith}
+use Rattle.std.proofs.Common.{◌≡◌, ℕ, zero, suc, ◌+◌, ◌-◌, ◌≤◌, true, false, List, [], ◌∷◌, ◌++◌, length, take, drop, Option, Some, None, slice_get, add-one, refl, ap, sym, subst, ◌∙◌, arith}
 use Rattle.std.specs.Prelude.{option_and_then}
 use Rattle.std.specs.Option.{option_map_or}
 use Rattle.std.proofs.lemmas.List.{append-nil, append_assoc}
 use Rattle.std.proofs.lemmas.List.Sums.{fold_push}
-use Rattle.std.proofs.lemmas.Option.{none-some, same_Some}
+use Rattle.std.proofs.lemmas.Option.{none-some, same_Some, slice_get_within}
 use Rattle.std.proofs.Math.ListN.{drop_of_length-le}
+use Rattle.hp_laws.proofs.Replays.{take_one}
 use Rattle.hp_ops.specs.Stages.{IsAfter, MovesOn, event_in}
 use Rattle.hp_ops.specs.declared.stages.Driver.{Driver}
 use Rattle.hp_ops.specs.declared.stages.Stage.{Stage}
@@ -16,13 +17,14 @@ use Rattle.hp_units.specs.declared.events.Event.{Event}
 use Rattle.hp_units.specs.declared.replies.Receipt.{Receipt}
 use Rattle.hp_schedules.specs.Cursors.{IsAsked, IsCursor, IsIn, IsInFirst, IsRequested, asks, asks_at, cursor_at, driver_before, first_driver}
 use Rattle.hp_schedules.specs.Interleavings.{is_one_call}
-use Rattle.hp_schedules.specs.Scripts.{after_line, later_operation, line_next, next_in, next_of, own_operation, work_of}
+use Rattle.hp_schedules.specs.Scripts.{after_line, after_lines, later_operation, line_next, next_in, next_of, own_operation, work_of}
 use Rattle.hp_schedules.specs.declared.cursors.Cursor.{Cursor}
 use Rattle.hp_schedules.specs.declared.cursors.NextCall.{NextCall}
 use Rattle.hp_schedules.specs.declared.scripts.Step.{Step}
 use Rattle.hp_schedules.specs.declared.scripts.Step.TheVariants.{Ask, Own, Carry}
+use Rattle.hp_schedules.proofs.AfterLines.{lines_more, lines_then, then_all}
 use Rattle.hp_schedules.proofs.Lines.{goes_on, goes_on_all, over_now}
-use Rattle.hp_schedules.proofs.OneCalls.{skips, stays}
+use Rattle.hp_schedules.proofs.OneCalls.{finished_once, skips, stays}
 
 -- ---- the line at a place
 
@@ -33,7 +35,7 @@ line_here (first ∷ lines) zero line here = ap (λ (l : Step). l ∷ lines) (sa
 line_here (first ∷ lines) (suc k) line here = line_here lines k line here
 
 -- the lines from there on, with the next one by its number
-lines_here : (lines : List Step) (k : ℕ) (line : Step) → slice_get lines k ≡ Some line
+pub lines_here : (lines : List Step) (k : ℕ) (line : Step) → slice_get lines k ≡ Some line
     → drop k lines ≡ line ∷ drop (k + 1) lines
 lines_here lines k line here =
     line_here lines k line here ∙ ap (λ (n : ℕ). line ∷ drop n lines) (sym (add-one k))
@@ -89,7 +91,14 @@ first_there cpus (line ∷ lines) (suc k) op = first_there cpus lines k op
 -- where a script begins
 pub begins : (cpus : ℕ) (lines : List Step) → IsCursor cpus lines [] (cursor_at cpus lines 0 0)
 begins cpus lines =
-    record { own = []; begun = refl; ahead = λ op later. refl; here = first_there cpus lines 0 0 }
+    record {
+      own = [];
+      begun = refl;
+      ahead = λ op later. refl;
+      here = first_there cpus lines 0 0;
+      within = omega arith;
+      passed = λ op. refl;
+    }
 
 -- ---- what is asked for
 
@@ -128,7 +137,7 @@ asks_here : (c : Cursor) (lines : List Step) (line : Step) → slice_get lines c
 asks_here c lines line here = ap (option_and_then (asks c)) here
 
 -- the first of the lines from there on
-at_first : (cpus : ℕ) (lines : List Step) (receipts : List Receipt) (c : Cursor) (line : Step)
+pub at_first : (cpus : ℕ) (lines : List Step) (receipts : List Receipt) (c : Cursor) (line : Step)
     (is : IsCursor cpus lines receipts c)
     → slice_get lines c.line ≡ Some line → IsInFirst cpus (line ∷ drop (c.line + 1) lines) is.own c.driver
 at_first cpus lines receipts c line is here =
@@ -166,6 +175,28 @@ past_next cpus lines receipts c is past =
     ∙ ap (λ (ls : List Step). next_in cpus (own_operation receipts) ls (is.own ++ []))
     (drop_of_length-le lines past))
 
+-- ---- the lines before a cursor
+
+-- the line at a cursor is finished by its receipts
+pub own_over : (cpus op : ℕ) (line : Step) (lines : List Step) (own : List Receipt) (c : Cursor)
+    → IsInFirst cpus (line ∷ lines) own c.driver → asks c line ≡ None
+    → after_line cpus op line [] own ≡ Some []
+own_over cpus op (Ask event) lines own c at is = absurd cc
+own_over cpus op (Own work) lines own c at is = absurd cc
+own_over cpus op (Carry plan turns) lines own c at is =
+    ap (after_line cpus op (Carry plan turns) []) (sym (append-nil own))
+    ∙ (at.1 op [] ∙ over_now cpus op (Carry plan turns) own [] (sym (at.0.next plan) ∙ is))
+
+-- after it one line more is before the next one
+passed_one : (cpus op : ℕ) (lines : List Step) (receipts own : List Receipt) (k : ℕ) (line : Step)
+    → slice_get lines k ≡ Some line → after_lines cpus op (take k lines) receipts ≡ Some own
+    → after_line cpus op line [] own ≡ Some []
+    → after_lines cpus op (take (k + 1) lines) receipts ≡ Some []
+passed_one cpus op lines receipts own k line here passed over =
+    ap (λ (ls : List Step). after_lines cpus op ls receipts) (take_one lines k line here)
+    ∙ (lines_then cpus op (take k lines) (line ∷ []) receipts own passed
+    ∙ then_all cpus op line [] own [] [] over refl)
+
 -- ---- the next line
 
 moved_on : (cpus : ℕ) (lines : List Step) (receipts : List Receipt) (c n : Cursor) (line : Step)
@@ -181,6 +212,12 @@ moved_on cpus lines receipts c n line is here over at op_is first = record {
       (at_first cpus lines receipts c line is here) over
       ∙ ap (λ (k : ℕ). next_in cpus op (drop k lines) later) (sym at));
   here = subst (λ (k : ℕ). IsInFirst cpus (drop k lines) [] n.driver) (sym at) first;
+  within = omega (arith, at, slice_get_within lines c.line line here);
+  passed =
+      λ op. ap (λ (k : ℕ). after_lines cpus op (take k lines) receipts) at
+      ∙ passed_one cpus op lines receipts is.own c.line line here (is.passed op)
+      (own_over cpus op line (drop (c.line + 1) lines) is.own c
+      (at_first cpus lines receipts c line is here) over);
 }
 
 -- which asks for something
@@ -270,6 +307,14 @@ answered_once cpus lines receipts c n line r here one at op_is first is = record
       ∙ (skips cpus op line (drop (c.line + 1) lines) r later one
       ∙ ap (λ (k : ℕ). next_in cpus op (drop k lines) later) (sym at))));
   here = subst (λ (k : ℕ). IsInFirst cpus (drop k lines) [] n.driver) (sym at) first;
+  within = omega (arith, at, slice_get_within lines c.line line here);
+  passed =
+      λ op. ap (λ (k : ℕ). after_lines cpus op (take k lines) (receipts ++ r ∷ [])) at
+      ∙ passed_one cpus op lines (receipts ++ r ∷ []) (r ∷ []) c.line line here
+      (lines_more cpus op (take c.line lines) receipts (r ∷ []) is.own (is.passed op)
+      ∙ ap (λ (own : List Receipt). Some (own ++ r ∷ []))
+      (none_yet line (at_first cpus lines receipts c line is here).0 one))
+      (finished_once cpus op line r [] one);
 }
   where
     none_yet : (l : Step) → IsIn cpus l is.own c.driver → is_one_call l ≡ true → is.own ≡ []
@@ -309,6 +354,10 @@ answered_run cpus lines receipts c n line r e here one asked at op_is moves is =
       (sym (lines_here lines c.line line here))
       (by_line line (at_first cpus lines receipts c line is here) one
       (sym (asks_here c lines line here) ∙ asked)));
+  within = omega (arith, at, is.within);
+  passed =
+      λ op. ap (λ (k : ℕ). after_lines cpus op (take k lines) (receipts ++ r ∷ [])) at
+      ∙ lines_more cpus op (take c.line lines) receipts (r ∷ []) is.own (is.passed op);
 }
   where
     by_line : (l : Step) → IsInFirst cpus (l ∷ drop (c.line + 1) lines) is.own c.driver

@@ -1,6 +1,12 @@
+pub mod AfterLines
 pub mod Alike
+pub mod Answered
+pub mod AnswersAt
 pub mod Apart
 pub mod Asked
+pub mod Begun
+pub mod Caused
+pub mod CausesAt
 pub mod ClosedNets
 pub mod Coefficients
 pub mod Compared
@@ -13,6 +19,7 @@ pub mod InRows
 pub mod Interleaved
 pub mod Interleavings
 pub mod Known
+pub mod LineAnswers
 pub mod Lines
 pub mod Numberings
 pub mod OneCalls
@@ -28,3 +35,4 @@ pub mod Steps
 pub mod Trails
 pub mod Uniqueness
 pub mod Unnumbered
+pub mod UpTo

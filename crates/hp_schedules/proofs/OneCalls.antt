@@ -32,12 +32,15 @@ stays cpus op line lines one =
     ap (λ (o : Option (List Receipt)).
     option_map_or (λ rest. next_in cpus op lines rest) o (line_next cpus op line [])) on
 
+pub finished_once : (cpus op : ℕ) (line : Step) (r : Receipt) (rs : List Receipt)
+    → is_one_call line ≡ true → after_line cpus op line [] (r ∷ rs) ≡ Some rs
+finished_once cpus op line r rs one =
+    ap (λ (o : Option Event). option_map_or (λ event. after_line cpus op line (r ∷ []) rs) o (Some (r ∷ rs)))
+    (asks_once cpus op line one).1 ∙ over_now cpus op line (r ∷ []) rs (over_once cpus op line r one)
+
 pub skips : (cpus op : ℕ) (line : Step) (lines : List Step) (r : Receipt) (rs : List Receipt)
     → is_one_call line ≡ true → next_in cpus op (line ∷ lines) (r ∷ rs) ≡ next_in cpus op lines rs
 skips cpus op line lines r rs one =
-    let first = asks_once cpus op line one in
-    let over : after_line cpus op line [] (r ∷ rs) ≡ Some rs =
-    ap (λ (o : Option Event). option_map_or (λ event. after_line cpus op line (r ∷ []) rs) o (Some (r ∷ rs)))
-    first.1 ∙ over_now cpus op line (r ∷ []) rs (over_once cpus op line r one) in
     ap (λ (o : Option (List Receipt)).
-    option_map_or (λ rest. next_in cpus op lines rest) o (line_next cpus op line (r ∷ rs))) over
+    option_map_or (λ rest. next_in cpus op lines rest) o (line_next cpus op line (r ∷ rs)))
+    (finished_once cpus op line r rs one)

@@ -1,7 +1,7 @@
 -- Where all processors are in their scripts, after a call and back over it.
 use Rattle.std.proofs.Common.{◌≡◌, ℕ, zero, suc, ◌<◌, ◌≤◌, Bool, true, false, List, [], ◌∷◌, ◌++◌, length, set, eqb, Option, Some, None, slice_get, refl, ap, sym, subst, ◌∙◌, arith, inl, inr, map}
 use Rattle.std.specs.Prelude.{◌⊎◌, option_and_then}
-use Rattle.std.proofs.lemmas.Bool.{cases_lt, eq-eqb, eqb-true}
+use Rattle.std.proofs.lemmas.Bool.{cases_lt, eqb-true}
 use Rattle.std.proofs.lemmas.List.{append-nil, length-map, length-set}
 use Rattle.std.proofs.lemmas.Option.{none-some, same_Some, slice_get_within}
 use Rattle.hp_laws.proofs.Lists.{get_some}
@@ -9,7 +9,7 @@ use Rattle.hp_units.specs.Receipts.{receipt_of, receipts_of}
 use Rattle.hp_units.specs.declared.events.Event.{Event}
 use Rattle.hp_units.specs.declared.replies.Receipt.{Receipt}
 use Rattle.hp_units.specs.declared.replies.Record.{Record}
-use Rattle.hp_schedules.specs.Cursors.{AreCursors, IsCalledFor, IsCursor, IsRequested, asks_at, cursor_at}
+use Rattle.hp_schedules.specs.Cursors.{AreCursors, IsCalledFor, IsCursor, IsRequested, IsSettled, asks_at, cursor_at}
 use Rattle.hp_schedules.specs.Schedules.{Setting, next_call}
 use Rattle.hp_schedules.specs.Scripts.{own_operation, next_of}
 use Rattle.hp_schedules.specs.declared.cursors.Cursor.{Cursor}
@@ -18,7 +18,7 @@ use Rattle.hp_schedules.specs.declared.scripts.Step.{Step}
 use Rattle.hp_schedules.proofs.Asked.{begins}
 use Rattle.hp_schedules.proofs.Counts.{get_set_cases}
 use Rattle.hp_schedules.proofs.Plays.{none_past}
-use Rattle.hp_schedules.proofs.Steps.{receipts_push}
+use Rattle.hp_schedules.proofs.Steps.{receipts_own, receipts_push}
 
 -- ---- where the scripts begin
 
@@ -40,7 +40,7 @@ pub all_begun : (g : Setting) (cpus : ℕ) (scripts : List (List Step)) (cursors
     → g.scripts ≡ scripts → g.layout.cpus ≡ cpus
     → cursors ≡ map (λ (lines : List Step). cursor_at cpus lines 0 0) scripts → AreCursors g [] cursors
 all_begun g cpus scripts cursors scripts_is cpus_is is =
-    record { many = ap length begun ∙ length-map g.scripts first; each = each }
+    record { many = ap length begun ∙ length-map g.scripts first; each = each; settled = settled }
   where
     first : List Step → Cursor
     first lines = cursor_at g.layout.cpus lines 0 0
@@ -51,13 +51,22 @@ all_begun g cpus scripts cursors scripts_is cpus_is is =
         ∙ (ap (λ (n : ℕ). map (λ (lines : List Step). cursor_at n lines 0 0) scripts) (sym cpus_is)
         ∙ ap (map first) (sym scripts_is))
 
+    made : (cpu : ℕ) (lines : List Step) (c : Cursor) → slice_get g.scripts cpu ≡ Some lines
+        → slice_get cursors cpu ≡ Some c → first lines ≡ c
+    made cpu lines c here there =
+        made_at first g.scripts cpu lines c here
+        (ap (λ (cs : List Cursor). slice_get cs cpu) (sym begun) ∙ there)
+
     each : (cpu : ℕ) (lines : List Step) (c : Cursor) → slice_get g.scripts cpu ≡ Some lines
         → slice_get cursors cpu ≡ Some c → IsCursor g.layout.cpus lines [] c
     each cpu lines c here there =
-        subst (IsCursor g.layout.cpus lines [])
-        (made_at first g.scripts cpu lines c here
-        (ap (λ (cs : List Cursor). slice_get cs cpu) (sym begun) ∙ there))
-        (begins g.layout.cpus lines)
+        subst (IsCursor g.layout.cpus lines []) (made cpu lines c here there) (begins g.layout.cpus lines)
+
+    settled : (cpu : ℕ) (lines : List Step) (c : Cursor) → slice_get g.scripts cpu ≡ Some lines
+        → slice_get cursors cpu ≡ Some c → IsSettled lines c
+    settled cpu lines c here there off k line at is =
+        let at_first : 0 ≡ c.line = ap (λ (d : Cursor). d.line) (made cpu lines c here there) in
+        absurd (omega (arith, at, at_first))
 
 -- ---- a request
 
@@ -130,17 +139,13 @@ cursors_more : (g : Setting) (news : List Record) (r : Record) (cursors : List C
     (later : Cursor)
     → slice_get g.scripts r.cpu ≡ Some lines
     → IsCursor g.layout.cpus lines (receipts_of r.cpu news ++ receipt_of r ∷ []) later
-    → AreCursors g news cursors → AreCursors g (news ++ r ∷ []) (set cursors r.cpu later)
-cursors_more g news r cursors lines later here is all =
-    record { many = length-set cursors r.cpu later ∙ all.many; each = each }
+    → IsSettled lines later → AreCursors g news cursors
+    → AreCursors g (news ++ r ∷ []) (set cursors r.cpu later)
+cursors_more g news r cursors lines later here is settles all =
+    record { many = length-set cursors r.cpu later ∙ all.many; each = each; settled = settled }
   where
-    own : receipts_of r.cpu (news ++ r ∷ []) ≡ receipts_of r.cpu news ++ receipt_of r ∷ []
-    own = by_owner (eqb r.cpu r.cpu) refl
-      where
-        by_owner : (b : Bool) → eqb r.cpu r.cpu ≡ b
-            → receipts_of r.cpu (news ++ r ∷ []) ≡ receipts_of r.cpu news ++ receipt_of r ∷ []
-        by_owner true e = receipts_push r.cpu news r true e
-        by_owner false e = absurd (let t : eqb r.cpu r.cpu ≡ true = eq-eqb r.cpu r.cpu refl in cc)
+    same_lines : (k : ℕ) (ls : List Step) → k ≡ r.cpu → slice_get g.scripts k ≡ Some ls → lines ≡ ls
+    same_lines k ls at h = same_Some lines ls (sym here ∙ (ap (slice_get g.scripts) (sym at) ∙ h))
 
     other : (k : ℕ) → (k ≡ r.cpu → ⊥) → receipts_of k (news ++ r ∷ []) ≡ receipts_of k news
     other k off = by_owner (eqb r.cpu k) refl
@@ -157,22 +162,34 @@ cursors_more g news r cursors lines later here is all =
         by_place : ((k ≡ r.cpu) × (later ≡ c)) ⊎ ((k ≡ r.cpu → ⊥) × (slice_get cursors k ≡ Some c))
             → IsCursor g.layout.cpus ls (receipts_of k (news ++ r ∷ [])) c
         by_place (inl at) =
-            let same : lines ≡ ls =
-            same_Some lines ls (sym here ∙ (ap (slice_get g.scripts) (sym at.0) ∙ h)) in
             subst (IsCursor g.layout.cpus ls (receipts_of k (news ++ r ∷ []))) at.1
-            (subst (λ (l : List Step). IsCursor g.layout.cpus l (receipts_of k (news ++ r ∷ [])) later) same
+            (subst (λ (l : List Step). IsCursor g.layout.cpus l (receipts_of k (news ++ r ∷ [])) later)
+            (same_lines k ls at.0 h)
             (subst (λ (n : ℕ). IsCursor g.layout.cpus lines (receipts_of n (news ++ r ∷ [])) later) (sym at.0)
-            (subst (λ (xs : List Receipt). IsCursor g.layout.cpus lines xs later) (sym own) is)))
+            (subst (λ (xs : List Receipt). IsCursor g.layout.cpus lines xs later) (sym (receipts_own news r))
+            is)))
         by_place (inr off) =
             subst (λ (xs : List Receipt). IsCursor g.layout.cpus ls xs c) (sym (other k off.0))
             (all.each k ls c h off.1)
+
+    settled : (k : ℕ) (ls : List Step) (c : Cursor) → slice_get g.scripts k ≡ Some ls
+        → slice_get (set cursors r.cpu later) k ≡ Some c → IsSettled ls c
+    settled k ls c h i = by_place (get_set_cases cursors r.cpu later k c i)
+      where
+        by_place : ((k ≡ r.cpu) × (later ≡ c)) ⊎ ((k ≡ r.cpu → ⊥) × (slice_get cursors k ≡ Some c))
+            → IsSettled ls c
+        by_place (inl at) =
+            subst (IsSettled ls) at.1
+            (subst (λ (l : List Step). IsSettled l later) (same_lines k ls at.0 h) settles)
+        by_place (inr off) = all.settled k ls c h off.1
 
 -- the processor's cursor goes on from where its script asked for the call
 pub went_on : (g : Setting) (news : List Record) (r : Record) (cpus cpu : ℕ) (scripts : List (List Step))
     (lines shown : List Step) (old new : List Cursor) (later : Cursor) (request : NextCall)
     → g.scripts ≡ scripts → g.layout.cpus ≡ cpus → r.cpu ≡ cpu → slice_get scripts cpu ≡ Some lines
     → shown ≡ lines → ((receipts : List Receipt) (event : Event) → IsCursor cpus shown receipts request.from
-    → asks_at request.from shown ≡ Some event → IsCursor cpus shown (receipts ++ receipt_of r ∷ []) later)
+    → asks_at request.from shown ≡ Some event → IsCursor cpus shown (receipts ++ receipt_of r ∷ []) later
+    × IsSettled shown later)
     → new ≡ set old cpu later → AreCursors g news old → IsCalledFor g cpu news (Some request)
     → AreCursors g (news ++ r ∷ []) new
 went_on g news r cpus cpu scripts lines shown old new later request scripts_is cpus_is whose here same after
@@ -185,15 +202,20 @@ went_on g news r cpus cpu scripts lines shown old new later request scripts_is c
     (sym whose)
     (subst (λ (n : ℕ). IsCursor n lines (receipts_of cpu news ++ receipt_of r ∷ []) later) (sym cpus_is)
     (subst (λ (ls : List Step). IsCursor cpus ls (receipts_of cpu news ++ receipt_of r ∷ []) later) same
-    (after (receipts_of cpu news) request.event
-    (subst (λ (ls : List Step). IsCursor cpus ls (receipts_of cpu news) request.from) (sym same)
-    (subst (λ (n : ℕ). IsCursor n lines (receipts_of cpu news) request.from) cpus_is
-    (called.1 lines within).0))
-    (subst (λ (ls : List Step). asks_at request.from ls ≡ Some request.event) (sym same)
-    (called.1 lines within).1))))) all)
+    moved.0)))
+    (subst (λ (ls : List Step). IsSettled ls later) same moved.1) all)
   where
     within : slice_get g.scripts cpu ≡ Some lines
     within = ap (λ (xs : List (List Step)). slice_get xs cpu) scripts_is ∙ here
+
+    moved : IsCursor cpus shown (receipts_of cpu news ++ receipt_of r ∷ []) later × IsSettled shown later
+    moved =
+        after (receipts_of cpu news) request.event
+        (subst (λ (ls : List Step). IsCursor cpus ls (receipts_of cpu news) request.from) (sym same)
+        (subst (λ (n : ℕ). IsCursor n lines (receipts_of cpu news) request.from) cpus_is
+        (called.1 lines within).0))
+        (subst (λ (ls : List Step). asks_at request.from ls ≡ Some request.event) (sym same)
+        (called.1 lines within).1)
 
 -- ---- the operation that a processor began last
 

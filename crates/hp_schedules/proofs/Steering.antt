@@ -28,9 +28,9 @@ use Rattle.hp_schedules.proofs.Unnumbered.{after_same}
 -- ---- a driver
 
 -- two runs after which the same event is next, and as many migrations are left
-record GoAlike (cpus turns : ℕ) (plan : List Item) (xs ys : List Receipt) : Type 0 where
-  next : next_event cpus turns plan xs ≡ next_event cpus turns plan ys
-  left : turns - tried xs ≡ turns - tried ys
+pub record GoAlike (cpus turns : ℕ) (plan : List Item) (xs ys : List Receipt) : Type 0 where
+  pub next : next_event cpus turns plan xs ≡ next_event cpus turns plan ys
+  pub left : turns - tried xs ≡ turns - tried ys
 
 -- with the same receipts more they are such runs again
 alike_push : (cpus turns : ℕ) (plan : List Item) (xs ys : List Receipt) (r : Receipt)
@@ -64,7 +64,7 @@ alike_later cpus turns plan xs ys (r ∷ rs) alike =
 -- ---- lines
 
 -- what the line of a plan leaves of the receipts
-rest_alike : (cpus op turns : ℕ) (plan : List Item) (xs ys later : List Receipt)
+pub rest_alike : (cpus op turns : ℕ) (plan : List Item) (xs ys later : List Receipt)
     → GoAlike cpus turns plan xs ys → after_line cpus op (Carry plan turns) xs later
     ≡ after_line cpus op (Carry plan turns) ys later
 rest_alike cpus op turns plan xs ys [] alike =
@@ -111,7 +111,7 @@ begun_alike cpus op (Carry plan turns ∷ lines) xs ys later d e same first seco
 
 -- ---- scripts
 
-abbrev key_in : List ℕ → DriverKey
+abbrev pub key_in : List ℕ → DriverKey
 key_in numbers =
     record { left = get_or numbers 2 0; stage = get_or numbers 3 0; op = get_or numbers 4 0 }
 

@@ -1,5 +1,6 @@
 -- A processor's receipts with one record more.
 use Rattle.std.proofs.Common.{◌≡◌, ℕ, Bool, true, false, cond, List, [], ◌∷◌, ◌++◌, map, filter, eqb, refl, ap, ◌∙◌}
+use Rattle.std.proofs.lemmas.Bool.{eq-eqb}
 use Rattle.std.proofs.lemmas.List.{map-append}
 use Rattle.std.proofs.lemmas.List.Elements.{filter-append}
 use Rattle.hp_units.specs.Receipts.{receipt_of, receipts_of}
@@ -19,3 +20,8 @@ receipts_push cpu h r own is =
         → map receipt_of (filter (λ (q : Record). eqb q.cpu cpu) (r ∷ [])) ≡ cond b (receipt_of r ∷ []) []
     one true e = rw e refl
     one false e = rw e refl
+
+-- its own record's
+pub receipts_own : (h : List Record) (r : Record)
+    → receipts_of r.cpu (h ++ r ∷ []) ≡ receipts_of r.cpu h ++ receipt_of r ∷ []
+receipts_own h r = receipts_push r.cpu h r true (eq-eqb r.cpu r.cpu refl)

@@ -1,6 +1,6 @@
 -- Positions of processors in their scripts.
-use Rattle.std.specs.Prelude.{◌≡◌, ℕ, List, [], ◌∷◌, ◌++◌, Option, Some, None, length, drop, slice_get, option_and_then}
-use Rattle.hp_ops.specs.Stages.{IsAfter, event_in, key_of}
+use Rattle.std.specs.Prelude.{◌≡◌, ℕ, ◌+◌, ◌≤◌, Bool, true, false, cond, List, [], ◌∷◌, ◌++◌, Option, Some, None, length, take, drop, slice_get, option_and_then, option_map}
+use Rattle.hp_ops.specs.Stages.{IsAfter, end_in, event_in, has_begun, is_over, key_of}
 use Rattle.hp_ops.specs.declared.stages.Driver.{Driver}
 use Rattle.hp_ops.specs.declared.stages.Stage.TheVariants.{Begin as Begins}
 use Rattle.std.specs.Option.{option_map_or}
@@ -8,10 +8,13 @@ use Rattle.hp_units.specs.Receipts.{receipts_of}
 use Rattle.hp_units.specs.declared.events.Event.{Event}
 use Rattle.hp_units.specs.declared.replies.Receipt.{Receipt}
 use Rattle.hp_units.specs.declared.replies.Record.{Record}
+use Rattle.hp_schedules.specs.Interleavings.{is_one_call}
 use Rattle.hp_schedules.specs.Schedules.{Setting, next_call}
-use Rattle.hp_schedules.specs.Scripts.{after_line, next_in, next_of, own_operation, work_of}
+use Rattle.hp_schedules.specs.Scripts.{after_line, after_lines, next_in, next_of, own_operation, work_of}
 use Rattle.hp_schedules.specs.declared.cursors.Cursor.{Cursor}
 use Rattle.hp_schedules.specs.declared.cursors.NextCall.{NextCall}
+use Rattle.hp_schedules.specs.declared.line_answers.FinishedLine.{FinishedLine}
+use Rattle.hp_schedules.specs.declared.line_answers.LineAnswer.TheVariants.{Plan as Carried}
 use Rattle.hp_schedules.specs.declared.scripts.Step.{Step}
 use Rattle.hp_schedules.specs.declared.scripts.Step.TheVariants.{Ask, Own, Carry}
 
@@ -37,14 +40,16 @@ IsInFirst cpus (line ∷ lines) own d =
     IsIn cpus line own d × ((op : ℕ) (later : List Receipt)
     → after_line cpus op line [] (own ++ later) ≡ after_line cpus op line own later)
 
--- a cursor is where a script is after its processor's receipts: the lines from there on call what
--- the script calls after these and any later receipts
+-- a cursor is where a script is after its processor's receipts: the lines before it are finished, and
+-- the lines from there on call what the script calls after these and any later receipts
 pub record IsCursor (cpus : ℕ) (lines : List Step) (receipts : List Receipt) (c : Cursor) : Type 0 where
   pub own : List Receipt
   pub begun : c.op ≡ own_operation receipts
   pub ahead : (op : ℕ) (later : List Receipt)
       → next_in cpus op lines (receipts ++ later) ≡ next_in cpus op (drop c.line lines) (own ++ later)
   pub here : IsInFirst cpus (drop c.line lines) own c.driver
+  pub within : c.line ≤ length lines
+  pub passed : (op : ℕ) → after_lines cpus op (take c.line lines) receipts ≡ Some own
 
 -- the driver of a plan before its first call, that of a line at its beginning, and a cursor there
 abbrev pub driver_before : (cpus turns : ℕ) → Driver
@@ -74,6 +79,30 @@ IsRequested cpus lines receipts (Some q) =
     (next_of cpus lines receipts ≡ Some q.event) × IsCursor cpus lines receipts q.from
     × (asks_at q.from lines ≡ Some q.event)
 
+-- the cursor is in the middle of a plan or at its end: the plan's driver has taken a reply
+abbrev pub carries : Cursor → Step → Bool
+carries c line = cond (is_one_call line) false (has_begun c.driver.stage)
+
+abbrev pub is_carrying : Cursor → List Step → Bool
+is_carrying c lines = option_map_or (carries c) (slice_get lines c.line) false
+
+-- the cursor is at the end of a plan: the plan's driver asks for nothing more
+abbrev pub has_carried : Cursor → Step → Bool
+has_carried c line = cond (is_one_call line) false (is_over c.driver.stage)
+
+-- the line of a plan with the plan's end, if the driver is at the end
+abbrev pub carried : Cursor → Option FinishedLine
+carried c =
+    cond (is_over c.driver.stage)
+    (Some (record { line = c.line; answer = option_map Carried (end_in c.driver.stage) })) None
+
+-- a cursor stays at the line of a plan after it. So if it is at the beginning of a line, the line
+-- before was one call
+abbrev pub IsSettled : List Step → Cursor → Type 0
+IsSettled lines c =
+    is_carrying c lines ≡ false → (k : ℕ) (line : Step) → c.line ≡ k + 1 → slice_get lines k ≡ Some line
+    → is_one_call line ≡ true
+
 -- ---- all processors
 
 -- each cursor is where its processor's script is after the new records
@@ -82,6 +111,8 @@ pub record AreCursors (g : Setting) (news : List Record) (cursors : List Cursor)
   pub each : (cpu : ℕ) (lines : List Step) (c : Cursor)
       → slice_get g.scripts cpu ≡ Some lines → slice_get cursors cpu ≡ Some c
       → IsCursor g.layout.cpus lines (receipts_of cpu news) c
+  pub settled : (cpu : ℕ) (lines : List Step) (c : Cursor)
+      → slice_get g.scripts cpu ≡ Some lines → slice_get cursors cpu ≡ Some c → IsSettled lines c
 
 -- what the further calls of a cursor's script depend on, beside what it is replied: its line, the
 -- operation that it began last, and its driver's key

@@ -1,10 +1,12 @@
 pub mod Alike
+pub mod Causes
 pub mod Continuing
 pub mod Cursors
 pub mod Digests
 pub mod Ends
 pub mod Exchanges
 pub mod Interleavings
+pub mod LineAnswers
 pub mod Multinomials
 pub mod Notes
 pub mod Numbers

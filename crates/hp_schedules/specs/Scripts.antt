@@ -1,6 +1,6 @@
 -- What a script calls after its processor's receipts.
 use Rattle.std.specs.Prelude.{ℕ, if◌then◌else◌, List, [], ◌∷◌, ◌++◌, Option, Some, None, fold}
-use Rattle.std.specs.Option.{option_map_or}
+use Rattle.std.specs.Option.{option_and_then, option_map_or}
 use Rattle.hp_units.specs.Driver.{next_event}
 use Rattle.hp_units.specs.Marks.{is_opening, mark_of}
 use Rattle.hp_units.specs.declared.events.Event.{Event}
@@ -43,6 +43,12 @@ after_line cpus op line earlier [] = option_map_or (λ event. None) (line_next c
 after_line cpus op line earlier (r ∷ rs) =
     option_map_or (λ event. after_line cpus op line (earlier ++ r ∷ []) rs) (line_next cpus op line earlier)
     (Some (r ∷ rs))
+
+-- the same of several lines, one after another
+abbrev pub after_lines : (cpus op : ℕ) → List Step → List Receipt → Option (List Receipt)
+after_lines cpus op [] receipts = Some receipts
+after_lines cpus op (line ∷ lines) receipts =
+    option_and_then (λ rest. after_lines cpus op lines rest) (after_line cpus op line [] receipts)
 
 -- the next event of the lines, after the receipts since the first of them began
 abbrev pub next_in : (cpus op : ℕ) → List Step → List Receipt → Option Event

@@ -1,14 +1,18 @@
 //! A processor's position in its script.
-ghost use Rattle.std.specs.Prelude.{◌≡◌, ◌++◌, ◌∷◌, ℕ, [], IfOk, List, Some, slice_get};
+ghost use Rattle.std.specs.Prelude.{◌≡◌, ◌++◌, ◌∷◌, ℕ, [], IfOk, List, Some, length, slice_get};
 ghost use Rattle.std.specs.Option.{option_map_or};
 ghost use Rattle.hp_units.specs.Receipts.{receipt_of};
 ghost use Rattle.hp_units.specs.declared.events.Event.{Event as AnyEvent};
 ghost use Rattle.hp_units.specs.declared.replies.Receipt.{Receipt};
-ghost use Rattle.hp_schedules.specs.Cursors.{IsAsked, IsCursor, IsRequested, asks, asks_at, cursor_at, driver_before, first_driver, steering_of};
+ghost use Rattle.hp_schedules.specs.Causes.{cause_in, met_at};
+ghost use Rattle.hp_schedules.specs.Cursors.{IsAsked, IsCursor, IsRequested, IsSettled, asks, asks_at, carried, cursor_at, driver_before, first_driver, has_carried, is_carrying, steering_of};
+ghost use Rattle.hp_schedules.specs.LineAnswers.{IsAnswered, answers_in};
+ghost use Rattle.hp_schedules.specs.Scripts.{next_of};
 
+use crate::line_answers::{FinishedLine, LineAnswer, plan_answer};
 use crate::scripts::{CallScript, Step, later_operation};
 use hp_ops::Driver;
-use hp_units::{Event, Record, Serial};
+use hp_units::{Event, Record, Refusal, Reply, Serial};
 use std::alloc::{AllocError, Global};
 
 /// A processor's position in its script: its line, the operation that it began last, and the driver
@@ -111,9 +115,12 @@ impl Cursor {
 
     /// Returns the position after the current line's call, given the record of that call.
     pub(crate) fn after(&self, cpus: u32, lines: &[Step], latest: &Record) -> Cursor
-        ensures { (receipts : List Receipt) (event : AnyEvent) → IsCursor cpus lines.now receipts self.now
-            → asks_at self.now lines.now ≡ Some event
+        ensures moved { (receipts : List Receipt) (event : AnyEvent)
+            → IsCursor cpus lines.now receipts self.now → asks_at self.now lines.now ≡ Some event
             → IsCursor cpus lines.now (receipts ++ receipt_of latest.now ∷ []) result }
+        ensures settled { (receipts : List Receipt) (event : AnyEvent)
+            → IsCursor cpus lines.now receipts self.now → asks_at self.now lines.now ≡ Some event
+            → IsSettled lines.now result }
     {
         let op = later_operation(self.op, latest.serial, &latest.event);
         let Some(line) = lines.get(self.line) else {
@@ -129,6 +136,95 @@ impl Cursor {
             op,
             driver,
         }
+    }
+
+    /// Returns how many lines are finished.
+    pub(crate) fn finished(&self, lines: &[Step]) -> usize
+        ensures { (cpus : ℕ) (receipts : List Receipt) → IsCursor cpus lines.now receipts self.now
+            → result ≡ length (answers_in cpus lines.now receipts) }
+    {
+        let Some(line) = lines.get(self.line) else {
+            return self.line;
+        };
+        if self.has_carried(line) {
+            self.line + 1
+        } else {
+            self.line
+        }
+    }
+
+    /// Returns which line the latest call finished, given its reply, or `None` if it finished none.
+    pub(crate) fn answered(&self, lines: &[Step], reply: &Reply) -> Option<FinishedLine>
+        ensures { (cpus : ℕ) (receipts : List Receipt) (r : Receipt) → r.reply ≡ reply.now
+            → next_of cpus lines.now receipts ≡ Some r.event
+            → IsCursor cpus lines.now (receipts ++ r ∷ []) self.now → IsSettled lines.now self.now
+            → IsAnswered (answers_in cpus lines.now receipts) result
+            (answers_in cpus lines.now (receipts ++ r ∷ [])) }
+    {
+        if self.is_carrying(lines) {
+            return self.carried();
+        }
+        if self.line == 0 {
+            return None;
+        }
+        Some(FinishedLine {
+            line: self.line - 1,
+            answer: Some(LineAnswer::Reply(*reply)),
+        })
+    }
+
+    /// Returns the last refusal that the plan in progress met, if any.
+    pub(crate) fn cause(&self, lines: &[Step]) -> Option<Refusal>
+        ensures { (cpus : ℕ) (receipts : List Receipt) → IsCursor cpus lines.now receipts self.now
+            → result ≡ cause_in cpus lines.now receipts }
+    {
+        let Some(line) = lines.get(self.line) else {
+            return None;
+        };
+        self.met_at(line)
+    }
+
+    /// Returns the last refusal that the line's plan met, if the plan is in progress.
+    fn met_at(&self, line: &Step) -> Option<Refusal>
+        ensures { result ≡ met_at self.now line.now }
+    {
+        if line.is_one_call() {
+            return None;
+        }
+        if self.driver.is_over() {
+            return None;
+        }
+        self.driver.why()
+    }
+
+    /// Returns whether the cursor's line is a plan whose driver has taken a reply.
+    fn is_carrying(&self, lines: &[Step]) -> bool
+        ensures { result ≡ is_carrying self.now lines.now }
+    {
+        match lines.get(self.line) {
+            Some(line) => !line.is_one_call() && self.driver.has_begun(),
+            None => false,
+        }
+    }
+
+    /// Returns whether the line is a plan that the driver is done with.
+    fn has_carried(&self, line: &Step) -> bool
+        ensures { result ≡ has_carried self.now line.now }
+    {
+        !line.is_one_call() && self.driver.is_over()
+    }
+
+    /// Returns the cursor's line with the end of its plan, or `None` if the driver goes on.
+    fn carried(&self) -> Option<FinishedLine>
+        ensures { result ≡ carried self.now }
+    {
+        if !self.driver.is_over() {
+            return None;
+        }
+        Some(FinishedLine {
+            line: self.line,
+            answer: plan_answer(self.driver.ended()),
+        })
     }
 }
 

@@ -1,12 +1,18 @@
 //! Laws of schedules, as contracts of functions with empty bodies.
-ghost use Rattle.std.specs.Prelude.{◌≡◌, ◌↔◌, ◌++◌, ℕ, List, Some};
+ghost use Rattle.std.specs.Prelude.{◌≡◌, ◌≢◌, ◌↔◌, ◌++◌, ◌∷◌, ℕ, [], List, Some};
+ghost use Rattle.hp_units.specs.declared.replies.Receipt.{Receipt};
 ghost use Rattle.hp_units.specs.declared.replies.Record.{Record};
 ghost use Rattle.hp_schedules.specs.Alike.{AreAlike, UndoNothing};
+ghost use Rattle.hp_schedules.specs.Causes.{AnswerAlike, IsCaused};
 ghost use Rattle.hp_schedules.specs.Continuing.{ContinueAlike, ContinuesAs};
+ghost use Rattle.hp_schedules.specs.Cursors.{IsSteered};
+ghost use Rattle.hp_schedules.specs.LineAnswers.{Grow, answers_at};
 ghost use Rattle.hp_schedules.specs.Orders.{HasCount, HasOneCount};
 ghost use Rattle.hp_schedules.specs.Outcomes.{OutcomeValue};
 ghost use Rattle.hp_schedules.specs.Interleavings.{AreOneCalls, IsCountOfLengths, IsInterleaving};
 ghost use Rattle.hp_schedules.specs.Schedules.{EndsWith, IsComplete, Setting, plays};
+ghost use Rattle.hp_schedules.specs.Scripts.{after_line};
+ghost use Rattle.hp_schedules.specs.declared.scripts.Step.{Step};
 
 /// The number of complete schedules is unique, and so is the number of those with a given end.
 pub fn counts_are_unique()
@@ -42,4 +48,29 @@ pub fn alike_beginnings_continue_alike()
     ensures { (g : Setting) (p q rest : List ℕ) (h k end : List Record) → UndoNothing g.scripts
         → plays g p ≡ Some h → plays g q ≡ Some k → ContinueAlike g h k → plays g (p ++ rest) ≡ Some end
         → ContinuesAs g q rest h k end }
+{}
+
+/// Whether a line is finished, and the receipts that are left then, do not depend on the number of
+/// the operation that it works on.
+pub fn lines_finish_alike()
+    ensures { (cpus op : ℕ) (line : Step) (earlier later : List Receipt)
+        → after_line cpus op line earlier later ≡ after_line cpus 0 line earlier later }
+{}
+
+/// Answers stay: whatever records follow, a processor's finished lines keep their answers, and only
+/// further lines get some. A record of another processor adds none.
+pub fn answers_only_grow()
+    ensures later { (g : Setting) (cpu : ℕ) (news more : List Record)
+        → Grow (answers_at g cpu news) (answers_at g cpu (news ++ more)) }
+    ensures others { (g : Setting) (cpu : ℕ) (news : List Record) (latest : Record) → latest.cpu ≢ cpu
+        → answers_at g cpu (news ++ latest ∷ []) ≡ answers_at g cpu news }
+{}
+
+/// Two beginnings with equal numbers of a processor, by `push_steering` and `push_causes`, have
+/// finished equally many of its lines. If the same records follow both, they give its further lines
+/// the same answers.
+pub fn alike_positions_answer_alike()
+    ensures { (g : Setting) (cpu : ℕ) (h k more : List Record) (steering causes : List ℕ)
+        → IsSteered g cpu h steering → IsSteered g cpu k steering
+        → IsCaused g cpu h causes → IsCaused g cpu k causes → AnswerAlike g cpu h k more }
 {}

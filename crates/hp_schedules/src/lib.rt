@@ -9,6 +9,7 @@
 //! Read specs/Scripts first, then specs/Schedules, specs/Outcomes and specs/Ends.
 #![tactic(auto)]
 
+mod causes;
 mod changes;
 mod closed;
 mod cursors;
@@ -16,6 +17,7 @@ mod digests;
 mod exchanges;
 mod laws;
 mod likeness;
+mod line_answers;
 mod multinomials;
 mod outcomes;
 mod part_numbers;
@@ -32,9 +34,11 @@ pub use cursors::{Cursor, NextCall};
 pub use digests::{key_digest, learn, mixed};
 pub use exchanges::Exchanges;
 pub use laws::{
-    alike_beginnings_continue_alike, alike_places_go_on_alike, counts_are_unique,
-    interleavings_are_counted, schedules_are_interleavings,
+    alike_beginnings_continue_alike, alike_places_go_on_alike, alike_positions_answer_alike,
+    answers_only_grow, counts_are_unique, interleavings_are_counted, lines_finish_alike,
+    schedules_are_interleavings,
 };
+pub use line_answers::{FinishedLine, LineAnswer};
 pub use multinomials::{HowMany, call_count, interleavings_of};
 pub use outcomes::{Outcome, Replies, all_answers};
 pub use part_numbers::ShardId;

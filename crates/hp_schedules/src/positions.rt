@@ -1,12 +1,16 @@
 //! Positions of all processors in their scripts.
-ghost use Rattle.std.specs.Prelude.{◌≡◌, ◌<◌, ◌++◌, ◌∷◌, ℕ, true, [], IfOk, List, Some, length, map, slice_set};
+ghost use Rattle.std.specs.Prelude.{◌≡◌, ◌<◌, ◌++◌, ◌∷◌, ℕ, true, [], IfOk, List, OnOk, Some, length, map, slice_set};
 ghost use Rattle.hp_units.specs.Receipts.{receipts_of};
 ghost use Rattle.hp_units.specs.declared.replies.Record.{Record as NewRecord};
+ghost use Rattle.hp_schedules.specs.Causes.{IsCaused};
 ghost use Rattle.hp_schedules.specs.Cursors.{AreCursors, IsCalledFor, IsSteered, cursor_at};
-ghost use Rattle.hp_schedules.specs.Schedules.{Setting};
+ghost use Rattle.hp_schedules.specs.LineAnswers.{IsAnswered, answers_at};
+ghost use Rattle.hp_schedules.specs.Schedules.{Setting, next_call};
 ghost use Rattle.hp_schedules.specs.Scripts.{own_operation};
 
+use crate::causes::cause_numbers;
 use crate::cursors::{Cursor, NextCall};
+use crate::line_answers::FinishedLine;
 use crate::scripts::CallScript;
 use hp_units::{Cpu, Record, Serial};
 use std::alloc::{AllocError, Global};
@@ -58,6 +62,32 @@ impl Positions {
         cursor.op
     }
 
+    /// Returns how many lines of its script the processor has finished.
+    pub fn finished(&self, scripts: &[CallScript], cpu: u32) -> usize
+        requires scripts { cpu < length scripts.now }
+        requires cursors { cpu < length self.now.cursors.items }
+        ensures { (g : Setting) (news : List NewRecord) → g.scripts ≡ scripts.now
+            → AreCursors g news self.now.cursors.items → result ≡ length (answers_at g cpu news) }
+    {
+        let place = cpu as usize;
+        self.cursors[place].finished(scripts[place].lines())
+    }
+
+    /// Returns the line that the call of the latest record finished, or `None` if it finished none.
+    /// To be called after `go_on` with that record.
+    pub fn answered(&self, scripts: &[CallScript], latest: &Record) -> Option<FinishedLine>
+        requires scripts { latest.now.cpu < length scripts.now }
+        requires cursors { latest.now.cpu < length self.now.cursors.items }
+        ensures { (g : Setting) (news : List NewRecord) → g.scripts ≡ scripts.now
+            → next_call g latest.now.cpu news ≡ Some latest.now.event
+            → AreCursors g (news ++ latest.now ∷ []) self.now.cursors.items
+            → IsAnswered (answers_at g latest.now.cpu news) result
+            (answers_at g latest.now.cpu (news ++ latest.now ∷ [])) }
+    {
+        let place = latest.cpu.0 as usize;
+        self.cursors[place].answered(scripts[place].lines(), &latest.reply)
+    }
+
     /// Appends five numbers that the processor's further calls depend on, beside the replies to
     /// them, and returns whether each fits 32 bits. If not, `numbers` holds a part of them.
     pub fn push_steering(&self, cpu: u32, numbers: &mut Vec<u32>) -> Result<bool, AllocError>
@@ -75,6 +105,27 @@ impl Positions {
             numbers.push(number)?;
         }
         Ok(true)
+    }
+
+    /// Appends two numbers that the answer of the processor's plan in progress depends on, beside
+    /// the numbers of `push_steering` and the replies to further calls: the last refusal that the
+    /// plan met. They are 0 if there is none.
+    pub fn push_causes(
+        &self,
+        scripts: &[CallScript],
+        cpu: u32,
+        numbers: &mut Vec<u32>,
+    ) -> Result<(), AllocError>
+        requires scripts { cpu < length scripts.now }
+        requires cursors { cpu < length self.now.cursors.items }
+        ensures { OnOk result ((part : List ℕ)
+            × (numbers.new.items ≡ numbers.old.items ++ part) × (length part ≡ 2)
+            × ((g : Setting) (news : List NewRecord) → g.scripts ≡ scripts.now
+            → AreCursors g news self.now.cursors.items → IsCaused g cpu news part)) }
+    {
+        let place = cpu as usize;
+        let cause = self.cursors[place].cause(scripts[place].lines());
+        numbers.extend_from_slice(&cause_numbers(cause))
     }
 
     /// Moves the processor past its call and returns its former position, for `go_back`.

@@ -17,4 +17,9 @@ returns-clause-later c =
     c.after-later.result c.args.request.now scripts cpus c.requires.whose
     (slice_get_read c.args.scripts.now (length c.args.scripts.now) c.args.cpu
     c.index-scripts-place.result refl c.requires.scripts c.index-scripts-place.is)
-    c.lines.ensures c.after-later.ensures refl all called
+    c.lines.ensures
+    (λ receipts event is asked. (
+      c.after-later.ensures.moved receipts event is asked,
+      c.after-later.ensures.settled receipts event is asked,
+    ))
+    refl all called
