@@ -1,5 +1,5 @@
 //! Scripts: what each processor calls, one line after another.
-ghost use Rattle.std.specs.Prelude.{◌≡◌, cond};
+ghost use Rattle.std.specs.Prelude.{◌≡◌, cond, length};
 ghost use Rattle.std.specs.List.{list_all};
 ghost use Rattle.hp_units.specs.Marks.{is_opening, mark_of};
 ghost use Rattle.hp_schedules.specs.Alike.{leaves_lines, leaves_script};
@@ -88,6 +88,13 @@ impl CallScript {
         ensures { result ≡ lines.items }
     {
         CallScript { lines }
+    }
+
+    /// Returns how many lines the script has.
+    pub fn line_count(&self) -> usize
+        ensures { result ≡ length self.now }
+    {
+        self.lines().len()
     }
 
     /// Returns the lines in order.
