@@ -30,13 +30,13 @@ pub enum Did {
 /// The answer to a line: what it did, the calls of its plan, and the text that `hotplug serial`
 /// writes for it. One answer can be used for line after line; it keeps its memory.
 #[derive(Drop)]
-pub struct LineAnswer {
+pub struct LiveAnswer {
     pub(crate) text: String,
     pub(crate) calls: Vec<Receipt>,
     pub(crate) did: Did,
 }
 
-impl Model for LineAnswer {
+impl Model for LiveAnswer {
     ghost use Rattle.std.specs.Prelude.{string_bytes};
     ghost use Rattle.hp_live.specs.Answers.{AnswerValue};
 
@@ -45,12 +45,12 @@ impl Model for LineAnswer {
     ghost view = { λ a. record { text = string_bytes a.text; calls = a.calls.items; did = a.did } };
 }
 
-impl LineAnswer {
+impl LiveAnswer {
     /// Returns an empty answer.
-    pub fn new(alloc: Global) -> LineAnswer
+    pub fn new(alloc: Global) -> LiveAnswer
         ensures { result ≡ untold }
     {
-        LineAnswer {
+        LiveAnswer {
             text: String::new(alloc),
             calls: Vec::new(alloc),
             did: Did::NoLine,

@@ -21,7 +21,7 @@ mod states;
 mod word_objects;
 mod words;
 
-pub use answers::{Did, LineAnswer};
+pub use answers::{Did, LiveAnswer};
 pub use laws::{answers_are_what_serial_writes, talks_draw_the_trace, talks_tell_their_lines};
 pub use object_talk::ObjectTalk;
 pub use objects::write_object;

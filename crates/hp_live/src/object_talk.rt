@@ -10,7 +10,7 @@ ghost use Rattle.hp_live.specs.Sessions.{IsResumed};
 ghost use Rattle.hp_live.specs.Talks.{IsLostText, RepliesText, RepliesWord, ShowsObject, fault_object, number_of, word_object};
 ghost use Rattle.hp_live.specs.declared.live_words.LiveWord.TheVariants.{Line};
 
-use crate::answers::{Did, LineAnswer};
+use crate::answers::{Did, LiveAnswer};
 use crate::live_words::{LiveWord, word_of};
 use crate::objects::write_object;
 use crate::session::Session;
@@ -29,7 +29,7 @@ use std::str;
 pub struct ObjectTalk {
     session: Session,
     states: ShownStates,
-    answer: LineAnswer,
+    answer: LiveAnswer,
     hint: String,
 }
 
@@ -48,7 +48,7 @@ impl ObjectTalk {
         Ok(ObjectTalk {
             session: Session::resume(alloc, scenario)?,
             states: ShownStates::new(is_state_shown),
-            answer: LineAnswer::new(alloc),
+            answer: LiveAnswer::new(alloc),
             hint: String::new(alloc),
         })
     }

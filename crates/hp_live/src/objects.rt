@@ -3,7 +3,7 @@ ghost use Rattle.std.specs.Prelude.{◌∷◌, [], ◌++◌, ℕ, List, IfOk, On
 ghost use Rattle.json.specs.Token.{Token, begin_array, end_array, key, number};
 ghost use Rattle.hp_live.specs.Objects.{Adds, AddsDid, AddsObject, TellsCalls, WritesObject, call_object, fault_keys, head_of, pair, reply_keys, serial_keys};
 
-use crate::answers::{Did, LineAnswer};
+use crate::answers::{Did, LiveAnswer};
 use hp_text::{write_event, write_reply_words};
 use hp_units::{Event, Receipt, Reply, Serial};
 use indexmap::IndexSet;
@@ -19,7 +19,7 @@ pub fn write_object(
     alloc: Global,
     out: Vec<u8>,
     number: u64,
-    answer: &LineAnswer,
+    answer: &LiveAnswer,
     hint: &str,
 ) -> Result<Vec<u8>, AllocError>
     ensures { IfOk result (λ new. WritesObject out.items number answer.now new.items) }
@@ -36,7 +36,7 @@ fn write_tokens(
     writer: &mut Writer,
     alloc: Global,
     number: u64,
-    answer: &LineAnswer,
+    answer: &LiveAnswer,
     hint: &str,
 ) -> Result<(), AllocError>
     ensures { OnOk result (AddsObject writer.old number answer.now writer.new) }
@@ -61,7 +61,7 @@ pub(crate) fn begin(writer: &mut Writer, number: u64, text: &str) -> Result<(), 
 fn write_parts(
     writer: &mut Writer,
     alloc: Global,
-    answer: &LineAnswer,
+    answer: &LiveAnswer,
     hint: &str,
 ) -> Result<(), AllocError>
     ensures { OnOk result (AddsDid writer.old answer.now writer.new) }

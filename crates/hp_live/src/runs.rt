@@ -6,7 +6,7 @@ ghost use Rattle.hp_units.specs.declared.replies.OpEnd.{OpEnd};
 ghost use Rattle.hp_machine.specs.MachinePorts.{IsPlanRun};
 ghost use Rattle.hp_live.specs.Answers.{Answers, IsDone, IsEventDone, IsFileTold, IsLeft, IsPlanKept, IsPlanTold, untold};
 
-use crate::answers::{Did, LineAnswer};
+use crate::answers::{Did, LiveAnswer};
 use crate::plans::drive;
 use hp_control::text_in;
 use hp_machine::UnrecordedMachine;
@@ -20,7 +20,7 @@ use std::alloc::{AllocError, Global};
 /// Out of memory while the answer is made, the line has been run all the same.
 #[inline(always)]
 pub(crate) fn answer_line(
-    out: &mut LineAnswer,
+    out: &mut LiveAnswer,
     alloc: Global,
     machine: &mut UnrecordedMachine,
     line: &Line,
@@ -36,7 +36,7 @@ pub(crate) fn answer_line(
 /// Does what is asked for, and answers it.
 #[inline(always)]
 fn answer_asked(
-    out: &mut LineAnswer,
+    out: &mut LiveAnswer,
     alloc: Global,
     machine: &mut UnrecordedMachine,
     cpu: Cpu,
@@ -77,7 +77,7 @@ fn call(alloc: Global, machine: &mut UnrecordedMachine, cpu: Cpu, event: &Event)
 
 /// Runs a plan with at most `turns` migrations, and answers with its calls and how it ended.
 fn answer_plan(
-    out: &mut LineAnswer,
+    out: &mut LiveAnswer,
     alloc: Global,
     machine: &mut UnrecordedMachine,
     cpu: Cpu,
@@ -95,7 +95,7 @@ fn answer_plan(
 /// Runs a plan's driver, keeps its calls, and returns how it ended. If memory runs out before its
 /// first call, the operation is left before it begins.
 fn run_to_end(
-    out: &mut LineAnswer,
+    out: &mut LiveAnswer,
     alloc: Global,
     machine: &mut UnrecordedMachine,
     cpu: Cpu,
@@ -126,7 +126,7 @@ fn left(machine: &UnrecordedMachine) -> OpEnd
 
 /// Reads a control file, and answers with its text, or why there is none.
 fn answer_file(
-    out: &mut LineAnswer,
+    out: &mut LiveAnswer,
     alloc: Global,
     machine: &UnrecordedMachine,
     path: &str,

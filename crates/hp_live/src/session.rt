@@ -6,7 +6,7 @@ ghost use Rattle.hp_scenario.specs.Seen.{scenario_seen};
 ghost use Rattle.hp_commands.specs.Serial.{WritesLines};
 ghost use Rattle.hp_live.specs.Sessions.{AnswersText, IsLost, IsResumed, started};
 
-use crate::answers::LineAnswer;
+use crate::answers::LiveAnswer;
 use crate::runs::answer_line;
 use hp_machine::UnrecordedMachine;
 use hp_scenario::{Line, Scenario, read_line};
@@ -90,7 +90,7 @@ impl Session {
     ///
     /// Whether there is memory to keep the line is known before it is run. After an error, `out` has
     /// no meaning.
-    pub fn answer(&mut self, alloc: Global, text: &str, out: &mut LineAnswer) -> Result<(), Lack>
+    pub fn answer(&mut self, alloc: Global, text: &str, out: &mut LiveAnswer) -> Result<(), Lack>
         ensures ok { OnOk result (AnswersText self.old text.now out.new self.new) }
         ensures err { IfErr result (λ lack. IsLost lack self.old text.now self.new) }
     {
@@ -114,7 +114,7 @@ fn run_all(alloc: Global, machine: &mut UnrecordedMachine, lines: &[Line]) -> Re
     ensures { OnOk result
         ((text : List ℕ) × WritesLines machine.old lines.now text machine.new) }
 {
-    let mut answer = LineAnswer::new(alloc);
+    let mut answer = LiveAnswer::new(alloc);
     for line in lines {
         answer.clear();
         answer_line(&mut answer, alloc, machine, line)?;
@@ -128,7 +128,7 @@ fn run_and_keep(
     machine: &mut UnrecordedMachine,
     alloc: Global,
     line: Line,
-    out: &mut LineAnswer,
+    out: &mut LiveAnswer,
 ) -> Result<(), AllocError>
     requires room { vec_len lines.old < vec_capacity lines.old }
     requires empty { out.old ≡ untold }

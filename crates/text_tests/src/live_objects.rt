@@ -1,5 +1,5 @@
 //! Objects of JSON for lines of every kind.
-use hp_live::{LineAnswer, Session, write_object};
+use hp_live::{LiveAnswer, Session, write_object};
 use layouts_for_tests::{LAST_ABSENT, four_blocks};
 use std::alloc::Global;
 
@@ -37,7 +37,7 @@ const PLAN: &str = "{\"line\":2,\"text\":\"plan: done\\n\",\"calls\":[\
 {\"serial\":6,\"call\":\"commit 2\",\"answer\":\"done\"}],\"end\":\"done\"}\n";
 
 /// Returns whether an answer is written as this object.
-fn is_object(alloc: Global, number: u64, answer: &LineAnswer, wanted: &str) -> bool {
+fn is_object(alloc: Global, number: u64, answer: &LiveAnswer, wanted: &str) -> bool {
     match write_object(alloc, Vec::new(alloc), number, answer, "wanted: C online") {
         Ok(bytes) => bytes.as_slice() == wanted.as_bytes(),
         Err(_) => false,
@@ -46,7 +46,7 @@ fn is_object(alloc: Global, number: u64, answer: &LineAnswer, wanted: &str) -> b
 
 /// Gives the session each line, and returns whether the reply is the object beside it.
 fn are_objects(session: &mut Session, alloc: Global, rows: &[(&str, &str)]) -> bool {
-    let mut answer = LineAnswer::new(alloc);
+    let mut answer = LiveAnswer::new(alloc);
     let mut number = 0u64;
     for (text, wanted) in rows {
         number = number.wrapping_add(1);

@@ -1,6 +1,6 @@
 //! Sessions compared with what `hotplug serial` writes for the same lines.
 use hp_commands::serve_serial;
-use hp_live::{LineAnswer, Session};
+use hp_live::{LiveAnswer, Session};
 use hp_streams::Counted;
 use layouts_for_tests::{LAST_ABSENT, four_blocks};
 use std::alloc::Global;
@@ -46,7 +46,7 @@ fn write_answers(
     texts: &[&str],
     joined: &mut String,
 ) -> bool {
-    let mut answer = LineAnswer::new(alloc);
+    let mut answer = LiveAnswer::new(alloc);
     for text in texts {
         if session.answer(alloc, text, &mut answer).is_err() {
             return false;
@@ -91,7 +91,7 @@ fn are_served(alloc: Global, history: u64, texts: &[&str]) -> bool {
 
 /// Gives the session a text, and returns whether the answer is `wanted`.
 fn is_answered(session: &mut Session, alloc: Global, text: &str, wanted: &str) -> bool {
-    let mut answer = LineAnswer::new(alloc);
+    let mut answer = LiveAnswer::new(alloc);
     session.answer(alloc, text, &mut answer).is_ok() && answer.text() == wanted
 }
 
