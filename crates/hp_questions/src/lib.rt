@@ -33,4 +33,4 @@ pub use start_fault::StartFault;
 pub use starts::{Start, front_of, start_of};
 pub use unbegun::{Unbegun, unbegun_lines};
 pub use wanted::{EndLine, Pattern, Wanted, are_met};
-pub use wanted_lines::wanted_line;
+pub use wanted_lines::{refusal_pattern, reply_pattern, wanted_line};

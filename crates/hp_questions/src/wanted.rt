@@ -46,7 +46,7 @@ pub enum Wanted {
 
 impl Pattern {
     /// Returns whether the reply matches.
-    pub(crate) fn is_met_by(&self, reply: &Reply) -> bool
+    pub fn is_met_by(&self, reply: &Reply) -> bool
         ensures { IsTrue result ↔ IsAsWanted self.now reply.now }
     {
         match self {

@@ -133,7 +133,7 @@ fn line_by(word: &str, args: &[&str]) -> Option<EndLine>
 fn any_answer(word: &str, args: &[&str]) -> Option<EndLine>
     ensures { result ≡ says.any_of word.now (map (λ w. w.now) args.now) }
 {
-    let reply = reply_from(word, args)?;
+    let reply = reply_pattern(word, args)?;
     Some(EndLine::Answer { cpu: None, reply })
 }
 
@@ -156,7 +156,7 @@ fn said_reply(words: &[&str]) -> Option<Pattern>
     match words {
         [space, word, args @ ..] => {
             if space.is_empty() {
-                reply_from(word, args)
+                reply_pattern(word, args)
             } else {
                 None
             }
@@ -222,9 +222,9 @@ fn numbered_answer(cpu: &str, number: &str, reply: Pattern) -> Option<EndLine>
     })
 }
 
-/// Parses a reply from its first word and the other words.
+/// Parses a reply as `explore` prints it, such as `frame 4`, from its first word and the other words.
 #[tactic(auto, unfolding(crate::specs::WantedLines::reply_of))]
-fn reply_from(word: &str, args: &[&str]) -> Option<Pattern>
+pub fn reply_pattern(word: &str, args: &[&str]) -> Option<Pattern>
     ensures { result ≡ says.reply_of word.now (map (λ w. w.now) args.now) }
 {
     match word {
@@ -238,7 +238,7 @@ fn reply_from(word: &str, args: &[&str]) -> Option<Pattern>
         })),
         "moved" => moved(args),
         "opened" => opened(args),
-        "refused" => refused(args),
+        "refused" => refusal_pattern(args),
         _ => None,
     }
 }
@@ -279,7 +279,7 @@ fn opened(args: &[&str]) -> Option<Pattern>
 
 /// Parses a refusal. A name alone matches every refusal of its kind.
 #[tactic(auto, unfolding(crate::specs::WantedLines::refusal_of))]
-fn refused(args: &[&str]) -> Option<Pattern>
+pub fn refusal_pattern(args: &[&str]) -> Option<Pattern>
     ensures { result ≡ says.refusal_of (map (λ w. w.now) args.now) }
 {
     match args {
