@@ -1,11 +1,10 @@
 -- Budgets of changes, and what a search within one found.
-use Rattle.std.proofs.Common.{◌≡◌, ℕ, ◌+◌, ◌<◌, ◌≤◌, Bool, false, true, List, [], ◌∷◌, ◌++◌, length, Option, Some, None, refl, ap, sym, subst, ◌∙◌, arith, inl, inr}
+use Rattle.std.proofs.Common.{◌≡◌, ℕ, ◌<◌, ◌≤◌, Bool, false, true, List, [], ◌++◌, length, Option, Some, None, refl, ap, sym, subst, ◌∙◌, arith, inl, inr}
 use Rattle.std.specs.Option.{is_some}
 use Rattle.std.specs.Prelude.{◌⊎◌, ◌↔◌, IsTrue, not}
 use Rattle.std.proofs.lemmas.Bool.{cases_lt}
 use Rattle.hp_units.specs.History.{value_of}
 use Rattle.hp_units.specs.declared.replies.Record.{Record}
-use Rattle.hp_schedules.specs.Orders.{Extends}
 use Rattle.hp_schedules.specs.Outcomes.{outcome}
 use Rattle.hp_schedules.specs.Schedules.{Setting, outcome_after, plays, schedule_of}
 use Rattle.hp_questions.specs.Marks.{IsLost}
@@ -15,7 +14,7 @@ use Rattle.hp_explore.specs.Aims.{FillsSearch, IsFirstSought, IsSearchCause, May
 use Rattle.hp_explore.specs.Changes.{changes}
 use Rattle.hp_explore.specs.Counted.{continued}
 use Rattle.hp_explore.specs.FindFaults.{IsPassCause}
-use Rattle.hp_explore.specs.Reaching.{Exceeds, IfUnbounded, IsFirstWithin, IsPassed, IsWithin, Reaches}
+use Rattle.hp_explore.specs.Reaching.{Exceeds, IfUnbounded, IsFirstWithin, IsWithin, Reaches}
 use Rattle.hp_explore.specs.Withins.{aim_within}
 use Rattle.hp_explore.specs.declared.fault.FindFault.{FindFault}
 use Rattle.hp_explore.specs.declared.fault.FindFault.TheVariants.{HistoryFull, OutOfMemory, Stopped}

@@ -16,7 +16,7 @@ use Rattle.hp_schedules.proofs.Steering.{steered_alike}
 use Rattle.hp_states.specs.Rooms.{HasNoRoom}
 use Rattle.hp_states.specs.Stops.{AreNumbersAt, AreStopsAt, StopsValue}
 use Rattle.hp_states.proofs.StopNumbers.{numbers_join}
-use Rattle.hp_explore.specs.Aims.{AimValue, AreSteered, HaveSameKey, IsDone, IsLawful}
+use Rattle.hp_explore.specs.Aims.{AimValue, AreSteered, IsDone, IsLawful}
 use Rattle.hp_explore.specs.Starts.{same_starts}
 use Rattle.hp_explore.specs.Visited.{IsPlaceKey}
 

@@ -1,12 +1,11 @@
 -- The turns of a search that go on, and those that come to a place.
 use Rattle.std.proofs.Common.{◌≡◌, ℕ, ◌+◌, ◌<◌, ◌≤◌, false, List, [], ◌∷◌, ◌++◌, length, Some, None, refl, ap, sym, subst, ◌∙◌, arith, inl, inr}
-use Rattle.std.proofs.lemmas.List.{append-nil, length-append, length-map, length_push, same_from_push}
+use Rattle.std.proofs.lemmas.List.{length-append, length-map, length_push, same_from_push}
 use Rattle.hp_units.specs.declared.events.Event.{Event}
 use Rattle.hp_units.specs.declared.replies.Record.{Record}
 use Rattle.hp_states.specs.Rooms.{is_full_after}
 use Rattle.hp_states.specs.Walks.{HasRoomBefore}
 use Rattle.hp_states.proofs.Rooms.{push_extends}
-use Rattle.hp_schedules.specs.Orders.{Extends}
 use Rattle.hp_schedules.specs.Schedules.{Setting, next_call, plays, record_of_call, schedule_of}
 use Rattle.hp_schedules.proofs.Plays.{caller}
 use Rattle.hp_explore.specs.Aims.{AimValue, IsFirstSought, IsLawful, IsNarrower, IsTurnCause, MayBeSkipped, NoneFrom}

@@ -1,5 +1,5 @@
 -- How far a search is.
-use Rattle.std.specs.Prelude.{◌≡◌, ℕ, zero, suc, ◌+◌, ◌-◌, ◌*◌, ◌<◌, ◌≤◌, true, List, Option, [], ◌∷◌, ◌++◌, None, Some, length}
+use Rattle.std.specs.Prelude.{◌≡◌, ℕ, zero, suc, ◌+◌, ◌-◌, ◌*◌, ◌<◌, ◌≤◌, true, List, [], ◌∷◌, ◌++◌, None, Some, length}
 use Rattle.hp_units.specs.declared.replies.Record.{Record}
 use Rattle.hp_schedules.specs.Alike.{UndoNothing}
 use Rattle.hp_schedules.specs.Orders.{Extends}

@@ -1,6 +1,6 @@
 -- The aim of a search for an end as wanted, with at most as many changes of processor as a budget, if
 -- there is one; and what the laws of an aim say of it.
-use Rattle.std.specs.Prelude.{◌≡◌, ℕ, ◌+◌, ◌≤◌, List, [], ◌∷◌, ◌++◌, Option, Some, None, length}
+use Rattle.std.specs.Prelude.{◌≡◌, ℕ, ◌+◌, List, [], ◌∷◌, ◌++◌, Option, Some, None, length}
 use Rattle.std.proofs.Common.{refl, ap, sym, subst, ◌∙◌, arith}
 use Rattle.hp_units.specs.History.{value_of}
 use Rattle.hp_units.specs.declared.replies.Record.{Record}

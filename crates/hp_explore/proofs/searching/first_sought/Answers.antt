@@ -1,7 +1,7 @@
 -- The search begins before any call; if it found a schedule, that is one.
 use Rattle.std.proofs.Common.{subst, ◌∙◌}
 use Rattle.hp_schedules.specs.Schedules.{Setting}
-use Rattle.hp_explore.specs.Searches.{IsBegun, IsCloser, IsSearching, IsTurned, SearchValue}
+use Rattle.hp_explore.specs.Searches.{IsCloser, IsSearching, IsTurned}
 use Rattle.hp_explore.specs.Settings.{setting}
 use Rattle.hp_explore.proofs.SearchBacks.{found_here}
 use Rattle.hp_explore.proofs.SearchTurns.{begun_at, started}

@@ -1,7 +1,7 @@
 -- A turn down, and one up.
 use Rattle.std.proofs.Common.{◌≡◌, List, ℕ, Some, length, ap, subst, arith}
 use Rattle.std.proofs.lemmas.Bool.{iff_false}
-use Rattle.hp_schedules.specs.Schedules.{Setting, plays, schedule_of}
+use Rattle.hp_schedules.specs.Schedules.{plays, schedule_of}
 use Rattle.hp_explore.specs.Searches.{SearchValue}
 use Rattle.hp_explore.proofs.SearchBacks.{found_at, gone_up}
 use Rattle.hp_explore.proofs.SearchTurns.{narrowed}
