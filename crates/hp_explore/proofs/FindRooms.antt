@@ -8,9 +8,8 @@ use Rattle.hp_states.specs.Rooms.{is_full_after}
 use Rattle.hp_states.specs.Walks.{HasRoomBefore, HasRoomFrom}
 use Rattle.hp_schedules.specs.Schedules.{Setting, next_call, plays, record_of_call}
 use Rattle.hp_schedules.proofs.Plays.{asks_within, plays_push, stops}
-use Rattle.hp_schedules.proofs.Regions.{before_all, before_first, before_longer, before_next, extends_before}
+use Rattle.hp_schedules.proofs.Regions.{before_first, before_longer, before_next, extends_before}
 use Rattle.hp_states.proofs.Rooms.{push_extends, was_room}
-use Rattle.hp_explore.specs.Faults.{FillsHistory}
 use Rattle.hp_explore.specs.Reaching.{HasRoomAlong}
 
 -- no call has room
@@ -71,18 +70,6 @@ spared_over g p news cpu played over room s h before =
           ∙ plays_push g s h.news h.cpu h.event h.played h.asked)
     ]
 
--- past all continuations of a place, for each of whose calls there is room
-pub spared_known : (g : Setting) (p : List ℕ) (n : ℕ) → HasRoomAlong g p → HasRoomBefore g p
-    → HasRoomFrom g p → HasRoomBefore g (p ++ n ∷ [])
-spared_known g p n along room from s h before =
-    elim (before_all (s ++ h.cpu ∷ []) p n before) [
-      | inl b ↦ room s h b
-      | inr e ↦ elim (push_extends s p e.0 h.cpu e.1) [
-        | inl same ↦ along (s, h, ([], sym same ∙ sym (append-nil (s ++ h.cpu ∷ []))))
-        | inr on ↦ from s h on
-      ]
-    ]
-
 -- all of a place, where all before its last continuation have room
 pub spared_from : (g : Setting) (p : List ℕ) (news : List Record) → plays g p ≡ Some news
     → HasRoomBefore g (p ++ length g.scripts ∷ []) → HasRoomFrom g p
@@ -109,21 +96,18 @@ spared_from g p news played room s h on = by_rest on.0 on.1
     by_rest [] is = here (is ∙ append-nil p)
     by_rest (c ∷ rest) is = by_next c rest is (next_call g c news) refl
 
--- so the search goes up
-pub spared_up : (g : Setting) (p : List ℕ) (cpu : ℕ) (news : List Record)
-    → plays g (p ++ cpu ∷ []) ≡ Some news → HasRoomAlong g (p ++ cpu ∷ [])
-    → HasRoomBefore g ((p ++ cpu ∷ []) ++ length g.scripts ∷ []) → HasRoomBefore g (p ++ (cpu + 1) ∷ [])
-spared_up g p cpu news played along room s h before =
+-- past a place, for each of whose calls there is room
+pub spared_up : (g : Setting) (p : List ℕ) (cpu : ℕ) → HasRoomAlong g (p ++ cpu ∷ [])
+    → HasRoomBefore g (p ++ cpu ∷ []) → HasRoomFrom g (p ++ cpu ∷ []) → HasRoomBefore g (p ++ (cpu + 1) ∷ [])
+spared_up g p cpu along room from s h before =
     elim (before_next (s ++ h.cpu ∷ []) p cpu before) [
-      | inl b ↦ room s h (before_longer (s ++ h.cpu ∷ []) (p ++ cpu ∷ []) (length g.scripts ∷ []) b)
+      | inl b ↦ room s h b
       | inr e ↦ elim (push_extends s (p ++ cpu ∷ []) e.0 h.cpu e.1) [
         | inl same ↦ along (s, h, ([], sym same ∙ sym (append-nil (s ++ h.cpu ∷ []))))
-        | inr on ↦ spared_from g (p ++ cpu ∷ []) news played room s h on
+        | inr on ↦ from s h on
       ]
     ]
 
--- or is over
-pub spared_whole : (g : Setting) (news : List Record) → plays g [] ≡ Some news
-    → HasRoomBefore g (length g.scripts ∷ []) → FillsHistory g → ⊥
-spared_whole g news played room fills =
-    spared_from g [] news played room fills.0 fills.1 (fills.0, refl)
+-- what holds before a continuation of a place holds before the place
+pub spared_shorter : (g : Setting) (p q : List ℕ) → HasRoomBefore g (p ++ q) → HasRoomBefore g p
+spared_shorter g p q room s h before = room s h (before_longer (s ++ h.cpu ∷ []) p q before)

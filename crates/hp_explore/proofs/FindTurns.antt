@@ -1,5 +1,5 @@
 -- Each turn of a search leaves fewer turns.
-use Rattle.std.proofs.Common.{◌≡◌, ℕ, zero, suc, ◌+◌, ◌-◌, ◌*◌, ◌<◌, ◌≤◌, List, [], ◌∷◌, ◌++◌, length, arith}
+use Rattle.std.proofs.Common.{◌≡◌, ℕ, zero, suc, ◌+◌, ◌-◌, ◌*◌, ◌<◌, List, [], ◌∷◌, ◌++◌, length, arith}
 use Rattle.hp_explore.specs.Searches.{turns_below, turns_left}
 
 -- one continuation less
@@ -48,16 +48,4 @@ left_up n calls [] cpu next =
 left_up n calls (c ∷ p) cpu next =
     let rest : turns_left n (calls - 1) p (cpu + 1) < turns_left n (calls - 1) (p ++ cpu ∷ []) next =
     left_up n (calls - 1) p cpu next in
-    omega (arith, rest)
-
--- to the end of a continuation
-pub left_over : (n calls : ℕ) (p : List ℕ) (next : ℕ) → next ≤ n
-    → turns_left n calls p n ≤ turns_left n calls p next
-left_over n calls [] next within =
-    let none : (n - n) * (turns_below n calls + 2) ≡ 0 =
-    (let zero_left : n - n ≡ 0 = omega arith in rw zero_left (omega arith)) in
-    omega (arith, none)
-left_over n calls (c ∷ p) next within =
-    let rest : turns_left n (calls - 1) p n ≤ turns_left n (calls - 1) p next =
-    left_over n (calls - 1) p next within in
     omega (arith, rest)

@@ -6,8 +6,9 @@ use Rattle.hp_explore.specs.declared.exploring.ExploreFault.{ExploreFault}
 use Rattle.hp_explore.specs.declared.exploring.ExploreFault.TheVariants as explore
 use Rattle.hp_explore.specs.declared.fault.FindFault.{FindFault}
 use Rattle.hp_explore.specs.declared.fault.FindFault.TheVariants.{HistoryFull, OutOfMemory, Stopped}
+use Rattle.hp_explore.specs.Aims.{AimValue, IsSearchCause, IsTurnCause}
 use Rattle.hp_explore.specs.Changes.{changes}
-use Rattle.hp_explore.specs.FindFaults.{IsFindCause, IsNearCause, IsPassCause, IsTurnCause, few_changes, find_fault_from}
+use Rattle.hp_explore.specs.FindFaults.{IsFindCause, IsNearCause, IsPassCause, few_changes, find_fault_from}
 use Rattle.hp_explore.specs.Reaching.{IsFirstWithin, IsNearest, IsNearestBelow, NeedsChanges, ReachesFirst}
 use Rattle.hp_questions.specs.declared.wanted.Wanted.{Wanted}
 
@@ -67,10 +68,10 @@ first_at {A} items g wanted budget found told is first =
 -- ---- faults
 
 -- of a turn
-pub pass_cause : (g : Setting) (wanted : List Wanted) (budget : Option ℕ) (fault : ExploreFault)
-    → IsTurnCause g wanted budget fault → IsPassCause g wanted budget (find_fault_from fault)
-pass_cause g wanted budget explore.HistoryFull cause = cause
-pass_cause g wanted budget explore.OutOfMemory cause = tt
+pub search_cause : (g : Setting) (aim : AimValue) (fault : ExploreFault) → IsTurnCause g aim fault
+    → IsSearchCause g aim (find_fault_from fault)
+search_cause g aim explore.HistoryFull cause = cause
+search_cause g aim explore.OutOfMemory cause = tt
 
 -- none is the end by a watch
 pub never_stopped : (fault : ExploreFault) → find_fault_from fault ≡ Stopped → ⊥

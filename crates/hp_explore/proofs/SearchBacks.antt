@@ -1,30 +1,28 @@
 -- The turns of a search that go back, and where it ends.
-use Rattle.std.proofs.Common.{◌≡◌, ℕ, ◌+◌, ◌<◌, List, [], ◌∷◌, ◌++◌, length, Option, Some, None, refl, ap, sym, subst, ◌∙◌, arith}
+use Rattle.std.proofs.Common.{◌≡◌, ℕ, ◌+◌, ◌<◌, ◌≤◌, List, [], ◌∷◌, ◌++◌, length, Option, Some, None, refl, ap, sym, subst, ◌∙◌, arith}
 use Rattle.std.specs.Prelude.{MatchOption, option_to_list}
-use Rattle.std.proofs.lemmas.List.{length_push, same_from_push}
+use Rattle.std.proofs.lemmas.List.{append-nil, append_assoc, length_push, same_from_push}
 use Rattle.std.proofs.lemmas.Option.{none-some}
 use Rattle.hp_units.specs.declared.events.Event.{Event}
 use Rattle.hp_units.specs.declared.replies.Record.{Record}
 use Rattle.hp_states.specs.Stops.{AreSameStops}
-use Rattle.hp_states.specs.Walks.{HasRoomBefore, HasRoomFrom}
-use Rattle.hp_explore.specs.Faults.{FillsHistory}
-use Rattle.hp_explore.specs.Paths.{IsBack, PathValue}
+use Rattle.hp_states.specs.Walks.{HasRoomBefore}
+use Rattle.hp_states.proofs.StopNumbers.{keep_same_stops}
 use Rattle.hp_schedules.specs.Schedules.{Setting, next_call, play_one, plays, schedule_of}
-use Rattle.hp_explore.proofs.Framing.{longer_schedule}
 use Rattle.hp_schedules.proofs.Plays.{asks_within, plays_on, plays_one}
-use Rattle.hp_schedules.proofs.Regions.{before_longer}
-use Rattle.hp_explore.specs.Reaching.{IfUnbounded, IsFirstWithin, IsPassed, Reaches}
-use Rattle.hp_explore.specs.Searches.{IsCloser, IsSearching, IsTakenBack, IsTurned, IsUp, SearchValue, room_of, search_at}
-use Rattle.hp_explore.specs.Visited.{AreFollowed, IsPassedFrom}
+use Rattle.hp_explore.specs.Aims.{AimValue, IsDone, IsFirstSought, IsLawful, NoneBefore}
+use Rattle.hp_explore.specs.Paths.{IsBack, PathValue}
+use Rattle.hp_explore.specs.Reaching.{HasRoomAlong}
+use Rattle.hp_explore.specs.Searches.{AreAdmitted, HasArrived, IsArriving, IsSearching, IsTakenBack, IsTurned, IsUp, SearchValue, room_of, search_at, turns_left, turns_of}
+use Rattle.hp_explore.specs.Visited.{AreFollowed, AreVisited}
 use Rattle.hp_explore.specs.declared.searching.Turn.{Turn}
 use Rattle.hp_explore.specs.declared.searching.Turn.TheVariants.{On, New, Found, Over}
 use Rattle.hp_explore.specs.declared.visited.Visited.{Visited}
-use Rattle.hp_questions.specs.declared.wanted.Wanted.{Wanted}
-use Rattle.hp_explore.proofs.Reaching.{if_then, passed_all, passed_up, passed_whole, within_shorter}
-use Rattle.hp_explore.proofs.FindRooms.{room_back, spared_from, spared_up, spared_whole}
+use Rattle.hp_explore.proofs.FindRooms.{room_back, spared_shorter, spared_up}
 use Rattle.hp_explore.proofs.FindTurns.{left_up}
+use Rattle.hp_explore.proofs.Framing.{longer_schedule}
+use Rattle.hp_explore.proofs.Passed.{done_from, none_past, none_shorter, only_here}
 use Rattle.hp_explore.proofs.Visits.{stops_kept, visited_shorter}
-use Rattle.hp_states.proofs.StopNumbers.{keep_same_stops}
 
 -- ---- schedules of records
 
@@ -68,96 +66,75 @@ popped old rest q None cpu many few is cases counted longer =
 popped old rest q (Some last) cpu many few is cases counted longer =
     (same_from_push rest q last cpu (sym is ∙ longer)).0
 
--- a place is passed where each of its continuations is
-passed_from : (g : Setting) (wanted : List Wanted) (budget : Option ℕ) (p : List ℕ) (news : List Record)
-    → plays g p ≡ Some news → (Reaches g wanted p → ⊥)
-    → IsPassed g wanted budget (p ++ length g.scripts ∷ [])
-    → IfUnbounded budget (HasRoomBefore g (p ++ length g.scripts ∷ [])) → IsPassedFrom g wanted budget p
-passed_from g wanted budget p news played no_end passed spared = (
-  passed_all g wanted budget p news played no_end passed,
-  if_then budget (HasRoomBefore g (p ++ length g.scripts ∷ [])) (HasRoomFrom g p)
-      (spared_from g p news played) spared,
-)
+-- the search is done with a place
+pub record IsLeaving (aim : AimValue) (p : PathValue) (place : List ℕ) (v : Visited) : Type 0 where
+  pub schedule : place ≡ schedule_of p.news
+  pub played : plays p.setting place ≡ Some p.news
+  pub on_way : AreAdmitted aim place
+  pub room : length place ≤ room_of p.setting
+  pub along : HasRoomAlong p.setting place
+  pub none : NoneBefore aim place
+  pub spared : aim.is_whole → HasRoomBefore p.setting place
+  pub visited : AreVisited p.setting aim place v
+  pub way : AreFollowed p.setting p.news v
+  pub done : IsDone p.setting aim place
 
-taken_back : (wanted : List Wanted) (budget : Option ℕ) (path : PathValue) (r : Record) (next : ℕ)
-    (old new : Visited)
-    → next ≡ length path.setting.scripts
-    → plays path.setting (schedule_of path.news ++ r.cpu ∷ []) ≡ Some (path.news ++ r ∷ [])
-    → (Reaches path.setting wanted (schedule_of path.news ++ r.cpu ∷ []) → ⊥)
+-- so it goes on from the place before, with fewer turns left than from any continuation of this one
+pub record IsLeft (aim : AimValue) (g : Setting) (place : List ℕ) (w : SearchValue) : Type 0 where
+  pub searching : IsSearching aim w
+  pub same : w.path.setting ≡ g
+  pub fewer : (next : ℕ) → turns_of w < turns_left (length g.scripts) (room_of g) place next
+
+-- the places before and after the latest call
+abbrev path_of : Setting → List Record → PathValue
+path_of g news = record { setting = g; news = news }
+
+taken_back : (aim : AimValue) (g : Setting) (news : List Record) (r : Record) (old new : Visited)
     → new.is_on ≡ old.is_on → new.keys ≡ old.keys → AreSameStops old.stops new.stops
-    → AreFollowed path.setting path.news new
-    → IsSearching wanted budget
-    (search_at (record { setting = path.setting; news = path.news ++ r ∷ [] })
-    (schedule_of path.news ++ r.cpu ∷ []) next old)
-    → IsCloser wanted budget
-    (search_at (record { setting = path.setting; news = path.news ++ r ∷ [] })
-    (schedule_of path.news ++ r.cpu ∷ []) next old)
-    (search_at path (schedule_of path.news) (r.cpu + 1) new)
-taken_back wanted budget path r next old new all played no_end on keys stops way here = record {
+    → AreFollowed g news new
+    → IsLeaving aim (path_of g (news ++ r ∷ [])) (schedule_of news ++ r.cpu ∷ []) old
+    → IsLeft aim g (schedule_of news ++ r.cpu ∷ [])
+    (search_at (path_of g news) (schedule_of news) (r.cpu + 1) new)
+taken_back aim g news r old new on keys stops way leaving = record {
   searching = record {
     schedule = refl;
-    within = within_shorter budget (schedule_of path.news) (r.cpu ∷ []) here.within;
+    here = leaving.on_way (schedule_of news) r.cpu ([], sym (append-nil (schedule_of news ++ r.cpu ∷ [])));
+    on_way = λ start cpu more. leaving.on_way start cpu (
+      more.0 ++ r.cpu ∷ [],
+      ap (λ (s : List ℕ). s ++ r.cpu ∷ []) more.1
+          ∙ append_assoc (start ++ cpu ∷ []) more.0 (r.cpu ∷ []),
+    );
     next =
-        let less : r.cpu < length path.setting.scripts =
-        last_within path.setting (schedule_of path.news) r.cpu (path.news ++ r ∷ []) played in
+        let less : r.cpu < length g.scripts =
+        last_within g (schedule_of news) r.cpu (news ++ r ∷ []) leaving.played in
         omega (arith, less);
-    room = omega (arith, length_push (schedule_of path.news) r.cpu, here.room);
-    along = room_back path.setting (schedule_of path.news) r.cpu here.along;
-    passed =
-        passed_up path.setting wanted budget (schedule_of path.news) r.cpu (path.news ++ r ∷ []) played no_end
-        passed;
-    spared =
-        if_then budget
-        (HasRoomBefore path.setting
-        ((schedule_of path.news ++ r.cpu ∷ []) ++ length path.setting.scripts ∷ []))
-        (HasRoomBefore path.setting (schedule_of path.news ++ (r.cpu + 1) ∷ []))
-        (spared_up path.setting (schedule_of path.news) r.cpu (path.news ++ r ∷ []) played here.along) spared;
+    room = omega (arith, length_push (schedule_of news) r.cpu, leaving.room);
+    along = room_back g (schedule_of news) r.cpu leaving.along;
+    none = none_past aim (schedule_of news) r.cpu leaving.none leaving.done.0;
+    spared = λ whole. spared_up g (schedule_of news) r.cpu leaving.along (leaving.spared whole)
+        (leaving.done.1 whole);
     visited =
-        visited_shorter path.setting wanted budget (schedule_of path.news) r.cpu new
-        (passed_from path.setting wanted budget (schedule_of path.news ++ r.cpu ∷ []) (path.news ++ r ∷ [])
-        played no_end passed spared)
-        (stops_kept path.setting wanted budget (schedule_of path.news ++ r.cpu ∷ []) old new on keys
-        (keep_same_stops old.stops new.stops stops) here.visited);
+        visited_shorter g aim (schedule_of news) r.cpu new leaving.done
+        (stops_kept g aim (schedule_of news ++ r.cpu ∷ []) old new on keys
+        (keep_same_stops old.stops new.stops stops) leaving.visited);
     way = way;
   };
   same = refl;
-  fewer =
-      left_up (length path.setting.scripts) (room_of path.setting) (schedule_of path.news) r.cpu next;
+  fewer = λ n. left_up (length g.scripts) (room_of g) (schedule_of news) r.cpu n;
 }
-  where
-    passed : IsPassed path.setting wanted budget
-        ((schedule_of path.news ++ r.cpu ∷ []) ++ length path.setting.scripts ∷ [])
-    passed =
-        subst (λ (n : ℕ). IsPassed path.setting wanted budget
-        ((schedule_of path.news ++ r.cpu ∷ []) ++ n ∷ [])) all here.passed
 
-    spared : IfUnbounded budget (HasRoomBefore path.setting
-        ((schedule_of path.news ++ r.cpu ∷ []) ++ length path.setting.scripts ∷ []))
-    spared =
-        subst (λ (n : ℕ). IfUnbounded budget (HasRoomBefore path.setting
-        ((schedule_of path.news ++ r.cpu ∷ []) ++ n ∷ []))) all here.spared
-
--- what a search keeps, by its parts, where it goes back to another
-abbrev GoesBack : (wanted : List Wanted) (budget : Option ℕ) (w : SearchValue) (next : ℕ) → Visited
-    → PathValue → List ℕ → Type 0
-GoesBack wanted budget w next old path s =
-    next ≡ length path.setting.scripts → plays path.setting s ≡ Some path.news
-    → (Reaches path.setting wanted s → ⊥) → IsSearching wanted budget (search_at path s next old)
-    → IsCloser wanted budget (search_at path s next old) w
-
-gone_back : (wanted : List Wanted) (budget : Option ℕ) (v w : SearchValue)
-    → v.next ≡ length v.path.setting.scripts
-    → plays v.path.setting (schedule_of v.path.news) ≡ Some v.path.news
-    → (Reaches v.path.setting wanted (schedule_of v.path.news) → ⊥) → IsSearching wanted budget v
-    → IsTakenBack v w → IsCloser wanted budget v w
-gone_back wanted budget v w all played no_end here back =
-    subst (IsCloser wanted budget v) (sym back.is)
-    (subst (λ (c : ℕ). IsCloser wanted budget v
-    (search_at back.path (schedule_of back.path.news) (c + 1) back.visited))
-    back.back.1
-    (parts all
-    (subst (λ (s : List ℕ). plays v.path.setting s ≡ Some v.path.news) (sym here.schedule) played)
-    (subst (λ (s : List ℕ). Reaches v.path.setting wanted s → ⊥) (sym here.schedule) no_end) here))
+gone_back : (aim : AimValue) (v w : SearchValue) → IsLeaving aim v.path v.schedule v.visited
+    → IsTakenBack v w → IsLeft aim v.path.setting v.schedule w
+gone_back aim v w leaving back =
+    subst (IsLeft aim v.path.setting v.schedule) (sym back.is)
+    (subst (λ (c : ℕ). IsLeft aim v.path.setting v.schedule
+    (search_at back.path (schedule_of back.path.news) (c + 1) back.visited)) back.back.1
+    (subst (λ (s : List ℕ). IsLeft aim v.path.setting s later) (sym schedule_is)
+    (subst (λ (p : PathValue). IsLeft aim p.setting place later) (sym back.back.2)
+    (taken_back aim back.path.setting back.path.news r v.visited back.visited back.kept.0 back.kept.1
+    back.stops way
+    (subst (λ (p : PathValue). IsLeaving aim p place v.visited) back.back.2
+    (subst (λ (s : List ℕ). IsLeaving aim v.path s v.visited) schedule_is leaving))))))
   where
     r : Record
     r = back.back.0
@@ -170,66 +147,121 @@ gone_back wanted budget v w all played no_end here back =
 
     schedule_is : v.schedule ≡ place
     schedule_is =
-        here.schedule
+        leaving.schedule
         ∙ (ap (λ (p : PathValue). schedule_of p.news) back.back.2 ∙ longer_schedule back.path.news r)
 
     way : AreFollowed back.path.setting back.path.news back.visited
     way =
         back.way back.path.setting back.path.news r
-        (subst (λ (p : PathValue). AreFollowed p.setting p.news v.visited) back.back.2 here.way)
+        (subst (λ (p : PathValue). AreFollowed p.setting p.news v.visited) back.back.2 leaving.way)
 
-    parts : GoesBack wanted budget later v.next v.visited v.path v.schedule
-    parts =
-        subst (GoesBack wanted budget later v.next v.visited v.path) (sym schedule_is)
-        (subst (λ (p : PathValue). GoesBack wanted budget later v.next v.visited p place) (sym back.back.2)
-        (λ all played no_end here. taken_back wanted budget back.path r v.next v.visited back.visited all
-        played no_end back.kept.0 back.kept.1 back.stops way here))
+-- or it is over
+none_left : (aim : AimValue) (p : PathValue) (place : List ℕ) (v : Visited) → IsLeaving aim p place v
+    → p.news ≡ [] → IsFirstSought p.setting aim None
+none_left aim p place v leaving first =
+    whole (subst (IsDone p.setting aim)
+    (leaving.schedule ∙ ap (λ (h : List Record). schedule_of h) first) leaving.done)
+  where
+    whole : IsDone p.setting aim [] → IsFirstSought p.setting aim None
+    whole done = (λ s sought. done.0 s sought (s, refl), λ all fills. done.1 all fills.0 fills.1 (fills.0, refl))
 
--- a search that came to its end
-pub gone_up : (wanted : List Wanted) (budget : Option ℕ) (v w : SearchValue) (turn : Turn)
+-- ---- a place that is done
+
+-- the place leads where its records are
+led : (v : SearchValue) → plays v.path.setting (schedule_of v.path.news) ≡ Some v.path.news
+    → v.schedule ≡ schedule_of v.path.news → plays v.path.setting v.schedule ≡ Some v.path.news
+led v played is = subst (λ (s : List ℕ). plays v.path.setting s ≡ Some v.path.news) (sym is) played
+
+-- after its last continuation
+pub gone_up : (aim : AimValue) (v w : SearchValue) (turn : Turn) → IsLawful v.path.setting aim
     → v.next ≡ length v.path.setting.scripts
     → plays v.path.setting (schedule_of v.path.news) ≡ Some v.path.news
-    → (Reaches v.path.setting wanted (schedule_of v.path.news) → ⊥) → IsSearching wanted budget v
-    → IsUp v w turn → IsTurned wanted budget v w turn
-gone_up wanted budget v w On all played no_end here up = gone_back wanted budget v w all played no_end here up
-gone_up wanted budget v w New all played no_end here up = absurd up
-gone_up wanted budget v w Found all played no_end here up = absurd up
-gone_up wanted budget v w Over all played no_end here up =
-    whole (subst (λ (h : List Record). plays v.path.setting (schedule_of h) ≡ Some h) up played)
-    (subst (λ (h : List Record). Reaches v.path.setting wanted (schedule_of h) → ⊥) up no_end)
-    (subst (λ (h : List Record). v.schedule ≡ schedule_of h) up here.schedule)
+    → (aim.sought v.schedule → ⊥) → IsSearching aim v → IsUp v w turn → IsTurned aim v w turn
+gone_up aim v w turn lawful all played no_end here = by_turn turn
   where
-    g : Setting
-    g = v.path.setting
+    leaving : IsLeaving aim v.path v.schedule v.visited
+    leaving = record {
+      schedule = here.schedule;
+      played = led v played here.schedule;
+      on_way = here.on_way;
+      room = here.room;
+      along = here.along;
+      none = none_shorter aim v.schedule (v.next ∷ []) here.none;
+      spared = λ whole. spared_shorter v.path.setting v.schedule (v.next ∷ []) (here.spared whole);
+      visited = here.visited;
+      way = here.way;
+      done =
+          done_from v.path.setting aim v.schedule v.path.news lawful (led v played here.schedule) no_end
+          (subst (λ (n : ℕ). NoneBefore aim (v.schedule ++ n ∷ [])) all here.none)
+          (λ whole. subst (λ (n : ℕ). HasRoomBefore v.path.setting (v.schedule ++ n ∷ [])) all
+          (here.spared whole));
+    }
 
-    whole : plays g [] ≡ Some [] → (Reaches g wanted [] → ⊥) → v.schedule ≡ []
-        → IsFirstWithin g wanted budget None
-    whole played no_end none = (
-      passed_whole g wanted budget [] played no_end
-          (subst (λ (n : ℕ). IsPassed g wanted budget (n ∷ [])) all
-          (subst (λ (s : List ℕ). IsPassed g wanted budget (s ++ v.next ∷ [])) none here.passed)),
-      if_then budget (HasRoomBefore g (length g.scripts ∷ [])) (FillsHistory g → ⊥)
-          (spared_whole g [] played)
-          (subst (λ (n : ℕ). IfUnbounded budget (HasRoomBefore g (n ∷ []))) all
-          (subst (λ (s : List ℕ). IfUnbounded budget (HasRoomBefore g (s ++ v.next ∷ []))) none here.spared)),
-    )
+    by_turn : (turn : Turn) → IsUp v w turn → IsTurned aim v w turn
+    by_turn On up =
+        let left = gone_back aim v w leaving up in
+        record { searching = left.searching; same = left.same; fewer = left.fewer v.next }
+    by_turn New up = absurd up
+    by_turn Found up = absurd up
+    by_turn Over up = none_left aim v.path v.schedule v.visited leaving up
 
--- a search that stands at one: all before it is passed by
-pub found_at : (wanted : List Wanted) (budget : Option ℕ) (v : SearchValue) → IsSearching wanted budget v
-    → Reaches v.path.setting wanted (schedule_of v.path.news) → IsTurned wanted budget v v Found
-found_at wanted budget v here reaches = (
-  subst (Reaches v.path.setting wanted) (sym here.schedule) reaches,
-  here.within,
-  λ s ends before. here.passed s ends (before_longer s v.schedule (v.next ∷ []) before),
+-- at once
+pub left_at_once : (aim : AimValue) (v u w : SearchValue) (turn : Turn)
+    → IsArriving aim v → plays v.path.setting (schedule_of v.path.news) ≡ Some v.path.news
+    → u.path ≡ v.path → u.schedule ≡ v.schedule → AreVisited v.path.setting aim v.schedule u.visited
+    → AreFollowed v.path.setting v.path.news u.visited → IsDone v.path.setting aim v.schedule
+    → IsUp u w turn → HasArrived aim v w turn
+left_at_once aim v u w turn here played path schedule visited way done = by_turn turn
+  where
+    leaving : IsLeaving aim u.path u.schedule u.visited
+    leaving =
+        subst (λ (s : List ℕ). IsLeaving aim u.path s u.visited) (sym schedule)
+        (subst (λ (p : PathValue). IsLeaving aim p v.schedule u.visited) (sym path) (record {
+          schedule = here.schedule;
+          played = led v played here.schedule;
+          on_way = here.on_way;
+          room = here.room;
+          along = here.along;
+          none = here.none;
+          spared = here.spared;
+          visited = visited;
+          way = way;
+          done = done;
+        }))
+
+    by_turn : (turn : Turn) → IsUp u w turn → HasArrived aim v w turn
+    by_turn On up =
+        let left = subst (λ (s : List ℕ). IsLeft aim v.path.setting s w) schedule
+        (subst (λ (p : PathValue). IsLeft aim p.setting u.schedule w) path (gone_back aim u w leaving up)) in
+        let few = left.fewer 0 in
+        record { searching = left.searching; same = left.same; few = omega (arith, few) }
+    by_turn New up = absurd up
+    by_turn Found up = absurd up
+    by_turn Over up =
+        subst (λ (p : PathValue). IsFirstSought p.setting aim None) path
+        (none_left aim u.path u.schedule u.visited leaving up)
+
+-- ---- a schedule that is sought
+
+-- all before it is passed
+pub found_at : (aim : AimValue) (v : SearchValue) → IsLawful v.path.setting aim
+    → v.next ≡ length v.path.setting.scripts
+    → plays v.path.setting (schedule_of v.path.news) ≡ Some v.path.news → IsSearching aim v
+    → aim.sought v.schedule → IsTurned aim v v Found
+found_at aim v lawful all played here sought = (
+  sought,
+  none_shorter aim v.schedule (v.next ∷ []) here.none,
+  λ s found on. only_here v.path.setting aim v.schedule v.path.news lawful
+      (led v played here.schedule)
+      (subst (λ (n : ℕ). NoneBefore aim (v.schedule ++ n ∷ [])) all here.none) s found on,
   here.along,
 )
 
 -- a search that found one
-pub found_here : (g : Setting) (wanted : List Wanted) (budget : Option ℕ) (v w : SearchValue) (turn : Turn)
-    (s : List ℕ)
-    → IsTurned wanted budget v w turn → turn ≡ Found → v.path.setting ≡ g → s ≡ w.schedule
-    → IsFirstWithin g wanted budget (Some s)
-found_here g wanted budget v w turn s turned is same items =
-    subst (λ (h : Setting). IsFirstWithin h wanted budget (Some s)) same
-    (subst (λ (t : List ℕ). IsFirstWithin v.path.setting wanted budget (Some t)) (sym items)
-    (subst (λ (t : Turn). IsTurned wanted budget v w t) is turned))
+pub found_here : (g : Setting) (aim : AimValue) (v w : SearchValue) (turn : Turn) (s : List ℕ)
+    → IsTurned aim v w turn → turn ≡ Found → v.path.setting ≡ g → s ≡ w.schedule
+    → IsFirstSought g aim (Some s)
+found_here g aim v w turn s turned is same items =
+    subst (λ (h : Setting). IsFirstSought h aim (Some s)) same
+    (subst (λ (t : List ℕ). IsFirstSought v.path.setting aim (Some t)) (sym items)
+    (subst (λ (t : Turn). IsTurned aim v w t) is turned))

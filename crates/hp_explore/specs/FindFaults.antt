@@ -45,11 +45,7 @@ pub record FillsNear (g : Setting) (wanted : List Wanted) (below : ℕ) : Type 0
 abbrev pub FillsNearer : Setting → List Wanted → Type 0
 FillsNearer g wanted = (known : List ℕ) × ReachesFirst g wanted known × FillsNear g wanted (changes known)
 
--- the causes of the faults of these searches: of a turn, of a pass and of several passes
-abbrev pub IsTurnCause : Setting → List Wanted → (budget : Option ℕ) → ExploreFault → Type 0
-IsTurnCause g wanted budget explore.HistoryFull = FillsPass g wanted budget
-IsTurnCause g wanted budget explore.OutOfMemory = Unit {0}
-
+-- the causes of the faults of one pass and of several
 abbrev pub IsPassCause : Setting → List Wanted → (budget : Option ℕ) → FindFault → Type 0
 IsPassCause g wanted budget HistoryFull = FillsPass g wanted budget
 IsPassCause g wanted budget OutOfMemory = Unit {0}

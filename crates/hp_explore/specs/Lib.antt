@@ -1,5 +1,7 @@
 pub mod Adding
+pub mod Aims
 pub mod Changes
+pub mod Counted
 pub mod Faults
 pub mod FindFaults
 pub mod Frames
@@ -8,6 +10,8 @@ pub mod Paths
 pub mod Reaching
 pub mod Searches
 pub mod Settings
+pub mod Starts
 pub mod Sums
 pub mod Visited
 pub mod Walks
+pub mod Withins

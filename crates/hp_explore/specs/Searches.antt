@@ -1,16 +1,18 @@
--- How far a search within a budget of changes, or without one, is.
-use Rattle.std.specs.Prelude.{◌≡◌, ℕ, zero, suc, ◌+◌, ◌-◌, ◌*◌, ◌<◌, ◌≤◌, List, Option, [], ◌∷◌, ◌++◌, None, Some, length}
+-- How far a search is.
+use Rattle.std.specs.Prelude.{◌≡◌, ℕ, zero, suc, ◌+◌, ◌-◌, ◌*◌, ◌<◌, ◌≤◌, true, List, [], ◌∷◌, ◌++◌, None, Some, length}
 use Rattle.hp_units.specs.declared.replies.Record.{Record}
-use Rattle.hp_explore.specs.Paths.{IsBack, PathValue}
+use Rattle.hp_schedules.specs.Alike.{UndoNothing}
+use Rattle.hp_schedules.specs.Orders.{Extends}
 use Rattle.hp_schedules.specs.Schedules.{Setting, schedule_of}
 use Rattle.hp_states.specs.Stops.{AreSameStops}
 use Rattle.hp_states.specs.Walks.{HasRoomBefore}
-use Rattle.hp_explore.specs.Reaching.{HasRoomAlong, IfUnbounded, IsFirstWithin, IsPassed, IsWithin}
+use Rattle.hp_explore.specs.Aims.{AimValue, IsFirstSought, IsTried, NoneBefore}
+use Rattle.hp_explore.specs.Paths.{IsBack, PathValue}
+use Rattle.hp_explore.specs.Reaching.{HasRoomAlong}
 use Rattle.hp_explore.specs.Visited.{AreFollowed, AreVisited}
 use Rattle.hp_explore.specs.declared.searching.Turn.{Turn}
 use Rattle.hp_explore.specs.declared.searching.Turn.TheVariants.{On, New, Found, Over}
 use Rattle.hp_explore.specs.declared.visited.Visited.{Visited}
-use Rattle.hp_questions.specs.declared.wanted.Wanted.{Wanted}
 
 -- ---- how many turns are left
 
@@ -45,62 +47,74 @@ abbrev pub search_at : (path : PathValue) → (schedule : List ℕ) → (next : 
 search_at path schedule next visited =
     record { path = path; schedule = schedule; next = next; visited = visited }
 
--- the search is within its budget and its room, and passed all that is before its place
-pub record IsSearching (wanted : List Wanted) (budget : Option ℕ) (v : SearchValue) : Type 0 where
+-- each place on the way to this one is admitted
+abbrev pub AreAdmitted : AimValue → (place : List ℕ) → Type 0
+AreAdmitted aim place =
+    (start : List ℕ) (cpu : ℕ) → Extends place (start ++ cpu ∷ []) → aim.admits start
+
+-- the search passed all that is before its next call; its place is admitted, and each on the way to it
+pub record IsSearching (aim : AimValue) (v : SearchValue) : Type 0 where
   pub schedule : v.schedule ≡ schedule_of v.path.news
-  pub within : IsWithin budget v.schedule
+  pub here : aim.admits v.schedule
+  pub on_way : AreAdmitted aim v.schedule
   pub next : v.next ≤ length v.path.setting.scripts
   pub room : length v.schedule ≤ room_of v.path.setting
   pub along : HasRoomAlong v.path.setting v.schedule
-  pub passed : IsPassed v.path.setting wanted budget (v.schedule ++ v.next ∷ [])
-  pub spared : IfUnbounded budget (HasRoomBefore v.path.setting (v.schedule ++ v.next ∷ []))
-  pub visited : AreVisited v.path.setting wanted budget v.schedule v.visited
+  pub none : NoneBefore aim (v.schedule ++ v.next ∷ [])
+  pub spared : aim.is_whole → HasRoomBefore v.path.setting (v.schedule ++ v.next ∷ [])
+  pub visited : AreVisited v.path.setting aim v.schedule v.visited
   pub way : AreFollowed v.path.setting v.path.news v.visited
 
 -- the most turns that are left to the search
 abbrev pub turns_of : SearchValue → ℕ
 turns_of v = turns_left (length v.path.setting.scripts) (room_of v.path.setting) v.schedule v.next
 
--- the search has just come to its place, by a call of the latest processor: it passed all that is
--- before the place, and visited the places that lead to the one before it
-pub record IsArriving (wanted : List Wanted) (budget : Option ℕ) (v : SearchValue) : Type 0 where
+-- a search before any call
+pub record IsBegun (g : Setting) (v : SearchValue) : Type 0 where
+  pub visited : Visited
+  pub is : v ≡ search_at (record { setting = g; news = [] }) [] 0 visited
+  pub none : visited.keys ≡ []
+  pub undo : visited.is_on ≡ true → UndoNothing g.scripts
+  pub way : AreFollowed g [] visited
+
+-- the search has just come to its place, by a call that may be tried: it passed all that is before the
+-- place, and visited the places that lead to the one before it
+pub record IsArriving (aim : AimValue) (v : SearchValue) : Type 0 where
   pub schedule : v.schedule ≡ schedule_of v.path.news
-  pub within : IsWithin budget v.schedule
+  pub on_way : AreAdmitted aim v.schedule
   pub room : length v.schedule ≤ room_of v.path.setting
   pub along : HasRoomAlong v.path.setting v.schedule
-  pub passed : IsPassed v.path.setting wanted budget v.schedule
-  pub spared : IfUnbounded budget (HasRoomBefore v.path.setting v.schedule)
-  pub before : List ℕ
-  pub cpu : ℕ
-  pub longer : v.schedule ≡ before ++ cpu ∷ []
-  pub visited : AreVisited v.path.setting wanted budget before v.visited
+  pub none : NoneBefore aim v.schedule
+  pub spared : aim.is_whole → HasRoomBefore v.path.setting v.schedule
+  pub call : IsTried aim v.schedule
+  pub visited : AreVisited v.path.setting aim call.before v.visited
   pub way : AreFollowed v.path.setting v.path.news v.visited
 
 -- the search goes on from another with fewer turns left
-pub record IsCloser (wanted : List Wanted) (budget : Option ℕ) (v w : SearchValue) : Type 0 where
-  pub searching : IsSearching wanted budget w
+pub record IsCloser (aim : AimValue) (v w : SearchValue) : Type 0 where
+  pub searching : IsSearching aim w
   pub same : w.path.setting ≡ v.path.setting
   pub fewer : turns_of w < turns_of v
 
 -- the result of one turn
-abbrev pub IsTurned : List Wanted → (budget : Option ℕ) → SearchValue → SearchValue → Turn → Type 0
-IsTurned wanted budget v w On = IsCloser wanted budget v w
-IsTurned wanted budget v w New = IsCloser wanted budget v w
-IsTurned wanted budget v w Found = IsFirstWithin v.path.setting wanted budget (Some w.schedule)
-IsTurned wanted budget v w Over = IsFirstWithin v.path.setting wanted budget None
+abbrev pub IsTurned : AimValue → SearchValue → SearchValue → Turn → Type 0
+IsTurned aim v w On = IsCloser aim v w
+IsTurned aim v w New = IsCloser aim v w
+IsTurned aim v w Found = IsFirstSought v.path.setting aim (Some w.schedule)
+IsTurned aim v w Over = IsFirstSought v.path.setting aim None
 
 -- the result of coming to a place: the search goes on with no more turns left than from the place's
 -- first continuation on
-pub record IsNear (wanted : List Wanted) (budget : Option ℕ) (v w : SearchValue) : Type 0 where
-  pub searching : IsSearching wanted budget w
+pub record IsNear (aim : AimValue) (v w : SearchValue) : Type 0 where
+  pub searching : IsSearching aim w
   pub same : w.path.setting ≡ v.path.setting
   pub few : turns_of w ≤ turns_left (length v.path.setting.scripts) (room_of v.path.setting) v.schedule 0
 
-abbrev pub HasArrived : List Wanted → (budget : Option ℕ) → SearchValue → SearchValue → Turn → Type 0
-HasArrived wanted budget v w On = IsNear wanted budget v w
-HasArrived wanted budget v w New = IsNear wanted budget v w
-HasArrived wanted budget v w Found = ⊥
-HasArrived wanted budget v w Over = IsFirstWithin v.path.setting wanted budget None
+abbrev pub HasArrived : AimValue → SearchValue → SearchValue → Turn → Type 0
+HasArrived aim v w On = IsNear aim v w
+HasArrived aim v w New = IsNear aim v w
+HasArrived aim v w Found = ⊥
+HasArrived aim v w Over = IsFirstSought v.path.setting aim None
 
 -- ---- the way back
 

@@ -9,7 +9,7 @@ ghost use Rattle.hp_explore.specs.declared.fault.FindFault.TheVariants.{Stopped}
 use crate::Watch;
 use crate::changes::changes_of;
 use crate::fault::FindFault;
-use crate::searching::first_within;
+use crate::within::first_within;
 use hp_machine::Machine;
 use hp_questions::Wanted;
 use hp_schedules::CallScript;

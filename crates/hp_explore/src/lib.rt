@@ -2,15 +2,17 @@
 //! in parts side by side, or finds one that ends as wanted.
 //!
 //! hp_schedules defines scripts, schedules and ends; hp_states decides which places are alike and
-//! keeps their counts. This crate owns the walk over all schedules (`exploring`), the search by rising
-//! number of changes of processor, as in CHESS (Musuvathi and Qadeer, PLDI 2007; `finding`), which
-//! tries a place once (`visited`), and the merging of parts (`summing`, `jobs`). It makes its calls on a
-//! memory of its own and takes each back, so that the caller's machine never changes. It knows nothing
-//! of scenarios or texts.
+//! keeps their counts. This crate owns the walk over all schedules (`exploring`), the search for the
+//! first schedule that an aim seeks (`searching`, `aim`), which tries a place once (`visited`), and the
+//! merging of parts (`summing`, `jobs`). `finding` searches by rising number of changes of processor, as
+//! in CHESS (Musuvathi and Qadeer, PLDI 2007); each pass is a search within a budget of changes
+//! (`within`). The crate makes its calls on a memory of its own and takes each back, so that the caller's
+//! machine never changes. It knows nothing of scenarios or texts.
 //!
-//! Read specs/Settings, specs/Faults and specs/Walks first, then specs/Reaching and specs/Sums.
+//! Read specs/Settings, specs/Faults and specs/Walks first, then specs/Aims, specs/Reaching and specs/Sums.
 #![tactic(auto)]
 
+mod aim;
 mod calls;
 mod changes;
 mod earlier;
@@ -29,7 +31,9 @@ mod turns;
 mod visited;
 mod walk;
 mod ways;
+mod within;
 
+pub use aim::Aim;
 pub use calls::calls_for;
 pub use changes::changes_of;
 pub use exploring::{Exploration, ExploreFault, explore, explore_part, room_needed};
@@ -40,4 +44,5 @@ pub use jobs::explore_with_jobs;
 pub use over::is_over;
 pub use path::Path;
 pub use playing::play;
+pub use searching::first_sought;
 pub use summing::{SumFault, sum};

@@ -1,22 +1,18 @@
-//! The search of the schedules within a budget of changes, or of all: depth first, processor 0 first,
-//! each place once.
-ghost use Rattle.std.specs.Prelude.{◌≡◌, ◌<◌, ◌≤◌, ◌+◌, ◌++◌, ◌∷◌, ◌^◌, ◌↔◌, ℕ, List, Option, [], IfErr, IfOk, IsTrue, OnOk, option_map, length, true};
+//! The search for the first schedule that an aim seeks: depth first, processor 0 first, each place once.
+ghost use Rattle.std.specs.Prelude.{◌≡◌, ◌<◌, ◌+◌, ◌++◌, ◌∷◌, ◌^◌, ℕ, List, [], IfErr, IfOk, OnOk, false, length, option_map, true};
 ghost use Rattle.hp_schedules.specs.Schedules.{schedule_of};
+ghost use Rattle.hp_explore.specs.Aims.{IsDone, IsFirstSought, IsSearchCause, IsTurnCause};
+ghost use Rattle.hp_explore.specs.Searches.{HasArrived, IsArriving, IsBegun, IsSearching, IsTurned, IsUp};
 ghost use Rattle.hp_explore.specs.Settings.{setting};
-ghost use Rattle.hp_explore.specs.FindFaults.{IsPassCause, IsTurnCause};
-ghost use Rattle.hp_explore.specs.Reaching.{IsFirstWithin, Reaches};
-ghost use Rattle.hp_explore.specs.Searches.{HasArrived, IsArriving, IsSearching, IsTurned, IsUp};
-ghost use Rattle.hp_explore.specs.Visited.{AreFollowed, AreVisited, IsPassedFrom};
+ghost use Rattle.hp_explore.specs.Visited.{AreFollowed, AreVisited};
 ghost use Rattle.hp_explore.specs.declared.fault.FindFault.TheVariants.{Stopped};
-ghost use Rattle.hp_questions.specs.declared.wanted.Wanted.{Wanted as NewWanted};
 
-use crate::changes::exceeds;
+use crate::aim::Aim;
 use crate::fault::FindFault;
 use crate::turns::latest;
 use crate::visited::Visited;
-use crate::{ExploreFault, Path, Watch, is_over};
+use crate::{ExploreFault, Path, Watch};
 use hp_machine::Machine;
-use hp_questions::{Wanted, are_met, is_lost};
 use hp_schedules::CallScript;
 use hp_units::Cpu;
 use std::alloc::{AllocError, Global};
@@ -29,7 +25,7 @@ enum Turn {
     On,
     /// It has come to a place that it had not visited.
     New,
-    /// It is at a schedule that ends as wanted.
+    /// It is at a schedule that is sought.
     Found,
     /// No schedule is left.
     Over,
@@ -58,33 +54,39 @@ impl<'a> Model for Search<'a> {
     } };
 }
 
-/// Returns the first schedule, in the order of the search, that ends as wanted with at most
-/// `budget` changes of processor; or with any number of changes, if there is no budget. Adds the
-/// places that it reaches to `places`.
+/// Returns the first schedule that the aim seeks. The schedules are in the order of their processors,
+/// the lower one first, and a schedule comes after those that continue it. Script k is that of
+/// processor k. The machine is not changed.
+///
+/// The search skips a place that continues as one where it was, unless a script undoes steps by their
+/// serials. Adds the places that it comes to to `places`. `watch` is called for each, and may end the
+/// search.
 ///
 /// # Errors
 ///
 /// `HistoryFull` if the search reaches a call for which the history has no room, `OutOfMemory` if
 /// memory allocation fails, `Stopped` if the watch ended the search.
-pub(crate) fn first_within<W: Watch>(
+pub fn first_sought<A: Aim, W: Watch>(
     alloc: Global,
     machine: &Machine,
     scripts: &[CallScript],
-    wanted: &[Wanted],
-    budget: Option<u64>,
+    aim: &mut A,
     watch: &mut W,
     places: &mut u64,
 ) -> Result<Option<Vec<Cpu>>, FindFault>
-    requires { length scripts.now < 2 ^ 32 }
-    ensures ok { IfOk result (λ found. IsFirstWithin (setting machine.now scripts.now) wanted.now budget
-        (option_map (λ s. s.items) found)) }
-    ensures err { IfErr result (IsPassCause (setting machine.now scripts.now) wanted.now budget) }
+    requires few { length scripts.now < 2 ^ 32 }
+    requires admitted { (A.shows aim.old (setting machine.now scripts.now)).admits [] }
+    ensures becomes { A.becomes aim.old (setting machine.now scripts.now) aim.new }
+    ensures ok { IfOk result (λ found. IsFirstSought (setting machine.now scripts.now)
+        (A.shows aim.new (setting machine.now scripts.now)) (option_map (λ s. s.items) found)) }
+    ensures err { IfErr result (IsSearchCause (setting machine.now scripts.now)
+        (A.shows aim.new (setting machine.now scripts.now))) }
     ensures stopped { IfErr result (λ fault. fault ≡ Stopped → W.has_ended watch.new) }
 {
     let mut search = Search::start(alloc, machine, scripts)?;
     let processors = scripts.len() as u32;
     'turns: loop {
-        match search.turn(alloc, processors, wanted, budget)? {
+        match search.turn(alloc, processors, aim)? {
             Turn::On => {}
             Turn::New => {
                 *places = places.saturating_add(1);
@@ -105,9 +107,7 @@ impl<'a> Search<'a> {
         machine: &'a Machine,
         scripts: &'a [CallScript],
     ) -> Result<Search<'a>, AllocError>
-        ensures setting { IfOk result (λ search. search.path.setting ≡ setting machine.now scripts.now) }
-        ensures searching { IfOk result (λ search. (wanted : List NewWanted) (budget : Option ℕ)
-            → IsSearching wanted budget search) }
+        ensures { IfOk result (IsBegun (setting machine.now scripts.now)) }
     {
         let path = Path::start(alloc, machine, scripts)?;
         let visited = Visited::start(alloc, machine, scripts, path.memory())?;
@@ -120,47 +120,47 @@ impl<'a> Search<'a> {
     }
 
     /// Makes one turn: makes a call, tries the next processor, or goes back.
-    fn turn(
+    fn turn<A: Aim>(
         &mut self,
         alloc: Global,
         processors: u32,
-        wanted: &[Wanted],
-        budget: Option<u64>,
+        aim: &mut A,
     ) -> Result<Turn, ExploreFault>
-        requires searching { IsSearching wanted.now budget self.old }
+        requires searching { IsSearching (A.shows aim.old self.old.path.setting) self.old }
         requires processors { processors ≡ length self.old.path.setting.scripts }
-        ensures ok { IfOk result (IsTurned wanted.now budget self.old self.new) }
-        ensures err { IfErr result (IsTurnCause self.old.path.setting wanted.now budget) }
+        ensures becomes { A.becomes aim.old self.old.path.setting aim.new }
+        ensures ok { IfOk result (IsTurned (A.shows aim.new self.old.path.setting) self.old self.new) }
+        ensures err { IfErr result
+            (IsTurnCause self.old.path.setting (A.shows aim.new self.old.path.setting)) }
     {
         self.path.is_played();
         if self.next < processors {
-            return self.down(alloc, processors, wanted, budget);
+            return self.down(alloc, processors, aim);
         }
-        if self.is_end(alloc, processors, wanted)? {
+        if aim.is_met(alloc, &self.path, self.schedule.as_slice(), processors)? {
             return Ok(Turn::Found);
         }
         Ok(self.up())
     }
 
-    /// Makes the next processor's call. If that is one change too many, or its script is finished,
-    /// moves on to the processor after it. If nothing that continues from the new place has to be
-    /// tried, takes the call back.
-    fn down(
+    /// Makes the next processor's call. If the aim has it not tried, or its script is finished, moves
+    /// on to the processor after it. If nothing that continues from the new place has to be tried,
+    /// takes the call back.
+    fn down<A: Aim>(
         &mut self,
         alloc: Global,
         processors: u32,
-        wanted: &[Wanted],
-        budget: Option<u64>,
+        aim: &A,
     ) -> Result<Turn, ExploreFault>
-        requires searching { IsSearching wanted.now budget self.old }
+        requires searching { IsSearching (A.shows aim.now self.old.path.setting) self.old }
         requires processors { processors ≡ length self.old.path.setting.scripts }
         requires some { self.old.next < processors }
-        ensures ok { IfOk result (IsTurned wanted.now budget self.old self.new) }
-        ensures err { IfErr result (IsTurnCause self.old.path.setting wanted.now budget) }
+        ensures ok { IfOk result (IsTurned (A.shows aim.now self.old.path.setting) self.old self.new) }
+        ensures err { IfErr result
+            (IsTurnCause self.old.path.setting (A.shows aim.now self.old.path.setting)) }
     {
         self.path.is_played();
-        let cpu = Cpu(self.next);
-        if exceeds(budget, self.schedule.as_slice(), cpu) {
+        if !aim.may_try(&self.path, self.schedule.as_slice(), self.next) {
             self.next += 1;
             return Ok(Turn::On);
         }
@@ -169,58 +169,54 @@ impl<'a> Search<'a> {
             self.next += 1;
             return Ok(Turn::On);
         }
-        self.schedule.push_reserved(cpu);
+        self.schedule.push_reserved(Cpu(self.next));
         self.visited.go_on(latest(self.path.records()))?;
-        let turn = self.arrive(alloc, processors, wanted, budget)?;
+        let turn = self.arrive(alloc, processors, aim)?;
         Ok(turn)
     }
 
     /// Treats the place just reached: takes the call back if nothing that continues from the place
     /// has to be tried.
-    fn arrive(
+    fn arrive<A: Aim>(
         &mut self,
         alloc: Global,
         processors: u32,
-        wanted: &[Wanted],
-        budget: Option<u64>,
+        aim: &A,
     ) -> Result<Turn, AllocError>
-        requires arriving { IsArriving wanted.now budget self.old }
+        requires arriving { IsArriving (A.shows aim.now self.old.path.setting) self.old }
         requires processors { processors ≡ length self.old.path.setting.scripts }
-        ensures { IfOk result (HasArrived wanted.now budget self.old self.new) }
+        ensures { IfOk result (HasArrived (A.shows aim.now self.old.path.setting) self.old self.new) }
     {
         self.path.is_played();
-        if self.is_done(alloc, processors, wanted, budget)? {
-            self.next = processors;
+        if self.is_done(alloc, processors, aim)? {
             return Ok(self.up());
         }
         self.next = 0;
         Ok(Turn::New)
     }
 
-    /// Returns whether nothing that continues from the place just reached has to be tried: it has
-    /// been visited, or no end there can be as wanted. Otherwise keeps the place.
-    ///
-    /// Without a budget, the second is not asked: the search then also finds whether the history has
-    /// room for each call.
-    fn is_done(
+    /// Returns whether nothing that continues from the place just reached has to be tried: the aim
+    /// does not admit it, or it has been visited. Otherwise keeps the place.
+    fn is_done<A: Aim>(
         &mut self,
         alloc: Global,
         processors: u32,
-        wanted: &[Wanted],
-        budget: Option<u64>,
+        aim: &A,
     ) -> Result<bool, AllocError>
-        requires arriving { IsArriving wanted.now budget self.old }
+        requires arriving { IsArriving (A.shows aim.now self.old.path.setting) self.old }
         requires processors { processors ≡ length self.old.path.setting.scripts }
         ensures same { OnOk result
             ((self.new.path ≡ self.old.path) × (self.new.schedule ≡ self.old.schedule)) }
-        ensures visited { OnOk result
-            (AreVisited self.old.path.setting wanted.now budget self.old.schedule self.new.visited) }
+        ensures visited { OnOk result (AreVisited self.old.path.setting
+            (A.shows aim.now self.old.path.setting) self.old.schedule self.new.visited) }
         ensures way { OnOk result (AreFollowed self.old.path.setting self.old.path.news self.new.visited) }
-        ensures done { IfOk result (λ done. done ≡ true
-            → IsPassedFrom self.old.path.setting wanted.now budget self.old.schedule) }
+        ensures done { IfOk result (λ done. done ≡ true → IsDone self.old.path.setting
+            (A.shows aim.now self.old.path.setting) self.old.schedule) }
+        ensures admitted { IfOk result (λ done. done ≡ false
+            → (A.shows aim.now self.old.path.setting).admits self.old.schedule) }
     {
         self.path.is_played();
-        if budget.is_some() && is_lost(wanted, processors, self.path.records()) {
+        if !aim.admits(&self.path, self.schedule.as_slice(), processors) {
             return Ok(true);
         }
         let known = self.visited.look_up(
@@ -228,8 +224,7 @@ impl<'a> Search<'a> {
             &self.path,
             self.schedule.as_slice(),
             processors,
-            wanted,
-            budget,
+            aim,
         )?;
         Ok(known)
     }
@@ -250,21 +245,6 @@ impl<'a> Search<'a> {
             }
             None => Turn::Over,
         }
-    }
-
-    /// Returns whether the schedule is complete and ends as wanted.
-    #[tactic(auto, using(crate::proofs::SearchEnds::no_end))]
-    fn is_end(&self, alloc: Global, processors: u32, wanted: &[Wanted]) -> Result<bool, AllocError>
-        requires { processors ≡ length self.now.path.setting.scripts }
-        ensures { IfOk result (λ end.
-            IsTrue end ↔ Reaches self.now.path.setting wanted.now (schedule_of self.now.path.news)) }
-    {
-        self.path.is_played();
-        if !is_over(alloc, &self.path, processors)? {
-            return Ok(false);
-        }
-        let outcome = self.path.outcome(alloc, processors)?;
-        Ok(are_met(wanted, &outcome))
     }
 
     /// Returns about how many bytes the visited places take.

@@ -1,22 +1,21 @@
 //! The places that a search has visited, each by its key.
-ghost use Rattle.std.specs.Prelude.{◌≡◌, ◌++◌, ◌∷◌, ℕ, List, Option, IfOk, OnOk, [], length, true};
+ghost use Rattle.std.specs.Prelude.{◌≡◌, ◌++◌, ◌∷◌, ℕ, List, IfOk, OnOk, [], length, true};
 ghost use Rattle.hp_units.specs.History.{effect_of};
 ghost use Rattle.hp_units.specs.declared.replies.Record.{Record as NewRecord};
-ghost use Rattle.hp_schedules.specs.Alike.{leaves_steps};
+ghost use Rattle.hp_schedules.specs.Alike.{UndoNothing, leaves_steps};
 ghost use Rattle.hp_schedules.specs.Cursors.{AreCursors};
 ghost use Rattle.hp_schedules.specs.Schedules.{Setting, schedule_of};
 ghost use Rattle.hp_states.specs.Places.{memory_at};
 ghost use Rattle.hp_states.specs.Stops.{AreSameStops, KeepStops};
 ghost use Rattle.hp_explore.specs.Settings.{setting};
-ghost use Rattle.hp_explore.specs.Visited.{AreFollowed, AreSpent, AreSteered, AreVisited, IsLookedUp, IsPlaceKey};
-ghost use Rattle.hp_questions.specs.declared.wanted.Wanted.{Wanted as NewWanted};
+ghost use Rattle.hp_explore.specs.Aims.{AreSteered};
+ghost use Rattle.hp_explore.specs.Visited.{AreFollowed, IsLookedUp, IsPlaceKey};
 
-use crate::changes::changes_of;
+use crate::aim::Aim;
 use crate::path::Path;
 use crate::walk::keeps_places;
 use hp_machine::Machine;
 use hp_memory::Memory;
-use hp_questions::{Wanted, push_marks};
 use hp_schedules::{CallScript, Positions, is_closed};
 use hp_states::{KeyTable, Stops};
 use hp_units::{Cpu, Record};
@@ -24,9 +23,9 @@ use std::alloc::{AllocError, Global};
 
 /// The keys of the places that a search has visited, and the numbers of the place where it is.
 ///
-/// Two places with the same key continue alike: with the same calls, to ends that meet the same wanted
-/// lines. So a place is tried once. `key` is the key written last. With `is_on` false no place is
-/// ever kept.
+/// Two places with the same key continue alike: with the same calls, and the aim seeks the same
+/// continuations. So a place is tried once. `key` is the key written last. With `is_on` false no place
+/// is ever kept.
 pub(crate) struct Visited {
     is_on: bool,
     stops: Stops,
@@ -55,8 +54,8 @@ impl Visited {
         memory: &Memory,
     ) -> Result<Visited, AllocError>
         requires { memory.now ≡ memory_at (setting machine.now scripts.now) [] }
-        ensures visited { IfOk result (λ visited. (wanted : List NewWanted) (budget : Option ℕ)
-            → AreVisited (setting machine.now scripts.now) wanted budget [] visited) }
+        ensures none { IfOk result (λ visited. visited.keys ≡ []) }
+        ensures undo { IfOk result (λ visited. visited.is_on ≡ true → UndoNothing scripts.now) }
         ensures way { IfOk result (λ visited. AreFollowed (setting machine.now scripts.now) [] visited) }
     {
         let is_on = keeps_places(scripts);
@@ -101,29 +100,29 @@ impl Visited {
     /// Returns whether a place with the same key as this one was visited. If not, keeps the key of
     /// this place, unless it has none: it is then unknown which operations a Cancel can take back, or
     /// a number does not fit 32 bits.
-    pub(crate) fn look_up(
+    pub(crate) fn look_up<A: Aim>(
         &mut self,
         alloc: Global,
         path: &Path<'_>,
         schedule: &[Cpu],
         processors: u32,
-        wanted: &[Wanted],
-        budget: Option<u64>,
+        aim: &A,
     ) -> Result<bool, AllocError>
         requires processors { processors ≡ length path.now.setting.scripts }
         requires schedule { schedule.now ≡ schedule_of path.now.news }
+        requires admitted { (A.shows aim.now path.now.setting).admits schedule.now }
         requires way { AreFollowed path.now.setting path.now.news self.old }
         ensures on { OnOk result (self.new.is_on ≡ self.old.is_on) }
         ensures kept { OnOk result (KeepStops self.old.stops self.new.stops) }
         ensures way { OnOk result (AreFollowed path.now.setting path.now.news self.new) }
-        ensures ok { IfOk result
-            (IsLookedUp path.now.setting wanted.now budget path.now.news self.old self.new) }
+        ensures ok { IfOk result (IsLookedUp path.now.setting (A.shows aim.now path.now.setting)
+            path.now.news self.old self.new) }
     {
         if !self.is_on {
             return Ok(false);
         }
         self.stops.number_state(alloc, path.memory())?;
-        if !self.write_key(path, schedule, processors, wanted, budget)? {
+        if !self.write_key(path, schedule, processors, aim)? {
             return Ok(false);
         }
         let key = self.key.as_slice();
@@ -135,22 +134,22 @@ impl Visited {
     }
 
     /// Writes the key of the place, and returns whether it has one.
-    fn write_key(
+    fn write_key<A: Aim>(
         &mut self,
         path: &Path<'_>,
         schedule: &[Cpu],
         processors: u32,
-        wanted: &[Wanted],
-        budget: Option<u64>,
+        aim: &A,
     ) -> Result<bool, AllocError>
         requires processors { processors ≡ length path.now.setting.scripts }
         requires schedule { schedule.now ≡ schedule_of path.now.news }
+        requires admitted { (A.shows aim.now path.now.setting).admits schedule.now }
         requires way { AreFollowed path.now.setting path.now.news self.old }
         requires on { self.old.is_on ≡ true }
         ensures same { (self.new.is_on ≡ self.old.is_on) × (self.new.stops ≡ self.old.stops)
             × (self.new.keys ≡ self.old.keys) }
-        ensures ok { IfOk result (λ has. has ≡ true → IsPlaceKey path.now.setting wanted.now budget
-            self.new.stops path.now.news self.new.key.items) }
+        ensures ok { IfOk result (λ has. has ≡ true → IsPlaceKey path.now.setting
+            (A.shows aim.now path.now.setting) self.new.stops path.now.news self.new.key.items) }
     {
         self.key.clear();
         if !self.stops.push_numbers(&mut self.key)? {
@@ -159,10 +158,7 @@ impl Visited {
         if !push_all_steering(path.positions(), processors, &mut self.key)? {
             return Ok(false);
         }
-        if !push_marks(wanted, processors, path.records(), &mut self.key)? {
-            return Ok(false);
-        }
-        if !push_spent(budget, schedule, &mut self.key)? {
+        if !aim.push_marks(path, schedule, processors, &mut self.key)? {
             return Ok(false);
         }
         Ok(true)
@@ -192,29 +188,5 @@ fn push_all_steering(
             return Ok(false);
         }
     }
-    Ok(true)
-}
-
-/// Appends the latest processor and the changes so far, if there is a budget of changes. Returns
-/// whether each number fits 32 bits and there is a latest processor.
-fn push_spent(
-    budget: Option<u64>,
-    schedule: &[Cpu],
-    numbers: &mut Vec<u32>,
-) -> Result<bool, AllocError>
-    ensures { IfOk result (λ fit. fit ≡ true → (part : List ℕ)
-        × (numbers.new.items ≡ numbers.old.items ++ part) × AreSpent budget schedule.now part) }
-{
-    if budget.is_none() {
-        return Ok(true);
-    }
-    let Some(cpu) = schedule.last() else {
-        return Ok(false);
-    };
-    let Ok(changes) = u32::try_from(changes_of(schedule)) else {
-        return Ok(false);
-    };
-    numbers.push(cpu.0)?;
-    numbers.push(changes)?;
     Ok(true)
 }

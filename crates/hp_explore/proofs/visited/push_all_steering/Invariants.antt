@@ -3,7 +3,7 @@ use Rattle.std.proofs.Common.{◌≡◌, ◌++◌, ℕ, List}
 use Rattle.hp_units.specs.declared.replies.Record.{Record}
 use Rattle.hp_schedules.specs.Cursors.{AreCursors}
 use Rattle.hp_schedules.specs.Schedules.{Setting}
-use Rattle.hp_explore.specs.Visited.{AreSteered}
+use Rattle.hp_explore.specs.Aims.{AreSteered}
 use Rattle.hp_explore.proofs.visited.push_all_steering.Given as goal
 
 abbrev pub invariant-loop-cpu : goal.invariant-loop-cpu

@@ -75,7 +75,7 @@ told_other cpu h r other =
 
 -- ---- replies to all processors
 
-abbrev many_to : (cpus : ℕ) → List Record → ℕ
+abbrev pub many_to : (cpus : ℕ) → List Record → ℕ
 many_to zero h = 0
 many_to (suc cpu) h = many_to cpu h + length (replies_to cpu h)
 
@@ -102,7 +102,7 @@ many_more (suc cpu) h r less = by_place (cases_lt r.cpu cpu) (λ below. many_mor
     by_place (inr past) before =
         omega (arith, many_past cpu h r past, told_own cpu h r (omega (arith, past, less)))
 
-many_same : (cpus : ℕ) (h k : List Record)
+pub many_same : (cpus : ℕ) (h k : List Record)
     → ((cpu : ℕ) → cpu < cpus → length (replies_to cpu h) ≡ length (replies_to cpu k))
     → many_to cpus h ≡ many_to cpus k
 many_same zero h k same = refl
@@ -139,7 +139,7 @@ many_played g (cpu ∷ rest) h end so_far is =
         (sym (ap (λ (o : Option (List Record)). fold (play_one g) o rest) (plays_one g h cpu (Some e) asked))
         ∙ is)
 
-calls_counted : (g : Setting) (h : List Record) → plays g (schedule_of h) ≡ Some h
+pub calls_counted : (g : Setting) (h : List Record) → plays g (schedule_of h) ≡ Some h
     → many_to (length g.scripts) h ≡ length h
 unfolding plays
 calls_counted g h played = many_played g (schedule_of h) [] h (none_many (length g.scripts)) played

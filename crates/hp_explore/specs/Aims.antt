@@ -1,0 +1,123 @@
+-- What a search looks for, where it may go, and what it finds.
+use Rattle.std.specs.Prelude.{◌≡◌, ℕ, zero, suc, List, [], ◌∷◌, ◌++◌, Option, Some, None, length}
+use Rattle.hp_units.specs.declared.replies.Record.{Record}
+use Rattle.hp_schedules.specs.Alike.{UndoNothing}
+use Rattle.hp_schedules.specs.Continuing.{ContinueAlike}
+use Rattle.hp_schedules.specs.Cursors.{IsSteered}
+use Rattle.hp_schedules.specs.Orders.{Extends, IsBefore}
+use Rattle.hp_schedules.specs.Schedules.{Setting, plays, schedule_of}
+use Rattle.hp_states.specs.Rooms.{HasNoRoom}
+use Rattle.hp_states.specs.Walks.{HasRoomFrom}
+use Rattle.hp_explore.specs.Faults.{FillsHistory}
+use Rattle.hp_explore.specs.Reaching.{HasRoomAlong}
+use Rattle.hp_explore.specs.declared.exploring.ExploreFault.{ExploreFault}
+use Rattle.hp_explore.specs.declared.exploring.ExploreFault.TheVariants as explore
+use Rattle.hp_explore.specs.declared.fault.FindFault.{FindFault}
+use Rattle.hp_explore.specs.declared.fault.FindFault.TheVariants.{HistoryFull, OutOfMemory, Stopped}
+
+-- ---- aims
+
+-- what an aim is in one setting. A place is the schedule of the calls made so far
+pub record AimValue : Type 1 where
+  -- the schedules that are looked for
+  pub sought : List ℕ → Type 0
+  -- the places that the search may come to
+  pub admits : List ℕ → Type 0
+  -- the calls that may be tried from an admitted place, before their replies are known
+  pub tries : List ℕ → (cpu : ℕ) → Type 0
+  -- numbers of the place after these records. They tell which of its continuations are sought, with the
+  -- state, the operations that can be cancelled and what the processors' further calls depend on
+  pub marks : List Record → List ℕ → Type 0
+  -- the search has to come to every place, so that it finds each call for which the history has no room
+  pub is_whole : Type 0
+
+-- no sought schedule is before the place, and none continues from it
+abbrev pub NoneBefore : AimValue → (place : List ℕ) → Type 0
+NoneBefore aim place = (s : List ℕ) → aim.sought s → IsBefore s place → ⊥
+
+abbrev pub NoneFrom : AimValue → (place : List ℕ) → Type 0
+NoneFrom aim place = (s : List ℕ) → aim.sought s → Extends s place → ⊥
+
+-- the search need not come to the place
+abbrev pub MayBeSkipped : AimValue → (place : List ℕ) → Type 0
+MayBeSkipped aim place = NoneFrom aim place × (aim.is_whole → ⊥)
+
+-- a call led to the place that may be tried from the place before it
+pub record IsTried (aim : AimValue) (place : List ℕ) : Type 0 where
+  pub before : List ℕ
+  pub cpu : ℕ
+  pub longer : place ≡ before ++ cpu ∷ []
+  pub from : aim.admits before
+  pub tried : aim.tries before cpu
+
+-- an aim that seeks no more schedules than another
+pub record IsNarrower (old new : AimValue) : Type 0 where
+  pub sought : (s : List ℕ) → new.sought s → old.sought s
+  pub admits : (s : List ℕ) → old.admits s → new.admits s
+  pub marks : (news : List Record) (numbers : List ℕ) → old.marks news numbers → new.marks news numbers
+  pub whole : new.is_whole → old.is_whole
+
+-- ---- places that continue alike
+
+-- what the further calls of each processor below a number depend on, five numbers for each
+abbrev pub AreSteered : Setting → (cpus : ℕ) → List Record → List ℕ → Type 0
+AreSteered g zero news numbers = numbers ≡ []
+AreSteered g (suc cpus) news numbers =
+    (rest : List ℕ) × (part : List ℕ) × (numbers ≡ rest ++ part) × (length part ≡ 5)
+    × IsSteered g cpus news part × AreSteered g cpus news rest
+
+-- two places whose keys are equal, apart from the marks: the same calls continue from both, to equal
+-- states
+pub record HaveSameKey (g : Setting) (first second : List Record) : Type 0 where
+  pub undo : UndoNothing g.scripts
+  pub first_played : plays g (schedule_of first) ≡ Some first
+  pub second_played : plays g (schedule_of second) ≡ Some second
+  pub alike : ContinueAlike g first second
+  pub steering : List ℕ
+  pub first_steered : AreSteered g (length g.scripts) first steering
+  pub second_steered : AreSteered g (length g.scripts) second steering
+
+-- what the search rests on: a sought schedule can be played; equally many calls lead to places with the
+-- same marks; and from admitted places with the same key and marks, the same continuations are sought
+pub record IsLawful (g : Setting) (aim : AimValue) : Type 0 where
+  pub played : (s : List ℕ) → aim.sought s → (news : List Record) × (plays g s ≡ Some news)
+  pub counted : (first second : List Record) (marks : List ℕ)
+      → plays g (schedule_of first) ≡ Some first → plays g (schedule_of second) ≡ Some second
+      → aim.marks first marks → aim.marks second marks → length first ≡ length second
+  pub continued : (first second : List Record) (marks rest : List ℕ) → HaveSameKey g first second
+      → aim.admits (schedule_of first) → aim.admits (schedule_of second)
+      → aim.marks first marks → aim.marks second marks
+      → aim.sought (schedule_of first ++ rest) → aim.sought (schedule_of second ++ rest)
+
+-- ---- results
+
+-- no sought schedule continues from the place; if the search has to come to every place, the history
+-- has room for each call from there on
+abbrev pub IsDone : Setting → AimValue → (place : List ℕ) → Type 0
+IsDone g aim place = NoneFrom aim place × (aim.is_whole → HasRoomFrom g place)
+
+-- the first sought schedule: none is before it, none continues from it, and the history has room for
+-- each of its calls. None: no schedule is sought, and if the search has to come to every place, the
+-- history has room for each call
+abbrev pub IsFirstSought : Setting → AimValue → Option (List ℕ) → Type 0
+IsFirstSought g aim None = ((s : List ℕ) → aim.sought s → ⊥) × (aim.is_whole → FillsHistory g → ⊥)
+IsFirstSought g aim (Some s) =
+    aim.sought s × NoneBefore aim s × ((t : List ℕ) → aim.sought t → Extends t s → t ≡ s) × HasRoomAlong g s
+
+-- the history has no room for a call that may be tried, and no sought schedule is before that call
+pub record FillsSearch (g : Setting) (aim : AimValue) : Type 0 where
+  pub place : List ℕ
+  pub call : HasNoRoom g place
+  pub admitted : aim.admits place
+  pub tried : aim.tries place call.cpu
+  pub none : NoneBefore aim (place ++ call.cpu ∷ [])
+
+-- the cause of a fault: of one turn of the search, and of the search
+abbrev pub IsTurnCause : Setting → AimValue → ExploreFault → Type 0
+IsTurnCause g aim explore.HistoryFull = FillsSearch g aim
+IsTurnCause g aim explore.OutOfMemory = Unit {0}
+
+abbrev pub IsSearchCause : Setting → AimValue → FindFault → Type 0
+IsSearchCause g aim HistoryFull = FillsSearch g aim
+IsSearchCause g aim OutOfMemory = Unit {0}
+IsSearchCause g aim Stopped = Unit {0}

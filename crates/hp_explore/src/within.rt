@@ -1,0 +1,138 @@
+//! The aim of one pass of the search for a nearest schedule: an end as wanted, within a budget of changes.
+ghost use Rattle.std.specs.Prelude.{◌≡◌, ◌<◌, ◌^◌, ◌++◌, ℕ, IfErr, IfOk, List, length, option_map, true};
+ghost use Rattle.hp_explore.specs.FindFaults.{IsPassCause};
+ghost use Rattle.hp_explore.specs.Reaching.{IsFirstWithin};
+ghost use Rattle.hp_explore.specs.Settings.{setting};
+ghost use Rattle.hp_explore.specs.Withins.{AreSpent};
+ghost use Rattle.hp_explore.specs.declared.fault.FindFault.TheVariants.{Stopped};
+
+use crate::aim::Aim;
+use crate::changes::{changes_of, exceeds};
+use crate::fault::FindFault;
+use crate::searching::first_sought;
+use crate::{Path, Watch, is_over};
+use hp_machine::Machine;
+use hp_questions::{Wanted, are_met, is_lost, push_marks};
+use hp_schedules::CallScript;
+use hp_units::Cpu;
+use std::alloc::{AllocError, Global};
+
+/// The wanted lines, and the most changes of processor, if there is a budget.
+#[derive(Clone, Copy, Drop)]
+struct Within<'a> {
+    wanted: &'a [Wanted],
+    budget: Option<u64>,
+}
+
+impl<'a> Aim for Within<'a> {
+    ghost use Rattle.std.specs.Prelude.{◌≡◌};
+    ghost use Rattle.std.proofs.Common.{refl, ◌∙◌};
+    ghost use Rattle.hp_explore.specs.Withins.{aim_within, within_lawful, within_narrower};
+
+    ghost shows = { λ aim g. aim_within g aim.wanted.now aim.budget };
+
+    ghost becomes = { λ aim g new. (new.wanted.now ≡ aim.wanted.now) × (new.budget ≡ aim.budget) };
+
+    fn may_try(&self, _path: &Path<'_>, schedule: &[Cpu], cpu: u32) -> bool {
+        !exceeds(self.budget, schedule, Cpu(cpu))
+    }
+
+    /// Without a budget, no place is lost: the search then also finds whether the history has room for
+    /// each call.
+    fn admits(&self, path: &Path<'_>, _schedule: &[Cpu], processors: u32) -> bool {
+        path.is_played();
+        if self.budget.is_some() && is_lost(self.wanted, processors, path.records()) {
+            return false;
+        }
+        true
+    }
+
+    fn push_marks(
+        &self,
+        path: &Path<'_>,
+        schedule: &[Cpu],
+        processors: u32,
+        numbers: &mut Vec<u32>,
+    ) -> Result<bool, AllocError> {
+        if !push_marks(self.wanted, processors, path.records(), numbers)? {
+            return Ok(false);
+        }
+        push_spent(self.budget, schedule, numbers)
+    }
+
+    /// A complete schedule that ends as wanted is met.
+    fn is_met(
+        &mut self,
+        alloc: Global,
+        path: &Path<'_>,
+        _schedule: &[Cpu],
+        processors: u32,
+    ) -> Result<bool, AllocError> {
+        path.is_played();
+        if !is_over(alloc, path, processors)? {
+            return Ok(false);
+        }
+        let outcome = path.outcome(alloc, processors)?;
+        Ok(are_met(self.wanted, &outcome))
+    }
+
+    ghost stays = { λ aim g. (refl, refl) };
+
+    ghost joined = { λ aim g mid new first second. (second.0 ∙ first.0, second.1 ∙ first.1) };
+
+    ghost narrower = { λ aim g new same. within_narrower g aim.wanted.now new.wanted.now aim.budget
+        new.budget same.0 same.1 };
+
+    ghost lawful = { λ aim g. within_lawful g aim.wanted.now aim.budget };
+}
+
+/// Returns the first schedule, in the order of the search, that ends as wanted with at most
+/// `budget` changes of processor; or with any number of changes, if there is no budget. Adds the
+/// places that it reaches to `places`.
+///
+/// # Errors
+///
+/// `HistoryFull` if the search reaches a call for which the history has no room, `OutOfMemory` if
+/// memory allocation fails, `Stopped` if the watch ended the search.
+pub(crate) fn first_within<W: Watch>(
+    alloc: Global,
+    machine: &Machine,
+    scripts: &[CallScript],
+    wanted: &[Wanted],
+    budget: Option<u64>,
+    watch: &mut W,
+    places: &mut u64,
+) -> Result<Option<Vec<Cpu>>, FindFault>
+    requires { length scripts.now < 2 ^ 32 }
+    ensures ok { IfOk result (λ found. IsFirstWithin (setting machine.now scripts.now) wanted.now budget
+        (option_map (λ s. s.items) found)) }
+    ensures err { IfErr result (IsPassCause (setting machine.now scripts.now) wanted.now budget) }
+    ensures stopped { IfErr result (λ fault. fault ≡ Stopped → W.has_ended watch.new) }
+{
+    let mut aim = Within { wanted, budget };
+    first_sought(alloc, machine, scripts, &mut aim, watch, places)
+}
+
+/// Appends the latest processor and the changes so far, if there is a budget of changes. Returns
+/// whether each number fits 32 bits and there is a latest processor.
+fn push_spent(
+    budget: Option<u64>,
+    schedule: &[Cpu],
+    numbers: &mut Vec<u32>,
+) -> Result<bool, AllocError>
+    ensures { IfOk result (λ fit. fit ≡ true → (part : List ℕ)
+        × (numbers.new.items ≡ numbers.old.items ++ part) × AreSpent budget schedule.now part) }
+{
+    if budget.is_none() {
+        return Ok(true);
+    }
+    let Some(cpu) = schedule.last() else {
+        return Ok(false);
+    };
+    let Ok(changes) = u32::try_from(changes_of(schedule)) else {
+        return Ok(false);
+    };
+    numbers.push(cpu.0)?;
+    numbers.push(changes)?;
+    Ok(true)
+}
