@@ -39,7 +39,7 @@ steered_long g h k (suc n) xs ys a b =
     )
 
 -- the same steering
-steered_at : (g : Setting) (h k : List Record) (n : ℕ) (xs ys : List ℕ) → xs ≡ ys → AreSteered g n h xs
+pub steered_at : (g : Setting) (h k : List Record) (n : ℕ) (xs ys : List ℕ) → xs ≡ ys → AreSteered g n h xs
     → AreSteered g n k ys → (cpu : ℕ) → cpu < n
     → (part : List ℕ) × IsSteered g cpu h part × IsSteered g cpu k part
 steered_at g h k zero xs ys is a b cpu less = absurd (omega (arith, less))

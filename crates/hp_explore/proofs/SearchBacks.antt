@@ -247,13 +247,13 @@ left_at_once aim v u w turn here played path schedule visited way done = by_turn
 pub found_at : (aim : AimValue) (v : SearchValue) → IsLawful v.path.setting aim
     → v.next ≡ length v.path.setting.scripts
     → plays v.path.setting (schedule_of v.path.news) ≡ Some v.path.news → IsSearching aim v
-    → aim.sought v.schedule → IsTurned aim v v Found
-found_at aim v lawful all played here sought = (
-  sought,
+    → aim.found v.schedule → IsTurned aim v v Found
+found_at aim v lawful all played here found = (
+  found,
   none_shorter aim v.schedule (v.next ∷ []) here.none,
-  λ s found on. only_here v.path.setting aim v.schedule v.path.news lawful
+  λ s sought on. only_here v.path.setting aim v.schedule v.path.news lawful
       (led v played here.schedule)
-      (subst (λ (n : ℕ). NoneBefore aim (v.schedule ++ n ∷ [])) all here.none) s found on,
+      (subst (λ (n : ℕ). NoneBefore aim (v.schedule ++ n ∷ [])) all here.none) s sought on,
   here.along,
 )
 

@@ -21,6 +21,8 @@ use Rattle.hp_explore.specs.declared.fault.FindFault.TheVariants.{HistoryFull, O
 pub record AimValue : Type 1 where
   -- the schedules that are looked for
   pub sought : List ℕ → Type 0
+  -- what is found of them: the schedule with which a search ends
+  pub found : List ℕ → Type 0
   -- the places that the search may come to
   pub admits : List ℕ → Type 0
   -- the calls that may be tried from an admitted place, before their replies are known
@@ -102,7 +104,7 @@ IsDone g aim place = NoneFrom aim place × (aim.is_whole → HasRoomFrom g place
 abbrev pub IsFirstSought : Setting → AimValue → Option (List ℕ) → Type 0
 IsFirstSought g aim None = ((s : List ℕ) → aim.sought s → ⊥) × (aim.is_whole → FillsHistory g → ⊥)
 IsFirstSought g aim (Some s) =
-    aim.sought s × NoneBefore aim s × ((t : List ℕ) → aim.sought t → Extends t s → t ≡ s) × HasRoomAlong g s
+    aim.found s × NoneBefore aim s × ((t : List ℕ) → aim.sought t → Extends t s → t ≡ s) × HasRoomAlong g s
 
 -- the history has no room for a call that may be tried, and no sought schedule is before that call
 pub record FillsSearch (g : Setting) (aim : AimValue) : Type 0 where

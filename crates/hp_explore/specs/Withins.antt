@@ -38,6 +38,7 @@ pub record IsMarked (g : Setting) (wanted : List Wanted) (budget : Option ℕ) (
 abbrev pub aim_within : Setting → List Wanted → (budget : Option ℕ) → AimValue
 aim_within g wanted budget = record {
   sought = λ s. Reaches g wanted s × IsWithin budget s;
+  found = λ s. Reaches g wanted s × IsWithin budget s;
   admits = λ s. IsWithin budget s;
   tries = λ s cpu. IsWithin budget (s ++ cpu ∷ []);
   marks = λ news numbers. IsMarked g wanted budget news numbers;

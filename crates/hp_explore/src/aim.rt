@@ -72,8 +72,10 @@ pub trait Aim {
         requires schedule { schedule.now ≡ schedule_of path.now.news }
         requires admitted { (shows self.old path.now.setting).admits schedule.now }
         ensures becomes { becomes self.old path.now.setting self.new }
-        ensures met { IfOk result (λ met.
-            IsTrue met ↔ (shows self.new path.now.setting).sought schedule.now) };
+        ensures found { IfOk result (λ met.
+            met ≡ true → (shows self.new path.now.setting).found schedule.now) }
+        ensures missed { IfOk result (λ met.
+            met ≡ false → (shows self.new path.now.setting).sought schedule.now → ⊥) };
 
     /// Without a question, the aim stays as it is.
     ghost stays: { (aim : Self) (g : Setting) → becomes aim g aim };

@@ -1,18 +1,21 @@
 //! The place of a walk over schedules, with the way back.
-ghost use Rattle.std.specs.Prelude.{◌≡◌, [], Some, IfErr, IfOk, OnErr};
+ghost use Rattle.std.specs.Prelude.{◌≡◌, ◌<◌, ◌++◌, ◌∷◌, [], ℕ, List, Some, IfErr, IfOk, OnErr, OnOk, length};
+ghost use Rattle.hp_units.specs.declared.replies.Record.{Record as NewRecord};
 ghost use Rattle.hp_explore.specs.Faults.{IsCauseHere};
 ghost use Rattle.hp_schedules.specs.Cursors.{AreCursors};
+ghost use Rattle.hp_schedules.specs.LineAnswers.{IsAnswered, answers_at};
+ghost use Rattle.hp_schedules.specs.Causes.{IsCaused};
 ghost use Rattle.hp_schedules.specs.Outcomes.{outcome};
 ghost use Rattle.hp_explore.specs.Paths.{IsBack, IsForth, state_at};
 ghost use Rattle.hp_schedules.specs.Schedules.{next_call, plays, schedule_of};
 ghost use Rattle.hp_explore.specs.Settings.{setting};
 
 use crate::exploring::ExploreFault;
-use crate::turns::{advance, step_back, steps_of};
+use crate::turns::{advance, latest, step_back, steps_of};
 use crate::ways::Turn;
 use hp_machine::Machine;
 use hp_memory::Memory;
-use hp_schedules::{CallScript, Outcome, Positions};
+use hp_schedules::{CallScript, FinishedLine, Outcome, Positions};
 use hp_states::outcome_at;
 use hp_steps::Steps;
 use hp_units::{Cpu, Event, Record};
@@ -109,6 +112,39 @@ impl<'a> Path<'a> {
             Some(request) => Ok(Some(request.event)),
             None => Ok(None),
         }
+    }
+
+    /// Returns how many lines of its script the processor has finished.
+    pub fn finished(&self, cpu: u32) -> usize
+        ensures { result ≡ length (answers_at self.now.setting cpu self.now.news) }
+    {
+        if cpu as usize >= self.scripts.len() {
+            return 0;
+        }
+        self.positions.finished(self.scripts, cpu)
+    }
+
+    /// Returns the line that the latest call finished, with its answer, or `None` if that call
+    /// finished no line.
+    pub fn answered(&self) -> Option<FinishedLine>
+        ensures { (before : List NewRecord) (r : NewRecord) → self.now.news ≡ before ++ r ∷ []
+            → IsAnswered (answers_at self.now.setting r.cpu before) result
+            (answers_at self.now.setting r.cpu self.now.news) }
+    {
+        let records = self.here.records();
+        if records.is_empty() {
+            return None;
+        }
+        self.positions.answered(self.scripts, latest(records))
+    }
+
+    /// Appends two numbers for the last refusal that the processor's unfinished plan has met.
+    pub fn push_causes(&self, cpu: u32, numbers: &mut Vec<u32>) -> Result<(), AllocError>
+        requires { cpu < length self.now.setting.scripts }
+        ensures { OnOk result ((part : List ℕ) × (numbers.new.items ≡ numbers.old.items ++ part)
+            × (length part ≡ 2) × IsCaused self.now.setting cpu self.now.news part) }
+    {
+        self.positions.push_causes(self.scripts, cpu, numbers)
     }
 
     /// Returns each processor's position in its script.

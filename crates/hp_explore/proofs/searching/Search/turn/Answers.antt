@@ -1,6 +1,5 @@
 -- A turn down, and one up.
 use Rattle.std.proofs.Common.{◌≡◌, List, ℕ, Some, length, ap, subst, arith}
-use Rattle.std.proofs.lemmas.Bool.{iff_false}
 use Rattle.hp_schedules.specs.Schedules.{plays, schedule_of}
 use Rattle.hp_explore.specs.Searches.{SearchValue}
 use Rattle.hp_explore.proofs.SearchBacks.{found_at, gone_up}
@@ -26,10 +25,10 @@ returns-then-branch-clause-ok g c =
     (g.met.A.Aim.narrower c.args.aim.now v.path.setting c.is_met.new.self
     (subst (λ (w : SearchValue). g.A.Aim.becomes c.args.aim.now w.path.setting c.is_met.new.self)
     c.self.view_is c.in_ok-is_met.ensures.becomes)) c.requires.searching)
-    (subst (λ (w : SearchValue). (g.A.Aim.shows c.is_met.new.self w.path.setting).sought w.schedule)
+    (subst (λ (w : SearchValue). (g.A.Aim.shows c.is_met.new.self w.path.setting).found w.schedule)
     c.self.view_is
-    (subst (λ (s : List ℕ). (g.A.Aim.shows c.is_met.new.self c.self.inside.path.setting).sought s)
-    c.as_slice.ensures.value (c.in_ok-is_met.ensures.met.0 c.if-branch.true)))
+    (subst (λ (s : List ℕ). (g.A.Aim.shows c.is_met.new.self c.self.inside.path.setting).found s)
+    c.as_slice.ensures.value (c.in_ok-is_met.ensures.found c.if-branch.true)))
 
 pub returns-clause-ok : goal.returns-clause-ok
 returns-clause-ok g c =
@@ -49,7 +48,7 @@ returns-clause-ok g c =
     (subst (λ (w : SearchValue). (g.A.Aim.shows c.is_met.new.self w.path.setting).sought w.schedule → ⊥)
     c.self.view_is
     (subst (λ (s : List ℕ). (g.A.Aim.shows c.is_met.new.self c.self.inside.path.setting).sought s → ⊥)
-    c.as_slice.ensures.value (iff_false c.in_ok-is_met.ensures.met c.if-branch.false)))
+    c.as_slice.ensures.value (c.in_ok-is_met.ensures.missed c.if-branch.false)))
     (narrowed (g.A.Aim.shows c.args.aim.now v.path.setting) new v
     (g.met.A.Aim.narrower c.args.aim.now v.path.setting c.is_met.new.self
     (subst (λ (w : SearchValue). g.A.Aim.becomes c.args.aim.now w.path.setting c.is_met.new.self)

@@ -1,10 +1,17 @@
 -- If all scripts are finished, the place is such an end just if its outcome has the lines.
+use Rattle.std.specs.Prelude.{◌↔◌, IsTrue}
+use Rattle.std.proofs.lemmas.Bool.{iff_false}
+use Rattle.hp_explore.specs.Withins.{aim_within}
 use Rattle.hp_explore.proofs.Budgets.{met_told}
 use Rattle.hp_explore.proofs.SearchEnds.{end_told}
 use Rattle.hp_explore.proofs.within.WithinAim.is_met.Goals as goal
+use Rattle.hp_explore.proofs.within.WithinAim.is_met.Goals.{After-drop-outcome-inside-2}
 
-pub returns-clause-met : goal.returns-clause-met
-returns-clause-met c =
+told : (c : After-drop-outcome-inside-2)
+    → IsTrue c.are_met.result
+    ↔ (aim_within c.args.path.now.setting c.args.self.now.wanted.now c.args.self.now.budget).sought
+    c.args._schedule.now
+told c =
     let p = c.args.path.now in
     let wanted = c.args.self.now.wanted.now in
     met_told p.setting wanted c.args.self.now.budget c.args._schedule.now p.news c.are_met.result
@@ -12,3 +19,9 @@ returns-clause-met c =
     (end_told p wanted c.args.processors c.in_ok-outcome.outcome c.are_met.result c.is_played.ensures
     (c.in_ok-is_over.ensures.0 c.if-not-branch.false) c.requires.processors c.in_ok-outcome.ensures
     c.are_met.ensures)
+
+pub returns-clause-found : goal.returns-clause-found
+returns-clause-found c = λ met. (told c).0 met
+
+pub returns-clause-missed : goal.returns-clause-missed
+returns-clause-missed c = λ met. iff_false (told c) met
