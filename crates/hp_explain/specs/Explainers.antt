@@ -1,0 +1,44 @@
+-- The aim of a search for an order that explains what was seen, and what the laws of an aim say of it.
+use Rattle.std.specs.Prelude.{◌≡◌, ◌⊎◌, ℕ, zero, suc, ◌<◌, ◌≤◌, List, [], ◌∷◌, ◌++◌, Some, length}
+use Rattle.hp_units.specs.declared.replies.Record.{Record}
+use Rattle.hp_schedules.specs.Causes.{IsCaused}
+use Rattle.hp_schedules.specs.Schedules.{Setting, plays}
+use Rattle.hp_explore.specs.Aims.{AimValue, IsLawful, IsNarrower}
+use Rattle.hp_explain.specs.Explaining.{Explains, IsExplained, MayRun}
+use Rattle.hp_explain.specs.declared.observed.ObservedLine.{ObservedLine}
+
+-- two numbers for each processor below a number, of the last refusal that its plan in progress met
+abbrev pub AreCausedBelow : Setting → (cpus : ℕ) → List Record → List ℕ → Type 0
+AreCausedBelow g zero news numbers = numbers ≡ []
+AreCausedBelow g (suc cpus) news numbers =
+    (rest : List ℕ) × (part : List ℕ) × (numbers ≡ rest ++ part) × (length part ≡ 2)
+    × IsCaused g cpus news part × AreCausedBelow g cpus news rest
+
+-- the marks: the number of calls, and these numbers of all processors
+abbrev pub IsMarked : Setting → List Record → List ℕ → Type 0
+IsMarked g news numbers =
+    (causes : List ℕ) × (numbers ≡ length news ∷ causes)
+    × AreCausedBelow g (length g.scripts) news causes
+
+-- the processor's next line may run after the schedule
+abbrev pub MayRunAfter : Setting → List (List ObservedLine) → List ℕ → (cpu : ℕ) → Type 0
+MayRunAfter g seen schedule cpu =
+    (news : List Record) × (plays g schedule ≡ Some news) × MayRun g seen news cpu
+
+-- sought are the orders that explain what was seen, and the explained beginnings that are longer than
+-- the longest known one; a search ends with an order
+abbrev pub aim_of : Setting → List (List ObservedLine) → (longest : List ℕ) → AimValue
+aim_of g seen longest = record {
+  sought = λ s. Explains g seen s ⊎ (IsExplained g seen s × (length longest < length s));
+  found = λ s. Explains g seen s;
+  admits = λ s. IsExplained g seen s;
+  tries = λ s cpu. MayRunAfter g seen s cpu;
+  marks = λ news numbers. IsMarked g news numbers;
+  is_whole = ⊥;
+}
+
+-- what was seen stays; the longest known beginning gets no shorter, and stays explained
+abbrev pub Becomes : Setting → (seen : List (List ObservedLine)) → (longest : List ℕ)
+    → (later : List (List ObservedLine)) → (new : List ℕ) → Type 0
+Becomes g seen longest later new =
+    (later ≡ seen) × (length longest ≤ length new) × (IsExplained g seen longest → IsExplained g seen new)

@@ -1,0 +1,101 @@
+-- Which orders explain what the processors were answered.
+use Rattle.std.specs.Prelude.{◌≡◌, ℕ, ◌<◌, ◌≤◌, List, [], ◌∷◌, ◌++◌, Option, Some, length, slice_get}
+use Rattle.hp_units.specs.declared.replies.Record.{Record}
+use Rattle.hp_schedules.specs.LineAnswers.{answers_at}
+use Rattle.hp_schedules.specs.Orders.{IsBefore}
+use Rattle.hp_schedules.specs.Schedules.{Setting, next_call, plays}
+use Rattle.hp_schedules.specs.declared.line_answers.LineAnswer.{LineAnswer}
+use Rattle.hp_states.specs.Rooms.{HasNoRoom}
+use Rattle.hp_explore.specs.Reaching.{HasRoomAlong}
+use Rattle.hp_explore.specs.declared.fault.FindFault.{FindFault}
+use Rattle.hp_explore.specs.declared.fault.FindFault.TheVariants.{HistoryFull, OutOfMemory, Stopped}
+use Rattle.hp_explain.specs.declared.explaining.Explanation.{Explanation}
+use Rattle.hp_explain.specs.declared.explaining.Explanation.TheVariants.{Explained, Unexplained}
+use Rattle.hp_explain.specs.declared.observed.ObservedLine.{ObservedLine}
+
+-- ---- what was seen
+
+-- no line is answered before an earlier one
+abbrev pub AreRising : List ObservedLine → Type 0
+AreRising lines =
+    (i j : ℕ) (a b : ObservedLine) → slice_get lines i ≡ Some a → slice_get lines j ≡ Some b → i ≤ j
+    → a.to ≤ b.to
+
+-- this answer was seen of the processor's line, counted from 0
+abbrev pub HasSeen : List (List ObservedLine) → (cpu line : ℕ) → Option LineAnswer → Type 0
+HasSeen seen cpu line answer =
+    (lines : List ObservedLine) × (one : ObservedLine) × (slice_get seen cpu ≡ Some lines)
+    × (slice_get lines line ≡ Some one) × (answer ≡ Some one.answer)
+
+-- each line that was answered before the time is among the first ones
+abbrev pub AreOverBefore : List ObservedLine → (count time : ℕ) → Type 0
+AreOverBefore lines count time =
+    (k : ℕ) (one : ObservedLine) → slice_get lines k ≡ Some one → one.to < time → k < count
+
+-- ---- which orders explain it
+
+-- each line that is finished after the new records was answered as it was seen
+abbrev pub AreAsSeen : Setting → List (List ObservedLine) → List Record → Type 0
+AreAsSeen g seen news =
+    (cpu line : ℕ) (answer : Option LineAnswer) → slice_get (answers_at g cpu news) line ≡ Some answer
+    → HasSeen seen cpu line answer
+
+-- after the new records, each processor has finished its lines that were answered before the time
+abbrev pub AreAllOverBefore : Setting → List (List ObservedLine) → List Record → (time : ℕ) → Type 0
+AreAllOverBefore g seen news time =
+    (cpu : ℕ) (lines : List ObservedLine) → slice_get seen cpu ≡ Some lines
+    → AreOverBefore lines (length (answers_at g cpu news)) time
+
+-- the line that the processor works on next may run: each line that was answered before it began is
+-- finished
+abbrev pub MayRun : Setting → List (List ObservedLine) → List Record → (cpu : ℕ) → Type 0
+MayRun g seen news cpu =
+    (lines : List ObservedLine) (one : ObservedLine) → slice_get seen cpu ≡ Some lines
+    → slice_get lines (length (answers_at g cpu news)) ≡ Some one → AreAllOverBefore g seen news one.from
+
+-- each call was made by a line that could run
+abbrev pub AreInTime : Setting → List (List ObservedLine) → List Record → Type 0
+AreInTime g seen news =
+    (before : List Record) (r : Record) (later : List Record) → news ≡ before ++ r ∷ later
+    → MayRun g seen before r.cpu
+
+-- the schedule is the beginning of an order that what was seen allows: it can be played, each line that
+-- it finishes was answered so, and each of its calls was made in time
+pub record IsExplained (g : Setting) (seen : List (List ObservedLine)) (schedule : List ℕ) : Type 0 where
+  pub news : List Record
+  pub played : plays g schedule ≡ Some news
+  pub answered : AreAsSeen g seen news
+  pub timed : AreInTime g seen news
+
+-- the schedule is such an order, of all lines
+pub record Explains (g : Setting) (seen : List (List ObservedLine)) (schedule : List ℕ) : Type 0 where
+  pub begun : IsExplained g seen schedule
+  pub over : (cpu : ℕ) → next_call g cpu begun.news ≡ None
+
+-- ---- results
+
+-- the first schedule that explains what was seen, in the order of the processors; the history has room
+-- for each of its calls. Or none does, and no beginning that is explained is longer than this one
+abbrev pub IsExplanation : Setting → List (List ObservedLine) → Explanation → Type 0
+IsExplanation g seen (Explained schedule) =
+    Explains g seen schedule.items
+    × ((s : List ℕ) → Explains g seen s → IsBefore s schedule.items → ⊥)
+    × HasRoomAlong g schedule.items
+IsExplanation g seen (Unexplained longest) =
+    ((s : List ℕ) → Explains g seen s → ⊥) × IsExplained g seen longest.items
+    × ((s : List ℕ) → IsExplained g seen s → length s ≤ length longest.items)
+
+-- the history has no room for a call that a line in time makes after an explained beginning, and no
+-- schedule before that call explains what was seen
+pub record FillsExplained (g : Setting) (seen : List (List ObservedLine)) : Type 0 where
+  pub place : List ℕ
+  pub call : HasNoRoom g place
+  pub begun : IsExplained g seen place
+  pub runs : MayRun g seen begun.news call.cpu
+  pub none : (s : List ℕ) → Explains g seen s → IsBefore s (place ++ call.cpu ∷ []) → ⊥
+
+-- the cause of a fault
+abbrev pub IsExplainCause : Setting → List (List ObservedLine) → FindFault → Type 0
+IsExplainCause g seen HistoryFull = FillsExplained g seen
+IsExplainCause g seen OutOfMemory = Unit {0}
+IsExplainCause g seen Stopped = Unit {0}

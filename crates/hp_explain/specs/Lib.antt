@@ -1,0 +1,2 @@
+pub mod Explainers
+pub mod Explaining

@@ -1,0 +1,148 @@
+//! The aim of a search for an order that explains what was seen.
+ghost use Rattle.std.specs.Prelude.{◌≡◌, ◌↔◌, ◌++◌, ◌<◌, ◌^◌, IfOk, IsTrue, ℕ, List, OnOk, length, true};
+ghost use Rattle.hp_explain.specs.Explainers.{AreCausedBelow, IsMarked};
+ghost use Rattle.hp_explain.specs.Explaining.{AreAllOverBefore, MayRun};
+
+use crate::observed::Observed;
+use hp_explore::{Aim, Path, is_over};
+use hp_units::Cpu;
+use std::alloc::{AllocError, Global};
+
+/// What was seen, and the first of the longest explained schedules that the search has come to.
+#[derive(Drop)]
+pub(crate) struct Explainer<'a> {
+    seen: &'a Observed,
+    longest: Vec<Cpu>,
+}
+
+impl<'a> Explainer<'a> {
+    /// Creates the aim of a search before any call.
+    pub(crate) fn new(alloc: Global, seen: &'a Observed) -> Explainer<'a>
+        ensures seen { result.seen ≡ seen }
+        ensures none { result.longest.items ≡ [] }
+    {
+        Explainer {
+            seen,
+            longest: Vec::new(alloc),
+        }
+    }
+
+    /// Returns the longest schedule. Allocates nothing.
+    pub(crate) fn into_longest(self) -> Vec<Cpu>
+        ensures { result ≡ self.entry.longest }
+    {
+        let Explainer { longest, .. } = self;
+        longest
+    }
+
+    /// Returns whether the line that the processor works on next may run at this place: each line that
+    /// was answered before it began is finished.
+    fn may_run(&self, path: &Path<'_>, cpu: u32) -> bool
+        ensures { IsTrue result ↔ MayRun path.now.setting self.now.seen.now path.now.news cpu }
+    {
+        match self.seen.line(cpu, path.finished(cpu)) {
+            Some(line) => self.are_all_over(path, line.from),
+            None => true,
+        }
+    }
+
+    /// Returns whether each processor has finished its lines that were answered before the time.
+    fn are_all_over(&self, path: &Path<'_>, time: u64) -> bool
+        ensures { IsTrue result ↔ AreAllOverBefore path.now.setting self.now.seen.now path.now.news time }
+    {
+        for cpu in 0..self.seen.processors() {
+            if !self.seen.are_over(cpu, path.finished(cpu), time) {
+                return false;
+            }
+        }
+        true
+    }
+}
+
+impl<'a> Aim for Explainer<'a> {
+    ghost use Rattle.std.specs.Prelude.{◌≡◌, ◌≤◌, length};
+    ghost use Rattle.std.proofs.Common.{refl, ◌∙◌};
+    ghost use Rattle.hp_explain.specs.Explaining.{IsExplained};
+    ghost use Rattle.hp_explain.specs.Explainers.{aim_of, explaining_joined, explaining_lawful, explaining_narrower, explaining_stays, Becomes};
+
+    ghost shows = { λ aim g. aim_of g aim.seen.now aim.longest.items };
+
+    ghost becomes = { λ aim g new. Becomes g aim.seen.now aim.longest.items new.seen.now new.longest.items };
+
+    fn may_try(&self, path: &Path<'_>, _schedule: &[Cpu], cpu: u32) -> bool {
+        path.is_played();
+        self.may_run(path, cpu)
+    }
+
+    fn admits(&self, path: &Path<'_>, schedule: &[Cpu], _processors: u32) -> bool {
+        path.is_played();
+        let Some(cpu) = schedule.last() else {
+            return true;
+        };
+        match path.answered() {
+            Some(finished) => self.seen.has_seen(*cpu, finished.line, finished.answer),
+            None => true,
+        }
+    }
+
+    /// The marks are the number of calls, and what the answers of the plans in progress depend on.
+    fn push_marks(
+        &self,
+        path: &Path<'_>,
+        schedule: &[Cpu],
+        processors: u32,
+        numbers: &mut Vec<u32>,
+    ) -> Result<bool, AllocError> {
+        let Ok(calls) = u32::try_from(schedule.len()) else {
+            return Ok(false);
+        };
+        numbers.push(calls)?;
+        push_all_causes(path, processors, numbers)?;
+        Ok(true)
+    }
+
+    /// A schedule of all lines is met. Any other is kept if it is longer than those before.
+    fn is_met(
+        &mut self,
+        alloc: Global,
+        path: &Path<'_>,
+        schedule: &[Cpu],
+        processors: u32,
+    ) -> Result<bool, AllocError> {
+        path.is_played();
+        if is_over(alloc, path, processors)? {
+            return Ok(true);
+        }
+        if self.longest.len() < schedule.len() {
+            self.longest = schedule.iter().copied().collect(alloc)?;
+        }
+        Ok(false)
+    }
+
+    ghost stays = { λ aim g. explaining_stays g aim.seen.now aim.longest.items };
+
+    ghost joined = { λ aim g mid new first second. explaining_joined g aim.seen.now mid.seen.now new.seen.now
+        aim.longest.items mid.longest.items new.longest.items first second };
+
+    ghost narrower = { λ aim g new becomes. explaining_narrower g aim.seen.now new.seen.now aim.longest.items
+        new.longest.items becomes };
+
+    ghost lawful = { λ aim g. explaining_lawful g aim.seen.now aim.longest.items };
+}
+
+/// Appends what the answers of the processors' plans in progress depend on, two numbers for each
+/// processor.
+fn push_all_causes(
+    path: &Path<'_>,
+    processors: u32,
+    numbers: &mut Vec<u32>,
+) -> Result<(), AllocError>
+    requires { processors ≡ length path.now.setting.scripts }
+    ensures { OnOk result ((part : List ℕ) × (numbers.new.items ≡ numbers.old.items ++ part)
+        × AreCausedBelow path.now.setting processors path.now.news part) }
+{
+    for cpu in 0..processors {
+        path.push_causes(cpu, numbers)?;
+    }
+    Ok(())
+}

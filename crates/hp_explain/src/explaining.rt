@@ -1,0 +1,57 @@
+//! The search for an order that explains what was seen.
+ghost use Rattle.std.specs.Prelude.{◌≡◌, ◌<◌, ◌^◌, IfErr, IfOk, length, map};
+ghost use Rattle.hp_explore.specs.Settings.{setting};
+ghost use Rattle.hp_explore.specs.declared.fault.FindFault.TheVariants.{Stopped};
+ghost use Rattle.hp_explain.specs.Explaining.{IsExplainCause, IsExplanation};
+
+use crate::explainer::Explainer;
+use crate::observed::Observed;
+use hp_explore::{FindFault, Watch, first_sought};
+use hp_machine::Machine;
+use hp_schedules::CallScript;
+use hp_units::Cpu;
+use std::alloc::Global;
+
+/// What explains the answers that were seen.
+#[derive(Drop)]
+pub enum Explanation {
+    /// The first order in which each line is answered as it was seen, as the processors in the order
+    /// of their calls.
+    Explained(Vec<Cpu>),
+    /// There is none. This is the first of the longest beginnings of an order in which each finished
+    /// line is answered so.
+    Unexplained(Vec<Cpu>),
+}
+
+/// Finds the first order of all calls that explains what was seen: each line is answered as it was
+/// seen, and no line begins before one that had been answered by then is finished. Script k is that of
+/// processor k. The machine is not changed. `watch` is called for each place that the search comes to,
+/// and may end it.
+///
+/// Orders are in the order of their processors, the lower one first. A plan's calls are interleaved one
+/// by one with those of other processors. The search gives a beginning up at its first answer that
+/// differs, and tries a place once, unless a script undoes steps by their serials.
+///
+/// # Errors
+///
+/// `HistoryFull` if the search reaches a call for which the layout's history has no room, `OutOfMemory`
+/// if memory allocation fails, `Stopped` if the watch ended the search.
+pub fn explain<W: Watch>(
+    alloc: Global,
+    machine: &Machine,
+    scripts: &[CallScript],
+    seen: &Observed,
+    watch: &mut W,
+) -> Result<Explanation, FindFault>
+    requires { length scripts.now < 2 ^ 32 }
+    ensures ok { IfOk result (IsExplanation (setting machine.now scripts.now) seen.now) }
+    ensures err { IfErr result (IsExplainCause (setting machine.now scripts.now) seen.now) }
+    ensures stopped { IfErr result (λ fault. fault ≡ Stopped → W.has_ended watch.new) }
+{
+    let mut explainer = Explainer::new(alloc, seen);
+    let mut places = 0;
+    match first_sought(alloc, machine, scripts, &mut explainer, watch, &mut places)? {
+        Some(order) => Ok(Explanation::Explained(order)),
+        None => Ok(Explanation::Unexplained(explainer.into_longest())),
+    }
+}

@@ -1,0 +1,159 @@
+//! What was seen of a run in threads.
+ghost use Rattle.std.specs.Prelude.{◌≡◌, ◌↔◌, ◌<◌, ◌≤◌, ◌^◌, IfNone, IfSome, IsTrue, ℕ, Some, length, slice_get, ⊥};
+ghost use Rattle.hp_explain.specs.Explaining.{AreRising, AreOverBefore, HasSeen};
+
+use hp_schedules::LineAnswer;
+use hp_units::Cpu;
+use std::marker::Model;
+
+/// What was seen of a line.
+#[derive(Clone, Copy, PartialEq, Eq, Drop)]
+pub struct ObservedLine {
+    /// The line's answer.
+    pub answer: LineAnswer,
+    /// The time before which the line had not begun; 0 if it is unknown.
+    pub from: u64,
+    /// The time at which the line was answered, or some time later; `u64::MAX` if it is unknown.
+    pub to: u64,
+}
+
+/// What was seen of a processor's lines, in their order. No line is answered before an earlier one. A
+/// contract sees the list of the lines.
+#[derive(Drop)]
+pub struct ObservedScript {
+    lines: Vec<ObservedLine>,
+}
+
+impl Model for ObservedScript {
+    ghost use Rattle.std.specs.Prelude.{List};
+    ghost use Rattle.hp_explain.specs.declared.observed.ObservedLine.{ObservedLine};
+    ghost use Rattle.hp_explain.specs.Explaining.{AreRising};
+
+    ghost Value = { List ObservedLine };
+
+    ghost view = { λ s. s.lines.items };
+
+    ghost invariant = { λ s. AreRising s.lines.items };
+}
+
+impl ObservedScript {
+    /// Returns the lines as a script, or `None` if one is answered before an earlier one. Allocates
+    /// nothing.
+    pub fn new(lines: Vec<ObservedLine>) -> Option<ObservedScript>
+        ensures some { IfSome result (λ script. script ≡ lines.items) }
+        ensures none { IfNone result (AreRising lines.items → ⊥) }
+    {
+        if !are_rising(lines.as_slice()) {
+            return None;
+        }
+        Some(ObservedScript { lines })
+    }
+
+    /// Returns the lines in order.
+    pub fn lines(&self) -> &[ObservedLine]
+        ensures { result.now ≡ self.now }
+    {
+        let lines = &self.lines;
+        lines.as_slice()
+    }
+
+    /// Returns whether each line that was answered before `time` is among the first `count`.
+    fn are_over(&self, count: usize, time: u64) -> bool
+        ensures { IsTrue result ↔ AreOverBefore self.now count time }
+    {
+        match self.lines().get(count) {
+            Some(line) => line.to >= time,
+            None => true,
+        }
+    }
+}
+
+/// Returns whether no line is answered before an earlier one.
+fn are_rising(lines: &[ObservedLine]) -> bool
+    ensures { IsTrue result ↔ AreRising lines.now }
+{
+    for index in 1..lines.len() {
+        if lines[index].to < lines[index - 1].to {
+            return false;
+        }
+    }
+    true
+}
+
+/// What was seen of all processors, from processor 0. A contract sees the list of their lines.
+#[derive(Drop)]
+pub struct Observed {
+    scripts: Vec<ObservedScript>,
+}
+
+impl Model for Observed {
+    ghost use Rattle.std.specs.Prelude.{◌<◌, ◌^◌, List, length};
+    ghost use Rattle.hp_explain.specs.declared.observed.ObservedLine.{ObservedLine};
+
+    ghost Value = { List (List ObservedLine) };
+
+    ghost view = { λ s. s.scripts.items };
+
+    ghost invariant = { λ s. length s.scripts.items < 2 ^ 32 };
+}
+
+impl Observed {
+    /// Returns the scripts as one value. Allocates nothing.
+    pub fn new(scripts: Vec<ObservedScript>) -> Observed
+        requires { length scripts.items < 2 ^ 32 }
+        ensures { result ≡ scripts.items }
+    {
+        Observed { scripts }
+    }
+
+    /// Returns how many processors there are.
+    pub fn processors(&self) -> u32
+        ensures { result ≡ length self.now }
+    {
+        let scripts = &self.scripts;
+        scripts.len() as u32
+    }
+
+    /// Returns a processor's lines, or `None` if there is no such processor.
+    pub fn lines_of(&self, cpu: u32) -> Option<&[ObservedLine]>
+        ensures { option_map (λ lines. lines.now) result ≡ slice_get self.now cpu }
+    {
+        let scripts = &self.scripts;
+        match scripts.get(cpu as usize) {
+            Some(script) => Some(script.lines()),
+            None => None,
+        }
+    }
+
+    /// Returns whether each line of the processor that was answered before `time` is among its first
+    /// `count`.
+    pub(crate) fn are_over(&self, cpu: u32, count: usize, time: u64) -> bool
+        requires { cpu < length self.now }
+        ensures { (lines : List ObservedLine) → slice_get self.now cpu ≡ Some lines
+            → (IsTrue result ↔ AreOverBefore lines count time) }
+    {
+        let scripts = &self.scripts;
+        scripts[cpu as usize].are_over(count, time)
+    }
+
+    /// Returns whether this answer was seen of the processor's line, counted from 0.
+    pub(crate) fn has_seen(&self, cpu: Cpu, line: usize, answer: Option<LineAnswer>) -> bool
+        ensures { IsTrue result ↔ HasSeen self.now cpu line answer }
+    {
+        match self.line(cpu.0, line) {
+            Some(seen) => match answer {
+                Some(answer) => answer.same(&seen.answer),
+                None => false,
+            },
+            None => false,
+        }
+    }
+
+    /// Returns what was seen of the processor's line, counted from 0.
+    pub(crate) fn line(&self, cpu: u32, line: usize) -> Option<&ObservedLine>
+        ensures { option_map (λ l. l.now) result
+            ≡ option_and_then (λ lines. slice_get lines line) (slice_get self.now cpu) }
+    {
+        self.lines_of(cpu)?.get(line)
+    }
+}
