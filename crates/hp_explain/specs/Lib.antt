@@ -1,2 +1,3 @@
+pub mod Answers
 pub mod Explainers
 pub mod Explaining
