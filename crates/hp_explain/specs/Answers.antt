@@ -61,6 +61,11 @@ untimed answer = record { answer = answer; from = 0; to = 18446744073709551615 }
 abbrev pub AreUntimed : List ObservedLine → Type 0
 AreUntimed seen = map (λ one. untimed one.answer) seen ≡ seen
 
+-- one more answer, without times
+abbrev pub IsPushed : (old : List ObservedLine) → (text : List ℕ) → (new : List ObservedLine) → Type 0
+IsPushed old text new =
+    (answer : LineAnswer) × (text ≡ answer_text answer) × (new ≡ old ++ untimed answer ∷ [])
+
 -- the front of the lines is a processor's heading and that many answers
 abbrev pub IsScriptAt : (rest : List (List ℕ)) → (cpu count : ℕ) → List ObservedLine → Type 0
 IsScriptAt rest cpu count seen =

@@ -1,8 +1,8 @@
 //! The answers of processors in words, line by line, as `hotplug run` prints them.
-ghost use Rattle.std.specs.Prelude.{◌≡◌, ◌∷◌, ◌<◌, ◌≤◌, ◌^◌, IfOk, OnOk, length, map, take, true};
-ghost use Rattle.hp_explain.specs.Answers.{AreLast, AreRun, AreUntimed, IsRecords, IsScriptAt, are_empty, heading, seen_lines, untimed};
+ghost use Rattle.std.specs.Prelude.{◌≡◌, ◌++◌, ◌∷◌, [], ◌<◌, ◌≤◌, ◌^◌, IfOk, OnOk, length, map, take, true};
+ghost use Rattle.hp_explain.specs.Answers.{AreLast, AreRun, AreUntimed, IsPushed, IsRecords, IsScriptAt, are_empty, heading, seen_lines, untimed};
 
-use crate::answer_words::{answer_in, is_of_no_call};
+use crate::answer_words::{answer_in, is_answer, is_of_no_call};
 use crate::answers_fault::AnswersFault;
 use crate::observed::{ObservedLine, ObservedScript};
 use hp_schedules::{CallScript, LineAnswer};
@@ -98,7 +98,7 @@ fn not_heading(
     if let Some(cpu) = past_last(text, processors) {
         return Ok(AnswersFault::NoProcessor { cpu, line });
     }
-    if cpu > 0 && answer_in(alloc, text)?.is_some() {
+    if cpu > 0 && is_answer(alloc, text)? {
         return Ok(AnswersFault::TooMany { cpu: cpu - 1, line });
     }
     Ok(AnswersFault::NoHeading { cpu, line })
@@ -138,12 +138,31 @@ fn read_lines(
         if index >= rest.len() {
             return Err(too_few(cpu, index, count));
         }
-        let Some(answer) = answer_in(alloc, rest[index])? else {
+        if !push_answer(&mut seen, alloc, rest[index])? {
             return Err(no_answer(&rest[index..], number, cpu, index, count));
-        };
-        seen.push(untimed(answer))?;
+        }
     }
     Ok(seen)
+}
+
+/// Appends the answer that the text is, and returns whether it is one.
+fn push_answer(seen: &mut Vec<ObservedLine>, alloc: Global, text: &str) -> Result<bool, AllocError>
+    ensures { IfOk result (λ is. is ≡ true → IsPushed seen.old.items text.now seen.new.items) }
+{
+    match answer_in(alloc, text) {
+        Ok(Some(answer)) => push_untimed(seen, answer),
+        Ok(None) => Ok(false),
+        Err(e) => Err(e),
+    }
+}
+
+/// Appends an answer without times, and returns true.
+fn push_untimed(seen: &mut Vec<ObservedLine>, answer: LineAnswer) -> Result<bool, AllocError>
+    ensures { IfOk result (λ is. seen.new.items ≡ seen.old.items ++ untimed answer ∷ []) }
+{
+    seen.reserve(1)?;
+    seen.push_reserved(untimed(answer));
+    Ok(true)
 }
 
 /// Returns an answer as what was seen, without times.
@@ -217,7 +236,7 @@ fn not_last(
     if let Some(cpu) = past_last(text, processors) {
         return Ok(AnswersFault::NoProcessor { cpu, line });
     }
-    if processors > 0 && answer_in(alloc, text)?.is_some() {
+    if processors > 0 && is_answer(alloc, text)? {
         return Ok(AnswersFault::TooMany {
             cpu: processors - 1,
             line,

@@ -46,8 +46,7 @@ pub(crate) fn read_objects(
     for index in 0..lines.len() {
         if !lines[index].is_empty() {
             let line = (index as u64).saturating_add(1);
-            let keys = read_object(alloc, lines[index], line, &mut scratch)?;
-            take_answer(seen.as_mut_slice(), scripts, &keys, line)?;
+            take_line(alloc, &mut seen, scripts, lines[index], line, &mut scratch)?;
         }
     }
     scripts_of(alloc, seen.as_mut_slice(), scripts)
@@ -66,6 +65,24 @@ fn unseen(alloc: Global, processors: usize) -> Result<Vec<SeenScript>, AllocErro
         });
     }
     Ok(seen)
+}
+
+/// Takes a line's object as the next answer of its processor.
+fn take_line(
+    alloc: Global,
+    seen: &mut [SeenScript],
+    scripts: &[CallScript],
+    text: &str,
+    line: u64,
+    scratch: &mut Scratch,
+) -> Result<(), AnswersFault>
+    requires few { length scripts.now < 2 ^ 32 }
+    requires same { length seen.old ≡ length scripts.now }
+{
+    match read_object(alloc, text, line, scratch) {
+        Ok(keys) => take_answer(seen, scripts, &keys, line),
+        Err(fault) => Err(fault),
+    }
 }
 
 /// Reads an object.
@@ -171,7 +188,8 @@ fn take_answer(
     keys: &Keys,
     line: u64,
 ) -> Result<(), AnswersFault>
-    requires { length seen.old ≡ length scripts.now }
+    requires few { length scripts.now < 2 ^ 32 }
+    requires same { length seen.old ≡ length scripts.now }
 {
     let Some(cpu) = keys.cpu else {
         return Err(AnswersFault::BadLine { line });

@@ -16,10 +16,31 @@ use std::alloc::{AllocError, Global};
 pub(crate) fn answer_in(alloc: Global, text: &str) -> Result<Option<LineAnswer>, AllocError>
     ensures { IfOk result (λ answer. IfSome answer (λ a. text.now ≡ answer_text a)) }
 {
-    let Some(answer) = answer_like(alloc, text)? else {
-        return Ok(None);
-    };
-    if is_answer(alloc, text, answer)? {
+    match answer_like(alloc, text) {
+        Ok(Some(answer)) => answer_if_spelled(alloc, text, answer),
+        Ok(None) => Ok(None),
+        Err(e) => Err(e),
+    }
+}
+
+/// Returns whether the text is an answer that a call gets.
+pub(crate) fn is_answer(alloc: Global, text: &str) -> Result<bool, AllocError> {
+    match answer_in(alloc, text) {
+        Ok(Some(_answer)) => Ok(true),
+        Ok(None) => Ok(false),
+        Err(e) => Err(e),
+    }
+}
+
+/// Returns the answer if the text is, byte for byte, what is written of it.
+fn answer_if_spelled(
+    alloc: Global,
+    text: &str,
+    answer: LineAnswer,
+) -> Result<Option<LineAnswer>, AllocError>
+    ensures { IfOk result (λ answer. IfSome answer (λ a. text.now ≡ answer_text a)) }
+{
+    if is_spelled(alloc, text, &answer)? {
         Ok(Some(answer))
     } else {
         Ok(None)
@@ -27,8 +48,8 @@ pub(crate) fn answer_in(alloc: Global, text: &str) -> Result<Option<LineAnswer>,
 }
 
 /// Returns whether the text is, byte for byte, the answer's.
-fn is_answer(alloc: Global, text: &str, answer: LineAnswer) -> Result<bool, AllocError>
-    ensures { IfOk result (λ is. is ≡ true → text.now ≡ answer_text answer) }
+fn is_spelled(alloc: Global, text: &str, answer: &LineAnswer) -> Result<bool, AllocError>
+    ensures { IfOk result (λ is. is ≡ true → text.now ≡ answer_text answer.now) }
 {
     let mut written = String::new(alloc);
     write_answer_line(&mut written, answer)?;
@@ -37,13 +58,13 @@ fn is_answer(alloc: Global, text: &str, answer: LineAnswer) -> Result<bool, Allo
 }
 
 /// Writes an answer, with a newline.
-fn write_answer_line(out: &mut String, answer: LineAnswer) -> Result<(), AllocError>
+fn write_answer_line(out: &mut String, answer: &LineAnswer) -> Result<(), AllocError>
     ensures { OnOk result
-        (string_bytes out.new ≡ string_bytes out.old ++ (answer_text answer ++ newline)) }
+        (string_bytes out.new ≡ string_bytes out.old ++ (answer_text answer.now ++ newline)) }
 {
     match answer {
-        LineAnswer::Reply(reply) => write_reply(out, reply),
-        LineAnswer::Plan(end) => write_plan_end(out, end),
+        LineAnswer::Reply(reply) => write_reply(out, *reply),
+        LineAnswer::Plan(end) => write_plan_end(out, *end),
     }
 }
 
