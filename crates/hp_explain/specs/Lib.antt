@@ -1,3 +1,4 @@
 pub mod Answers
+pub mod Continued
 pub mod Explainers
 pub mod Explaining
