@@ -1,5 +1,6 @@
 //! What the processors of a scenario were answered, read from a text.
-ghost use Rattle.std.specs.Prelude.{◌≡◌, ◌<◌, ◌^◌, IfOk, false, length, map};
+ghost use Rattle.std.specs.Prelude.{◌≡◌, ◌<◌, ◌^◌, IfOk, OnOk, false, length, map};
+ghost use Rattle.std.specs.Str.Lines.{lines as lines_of};
 ghost use Rattle.hp_explain.specs.Answers.{IsRunText, are_objects};
 
 use crate::answer_lines::read_words;
@@ -7,7 +8,7 @@ use crate::answer_objects::read_objects;
 use crate::answers_fault::AnswersFault;
 use crate::observed::Observed;
 use hp_schedules::CallScript;
-use std::alloc::Global;
+use std::alloc::{AllocError, Global};
 use std::str::from_utf8;
 
 /// Reads what the processors were answered. Script k is that of processor k.
@@ -30,7 +31,7 @@ pub fn read_answers(
         return Err(AnswersFault::NotUtf8);
     };
     let mut lines = Vec::new(alloc);
-    lines.extend(text.lines())?;
+    split_lines(&mut lines, text)?;
     if are_objects(input) {
         let seen = read_objects(alloc, lines.as_slice(), scripts)?;
         Ok(Observed::new(seen))
@@ -38,6 +39,14 @@ pub fn read_answers(
         let seen = read_words(alloc, lines.as_slice(), scripts)?;
         Ok(Observed::new(seen))
     }
+}
+
+/// Replaces `lines` by the lines of a text.
+fn split_lines<'a>(lines: &mut Vec<&'a str>, text: &'a str) -> Result<(), AllocError>
+    ensures { OnOk result (map (λ l. l.now) lines.new.items ≡ lines_of text.now) }
+{
+    lines.clear();
+    lines.extend(text.lines())
 }
 
 /// Returns whether the first byte that is not white space opens a JSON object.
