@@ -1,5 +1,5 @@
 //! The answers of processors in words, line by line, as `hotplug run` prints them.
-ghost use Rattle.std.specs.Prelude.{◌≡◌, ◌++◌, ◌∷◌, [], ◌<◌, ◌≤◌, ◌^◌, IfOk, OnOk, drop, length, map, take, true};
+ghost use Rattle.std.specs.Prelude.{◌≡◌, ◌++◌, ◌∷◌, [], ◌<◌, ◌≤◌, ◌^◌, IfOk, OnOk, length, map, take, true};
 ghost use Rattle.hp_explain.specs.Answers.{AreLast, AreRun, AreUntimed, IsPushed, IsRecords, IsScriptAt, are_empty, heading, seen_lines, untimed};
 
 use crate::answer_words::{answer_in, is_answer, is_of_no_call};
