@@ -18,6 +18,7 @@ mod answers_fault;
 mod explainer;
 mod explaining;
 mod observed;
+mod seen_scripts;
 
 pub use answers::read_answers;
 pub use answers_fault::AnswersFault;
