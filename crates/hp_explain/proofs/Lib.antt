@@ -1,5 +1,8 @@
+pub mod AnswersRead
 pub mod Beginnings
 pub mod Causes
+pub mod ObjectsTaken
 pub mod Orders
 pub mod Rising
 pub mod Runs
+pub mod TimesFilled

@@ -1,3 +1,5 @@
+pub mod AnswerObjects
+pub mod Answers
 pub mod Continued
 pub mod Explainers
 pub mod Explaining

@@ -10,9 +10,17 @@
 //! Read specs/Explaining first, then specs/Explainers.
 #![tactic(auto)]
 
+mod answer_lines;
+mod answer_objects;
+mod answer_words;
+mod answers;
+mod answers_fault;
 mod explainer;
 mod explaining;
 mod observed;
+mod seen_scripts;
 
+pub use answers::read_answers;
+pub use answers_fault::AnswersFault;
 pub use explaining::{Explanation, explain};
 pub use observed::{Observed, ObservedLine, ObservedScript};
