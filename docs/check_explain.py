@@ -51,16 +51,16 @@ REPLIES = ("done", "frame 0", "frame 1", "word 0", "word 2", "opened 1", "opened
 
 
 class Explains(Programs):
-    """The two programs, and a folder for what `explain` reads."""
+    """The two programs, a folder for what `explain` reads, and how long it may take."""
 
-    def __init__(self, crates, folder):
+    def __init__(self, crates, folder, slack):
         super().__init__(crates)
-        self.folder = Path(folder)
+        self.folder, self.seconds = Path(folder), SECONDS * slack
 
     def told(self, *words, text=b""):
         """The exit status, and what is printed on standard output and standard error."""
         ran = subprocess.run([self.lab, "explain", *words], input=text, capture_output=True,
-                             timeout=SECONDS)
+                             timeout=self.seconds)
         return ran.returncode, ran.stdout.decode(), ran.stderr.decode()
 
     def explain(self, scenario, answers, *words):
@@ -248,16 +248,16 @@ def check_drawn(checks, programs, draw):
 
 def main(words):
     crates, seed, count, slack = words + [ROOT / "crates", SEED, COUNT, 1][len(words):]
-    checks, draw = Checks(), random.Random(int(seed))
+    checks, draw, slack = Checks(), random.Random(int(seed)), int(slack)
     with tempfile.TemporaryDirectory() as folder:
-        programs = Explains(Path(crates).resolve(), folder)
+        programs = Explains(Path(crates).resolve(), folder, slack)
         try:
             check_files(checks, programs)
             drawn = 0
             while drawn < int(count):
                 drawn += check_drawn(checks, programs, draw)
             check_runs(checks, programs, draw, drawn_scenario)
-            check_speed(checks, programs, int(slack))
+            check_speed(checks, programs, slack)
             check_peer(checks, programs, draw, drawn_scenario)
         except (ValueError, LookupError, OSError, subprocess.SubprocessError) as error:
             checks.holds("explain", False, f"cannot be checked: {error!r}")
