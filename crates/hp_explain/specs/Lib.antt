@@ -1,2 +1,3 @@
+pub mod Continued
 pub mod Explainers
 pub mod Explaining

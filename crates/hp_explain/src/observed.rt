@@ -1,6 +1,7 @@
 //! What was seen of a run in threads.
-ghost use Rattle.std.specs.Prelude.{◌≡◌, ◌↔◌, ◌<◌, ◌≤◌, ◌^◌, IfNone, IfSome, IsTrue, ℕ, Some, length, slice_get, ⊥};
+ghost use Rattle.std.specs.Prelude.{◌≡◌, ◌↔◌, ◌<◌, ◌^◌, IfNone, IfSome, IsTrue, List, Some, length, option_and_then, option_map, slice_get};
 ghost use Rattle.hp_explain.specs.Explaining.{AreRising, AreOverBefore, HasSeen};
+ghost use Rattle.hp_explain.specs.declared.observed.ObservedLine.{ObservedLine as SeenLine};
 
 use hp_schedules::LineAnswer;
 use hp_units::Cpu;
@@ -57,11 +58,19 @@ impl ObservedScript {
         lines.as_slice()
     }
 
+    /// Returns the line with this number, counted from 0.
+    fn line(&self, number: usize) -> Option<&ObservedLine>
+        ensures { option_map (λ l. l.now) result ≡ slice_get self.now number }
+    {
+        self.lines().get(number)
+    }
+
     /// Returns whether each line that was answered before `time` is among the first `count`.
     fn are_over(&self, count: usize, time: u64) -> bool
         ensures { IsTrue result ↔ AreOverBefore self.now count time }
     {
-        match self.lines().get(count) {
+        let _ = &self.lines;
+        match self.line(count) {
             Some(line) => line.to >= time,
             None => true,
         }
@@ -129,7 +138,7 @@ impl Observed {
     /// `count`.
     pub(crate) fn are_over(&self, cpu: u32, count: usize, time: u64) -> bool
         requires { cpu < length self.now }
-        ensures { (lines : List ObservedLine) → slice_get self.now cpu ≡ Some lines
+        ensures { (lines : List SeenLine) → slice_get self.now cpu ≡ Some lines
             → (IsTrue result ↔ AreOverBefore lines count time) }
     {
         let scripts = &self.scripts;

@@ -1,0 +1,5 @@
+pub mod Beginnings
+pub mod Causes
+pub mod Orders
+pub mod Rising
+pub mod Runs
