@@ -3,7 +3,7 @@
 serial`, and gives it what `hotplug run` prints. `check` at the top runs it after the gate; alone it
 takes the folder of the crates:
 
-    python3 docs/check_explain.py [CRATES [SEED [COUNT [SLACK]]]]   without: crates, 51, 100 and 1
+    python3 docs/check_explain.py [CRATES [SEED [COUNT [SLACK]]]]   without: crates, 51, 150 and 1
 
 On COUNT scenarios that are drawn at random, with all events and plans and at most 150 orders, each
 with room in the history: an order's answers are explained, as words, and as JSON with times that
@@ -38,7 +38,7 @@ from explain_runs import check_peer, check_runs, check_speed
 from explain_texts import as_objects, as_words, expected_of
 
 SEED = 51
-COUNT = 100
+COUNT = 150
 MOST_ORDERS = 150
 LAYOUTS = ({"blocks": 3, "boot": ["normal", "movable", "movable"]},
            {"blocks": 3, "boot": ["normal", "movable", "movable"]},
