@@ -1,2 +1,5 @@
+pub mod Answers
 pub mod Explainers
 pub mod Explaining
+pub mod Standings
+pub mod Telling

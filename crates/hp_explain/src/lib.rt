@@ -10,9 +10,19 @@
 //! Read specs/Explaining first, then specs/Explainers.
 #![tactic(auto)]
 
+mod answers;
+mod answers_fault;
+mod explain_fault;
 mod explainer;
 mod explaining;
 mod observed;
+mod standing;
+mod telling;
+mod unexplained;
 
+pub use answers::read_answers;
+pub use answers_fault::AnswersFault;
+pub use explain_fault::ExplainFault;
 pub use explaining::{Explanation, explain};
 pub use observed::{Observed, ObservedLine, ObservedScript};
+pub use telling::{ExplainResult, ExplainText, explain_text};
