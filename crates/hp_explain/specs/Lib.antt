@@ -1,4 +1,5 @@
 pub mod Answers
+pub mod Continued
 pub mod Explainers
 pub mod Explaining
 pub mod Standings

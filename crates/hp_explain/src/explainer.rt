@@ -63,7 +63,8 @@ impl<'a> Aim for Explainer<'a> {
     ghost use Rattle.std.specs.Prelude.{◌≡◌, ◌≤◌, length};
     ghost use Rattle.std.proofs.Common.{refl, ◌∙◌};
     ghost use Rattle.hp_explain.specs.Explaining.{IsExplained};
-    ghost use Rattle.hp_explain.specs.Explainers.{aim_of, explaining_joined, explaining_lawful, explaining_narrower, explaining_stays, Becomes};
+    ghost use Rattle.hp_explain.specs.Explainers.{aim_of, Becomes};
+    ghost use Rattle.hp_explain.specs.Continued.{explaining_joined, explaining_lawful, explaining_narrower, explaining_stays};
 
     ghost shows = { λ aim g. aim_of g aim.seen.now aim.longest.items };
 

@@ -10,6 +10,9 @@
 //! Read specs/Explaining first, then specs/Explainers.
 #![tactic(auto)]
 
+mod answer_lines;
+mod answer_objects;
+mod answer_words;
 mod answers;
 mod answers_fault;
 mod explain_fault;

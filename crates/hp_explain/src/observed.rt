@@ -1,6 +1,7 @@
 //! What was seen of a run in threads.
-ghost use Rattle.std.specs.Prelude.{◌≡◌, ◌↔◌, ◌<◌, ◌≤◌, ◌^◌, IfNone, IfSome, IsTrue, ℕ, Some, length, slice_get, ⊥};
+ghost use Rattle.std.specs.Prelude.{◌≡◌, ◌↔◌, ◌<◌, ◌^◌, IfNone, IfSome, IsTrue, List, Some, length, option_and_then, option_map, slice_get};
 ghost use Rattle.hp_explain.specs.Explaining.{AreRising, AreOverBefore, HasSeen};
+ghost use Rattle.hp_explain.specs.declared.observed.ObservedLine.{ObservedLine as SeenLine};
 
 use hp_schedules::LineAnswer;
 use hp_units::Cpu;
@@ -129,7 +130,7 @@ impl Observed {
     /// `count`.
     pub(crate) fn are_over(&self, cpu: u32, count: usize, time: u64) -> bool
         requires { cpu < length self.now }
-        ensures { (lines : List ObservedLine) → slice_get self.now cpu ≡ Some lines
+        ensures { (lines : List SeenLine) → slice_get self.now cpu ≡ Some lines
             → (IsTrue result ↔ AreOverBefore lines count time) }
     {
         let scripts = &self.scripts;

@@ -1,0 +1,4 @@
+pub mod Beginnings
+pub mod Orders
+pub mod Rising
+pub mod TimesFilled

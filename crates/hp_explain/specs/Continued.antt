@@ -1,0 +1,291 @@
+-- Places that continue alike are explained alike: what the laws of an aim ask.
+use Rattle.std.proofs.Common.{◌≡◌, ℕ, zero, suc, ◌+◌, ◌<◌, ◌≤◌, List, [], ◌∷◌, ◌++◌, length, Some, None, slice_get, refl, ap, sym, subst, ◌∙◌, arith, inl, inr}
+use Rattle.std.specs.Prelude.{◌⊎◌, map}
+use Rattle.std.proofs.lemmas.Bool.{cases_lt}
+use Rattle.std.proofs.lemmas.List.{append_assoc, length-append, length-map}
+use Rattle.std.proofs.lemmas.Option.{same_Some, slice_get_past}
+use Rattle.hp_units.specs.declared.replies.Record.{Record}
+use Rattle.hp_schedules.specs.Causes.{AnswerAlike, IsCaused}
+use Rattle.hp_schedules.specs.Continuing.{ContinuesAs}
+use Rattle.hp_schedules.specs.LineAnswers.{answers_at}
+use Rattle.hp_schedules.specs.Schedules.{Setting, next_call, plays, schedule_of}
+use Rattle.hp_schedules.specs.declared.line_answers.LineAnswer.{LineAnswer}
+use Rattle.hp_schedules.proofs.Caused.{answer_alike}
+use Rattle.hp_schedules.proofs.Continuing.{continues_as}
+use Rattle.hp_explore.specs.Aims.{HaveSameKey, IsLawful, IsNarrower}
+use Rattle.hp_explore.specs.Starts.{same_starts}
+use Rattle.hp_explore.proofs.PlaceKeys.{steered_at}
+use Rattle.hp_explain.specs.Explainers.{AreCausedBelow, Becomes, IsMarked, aim_of}
+use Rattle.hp_explain.specs.Explaining.{AreAsSeen, AreInTime, AreOverBefore, Explains, HasSeen, IsExplained, MayRun}
+use Rattle.hp_explain.specs.declared.observed.ObservedLine.{ObservedLine}
+
+-- ---- numbers of causes
+
+caused_long : (g : Setting) (h k : List Record) (n : ℕ) (xs ys : List ℕ) → AreCausedBelow g n h xs
+    → AreCausedBelow g n k ys → length xs ≡ length ys
+caused_long g h k zero xs ys a b = ap (λ (zs : List ℕ). length zs) (a ∙ sym b)
+caused_long g h k (suc n) xs ys a b =
+    omega (
+      arith,
+      ap (λ (zs : List ℕ). length zs) a.2,
+      ap (λ (zs : List ℕ). length zs) b.2,
+      length-append a.0 a.1,
+      length-append b.0 b.1,
+      a.3,
+      b.3,
+      caused_long g h k n a.0 b.0 a.5 b.5,
+    )
+
+-- those of one processor
+caused_at : (g : Setting) (h k : List Record) (n : ℕ) (xs ys : List ℕ) → xs ≡ ys
+    → AreCausedBelow g n h xs → AreCausedBelow g n k ys → (cpu : ℕ) → cpu < n
+    → (part : List ℕ) × IsCaused g cpu h part × IsCaused g cpu k part
+caused_at g h k zero xs ys is a b cpu less = absurd (omega (arith, less))
+caused_at g h k (suc n) xs ys is a b cpu less =
+    by_place (cases_lt cpu n) (λ below. caused_at g h k n a.0 b.0 same.0 a.5 b.5 cpu below)
+  where
+    same : (a.0 ≡ b.0) × (a.1 ≡ b.1)
+    same = same_starts a.0 a.1 b.0 b.1 (caused_long g h k n a.0 b.0 a.5 b.5) (sym a.2 ∙ (is ∙ b.2))
+
+    by_place : (cpu < n) ⊎ (n ≤ cpu)
+        → (cpu < n → (part : List ℕ) × IsCaused g cpu h part × IsCaused g cpu k part)
+        → (part : List ℕ) × IsCaused g cpu h part × IsCaused g cpu k part
+    by_place (inl below) before = before below
+    by_place (inr past) before =
+        let last : n ≡ cpu = omega (arith, less, past) in
+        subst (λ (c : ℕ). (part : List ℕ) × IsCaused g c h part × IsCaused g c k part) last
+        (a.1, a.4, subst (IsCaused g n k) (sym same.1) b.4)
+
+-- ---- answers after the same further records
+
+-- a processor without a script has none
+none_at : (g : Setting) (cpu : ℕ) (news : List Record) → length g.scripts ≤ cpu → answers_at g cpu news ≡ []
+unfolding answers_at
+none_at g cpu news past = rw (slice_get_past g.scripts cpu past) refl
+
+answered_alike : (g : Setting) (h k more : List Record) (marks : List ℕ) → HaveSameKey g h k
+    → IsMarked g h marks → IsMarked g k marks → (cpu : ℕ) → AnswerAlike g cpu h k more
+answered_alike g h k more marks same a b cpu = by_place (cases_lt cpu (length g.scripts))
+  where
+    causes : a.0 ≡ b.0
+    causes = let whole : length h ∷ a.0 ≡ length k ∷ b.0 = sym a.1 ∙ b.1 in cc
+
+    by_place : (cpu < length g.scripts) ⊎ (length g.scripts ≤ cpu) → AnswerAlike g cpu h k more
+    by_place (inl below) =
+        let steered = steered_at g h k (length g.scripts) same.steering same.steering refl same.first_steered
+        same.second_steered cpu below in
+        let caused = caused_at g h k (length g.scripts) a.0 b.0 causes a.2 b.2 cpu below in
+        answer_alike g cpu h k more steered.0 caused.0 steered.1 steered.2 caused.1 caused.2
+    by_place (inr past) = record {
+      many = ap length (none_at g cpu h past ∙ sym (none_at g cpu k past));
+      later = [];
+      first = rw (none_at g cpu h past) (none_at g cpu (h ++ more) past);
+      second = rw (none_at g cpu k past) (none_at g cpu (k ++ more) past);
+    }
+
+-- so as many lines are finished
+many_alike : (g : Setting) (cpu : ℕ) (h k more : List Record) → AnswerAlike g cpu h k more
+    → length (answers_at g cpu (h ++ more)) ≡ length (answers_at g cpu (k ++ more))
+many_alike g cpu h k more alike =
+    omega (
+      arith,
+      alike.many,
+      ap length alike.first,
+      ap length alike.second,
+      length-append (answers_at g cpu h) alike.later,
+      length-append (answers_at g cpu k) alike.later,
+    )
+
+-- ---- items of lists that go on alike
+
+-- an item of the one is its own, or one of the other's too
+item_alike : {T : Type 0} (xs ys zs : List T) (i : ℕ) (x : T) → length xs ≡ length ys
+    → slice_get (ys ++ zs) i ≡ Some x → (slice_get ys i ≡ Some x) ⊎ (slice_get (xs ++ zs) i ≡ Some x)
+item_alike [] [] zs i x long is = inr is
+item_alike [] (b ∷ ys) zs i x long is = absurd (omega (arith, long))
+item_alike (a ∷ xs) [] zs i x long is = absurd (omega (arith, long))
+item_alike (a ∷ xs) (b ∷ ys) zs zero x long is = inl is
+item_alike (a ∷ xs) (b ∷ ys) zs (suc i) x long is = item_alike xs ys zs i x (omega (arith, long)) is
+
+-- an item and what is before it lie in the first part, or the item in the second
+pub split_in : {T : Type 0} (k more before later : List T) (r : T) → k ++ more ≡ before ++ r ∷ later
+    → ((rest : List T) × (k ≡ before ++ r ∷ rest))
+    ⊎ ((mid : List T) × (before ≡ k ++ mid) × (more ≡ mid ++ r ∷ later))
+split_in [] more before later r is = inr (before, refl, is)
+split_in (x ∷ k) more [] later r is =
+    let first : x ≡ r = cc in inl (k, ap (λ (y : _). y ∷ k) first)
+split_in (x ∷ k) more (y ∷ before) later r is =
+    let first : x ≡ y = cc in
+    let others : k ++ more ≡ before ++ r ∷ later = cc in
+    by_place first (split_in k more before later r others)
+  where
+    by_place : x ≡ y → ((rest : List T) × (k ≡ before ++ r ∷ rest))
+        ⊎ ((mid : List T) × (before ≡ k ++ mid) × (more ≡ mid ++ r ∷ later))
+        → ((rest : List T) × (x ∷ k ≡ (y ∷ before) ++ r ∷ rest))
+        ⊎ ((mid : List T) × (y ∷ before ≡ (x ∷ k) ++ mid) × (more ≡ mid ++ r ∷ later))
+    by_place first (inl within) = inl (within.0, cc)
+    by_place first (inr past) = inr (past.0, cc, past.2)
+
+-- ---- explained alike
+
+seen_alike : (g : Setting) (seen : List (List ObservedLine)) (h k more : List Record)
+    → ((cpu : ℕ) → AnswerAlike g cpu h k more) → AreAsSeen g seen k → AreAsSeen g seen (h ++ more)
+    → AreAsSeen g seen (k ++ more)
+seen_alike g seen h k more alike here there cpu line answer is =
+    by_place
+    (item_alike (answers_at g cpu h) (answers_at g cpu k) (alike cpu).later line answer (alike cpu).many
+    (rw (← (alike cpu).second) is))
+  where
+    by_place : (slice_get (answers_at g cpu k) line ≡ Some answer)
+        ⊎ (slice_get (answers_at g cpu h ++ (alike cpu).later) line ≡ Some answer)
+        → HasSeen seen cpu line answer
+    by_place (inl own) = here cpu line answer own
+    by_place (inr other) = there cpu line answer (rw (alike cpu).first other)
+
+run_alike : (g : Setting) (seen : List (List ObservedLine)) (h k : List Record) (cpu : ℕ)
+    → ((c : ℕ) → length (answers_at g c h) ≡ length (answers_at g c k)) → MayRun g seen h cpu
+    → MayRun g seen k cpu
+run_alike g seen h k cpu many runs lines one here line c others there =
+    subst (λ (n : ℕ). AreOverBefore others n one.from) (many c)
+    (runs lines one here
+    (subst (λ (n : ℕ). slice_get lines n ≡ Some one) (sym (many cpu)) line) c others there)
+
+timed_alike : (g : Setting) (seen : List (List ObservedLine)) (h k more : List Record)
+    → ((mid : List Record) (cpu : ℕ) → AnswerAlike g cpu h k mid) → AreInTime g seen k
+    → AreInTime g seen (h ++ more) → AreInTime g seen (k ++ more)
+timed_alike g seen h k more alike here there before r later is =
+    by_place (split_in k more before later r is)
+  where
+    by_place : ((rest : List Record) × (k ≡ before ++ r ∷ rest))
+        ⊎ ((mid : List Record) × (before ≡ k ++ mid) × (more ≡ mid ++ r ∷ later))
+        → MayRun g seen before r.cpu
+    by_place (inl within) = here before r within.0 within.1
+    by_place (inr past) =
+        subst (λ (news : List Record). MayRun g seen news r.cpu) (sym past.1)
+        (run_alike g seen (h ++ past.0) (k ++ past.0) r.cpu
+        (λ c. many_alike g c h k past.0 (alike past.0 c))
+        (there (h ++ past.0) r later
+        (ap (λ (xs : List Record). h ++ xs) past.2 ∙ sym (append_assoc h past.0 (r ∷ later)))))
+
+-- an explained beginning, by its records
+pub explained_news : (g : Setting) (seen : List (List ObservedLine)) (schedule : List ℕ) (news : List Record)
+    → plays g schedule ≡ Some news → IsExplained g seen schedule
+    → AreAsSeen g seen news × AreInTime g seen news
+explained_news g seen schedule news played explained =
+    let same : explained.news ≡ news = same_Some explained.news news (sym explained.played ∙ played) in (
+      subst (AreAsSeen g seen) same explained.answered,
+      subst (AreInTime g seen) same explained.timed,
+    )
+
+-- what goes on from two places with one key
+record IsExplainedOn (g : Setting) (seen : List (List ObservedLine)) (rest : List ℕ) (h k : List Record)
+    (end : List Record) : Type 0 where
+  pub on : ContinuesAs g (schedule_of k) rest h k end
+  pub answered : AreAsSeen g seen (k ++ on.more)
+  pub timed : AreInTime g seen (k ++ on.more)
+
+explained_on : (g : Setting) (seen : List (List ObservedLine)) (h k : List Record) (marks rest : List ℕ)
+    → HaveSameKey g h k → IsMarked g h marks → IsMarked g k marks
+    → IsExplained g seen (schedule_of k) → (e : IsExplained g seen (schedule_of h ++ rest))
+    → IsExplainedOn g seen rest h k e.news
+explained_on g seen h k marks rest same a b here e = record {
+  on = on;
+  answered =
+      seen_alike g seen h k on.more (answered_alike g h k on.more marks same a b) own.0
+      (subst (AreAsSeen g seen) on.end_is e.answered);
+  timed =
+      timed_alike g seen h k on.more (λ mid. answered_alike g h k mid marks same a b) own.1
+      (subst (AreInTime g seen) on.end_is e.timed);
+}
+  where
+    on : ContinuesAs g (schedule_of k) rest h k e.news
+    on =
+        continues_as g (schedule_of h) (schedule_of k) rest h k e.news same.undo same.first_played
+        same.second_played same.alike e.played
+
+    own : AreAsSeen g seen k × AreInTime g seen k
+    own = explained_news g seen (schedule_of k) k same.second_played here
+
+explained_alike : (g : Setting) (seen : List (List ObservedLine)) (h k : List Record) (rest : List ℕ)
+    (end : List Record) → IsExplainedOn g seen rest h k end → IsExplained g seen (schedule_of k ++ rest)
+explained_alike g seen h k rest end is = record {
+  news = k ++ is.on.more;
+  played = is.on.played;
+  answered = is.answered;
+  timed = is.timed;
+}
+
+-- ---- the laws
+
+sought_alike : (g : Setting) (seen : List (List ObservedLine)) (longest : List ℕ) (h k : List Record)
+    (marks rest : List ℕ)
+    → HaveSameKey g h k → IsMarked g h marks → IsMarked g k marks → IsExplained g seen (schedule_of k)
+    → (aim_of g seen longest).sought (schedule_of h ++ rest)
+    → (aim_of g seen longest).sought (schedule_of k ++ rest)
+sought_alike g seen longest h k marks rest same a b here (inl order) =
+    let is = explained_on g seen h k marks rest same a b here order.begun in
+    inl (record {
+      begun = explained_alike g seen h k rest order.begun.news is;
+      over = λ cpu. sym (is.on.calls cpu) ∙ order.over cpu;
+    })
+sought_alike g seen longest h k marks rest same a b here (inr longer) = inr (
+  explained_alike g seen h k rest longer.0.news (explained_on g seen h k marks rest same a b here longer.0),
+  omega (
+    arith,
+    longer.1,
+    length-append (schedule_of h) rest,
+    length-append (schedule_of k) rest,
+    length-map h (λ (r : Record). r.cpu),
+    length-map k (λ (r : Record). r.cpu),
+    same.alike.calls,
+  ),
+)
+
+sought_played : (g : Setting) (seen : List (List ObservedLine)) (longest s : List ℕ)
+    → (aim_of g seen longest).sought s → (news : List Record) × (plays g s ≡ Some news)
+sought_played g seen longest s (inl order) = (order.begun.news, order.begun.played)
+sought_played g seen longest s (inr longer) = (longer.0.news, longer.0.played)
+
+pub explaining_lawful : (g : Setting) (seen : List (List ObservedLine)) (longest : List ℕ)
+    → IsLawful g (aim_of g seen longest)
+explaining_lawful g seen longest = record {
+  played = sought_played g seen longest;
+  counted = λ h k marks first second a b.
+      let whole : length h ∷ a.0 ≡ length k ∷ b.0 = sym a.1 ∙ b.1 in
+      let many : length h ≡ length k = cc in many;
+  continued = λ h k marks rest same first second a b sought.
+      sought_alike g seen longest h k marks rest same a b second sought;
+}
+
+-- ---- the aim as it becomes
+
+sought_narrower : (g : Setting) (seen : List (List ObservedLine)) (longest new s : List ℕ)
+    → length longest ≤ length new → (aim_of g seen new).sought s → (aim_of g seen longest).sought s
+sought_narrower g seen longest new s more (inl order) = inl order
+sought_narrower g seen longest new s more (inr longer) = inr (longer.0, omega (arith, more, longer.1))
+
+pub explaining_narrower : (g : Setting) (seen later : List (List ObservedLine)) (longest new : List ℕ)
+    → Becomes g seen longest later new → IsNarrower (aim_of g seen longest) (aim_of g later new)
+explaining_narrower g seen later longest new becomes =
+    subst (λ (x : List (List ObservedLine)). IsNarrower (aim_of g seen longest) (aim_of g x new))
+    (sym becomes.0)
+    (record {
+      sought = λ s sought. sought_narrower g seen longest new s becomes.1 sought;
+      admits = λ s admitted. admitted;
+      marks = λ news numbers marked. marked;
+      whole = λ whole. whole;
+    })
+
+pub explaining_stays : (g : Setting) (seen : List (List ObservedLine)) (longest : List ℕ)
+    → Becomes g seen longest seen longest
+explaining_stays g seen longest = (refl, omega arith, λ explained. explained)
+
+pub explaining_joined : (g : Setting) (seen mid later : List (List ObservedLine)) (longest more new : List ℕ)
+    → Becomes g seen longest mid more → Becomes g mid more later new → Becomes g seen longest later new
+explaining_joined g seen mid later longest more new first second = (
+  second.0 ∙ first.0,
+  omega (arith, first.1, second.1),
+  λ explained. subst (λ (x : List (List ObservedLine)). IsExplained g x new) first.0
+      (second.2 (subst (λ (x : List (List ObservedLine)). IsExplained g x more) (sym first.0)
+      (first.2 explained))),
+)
