@@ -4,3 +4,4 @@ pub mod Explainers
 pub mod Explaining
 pub mod Standings
 pub mod Telling
+pub mod Unexplained

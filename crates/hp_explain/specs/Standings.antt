@@ -1,5 +1,6 @@
 -- Where a processor stands in its script after new records, and what comes next for it.
-use Rattle.std.specs.Prelude.{◌≡◌, ◌⊎◌, ℕ, List, [], ◌∷◌, ◌++◌, Option, Some, None, length, slice_get}
+use Rattle.std.specs.Prelude.{◌≡◌, ◌⊎◌, ℕ, List, [], ◌∷◌, ◌++◌, Option, Some, None, length, slice_get, option_map}
+use Rattle.std.specs.Option.{option_map_or}
 use Rattle.hp_units.specs.declared.events.Event.{Event}
 use Rattle.hp_units.specs.declared.replies.Record.{Record}
 use Rattle.hp_schedules.specs.LineAnswers.{answers_at}
@@ -58,11 +59,24 @@ IsNext g seen news cpu (Answered answer) = MayRun g seen news cpu × IsNextAnswe
 IsNext g seen news cpu GoesOn = MayRun g seen news cpu × IsNextAnswer g news cpu GoesOn
 IsNext g seen news cpu HistoryFull = MayRun g seen news cpu × FillsHere g news cpu
 
--- how many lines the processor has finished, and what comes next
+-- the lines that were seen of a processor; none if there is no such processor
+abbrev pub seen_of : List (List ObservedLine) → (cpu : ℕ) → List ObservedLine
+seen_of seen cpu = option_map_or (λ lines. lines) (slice_get seen cpu) []
+
+-- how many of its lines the processor has finished, what was seen of the next one, and what comes next
 pub record IsStanding (g : Setting) (seen : List (List ObservedLine)) (news : List Record) (cpu : ℕ)
     (s : Standing) : Type 0 where
+  pub cpu_is : s.cpu ≡ cpu
   pub finished : s.finished ≡ length (answers_at g cpu news)
+  pub lines : s.lines ≡ length (seen_of seen cpu)
+  pub seen_is : s.seen ≡ option_map (λ one. one.answer) (slice_get (seen_of seen cpu) s.finished)
   pub next : IsNext g seen news cpu s.next
+
+-- the same of each processor
+abbrev pub AreStandings : Setting → List (List ObservedLine) → List Record → List Standing → Type 0
+AreStandings g seen news all =
+    (length all ≡ length seen)
+    × ((cpu : ℕ) (s : Standing) → slice_get all cpu ≡ Some s → IsStanding g seen news cpu s)
 
 -- the path is where the schedule of the setting leads
 abbrev pub IsAlong : Setting → (schedule : List ℕ) → PathValue → Type 0

@@ -1,7 +1,8 @@
 -- What is reported of the order that explains answers.
-use Rattle.std.specs.Prelude.{◌≡◌, ◌≤◌, ℕ, false, List, [], codes, length, map}
+use Rattle.std.specs.Prelude.{◌≡◌, ◌≤◌, ℕ, false, List, [], codes, length, map, Some}
+use Rattle.hp_units.specs.declared.replies.Record.{Record}
 use Rattle.hp_schedules.specs.Orders.{IsBefore}
-use Rattle.hp_schedules.specs.Schedules.{Setting}
+use Rattle.hp_schedules.specs.Schedules.{Setting, plays}
 use Rattle.hp_schedules.specs.declared.scripts.Step.{Step}
 use Rattle.hp_explore.specs.Reaching.{HasRoomAlong}
 use Rattle.hp_explore.specs.declared.exploring.ExploreFault.{ExploreFault}
@@ -19,6 +20,9 @@ use Rattle.hp_explain.specs.declared.explain_fault.ExplainFault.TheVariants.{Ans
 use Rattle.hp_explain.specs.declared.explaining.Explanation.{Explanation}
 use Rattle.hp_explain.specs.declared.explaining.Explanation.TheVariants as found
 use Rattle.hp_explain.specs.declared.observed.ObservedLine.{ObservedLine}
+use Rattle.hp_explain.specs.Standings.{AreStandings}
+use Rattle.hp_explain.specs.Unexplained.{unexplained_text}
+use Rattle.hp_explain.specs.declared.standing.Standing.{Standing}
 use Rattle.hp_explain.specs.declared.telling.ExplainResult.{ExplainResult}
 use Rattle.hp_explain.specs.declared.telling.ExplainResult.TheVariants.{Explained, Unexplained, Unknown}
 
@@ -28,11 +32,18 @@ unknown_told Words = codes "explained: unknown\n"
 unknown_told Object = codes "{\"found\": null}\n"
 unknown_told Scenario = []
 
+-- the text reports the calls of the schedule, and where each processor stands after them
+abbrev pub IsLongestTold : ScheduleForm → (names : List (List ℕ)) → Setting → List (List ObservedLine)
+    → (longest text : List ℕ) → Type 0
+IsLongestTold form names g seen longest text =
+    (news : List Record) × (standings : List Standing) × (plays g longest ≡ Some news)
+    × AreStandings g seen news standings × (text ≡ unexplained_text form names news standings)
+
 -- ---- on a machine
 
 -- the text has the first schedule that explains what was seen, as a search for an end writes the one
--- that it found, and the history has room for its calls; or no schedule explains it, and none that is
--- longer than the one reported is the beginning of one that does; or this is not known
+-- that it found, and the history has room for its calls; or no schedule explains it, and the text has
+-- an explained beginning such that none is longer; or this is not known
 abbrev pub IsExplainedOn : ScheduleForm → (names : List (List ℕ)) → (before : List Line) → Setting
     → List (List ObservedLine) → (text : List ℕ) → ExplainResult → Type 0
 IsExplainedOn form names before g seen text Explained =
@@ -42,14 +53,16 @@ IsExplainedOn form names before g seen text Explained =
 IsExplainedOn form names before g seen text Unexplained =
     (longest : List ℕ) × ((s : List ℕ) → Explains g seen s → ⊥) × IsExplained g seen longest
     × ((s : List ℕ) → IsExplained g seen s → length s ≤ length longest)
+    × IsLongestTold form names g seen longest text
 IsExplainedOn form names before g seen text Unknown = text ≡ unknown_told form
 
 -- the text is that of a schedule that explains what was seen; or it reports that there is none
 abbrev pub IsExplanationTold : ScheduleForm → (names : List (List ℕ)) → (before : List Line) → Setting
-    → Explanation → (text : List ℕ) → ExplainResult → Type 0
-IsExplanationTold form names before g (found.Explained schedule) text result =
+    → List (List ObservedLine) → Explanation → (text : List ℕ) → ExplainResult → Type 0
+IsExplanationTold form names before g seen (found.Explained schedule) text result =
     (text ≡ found_text form names before g schedule.items) × (result ≡ Explained)
-IsExplanationTold form names before g (found.Unexplained longest) text result = result ≡ Unexplained
+IsExplanationTold form names before g seen (found.Unexplained longest) text result =
+    IsLongestTold form names g seen longest.items text × (result ≡ Unexplained)
 
 -- ---- in a scenario
 

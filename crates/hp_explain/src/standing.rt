@@ -1,10 +1,10 @@
 //! Where the processors stand in their scripts after a beginning of an order.
-ghost use Rattle.std.specs.Prelude.{◌≡◌, ◌++◌, ◌∷◌, [], ℕ, List, IfNone, IfOk, IfSome, OnOk, length};
+ghost use Rattle.std.specs.Prelude.{◌≡◌, ◌++◌, ◌∷◌, [], ℕ, List, IfNone, IfOk, IfSome, OnOk, length, option_map, slice_get};
 ghost use Rattle.hp_units.specs.declared.replies.Record.{Record};
 ghost use Rattle.hp_explore.specs.Settings.{setting};
 ghost use Rattle.hp_schedules.specs.LineAnswers.{answers_at};
 ghost use Rattle.hp_explain.specs.Explaining.{AreAllOverBefore};
-ghost use Rattle.hp_explain.specs.Standings.{IsAlong, IsLatestAnswer, IsNext, IsStanding, IsUnfinished, IsWaitingFor};
+ghost use Rattle.hp_explain.specs.Standings.{AreStandings, IsAlong, IsLatestAnswer, IsNext, IsStanding, IsUnfinished, IsWaitingFor, seen_of};
 
 use crate::observed::Observed;
 use hp_explore::{ExploreFault, Path};
@@ -40,8 +40,14 @@ pub(crate) enum Next {
 /// Where a processor stands in its script.
 #[derive(Clone, Copy, Drop)]
 pub(crate) struct Standing {
+    /// The processor.
+    pub cpu: Cpu,
     /// How many lines it has finished.
     pub finished: usize,
+    /// How many lines it has.
+    pub lines: usize,
+    /// The answer that was seen of its next line, if it has one.
+    pub seen: Option<LineAnswer>,
     /// What comes next.
     pub next: Next,
 }
@@ -76,8 +82,26 @@ fn play_along(alloc: Global, path: &mut Path<'_>, schedule: &[Cpu]) -> Result<()
     Ok(())
 }
 
+/// Returns where each processor stands. Makes the next call of each, and takes it back.
+pub(crate) fn standings_of(
+    alloc: Global,
+    path: &mut Path<'_>,
+    seen: &Observed,
+) -> Result<Vec<Standing>, AllocError>
+    ensures same { path.new ≡ path.old }
+    ensures standings { IfOk result
+        (λ all. AreStandings path.old.setting seen.now path.old.news all.items) }
+{
+    let mut all = Vec::new(alloc);
+    for cpu in 0..seen.processors() {
+        let standing = standing_of(alloc, path, seen, cpu)?;
+        all.push(standing)?;
+    }
+    Ok(all)
+}
+
 /// Returns where a processor stands. Makes its next call, and takes it back.
-pub(crate) fn standing_of(
+fn standing_of(
     alloc: Global,
     path: &mut Path<'_>,
     seen: &Observed,
@@ -88,7 +112,33 @@ pub(crate) fn standing_of(
 {
     let finished = path.finished(cpu);
     let next = next_of(alloc, path, seen, cpu)?;
-    Ok(Standing { finished, next })
+    Ok(Standing {
+        cpu: Cpu(cpu),
+        finished,
+        lines: line_count(seen, cpu),
+        seen: answer_seen(seen, cpu, finished),
+        next,
+    })
+}
+
+/// Returns how many lines were seen of a processor.
+fn line_count(seen: &Observed, cpu: u32) -> usize
+    ensures { result ≡ length (seen_of seen.now cpu) }
+{
+    match seen.lines_of(cpu) {
+        Some(lines) => lines.len(),
+        None => 0,
+    }
+}
+
+/// Returns the answer that was seen of a processor's line, counted from 0.
+fn answer_seen(seen: &Observed, cpu: u32, line: usize) -> Option<LineAnswer>
+    ensures { result ≡ option_map (λ one. one.answer) (slice_get (seen_of seen.now cpu) line) }
+{
+    match seen.line(cpu, line) {
+        Some(line) => Some(line.answer),
+        None => None,
+    }
 }
 
 /// Returns what comes next for a processor. Makes its next call, and takes it back.

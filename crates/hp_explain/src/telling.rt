@@ -1,23 +1,25 @@
 //! The order that explains answers, as text.
-ghost use Rattle.std.specs.Prelude.{◌≡◌, ◌^◌, ◌<◌, ◌⊎◌, IfErr, IfOk, length, option_map, string_bytes};
+ghost use Rattle.std.specs.Prelude.{◌≡◌, ◌++◌, ◌^◌, ◌<◌, ◌⊎◌, IfErr, IfOk, OnOk, length, option_map, string_bytes};
 ghost use Rattle.hp_explore.specs.declared.exploring.ExploreFault.TheVariants.{OutOfMemory};
 ghost use Rattle.hp_explore.specs.declared.fault.FindFault.TheVariants.{Stopped};
 ghost use Rattle.hp_explore.specs.FindFaults.{find_fault_from};
 ghost use Rattle.hp_search.specs.FoundTexts.{found_text, schedule_text};
 ghost use Rattle.hp_search.specs.Prepared.{before_of, names_of, setting_of};
 ghost use Rattle.hp_explain.specs.Explaining.{IsExplainCause};
-ghost use Rattle.hp_explain.specs.Telling.{IsExplainFaultOf, IsExplainedOn, IsExplainingOf, IsExplanationTold, unknown_told};
+ghost use Rattle.hp_explain.specs.Telling.{IsExplainFaultOf, IsExplainedOn, IsExplainingOf, IsExplanationTold, IsLongestTold, unknown_told};
+ghost use Rattle.hp_explain.specs.Unexplained.{unexplained_text};
 ghost use Rattle.hp_explain.specs.declared.telling.ExplainResult.TheVariants.{Unknown};
 
 use crate::answers::read_answers;
 use crate::explain_fault::ExplainFault;
 use crate::explaining::{Explanation, explain};
 use crate::observed::Observed;
-use crate::standing::path_along;
+use crate::standing::{Standing, path_along, standings_of};
 use crate::unexplained::{write_unexplained, write_unexplained_object};
 use hp_explore::{ExploreFault, FindFault, Watch, changes_of};
 use hp_search::{Prepared, ScheduleForm, found_object, nearest_text, prepare};
-use hp_units::{Cpu, Record};
+use hp_units::{Cpu, Record, Text};
+use indexmap::IndexSet;
 use std::alloc::{AllocError, Global};
 
 /// What a search for an order that explains answers came to.
@@ -130,7 +132,7 @@ fn explanation_told(
     form: ScheduleForm,
 ) -> Result<ExplainText, AllocError>
     ensures { IfOk result (λ f. IsExplanationTold form (names_of prepared.now) (before_of prepared.now)
-        (setting_of prepared.now) explanation.now (string_bytes f.text) f.result) }
+        (setting_of prepared.now) seen.now explanation.now (string_bytes f.text) f.result) }
 {
     match explanation {
         Explanation::Explained(schedule) => {
@@ -188,26 +190,45 @@ fn text_of(
     }
 }
 
-/// Returns, as text in `form`, that no order explains the answers, with the longest beginning of one.
-/// As a scenario there is no text.
+/// Returns, as text in `form`, that no order explains the answers, with the longest beginning of one
+/// and where the processors stand after it. As a scenario there is no text. Replays the schedule.
 fn longest_told(
     alloc: Global,
     prepared: &Prepared,
     seen: &Observed,
     longest: &[Cpu],
     form: ScheduleForm,
-) -> Result<String, AllocError> {
+) -> Result<String, AllocError>
+    ensures { IfOk result (λ text. IsLongestTold form (names_of prepared.now) (setting_of prepared.now)
+        seen.now longest.now (string_bytes text)) }
+{
     let machine = &prepared.start.machine;
     let scripts = prepared.start.scripts.as_slice();
     let mut path = path_along(alloc, machine, scripts, longest)?;
-    let names = &prepared.scenario.names;
+    let standings = standings_of(alloc, &mut path, seen)?;
     let mut text = String::new(alloc);
-    match form {
-        ScheduleForm::Words => write_unexplained(&mut text, alloc, names, &mut path, seen)?,
-        ScheduleForm::Object => write_unexplained_object(&mut text, alloc, names, &mut path, seen)?,
-        ScheduleForm::Scenario => {}
-    }
+    let names = &prepared.scenario.names;
+    write_longest(&mut text, names, path.records(), &standings, form)?;
     Ok(text)
+}
+
+/// Writes, in `form`, that no order explains the answers, given the calls of the longest beginning and
+/// where the processors stand after them.
+fn write_longest(
+    out: &mut String,
+    names: &IndexSet<Text>,
+    calls: &[Record],
+    standings: &[Standing],
+    form: ScheduleForm,
+) -> Result<(), AllocError>
+    ensures { OnOk result (string_bytes out.new
+        ≡ string_bytes out.old ++ unexplained_text form names.now.keys calls.now standings.now) }
+{
+    match form {
+        ScheduleForm::Words => write_unexplained(out, names, calls, standings),
+        ScheduleForm::Object => write_unexplained_object(out, names, calls, standings),
+        ScheduleForm::Scenario => Ok(()),
+    }
 }
 
 /// Returns, as text in `form`, that it is not known whether an order explains the answers. As a

@@ -1,107 +1,158 @@
 //! The text for answers that no order explains: the longest beginning of one, and where each processor
-//! is after it.
+//! stands after it.
+ghost use Rattle.std.specs.Prelude.{◌≡◌, ◌++◌, ◌+◌, OnOk, codes, string_bytes, true};
+ghost use Rattle.std.specs.Fmt.{decimal};
+ghost use Rattle.std.specs.List.{flat_map};
+ghost use Rattle.hp_text.specs.Plans.{end_words};
+ghost use Rattle.hp_text.specs.Separated.{separated};
+ghost use Rattle.hp_search.specs.Words.{played_text};
+ghost use Rattle.hp_explain.specs.Answers.{answer_text};
+ghost use Rattle.hp_explain.specs.Unexplained.{answer_key, call_count_text, line_number_text, next_keys, next_text, quoted_text, standing_object, standing_text, unexplained_object, unexplained_words};
 
-use crate::observed::{Observed, ObservedLine};
-use crate::standing::{Next, Standing, Unfinished, standing_of};
-use hp_explore::Path;
+use crate::standing::{Next, Standing, Unfinished};
 use hp_schedules::LineAnswer;
 use hp_text::{write_calls, write_mark, write_plan_end, write_reply_words};
-use hp_units::{Cpu, Record, Text};
+use hp_units::{OpEnd, Record, Text};
 use indexmap::IndexSet;
-use std::alloc::{AllocError, Global};
+use std::alloc::AllocError;
 
 /// The separator of two values of a list.
 const BETWEEN: &str = ", ";
 
 // ---- words
 
-/// Writes that no order explains what was seen, the calls of the path, and a line for each processor.
-/// Owners are written by name. Goes on along the path, and comes back.
+/// Writes that no order explains the answers, the calls of the longest beginning, and a line for each
+/// processor. Owners are written by name.
 pub(crate) fn write_unexplained(
     out: &mut String,
-    alloc: Global,
     names: &IndexSet<Text>,
-    path: &mut Path<'_>,
-    seen: &Observed,
-) -> Result<(), AllocError> {
+    calls: &[Record],
+    standings: &[Standing],
+) -> Result<(), AllocError>
+    ensures { OnOk result (string_bytes out.new
+        ≡ string_bytes out.old ++ unexplained_words names.now.keys calls.now standings.now) }
+{
     out.push_str("explained: none\nlongest beginning: ")?;
-    write_beginning(out, names, path.records())?;
-    for cpu in 0..seen.processors() {
-        let standing = standing_of(alloc, path, seen, cpu)?;
-        write_standing(out, seen, Cpu(cpu), standing)?;
+    write_call_count(out, calls.len())?;
+    write_played(out, names, calls)?;
+    write_standings(out, standings)
+}
+
+/// Writes how many calls there are.
+fn write_call_count(out: &mut String, count: usize) -> Result<(), AllocError>
+    ensures { OnOk result (string_bytes out.new ≡ string_bytes out.old ++ call_count_text count) }
+{
+    if count == 1 {
+        out.push_str("1 call\n")
+    } else {
+        writeln!(out, "{count} calls")
+    }
+}
+
+/// Writes calls as strings of a scenario's `calls`, one per line, separated by commas.
+fn write_played(
+    out: &mut String,
+    names: &IndexSet<Text>,
+    calls: &[Record],
+) -> Result<(), AllocError>
+    ensures { OnOk result
+        (string_bytes out.new ≡ string_bytes out.old ++ played_text names.now.keys (Some calls.now)) }
+{
+    match calls {
+        [] => Ok(()),
+        _ => {
+            write_calls(out, names, calls, ",\n")?;
+            out.push('\n')
+        }
+    }
+}
+
+/// Writes where each processor stands, one per line.
+fn write_standings(out: &mut String, standings: &[Standing]) -> Result<(), AllocError>
+    ensures { OnOk result
+        (string_bytes out.new ≡ string_bytes out.old ++ flat_map standing_text standings.now) }
+{
+    for standing in standings {
+        write_standing(out, *standing)?;
     }
     Ok(())
 }
 
-/// Writes how many calls there are, and the calls as strings of a scenario's `calls`.
-fn write_beginning(
-    out: &mut String,
-    names: &IndexSet<Text>,
-    calls: &[Record],
-) -> Result<(), AllocError> {
-    match calls {
-        [] => out.push_str("0 calls\n"),
-        [_only] => {
-            out.push_str("1 call\n")?;
-            write_calls(out, names, calls, ",\n")?;
-            out.push('\n')
-        }
-        _ => {
-            let count = calls.len();
-            writeln!(out, "{count} calls")?;
-            write_calls(out, names, calls, ",\n")?;
-            out.push('\n')
-        }
-    }
-}
-
 /// Writes where a processor stands, as a line.
-fn write_standing(
-    out: &mut String,
-    seen: &Observed,
-    cpu: Cpu,
-    standing: Standing,
-) -> Result<(), AllocError> {
+fn write_standing(out: &mut String, standing: Standing) -> Result<(), AllocError>
+    ensures { OnOk result (string_bytes out.new ≡ string_bytes out.old ++ standing_text standing) }
+{
+    let cpu = standing.cpu;
     write!(out, "cpu {cpu}: ")?;
-    match seen.line(cpu.0, standing.finished) {
-        Some(line) => {
-            let number = standing.finished.saturating_add(1);
-            let lines = line_count(seen, cpu.0);
-            write!(out, "line {number} of {lines} ")?;
-            write_next(out, standing.next, line)?;
-            out.push('\n')
+    write_next(out, standing)?;
+    out.push('\n')
+}
+
+/// Writes what comes next for a processor.
+fn write_next(out: &mut String, standing: Standing) -> Result<(), AllocError>
+    ensures { OnOk result
+        (string_bytes out.new ≡ string_bytes out.old ++ next_text standing standing.next) }
+{
+    match standing.next {
+        Next::Finished => out.push_str("finished"),
+        Next::Waits(unfinished) => {
+            write_line_number(out, standing)?;
+            write_waiting(out, unfinished)
         }
-        None => out.push_str("finished\n"),
+        Next::Answered(answer) => {
+            write_line_number(out, standing)?;
+            write_quoted(out, "would be answered ", Some(answer))?;
+            write_quoted(out, ", not ", standing.seen)
+        }
+        Next::GoesOn => {
+            write_line_number(out, standing)?;
+            out.push_str("would go on")?;
+            write_quoted(out, ", not be answered ", standing.seen)
+        }
+        Next::HistoryFull => {
+            write_line_number(out, standing)?;
+            out.push_str("has no room in the history")
+        }
     }
 }
 
-/// Writes what comes next for a processor whose next line is `line`.
-fn write_next(out: &mut String, next: Next, line: &ObservedLine) -> Result<(), AllocError> {
-    match next {
-        Next::Finished => out.push_str("has no call"),
-        Next::Waits(unfinished) => write_waiting(out, unfinished),
-        Next::Answered(answer) => {
-            out.push_str("would be answered `")?;
-            write_line_answer(out, answer)?;
-            write_not(out, "`, not `", line.answer)
-        }
-        Next::GoesOn => write_not(out, "would go on, not be answered `", line.answer),
-        Next::HistoryFull => out.push_str("has no room in the history"),
-    }
+/// Writes the number of a processor's next line, and how many lines it has.
+fn write_line_number(out: &mut String, standing: Standing) -> Result<(), AllocError>
+    ensures { OnOk result (string_bytes out.new ≡ string_bytes out.old ++ line_number_text standing) }
+{
+    let number = number_of(standing.finished);
+    let lines = standing.lines;
+    write!(out, "line {number} of {lines} ")
 }
 
 /// Writes that a line began after this one was answered.
-fn write_waiting(out: &mut String, unfinished: Unfinished) -> Result<(), AllocError> {
-    let number = unfinished.line.saturating_add(1);
+fn write_waiting(out: &mut String, unfinished: Unfinished) -> Result<(), AllocError>
+    ensures { OnOk result (string_bytes out.new ≡ string_bytes out.old
+        ++ codes "began after line " ++ decimal (unfinished.line + 1) ++ codes " of cpu "
+        ++ decimal unfinished.cpu ++ codes " was answered") }
+{
+    let number = number_of(unfinished.line);
     let cpu = unfinished.cpu;
     write!(out, "began after line {number} of cpu {cpu} was answered")
 }
 
-/// Writes a text, and the answer that was seen, with a closing quote.
-fn write_not(out: &mut String, before: &str, answer: LineAnswer) -> Result<(), AllocError> {
-    out.push_str(before)?;
-    write_line_answer(out, answer)?;
-    out.push('`')
+/// Writes an answer in quotes, with words before it; nothing if there is none.
+fn write_quoted(
+    out: &mut String,
+    before: &str,
+    answer: Option<LineAnswer>,
+) -> Result<(), AllocError>
+    ensures { OnOk result
+        (string_bytes out.new ≡ string_bytes out.old ++ quoted_text before.now answer) }
+{
+    match answer {
+        Some(answer) => {
+            write!(out, "{before}`")?;
+            write_line_answer(out, answer)?;
+            out.push('`')
+        }
+        None => Ok(()),
+    }
 }
 
 // ---- JSON
@@ -109,80 +160,106 @@ fn write_not(out: &mut String, before: &str, answer: LineAnswer) -> Result<(), A
 /// Writes the same as an object of JSON.
 pub(crate) fn write_unexplained_object(
     out: &mut String,
-    alloc: Global,
     names: &IndexSet<Text>,
-    path: &mut Path<'_>,
-    seen: &Observed,
-) -> Result<(), AllocError> {
+    calls: &[Record],
+    standings: &[Standing],
+) -> Result<(), AllocError>
+    ensures { OnOk result (string_bytes out.new
+        ≡ string_bytes out.old ++ unexplained_object names.now.keys calls.now standings.now) }
+{
     out.push_str("{\"found\": false, \"first\": [")?;
-    write_calls(out, names, path.records(), BETWEEN)?;
+    write_calls(out, names, calls, BETWEEN)?;
     out.push_str("], \"processors\": [")?;
-    for cpu in 0..seen.processors() {
-        write_mark(out, BETWEEN, cpu == 0)?;
-        let standing = standing_of(alloc, path, seen, cpu)?;
-        write_standing_object(out, seen, cpu, standing)?;
-    }
+    write_standing_objects(out, standings)?;
     out.push_str("]}\n")
 }
 
-/// Writes where a processor stands, as an object.
-fn write_standing_object(
-    out: &mut String,
-    seen: &Observed,
-    cpu: u32,
-    standing: Standing,
-) -> Result<(), AllocError> {
-    let finished = standing.finished;
-    let lines = line_count(seen, cpu);
-    write!(out, "{{\"finished\": {finished}, \"lines\": {lines}")?;
-    if let Some(line) = seen.line(cpu, finished) {
-        write_next_keys(out, standing.next, line)?;
+/// Writes where each processor stands, as objects.
+fn write_standing_objects(out: &mut String, standings: &[Standing]) -> Result<(), AllocError>
+    ensures { OnOk result (string_bytes out.new
+        ≡ string_bytes out.old ++ separated (codes ", ") standing_object true standings.now) }
+{
+    let mut is_first = true;
+    for standing in standings {
+        write_mark(out, BETWEEN, is_first)?;
+        write_standing_object(out, *standing)?;
+        is_first = false;
     }
+    Ok(())
+}
+
+/// Writes where a processor stands, as an object.
+fn write_standing_object(out: &mut String, standing: Standing) -> Result<(), AllocError>
+    ensures { OnOk result (string_bytes out.new ≡ string_bytes out.old ++ standing_object standing) }
+{
+    let finished = standing.finished;
+    let lines = standing.lines;
+    write!(out, "{{\"finished\": {finished}, \"lines\": {lines}")?;
+    write_next_keys(out, standing.next)?;
+    write_answer_key(out, "answer", standing.seen)?;
     out.push('}')
 }
 
-/// Writes what comes next for a processor whose next line is `line`, as keys of its object.
-fn write_next_keys(out: &mut String, next: Next, line: &ObservedLine) -> Result<(), AllocError> {
+/// Writes what comes next for a processor, as keys of its object.
+fn write_next_keys(out: &mut String, next: Next) -> Result<(), AllocError>
+    ensures { OnOk result (string_bytes out.new ≡ string_bytes out.old ++ next_keys next) }
+{
     match next {
-        Next::Waits(unfinished) => write_after(out, unfinished)?,
-        Next::Answered(answer) => write_answer_key(out, "next", answer)?,
-        _ => {}
+        Next::Waits(unfinished) => {
+            let number = number_of(unfinished.line);
+            let cpu = unfinished.cpu;
+            write!(out, ", \"after\": {{\"cpu\": {cpu}, \"line\": {number}}}")
+        }
+        Next::Answered(answer) => write_answer_key(out, "next", Some(answer)),
+        Next::Finished => Ok(()),
+        Next::GoesOn => Ok(()),
+        Next::HistoryFull => Ok(()),
     }
-    write_answer_key(out, "answer", line.answer)
 }
 
-/// Writes the line after whose answer a line began.
-fn write_after(out: &mut String, unfinished: Unfinished) -> Result<(), AllocError> {
-    let number = unfinished.line.saturating_add(1);
-    let cpu = unfinished.cpu;
-    write!(out, ", \"after\": {{\"cpu\": {cpu}, \"line\": {number}}}")
-}
-
-/// Writes an answer under a key.
-fn write_answer_key(out: &mut String, key: &str, answer: LineAnswer) -> Result<(), AllocError> {
-    write!(out, ", \"{key}\": \"")?;
-    write_line_answer(out, answer)?;
-    out.push('"')
+/// Writes an answer under a key; nothing if there is none.
+fn write_answer_key(
+    out: &mut String,
+    key: &str,
+    answer: Option<LineAnswer>,
+) -> Result<(), AllocError>
+    ensures { OnOk result (string_bytes out.new ≡ string_bytes out.old ++ answer_key key.now answer) }
+{
+    match answer {
+        Some(answer) => {
+            write!(out, ", \"{key}\": \"")?;
+            write_line_answer(out, answer)?;
+            out.push('"')
+        }
+        None => Ok(()),
+    }
 }
 
 // ---- both
 
-/// Returns how many lines were seen of a processor.
-fn line_count(seen: &Observed, cpu: u32) -> usize {
-    match seen.lines_of(cpu) {
-        Some(lines) => lines.len(),
-        None => 0,
-    }
+/// Returns the number of a line, counted from 1, given its number counted from 0.
+fn number_of(line: usize) -> u128
+    ensures { result ≡ line + 1 }
+{
+    line as u128 + 1
 }
 
 /// Writes the answer to a line as `hotplug run` does, without a newline.
-fn write_line_answer(out: &mut String, answer: LineAnswer) -> Result<(), AllocError> {
+fn write_line_answer(out: &mut String, answer: LineAnswer) -> Result<(), AllocError>
+    ensures { OnOk result (string_bytes out.new ≡ string_bytes out.old ++ answer_text answer) }
+{
     match answer {
         LineAnswer::Reply(reply) => write_reply_words(out, reply),
-        LineAnswer::Plan(end) => {
-            write_plan_end(out, end)?;
-            let _newline = out.pop();
-            Ok(())
-        }
+        LineAnswer::Plan(end) => write_end(out, end),
     }
+}
+
+/// Writes how a plan ended, without a newline.
+fn write_end(out: &mut String, end: OpEnd) -> Result<(), AllocError>
+    ensures { OnOk result
+        (string_bytes out.new ≡ string_bytes out.old ++ (codes "plan: " ++ end_words end)) }
+{
+    write_plan_end(out, end)?;
+    let _newline = out.pop();
+    Ok(())
 }
