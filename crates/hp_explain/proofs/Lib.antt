@@ -1,4 +1,5 @@
 pub mod Beginnings
 pub mod Orders
 pub mod Rising
+pub mod Runs
 pub mod TimesFilled

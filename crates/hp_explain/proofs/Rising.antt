@@ -1,5 +1,5 @@
 -- Scripts whose lines are answered in their order.
-use Rattle.std.proofs.Common.{◌≡◌, ℕ, zero, suc, ◌+◌, ◌<◌, ◌≤◌, List, [], ◌∷◌, length, Option, Some, None, slice_get, refl, ap, sym, subst, ◌∙◌, arith, inl, inr}
+use Rattle.std.proofs.Common.{◌≡◌, ℕ, zero, suc, ◌+◌, ◌<◌, ◌≤◌, List, [], ◌∷◌, length, Some, None, slice_get, ap, sym, ◌∙◌, arith, inl, inr}
 use Rattle.std.specs.Prelude.{◌⊎◌, ◌↔◌}
 use Rattle.std.proofs.lemmas.Bool.{cases_lt}
 use Rattle.std.proofs.lemmas.Option.{none-some, same_Some, slice_get_within}
@@ -81,3 +81,8 @@ pub over_all : (lines : List ObservedLine) (count time : ℕ) → length lines �
     → AreOverBefore lines count time
 over_all lines count time all k one there early =
     let low : k < length lines = slice_get_within lines k one there in omega (arith, low, all)
+
+pub get_none : (lines : List ObservedLine) (k : ℕ) → slice_get lines k ≡ None → length lines ≤ k
+get_none [] k none = omega arith
+get_none (x ∷ lines) zero none = absurd (none-some x (sym none))
+get_none (x ∷ lines) (suc k) none = let rest = get_none lines k none in omega (arith, rest)

@@ -18,7 +18,7 @@ pub(crate) struct Explainer<'a> {
 impl<'a> Explainer<'a> {
     /// Creates the aim of a search before any call.
     pub(crate) fn new(alloc: Global, seen: &'a Observed) -> Explainer<'a>
-        ensures seen { result.seen ≡ seen }
+        ensures seen { result.seen.now ≡ seen.now }
         ensures none { result.longest.items ≡ [] }
     {
         Explainer {

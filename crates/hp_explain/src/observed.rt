@@ -58,11 +58,19 @@ impl ObservedScript {
         lines.as_slice()
     }
 
+    /// Returns the line with this number, counted from 0.
+    fn line(&self, number: usize) -> Option<&ObservedLine>
+        ensures { option_map (λ l. l.now) result ≡ slice_get self.now number }
+    {
+        self.lines().get(number)
+    }
+
     /// Returns whether each line that was answered before `time` is among the first `count`.
     fn are_over(&self, count: usize, time: u64) -> bool
         ensures { IsTrue result ↔ AreOverBefore self.now count time }
     {
-        match self.lines().get(count) {
+        let _ = &self.lines;
+        match self.line(count) {
             Some(line) => line.to >= time,
             None => true,
         }
