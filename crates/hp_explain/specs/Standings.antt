@@ -72,11 +72,16 @@ pub record IsStanding (g : Setting) (seen : List (List ObservedLine)) (news : Li
   pub seen_is : s.seen ≡ option_map (λ one. one.answer) (slice_get (seen_of seen cpu) s.finished)
   pub next : IsNext g seen news cpu s.next
 
--- the same of each processor
-abbrev pub AreStandings : Setting → List (List ObservedLine) → List Record → List Standing → Type 0
-AreStandings g seen news all =
-    (length all ≡ length seen)
+-- the same of each processor below a number
+abbrev pub AreStandingsBelow : Setting → List (List ObservedLine) → List Record → (cpus : ℕ) → List Standing
+    → Type 0
+AreStandingsBelow g seen news cpus all =
+    (length all ≡ cpus)
     × ((cpu : ℕ) (s : Standing) → slice_get all cpu ≡ Some s → IsStanding g seen news cpu s)
+
+-- the same of all processors
+abbrev pub AreStandings : Setting → List (List ObservedLine) → List Record → List Standing → Type 0
+AreStandings g seen news all = AreStandingsBelow g seen news (length seen) all
 
 -- the path is where the schedule of the setting leads
 abbrev pub IsAlong : Setting → (schedule : List ℕ) → PathValue → Type 0
