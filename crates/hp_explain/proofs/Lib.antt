@@ -1,3 +1,4 @@
+pub mod AnswersRead
 pub mod Beginnings
 pub mod Orders
 pub mod Rising

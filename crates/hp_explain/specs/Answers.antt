@@ -57,9 +57,15 @@ AreLast (text ∷ rest) = (are_empty (text ∷ rest) ≡ true) ⊎ (IsRecords te
 abbrev pub untimed : LineAnswer → ObservedLine
 untimed answer = record { answer = answer; from = 0; to = 18446744073709551615 }
 
+abbrev pub without_times : ObservedLine → ObservedLine
+without_times one = untimed one.answer
+
 -- no times are known
 abbrev pub AreUntimed : List ObservedLine → Type 0
-AreUntimed seen = map (λ one. untimed one.answer) seen ≡ seen
+AreUntimed seen = map without_times seen ≡ seen
+
+abbrev pub AreAllUntimed : List (List ObservedLine) → Type 0
+AreAllUntimed seen = map (map without_times) seen ≡ seen
 
 -- one more answer, without times
 abbrev pub IsPushed : (old : List ObservedLine) → (text : List ℕ) → (new : List ObservedLine) → Type 0
@@ -74,8 +80,7 @@ IsScriptAt rest cpu count seen =
 -- the lines are those of a run with these answers of its processors
 abbrev pub AreRun : List (List ℕ) → List (List ObservedLine) → Type 0
 AreRun texts seen =
-    (rest : List (List ℕ)) × (texts ≡ run_lines 0 seen ++ rest) × AreLast rest
-    × ((cpu : ℕ) (one : List ObservedLine) → slice_get seen cpu ≡ Some one → AreUntimed one)
+    (rest : List (List ℕ)) × (texts ≡ run_lines 0 seen ++ rest) × AreLast rest × AreAllUntimed seen
 
 -- the text is that of a run with these answers of its processors
 abbrev pub IsRunText : (input : List ℕ) → List (List ObservedLine) → Type 0

@@ -21,22 +21,22 @@ pub(crate) fn read_words(
 {
     let processors = scripts.len() as u32;
     let mut seen = Vec::new(alloc);
-    let mut rest = lines;
+    let mut place = 0;
     for cpu in 0..processors {
-        let number = line_number(lines, rest);
+        let number = line_number(place);
         let count = scripts[cpu as usize].line_count();
         seen.reserve(1)?;
-        let script = read_script(alloc, rest, number, cpu, processors, count)?;
-        rest = &rest[count + 1..];
+        let script = read_script(alloc, &lines[place..], number, cpu, processors, count)?;
+        place += count + 1;
         seen.push_reserved(script);
     }
-    check_last(alloc, rest, line_number(lines, rest), processors)?;
+    check_last(alloc, &lines[place..], line_number(place), processors)?;
     Ok(seen)
 }
 
-/// Returns the number, from 1, of the first of the last lines.
-fn line_number(lines: &[&str], rest: &[&str]) -> u64 {
-    (lines.len().saturating_sub(rest.len()) as u64).saturating_add(1)
+/// Returns the number, from 1, of the line at `place`.
+fn line_number(place: usize) -> u64 {
+    (place as u64).saturating_add(1)
 }
 
 /// Reads a processor's answers from the front of `rest`, whose first line has this number.
@@ -160,20 +160,12 @@ fn push_answer(seen: &mut Vec<ObservedLine>, alloc: Global, text: &str) -> Resul
 fn push_untimed(seen: &mut Vec<ObservedLine>, answer: LineAnswer) -> Result<bool, AllocError>
     ensures { IfOk result (λ is. seen.new.items ≡ seen.old.items ++ untimed answer ∷ []) }
 {
-    seen.reserve(1)?;
-    seen.push_reserved(untimed(answer));
-    Ok(true)
-}
-
-/// Returns an answer as what was seen, without times.
-fn untimed(answer: LineAnswer) -> ObservedLine
-    ensures { result ≡ untimed answer }
-{
-    ObservedLine {
+    seen.push(ObservedLine {
         answer,
         from: 0,
         to: u64::MAX,
-    }
+    })?;
+    Ok(true)
 }
 
 /// Returns that a processor has fewer answers than lines.

@@ -1,5 +1,5 @@
 //! The answers of processors as JSON, one object per line.
-ghost use Rattle.std.specs.Prelude.{◌≡◌, ◌+◌, ◌++◌, ◌∷◌, ◌<◌, ◌≤◌, ◌^◌, IfOk, OnErr, OnOk, [], length, map};
+ghost use Rattle.std.specs.Prelude.{◌≡◌, ◌<◌, ◌^◌, IfOk, length, map};
 ghost use Rattle.hp_explain.specs.Explaining.{AreRising};
 
 use crate::answer_lines::{not_understood, too_few};

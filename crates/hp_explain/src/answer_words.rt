@@ -1,6 +1,5 @@
 //! The answers of lines in words, as `hotplug run` prints them.
-ghost use Rattle.std.specs.Prelude.{◌≡◌, ◌++◌, IfOk, IfSome, OnOk, codes, map, string_bytes};
-ghost use Rattle.hp_scenario.specs.Words.{words_of};
+ghost use Rattle.std.specs.Prelude.{◌≡◌, ◌++◌, IfOk, IfSome, OnOk, string_bytes, true};
 ghost use Rattle.hp_text.specs.State.{newline};
 ghost use Rattle.hp_explain.specs.Answers.{answer_text};
 

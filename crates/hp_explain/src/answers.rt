@@ -1,5 +1,6 @@
 //! What the processors of a scenario were answered, read from a text.
-ghost use Rattle.std.specs.Prelude.{◌≡◌, ◌<◌, ◌^◌, IfOk, false, length, map};
+ghost use Rattle.std.specs.Prelude.{◌≡◌, ◌<◌, ◌^◌, IfOk, OnOk, false, length, map};
+ghost use Rattle.std.specs.Str.Lines.{lines as lines_of};
 ghost use Rattle.hp_explain.specs.Answers.{IsRunText, are_objects};
 
 use crate::answer_lines::read_words;
@@ -7,16 +8,26 @@ use crate::answer_objects::read_objects;
 use crate::answers_fault::AnswersFault;
 use crate::observed::Observed;
 use hp_schedules::CallScript;
-use std::alloc::Global;
+use std::alloc::{AllocError, Global};
 use std::str::from_utf8;
 
-/// Reads what the processors were answered. Script k is that of processor k.
+/// Reads what the processors of a scenario were answered. Script k is that of processor k.
 ///
-/// The text is what `hotplug run` prints: for each processor in order a line `cpu C`, and the answer
-/// to each line of its script; the last line, with the number of records, may be missing. Or each
-/// line is a JSON object: `{"cpu": 0, "answer": "done", "from": 3, "to": 7}`. Its processor's objects
-/// are in the order of the lines; `from` and `to` may be missing. Lines may end in `\r\n`, and there
-/// may be empty lines at the end; empty lines between objects are ignored.
+/// The text is what `hotplug run` prints: for each processor in order a line `cpu C`, then the answer
+/// to each line of its script. The number of records, in the last line, may be missing. The times of
+/// these answers are unknown.
+///
+/// Or each line is a JSON object such as `{"cpu": 0, "answer": "done", "from": 3, "to": 7}`. A
+/// processor's objects are in the order of its lines. `from` and `to` are whole numbers: the line began
+/// at `from` or later, and was answered at `to` or before. A missing `from` is 0, and a missing `to` is
+/// that of the processor's next line that has one.
+///
+/// A line may end in `\r\n`. Empty lines at the end are ignored, and those between objects.
+///
+/// # Errors
+///
+/// The first line at fault, or `TooFew` with a processor that has fewer answers than lines. `NotUtf8`
+/// if the text is not UTF-8, `OutOfMemory` if memory allocation fails.
 pub fn read_answers(
     alloc: Global,
     input: &[u8],
@@ -30,7 +41,7 @@ pub fn read_answers(
         return Err(AnswersFault::NotUtf8);
     };
     let mut lines = Vec::new(alloc);
-    lines.extend(text.lines())?;
+    split_lines(&mut lines, text)?;
     if are_objects(input) {
         let seen = read_objects(alloc, lines.as_slice(), scripts)?;
         Ok(Observed::new(seen))
@@ -38,6 +49,14 @@ pub fn read_answers(
         let seen = read_words(alloc, lines.as_slice(), scripts)?;
         Ok(Observed::new(seen))
     }
+}
+
+/// Replaces `lines` by the lines of a text.
+fn split_lines<'a>(lines: &mut Vec<&'a str>, text: &'a str) -> Result<(), AllocError>
+    ensures { OnOk result (map (λ l. l.now) lines.new.items ≡ lines_of text.now) }
+{
+    lines.clear();
+    lines.extend(text.lines())
 }
 
 /// Returns whether the first byte that is not white space opens a JSON object.

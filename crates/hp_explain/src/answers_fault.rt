@@ -60,7 +60,7 @@ impl fmt::Display for AnswersFault {
                 write!(f, "line {line} of the answers: no call gets this answer")
             }
             AnswersFault::TimesFall { line } => {
-                write!(f, "line {line} of the answers: its times fall")
+                write!(f, "line {line} of the answers: its times are out of order")
             }
             AnswersFault::OutOfMemory => write!(f, "out of memory"),
         }

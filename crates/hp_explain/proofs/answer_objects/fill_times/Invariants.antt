@@ -1,4 +1,3 @@
-use Rattle.std.proofs.Common.{◌≤◌, length}
 use Rattle.hp_explain.proofs.TimesFilled.{IsFilled}
 use Rattle.hp_explain.proofs.answer_objects.fill_times.Given as goal
 
