@@ -1,6 +1,9 @@
 pub mod AnswersRead
 pub mod Beginnings
 pub mod Orders
+pub mod Pieces
 pub mod Rising
 pub mod Runs
+pub mod Stood
 pub mod TimesFilled
+pub mod Told

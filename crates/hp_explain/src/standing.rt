@@ -4,6 +4,7 @@ ghost use Rattle.hp_units.specs.declared.replies.Record.{Record};
 ghost use Rattle.hp_explore.specs.Settings.{setting};
 ghost use Rattle.hp_schedules.specs.LineAnswers.{answers_at};
 ghost use Rattle.hp_explain.specs.Explaining.{AreAllOverBefore};
+ghost use Rattle.hp_explain.specs.declared.standing.Standing.{Standing as StandingValue};
 ghost use Rattle.hp_explain.specs.Standings.{AreStandings, IsAlong, IsLatestAnswer, IsNext, IsStanding, IsUnfinished, IsWaitingFor, seen_of};
 
 use crate::observed::Observed;
@@ -94,31 +95,34 @@ pub(crate) fn standings_of(
 {
     let mut all = Vec::new(alloc);
     for cpu in 0..seen.processors() {
-        let standing = standing_of(alloc, path, seen, cpu)?;
-        all.push(standing)?;
+        push_standing(&mut all, alloc, path, seen, cpu)?;
     }
     Ok(all)
 }
 
-/// Returns where a processor stands. Makes its next call, and takes it back.
-fn standing_of(
+/// Adds where a processor stands. Makes its next call, and takes it back.
+fn push_standing(
+    all: &mut Vec<Standing>,
     alloc: Global,
     path: &mut Path<'_>,
     seen: &Observed,
     cpu: u32,
-) -> Result<Standing, AllocError>
+) -> Result<(), AllocError>
     ensures same { path.new ≡ path.old }
-    ensures standing { IfOk result (IsStanding path.old.setting seen.now path.old.news cpu) }
+    ensures more { OnOk result ((standing : StandingValue)
+        × (all.new.items ≡ all.old.items ++ standing ∷ [])
+        × IsStanding path.old.setting seen.now path.old.news cpu standing) }
 {
     let finished = path.finished(cpu);
     let next = next_of(alloc, path, seen, cpu)?;
-    Ok(Standing {
+    all.push(Standing {
         cpu: Cpu(cpu),
         finished,
         lines: line_count(seen, cpu),
         seen: answer_seen(seen, cpu, finished),
         next,
-    })
+    })?;
+    Ok(())
 }
 
 /// Returns how many lines were seen of a processor.

@@ -1,5 +1,7 @@
 //! The word that explains answers: it looks for an order of the scenario's calls in which each line is
 //! answered so.
+ghost use Rattle.std.specs.Prelude.{◌≡◌};
+ghost use Rattle.hp_lab_shell.specs.Statuses.{explain_status};
 
 use crate::arguments::{PROGRESS, SCENARIO};
 use crate::explain_words::{ANSWERS_NAME, SCENARIO_NAME};
@@ -147,7 +149,9 @@ fn write_told(
 
 /// Returns the exit status of what the search came to. Standard error reports that no scenario is
 /// written where one was asked for.
-fn told_status(rt: &HostRuntime, form: ScheduleForm, found: ExplainResult) -> u8 {
+fn told_status(rt: &HostRuntime, form: ScheduleForm, found: ExplainResult) -> u8
+    ensures { result ≡ explain_status found }
+{
     match found {
         ExplainResult::Explained => 0,
         ExplainResult::Unexplained | ExplainResult::Unknown => {
