@@ -11,6 +11,15 @@ pub record IsReadUpTo (rest : List (Bor (List ℕ))) (i : ℕ) (seen : List Obse
   pub lines : take i (map (λ x. x.now) rest) ≡ seen_lines seen
   pub plain : AreUntimed seen
 
+-- one more line
+pub take_text : (rest : List (Bor (List ℕ))) (i : ℕ) (d : Bor (List ℕ)) → i < length rest
+    → take (i + 1) (map (λ x. x.now) rest) ≡ take i (map (λ x. x.now) rest) ++ (get_or rest i d).now ∷ []
+take_text rest i d within =
+    take-map (λ (x : Bor (List ℕ)). x.now) (i + 1) rest
+    ∙ (map_more (λ (x : Bor (List ℕ)). x.now) rest i d within
+    ∙ ap (λ (z : List (List ℕ)). z ++ (get_or rest i d).now ∷ [])
+    (sym (take-map (λ (x : Bor (List ℕ)). x.now) i rest)))
+
 -- one more answer
 pub read_more : (rest : List (Bor (List ℕ))) (i : ℕ) (d : Bor (List ℕ)) (old new : List ObservedLine)
     → i < length rest → IsPushed old (get_or rest i d).now new → IsReadUpTo rest i old
@@ -27,11 +36,7 @@ read_more rest i d old new within pushed so_far = record {
 
     texts : take (i + 1) (map (λ (x : Bor (List ℕ)). x.now) rest)
         ≡ take i (map (λ (x : Bor (List ℕ)). x.now) rest) ++ (get_or rest i d).now ∷ []
-    texts =
-        take-map (λ (x : Bor (List ℕ)). x.now) (i + 1) rest
-        ∙ (map_more (λ (x : Bor (List ℕ)). x.now) rest i d within
-        ∙ ap (λ (z : List (List ℕ)). z ++ (get_or rest i d).now ∷ [])
-        (sym (take-map (λ (x : Bor (List ℕ)). x.now) i rest)))
+    texts = take_text rest i d within
 
     all_lines : take (i + 1) (map (λ (x : Bor (List ℕ)). x.now) rest) ≡ seen_lines new
     all_lines =

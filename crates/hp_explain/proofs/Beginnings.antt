@@ -1,5 +1,5 @@
 -- Explained beginnings: with one call more, and which calls and places no explained schedule has.
-use Rattle.std.proofs.Common.{◌≡◌, ◌≢◌, ℕ, zero, suc, ◌+◌, ◌<◌, ◌≤◌, Bool, true, false, eqb, List, [], ◌∷◌, ◌++◌, length, Option, Some, None, slice_get, refl, ap, sym, subst, ◌∙◌, arith, inl, inr}
+use Rattle.std.proofs.Common.{◌≡◌, ℕ, zero, suc, Bool, true, false, eqb, List, [], ◌∷◌, ◌++◌, length, Option, Some, None, slice_get, refl, ap, sym, subst, ◌∙◌, arith, inl, inr}
 use Rattle.std.specs.Prelude.{◌⊎◌, fold}
 use Rattle.std.proofs.lemmas.Bool.{eqb-false, eqb-true}
 use Rattle.std.proofs.lemmas.List.{append-nil, append_assoc}
@@ -10,13 +10,12 @@ use Rattle.hp_schedules.specs.LineAnswers.{Grow, IsAnswered, answers_at}
 use Rattle.hp_schedules.specs.Orders.{Extends}
 use Rattle.hp_schedules.specs.Schedules.{Setting, next_call, play_one, plays, record_of_call, schedule_of}
 use Rattle.hp_schedules.specs.declared.line_answers.FinishedLine.{FinishedLine}
-use Rattle.hp_schedules.specs.declared.line_answers.LineAnswer.{LineAnswer}
 use Rattle.hp_schedules.proofs.LineAnswers.{grow_at, others_stay}
 use Rattle.hp_schedules.proofs.Plays.{caller, plays_on, plays_one, stays_none}
 use Rattle.hp_explore.specs.Aims.{IsTried, MayBeSkipped}
 use Rattle.hp_explore.specs.Counted.{continued}
-use Rattle.hp_explain.specs.Continued.{explained_news, split_in}
-use Rattle.hp_explain.specs.Explainers.{MayRunAfter, aim_of}
+use Rattle.hp_explain.specs.Continued.{split_in}
+use Rattle.hp_explain.specs.Explainers.{aim_of}
 use Rattle.hp_explain.specs.Explaining.{AreAsSeen, AreInTime, HasSeen, IsExplained, MayRun}
 use Rattle.hp_explain.specs.declared.observed.ObservedLine.{ObservedLine}
 
@@ -194,6 +193,16 @@ reached g seen longest schedule news is played t =
       one.whose,
     )
 
+-- the processor of the latest call
+pub last_same : (xs ys : List ℕ) (x y : ℕ) → xs ++ x ∷ [] ≡ ys ++ y ∷ [] → x ≡ y
+last_same [] [] x y is = cc
+last_same [] (b ∷ []) x y is = absurd cc
+last_same [] (b ∷ c ∷ ys) x y is = absurd cc
+last_same (a ∷ []) [] x y is = absurd cc
+last_same (a ∷ b ∷ xs) [] x y is = absurd cc
+last_same (a ∷ xs) (b ∷ ys) x y is =
+    let others : xs ++ x ∷ [] ≡ ys ++ y ∷ [] = cc in last_same xs ys x y others
+
 -- it is explained if the line that the call finished was answered as it was seen
 pub place_explained : (g : Setting) (seen : List (List ObservedLine)) (schedule : List ℕ)
     (news : List Record) (f : Option FinishedLine)
@@ -235,3 +244,32 @@ place_skipped g seen longest schedule news line is played e answered other = (
         explained.answered e.r.cpu line.line line.answer
         (rw (more.1, later.1, answered.1, answered.0)
         (get_at_end (answers_at g e.r.cpu e.h) later.0 line.answer))
+
+-- ---- a place that is asked
+
+-- the answer is tested by the latest call's processor
+pub asked_explained : (g : Setting) (seen : List (List ObservedLine)) (longest schedule : List ℕ)
+    (news : List Record) (f : Option FinishedLine)
+    → schedule ≡ schedule_of news → plays g (schedule_of news) ≡ Some news
+    → (t : IsTried (aim_of g seen longest) schedule)
+    → ((before : List Record) (r : Record) → news ≡ before ++ r ∷ []
+    → IsAnswered (answers_at g r.cpu before) f (answers_at g r.cpu news))
+    → ((line : FinishedLine) → f ≡ Some line → HasSeen seen t.cpu line.line line.answer)
+    → IsExplained g seen schedule
+asked_explained g seen longest schedule news f is played t answered own =
+    let e = reached g seen longest schedule news is played t in
+    place_explained g seen schedule news f is played e.0 answered
+    (λ line same. subst (λ (c : ℕ). HasSeen seen c line.line line.answer) (sym e.1) (own line same))
+
+pub asked_skipped : (g : Setting) (seen : List (List ObservedLine)) (longest schedule : List ℕ)
+    (news : List Record) (line : FinishedLine)
+    → schedule ≡ schedule_of news → plays g (schedule_of news) ≡ Some news
+    → (t : IsTried (aim_of g seen longest) schedule)
+    → ((before : List Record) (r : Record) → news ≡ before ++ r ∷ []
+    → IsAnswered (answers_at g r.cpu before) (Some line) (answers_at g r.cpu news))
+    → (HasSeen seen t.cpu line.line line.answer → ⊥)
+    → MayBeSkipped (aim_of g seen longest) schedule
+asked_skipped g seen longest schedule news line is played t answered other =
+    let e = reached g seen longest schedule news is played t in
+    place_skipped g seen longest schedule news line is played e.0 (answered e.0.h e.0.r e.0.is)
+    (λ has. other (subst (λ (c : ℕ). HasSeen seen c line.line line.answer) e.1 has))

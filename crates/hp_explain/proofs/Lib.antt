@@ -1,5 +1,7 @@
 pub mod AnswersRead
 pub mod Beginnings
+pub mod Causes
+pub mod ObjectsTaken
 pub mod Orders
 pub mod Pieces
 pub mod Rising

@@ -14,7 +14,7 @@ use Rattle.hp_explore.specs.Aims.{IsFirstSought, IsSearchCause}
 use Rattle.hp_explore.specs.declared.fault.FindFault.{FindFault}
 use Rattle.hp_explore.specs.declared.fault.FindFault.TheVariants.{HistoryFull, OutOfMemory, Stopped}
 use Rattle.hp_explain.specs.Explainers.{aim_of}
-use Rattle.hp_explain.specs.Explaining.{AreAsSeen, AreInTime, Explains, HasSeen, IsExplainCause, IsExplained, MayRun}
+use Rattle.hp_explain.specs.Explaining.{Explains, IsExplainCause, IsExplained, MayRun}
 use Rattle.hp_explain.specs.declared.observed.ObservedLine.{ObservedLine}
 
 -- ---- before any call
@@ -73,14 +73,8 @@ beginning_missed g seen longest schedule news is played asks short (inr longer) 
 
 -- ---- results
 
-pub order_found : (g : Setting) (seen later : List (List ObservedLine)) (longest s : List ℕ)
-    → later ≡ seen → IsFirstSought g (aim_of g later longest) (Some s)
-    → IsFirstSought g (aim_of g seen longest) (Some s)
-order_found g seen later longest s same first =
-    subst (λ (x : List (List ObservedLine)). IsFirstSought g (aim_of g x longest) (Some s)) same first
-
 -- no longer beginning is explained
-pub none_longer : (g : Setting) (seen : List (List ObservedLine)) (longest : List ℕ)
+none_longer : (g : Setting) (seen : List (List ObservedLine)) (longest : List ℕ)
     → ((s : List ℕ) → (aim_of g seen longest).sought s → ⊥) → (s : List ℕ) → IsExplained g seen s
     → length s ≤ length longest
 none_longer g seen longest none s explained = by_length (cases_lt (length longest) (length s))
@@ -88,6 +82,21 @@ none_longer g seen longest none s explained = by_length (cases_lt (length longes
     by_length : (length longest < length s) ⊎ (length s ≤ length longest) → length s ≤ length longest
     by_length (inl more) = absurd (none s (inr (explained, more)))
     by_length (inr few) = few
+
+-- none explains it
+pub none_found : (g : Setting) (seen later : List (List ObservedLine)) (longest : List ℕ) → later ≡ seen
+    → IsFirstSought g (aim_of g later longest) None → IsExplained g seen longest
+    → ((s : List ℕ) → Explains g seen s → ⊥) × IsExplained g seen longest
+    × ((s : List ℕ) → IsExplained g seen s → length s ≤ length longest)
+none_found g seen later longest same found begun = (
+  λ s order. none s (inl order),
+  begun,
+  none_longer g seen longest none,
+)
+  where
+    none : (s : List ℕ) → (aim_of g seen longest).sought s → ⊥
+    none =
+        subst (λ (x : List (List ObservedLine)). (s : List ℕ) → (aim_of g x longest).sought s → ⊥) same found.0
 
 pub explain_cause : (g : Setting) (seen later : List (List ObservedLine)) (longest : List ℕ)
     (fault : FindFault)

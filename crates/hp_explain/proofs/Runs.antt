@@ -1,9 +1,10 @@
 -- Whether the line that a processor works on next may run.
-use Rattle.std.proofs.Common.{◌≡◌, ℕ, ◌+◌, ◌<◌, ◌≤◌, List, length, Option, Some, None, slice_get, refl, ap, sym, subst, ◌∙◌, arith, inl, inr}
+use Rattle.std.proofs.Common.{◌≡◌, ℕ, ◌+◌, ◌<◌, ◌≤◌, Bool, false, List, length, Option, Some, None, slice_get, refl, ap, sym, subst, ◌∙◌, arith, inl, inr}
 use Rattle.std.specs.Option.{option_and_then}
-use Rattle.std.specs.Prelude.{◌⊎◌, ◌↔◌}
-use Rattle.std.proofs.lemmas.Bool.{cases_lt}
+use Rattle.std.specs.Prelude.{◌⊎◌, ◌↔◌, IsTrue}
+use Rattle.std.proofs.lemmas.Bool.{cases_lt, iff_false}
 use Rattle.std.proofs.lemmas.Option.{none-some, same_Some, slice_get_within}
+use Rattle.hp_laws.proofs.Lists.{get_some}
 use Rattle.hp_units.specs.declared.replies.Record.{Record}
 use Rattle.hp_schedules.specs.LineAnswers.{answers_at}
 use Rattle.hp_schedules.specs.Schedules.{Setting}
@@ -86,3 +87,15 @@ pub over_all : (g : Setting) (seen : List (List ObservedLine)) (news : List Reco
 over_all g seen news time cpus all over cpu lines here =
     let low : cpu < length seen = slice_get_within seen cpu lines here in
     over cpu lines (omega (arith, low, all)) here
+
+-- those of one processor are not
+pub not_all : (g : Setting) (seen : List (List ObservedLine)) (news : List Record) (time cpu count : ℕ)
+    (told : Bool)
+    → cpu < length seen → count ≡ length (answers_at g cpu news)
+    → ((lines : List ObservedLine) → slice_get seen cpu ≡ Some lines
+    → (IsTrue told ↔ AreOverBefore lines count time))
+    → told ≡ false → AreAllOverBefore g seen news time → ⊥
+not_all g seen news time cpu count told low many tells denied all =
+    let lines = get_some seen cpu low in
+    iff_false (tells lines.0 lines.1) denied
+    (subst (λ (n : ℕ). AreOverBefore lines.0 n time) (sym many) (all cpu lines.0 lines.1))

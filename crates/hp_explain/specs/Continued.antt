@@ -1,6 +1,6 @@
 -- Places that continue alike are explained alike: what the laws of an aim ask.
-use Rattle.std.proofs.Common.{◌≡◌, ℕ, zero, suc, ◌+◌, ◌<◌, ◌≤◌, List, [], ◌∷◌, ◌++◌, length, Some, None, slice_get, refl, ap, sym, subst, ◌∙◌, arith, inl, inr}
-use Rattle.std.specs.Prelude.{◌⊎◌, map}
+use Rattle.std.proofs.Common.{◌≡◌, ℕ, zero, suc, ◌<◌, ◌≤◌, List, [], ◌∷◌, ◌++◌, length, Some, slice_get, refl, ap, sym, subst, ◌∙◌, arith, inl, inr}
+use Rattle.std.specs.Prelude.{◌⊎◌}
 use Rattle.std.proofs.lemmas.Bool.{cases_lt}
 use Rattle.std.proofs.lemmas.List.{append_assoc, length-append, length-map}
 use Rattle.std.proofs.lemmas.Option.{same_Some, slice_get_past}
@@ -8,15 +8,14 @@ use Rattle.hp_units.specs.declared.replies.Record.{Record}
 use Rattle.hp_schedules.specs.Causes.{AnswerAlike, IsCaused}
 use Rattle.hp_schedules.specs.Continuing.{ContinuesAs}
 use Rattle.hp_schedules.specs.LineAnswers.{answers_at}
-use Rattle.hp_schedules.specs.Schedules.{Setting, next_call, plays, schedule_of}
-use Rattle.hp_schedules.specs.declared.line_answers.LineAnswer.{LineAnswer}
+use Rattle.hp_schedules.specs.Schedules.{Setting, plays, schedule_of}
 use Rattle.hp_schedules.proofs.Caused.{answer_alike}
 use Rattle.hp_schedules.proofs.Continuing.{continues_as}
 use Rattle.hp_explore.specs.Aims.{HaveSameKey, IsLawful, IsNarrower}
 use Rattle.hp_explore.specs.Starts.{same_starts}
 use Rattle.hp_explore.proofs.PlaceKeys.{steered_at}
 use Rattle.hp_explain.specs.Explainers.{AreCausedBelow, Becomes, IsMarked, aim_of}
-use Rattle.hp_explain.specs.Explaining.{AreAsSeen, AreInTime, AreOverBefore, Explains, HasSeen, IsExplained, MayRun}
+use Rattle.hp_explain.specs.Explaining.{AreAsSeen, AreInTime, AreOverBefore, HasSeen, IsExplained, MayRun}
 use Rattle.hp_explain.specs.declared.observed.ObservedLine.{ObservedLine}
 
 -- ---- numbers of causes
@@ -112,9 +111,9 @@ pub split_in : {T : Type 0} (k more before later : List T) (r : T) → k ++ more
     → ((rest : List T) × (k ≡ before ++ r ∷ rest))
     ⊎ ((mid : List T) × (before ≡ k ++ mid) × (more ≡ mid ++ r ∷ later))
 split_in [] more before later r is = inr (before, refl, is)
-split_in (x ∷ k) more [] later r is =
-    let first : x ≡ r = cc in inl (k, ap (λ (y : _). y ∷ k) first)
-split_in (x ∷ k) more (y ∷ before) later r is =
+split_in {T} (x ∷ k) more [] later r is =
+    let first : x ≡ r = cc in inl (k, ap (λ (y : T). y ∷ k) first)
+split_in {T} (x ∷ k) more (y ∷ before) later r is =
     let first : x ≡ y = cc in
     let others : k ++ more ≡ before ++ r ∷ later = cc in
     by_place first (split_in k more before later r others)
@@ -222,6 +221,7 @@ sought_alike : (g : Setting) (seen : List (List ObservedLine)) (longest : List �
     → HaveSameKey g h k → IsMarked g h marks → IsMarked g k marks → IsExplained g seen (schedule_of k)
     → (aim_of g seen longest).sought (schedule_of h ++ rest)
     → (aim_of g seen longest).sought (schedule_of k ++ rest)
+unfolding explained_alike
 sought_alike g seen longest h k marks rest same a b here (inl order) =
     let is = explained_on g seen h k marks rest same a b here order.begun in
     inl (record {

@@ -3,7 +3,7 @@ use Rattle.std.specs.Prelude.{◌≡◌, ◌⊎◌, ℕ, zero, suc, ◌<◌, ◌
 use Rattle.hp_units.specs.declared.replies.Record.{Record}
 use Rattle.hp_schedules.specs.Causes.{IsCaused}
 use Rattle.hp_schedules.specs.Schedules.{Setting, plays}
-use Rattle.hp_explore.specs.Aims.{AimValue, IsLawful, IsNarrower}
+use Rattle.hp_explore.specs.Aims.{AimValue}
 use Rattle.hp_explain.specs.Explaining.{Explains, IsExplained, MayRun}
 use Rattle.hp_explain.specs.declared.observed.ObservedLine.{ObservedLine}
 

@@ -1,3 +1,4 @@
+pub mod AnswerObjects
 pub mod Answers
 pub mod Continued
 pub mod Explainers

@@ -1,12 +1,13 @@
 //! What the processors of a scenario were answered, read from a text.
-ghost use Rattle.std.specs.Prelude.{◌≡◌, ◌<◌, ◌^◌, IfOk, OnOk, false, length, map};
+ghost use Rattle.std.specs.Prelude.{◌≡◌, ◌<◌, ◌^◌, IfOk, OnOk, false, length, map, true};
 ghost use Rattle.std.specs.Str.Lines.{lines as lines_of};
+ghost use Rattle.hp_explain.specs.AnswerObjects.{AreObjectsOf};
 ghost use Rattle.hp_explain.specs.Answers.{IsRunText, are_objects};
 
 use crate::answer_lines::read_words;
-use crate::answer_objects::read_objects;
 use crate::answers_fault::AnswersFault;
 use crate::observed::Observed;
+use crate::seen_scripts::read_objects;
 use hp_schedules::CallScript;
 use std::alloc::{AllocError, Global};
 use std::str::from_utf8;
@@ -36,6 +37,7 @@ pub fn read_answers(
     requires { length scripts.now < 2 ^ 32 }
     ensures sizes { IfOk result (λ seen. map length seen ≡ map length scripts.now) }
     ensures words { IfOk result (λ seen. are_objects input.now ≡ false → IsRunText input.now seen) }
+    ensures objects { IfOk result (λ seen. are_objects input.now ≡ true → AreObjectsOf input.now seen) }
 {
     let Ok(text) = from_utf8(input) else {
         return Err(AnswersFault::NotUtf8);

@@ -1,10 +1,11 @@
 //! The aim of a search for an order that explains what was seen.
-ghost use Rattle.std.specs.Prelude.{◌≡◌, ◌↔◌, ◌++◌, ◌<◌, ◌^◌, IfOk, IsTrue, ℕ, List, OnOk, length, true};
+ghost use Rattle.std.specs.Prelude.{◌≡◌, ◌↔◌, ◌++◌, ◌∷◌, [], IfOk, IsTrue, List, OnOk, length, ℕ};
 ghost use Rattle.hp_explain.specs.Explainers.{AreCausedBelow, IsMarked};
-ghost use Rattle.hp_explain.specs.Explaining.{AreAllOverBefore, MayRun};
+ghost use Rattle.hp_explain.specs.Explaining.{AreAllOverBefore, HasSeen, MayRun};
 
 use crate::observed::Observed;
 use hp_explore::{Aim, Path, is_over};
+use hp_schedules::FinishedLine;
 use hp_units::Cpu;
 use std::alloc::{AllocError, Global};
 
@@ -46,6 +47,17 @@ impl<'a> Explainer<'a> {
         }
     }
 
+    /// Returns whether this answer was seen of the line, which the latest call finished.
+    fn has_seen_latest(&self, schedule: &[Cpu], finished: &FinishedLine) -> bool
+        ensures { (before : List ℕ) (cpu : ℕ) → schedule.now ≡ before ++ cpu ∷ []
+            → (IsTrue result ↔ HasSeen self.now.seen.now cpu finished.now.line finished.now.answer) }
+    {
+        match schedule.last() {
+            Some(cpu) => self.seen.has_seen(*cpu, finished.line, finished.answer),
+            None => false,
+        }
+    }
+
     /// Returns whether each processor has finished its lines that were answered before the time.
     fn are_all_over(&self, path: &Path<'_>, time: u64) -> bool
         ensures { IsTrue result ↔ AreAllOverBefore path.now.setting self.now.seen.now path.now.news time }
@@ -60,8 +72,6 @@ impl<'a> Explainer<'a> {
 }
 
 impl<'a> Aim for Explainer<'a> {
-    ghost use Rattle.std.specs.Prelude.{◌≡◌, ◌≤◌, length};
-    ghost use Rattle.std.proofs.Common.{refl, ◌∙◌};
     ghost use Rattle.hp_explain.specs.Explaining.{IsExplained};
     ghost use Rattle.hp_explain.specs.Explainers.{aim_of, Becomes};
     ghost use Rattle.hp_explain.specs.Continued.{explaining_joined, explaining_lawful, explaining_narrower, explaining_stays};
@@ -77,11 +87,8 @@ impl<'a> Aim for Explainer<'a> {
 
     fn admits(&self, path: &Path<'_>, schedule: &[Cpu], _processors: u32) -> bool {
         path.is_played();
-        let Some(cpu) = schedule.last() else {
-            return true;
-        };
         match path.answered() {
-            Some(finished) => self.seen.has_seen(*cpu, finished.line, finished.answer),
+            Some(finished) => self.has_seen_latest(schedule, &finished),
             None => true,
         }
     }

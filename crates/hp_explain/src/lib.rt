@@ -19,6 +19,7 @@ mod explain_fault;
 mod explainer;
 mod explaining;
 mod observed;
+mod seen_scripts;
 mod standing;
 mod telling;
 mod unexplained;

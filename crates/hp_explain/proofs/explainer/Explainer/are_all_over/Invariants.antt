@@ -4,4 +4,4 @@ use Rattle.hp_explain.proofs.explainer.Explainer.are_all_over.Given as goal
 
 abbrev pub invariant-loop-cpu : goal.invariant-loop-cpu
 invariant-loop-cpu l =
-    AreOverBelow l.fn.path.now.setting l.fn.self.now.seen.now l.fn.path.now.news l.fn.time l.cpu
+    AreOverBelow l.fn.path.setting l.fn.self.seen.now l.fn.path.news l.fn.time l.cpu
