@@ -3,6 +3,9 @@ pub mod Beginnings
 pub mod Causes
 pub mod ObjectsTaken
 pub mod Orders
+pub mod Pieces
 pub mod Rising
 pub mod Runs
+pub mod Stood
 pub mod TimesFilled
+pub mod Told

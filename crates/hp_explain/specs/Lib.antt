@@ -3,3 +3,6 @@ pub mod Answers
 pub mod Continued
 pub mod Explainers
 pub mod Explaining
+pub mod Standings
+pub mod Telling
+pub mod Unexplained
