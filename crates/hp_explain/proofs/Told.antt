@@ -12,7 +12,7 @@ use Rattle.hp_search.specs.declared.forms.ScheduleForm.{ScheduleForm}
 use Rattle.hp_search.specs.declared.lab_fault.LabFault.{LabFault}
 use Rattle.hp_search.specs.declared.prepared.Prepared.{Prepared}
 use Rattle.hp_explain.specs.Explaining.{IsExplainCause, IsExplanation}
-use Rattle.hp_explain.specs.Telling.{AreAnswers, IsExplainFaultOf, IsExplainedOn, IsExplainingCause, IsExplanationTold}
+use Rattle.hp_explain.specs.Telling.{IsExplainFaultOf, IsExplainedOn, IsExplainingCause, IsExplanationTold}
 use Rattle.hp_explain.specs.declared.answers_fault.AnswersFault.{AnswersFault}
 use Rattle.hp_explain.specs.declared.explain_fault.ExplainFault.{ExplainFault}
 use Rattle.hp_explain.specs.declared.explain_fault.ExplainFault.TheVariants.{Answers, Lab}
@@ -24,19 +24,19 @@ use Rattle.hp_explain.specs.declared.telling.ExplainResult.{ExplainResult}
 -- what a search found is told
 pub explained_on : (form : ScheduleForm) (names : List (List ℕ)) (before : List Line) (g : Setting)
     (seen : List (List ObservedLine)) (what : Explanation) (text : List ℕ) (result : ExplainResult)
-    → IsExplanation g seen what → IsExplanationTold form names before g seen what text result
+    → IsExplanation g seen what → IsExplanationTold form names before g what text result
     → IsExplainedOn form names before g seen text result
 explained_on form names before g seen (found.Explained s) text result is told =
     subst (IsExplainedOn form names before g seen text) (sym told.1) (s.items, is.0, is.1, is.2, told.0)
 explained_on form names before g seen (found.Unexplained s) text result is told =
-    subst (IsExplainedOn form names before g seen text) (sym told.1) (s.items, is.0, is.1, is.2, told.0)
+    subst (IsExplainedOn form names before g seen text) (sym told) (s.items, is.0, is.1, is.2)
 
 -- the scenario cannot be searched
 pub not_prepared : (input answers : List ℕ) (why : LabFault) (fault : ExplainFault)
     → IsUnprepared input 0 why → fault ≡ Lab why → IsExplainFaultOf input answers fault
 not_prepared input answers why fault unready is =
     subst (IsExplainFaultOf input answers) (sym is)
-    (unprepared_known (IsExplainingCause answers) input 0 why unready)
+    (unprepared_known IsExplainingCause input 0 why unready)
 
 -- the answers cannot be read
 pub not_read : (input answers : List ℕ) (p : Prepared) (why : AnswersFault) (fault : ExplainFault)
@@ -45,15 +45,13 @@ not_read input answers p why fault ready is =
     subst (IsExplainFaultOf input answers) (sym is) (stopped_in (λ g. Unit {0}) input 0 p ready tt)
 
 -- a call fails in the search
-pub not_searched : (input answers : List ℕ) (p : Prepared) (seen : List (List ObservedLine))
-    (fault : ExploreFault) (told : LabFault)
-    → IsPrepared input 0 p → AreAnswers answers p.start.scripts.items seen → IsToldAs (setting_of p) fault told
-    → IsExplainCause (setting_of p) seen (find_fault_from fault) → IsExplainFaultOf input answers (Lab told)
-not_searched input answers p seen fault told ready are is cause =
-    untold_in (IsExplainingCause answers) input 0 p told ready
-    (untold (IsExplainingCause answers) (setting_of p) fault told is (by_fault fault cause))
+pub not_searched : (input answers : List ℕ) (p : Prepared) (fault : ExploreFault) (told : LabFault)
+    → IsPrepared input 0 p → IsToldAs (setting_of p) fault told → IsExplainCause (find_fault_from fault)
+    → IsExplainFaultOf input answers (Lab told)
+not_searched input answers p fault told ready is cause =
+    untold_in IsExplainingCause input 0 p told ready
+    (untold IsExplainingCause (setting_of p) fault told is (by_fault fault cause))
   where
-    by_fault : (f : ExploreFault) → IsExplainCause (setting_of p) seen (find_fault_from f)
-        → IsExplainingCause answers (setting_of p) f
-    by_fault HistoryFull cause = (seen, are, cause)
+    by_fault : (f : ExploreFault) → IsExplainCause (find_fault_from f) → IsExplainingCause (setting_of p) f
+    by_fault HistoryFull cause = cause
     by_fault OutOfMemory cause = tt
