@@ -24,7 +24,3 @@ popped old new x last low is pop =
 
 pub four : (a b c d : List ℕ) → a ++ (b ++ (c ++ d)) ≡ ((a ++ b) ++ c) ++ d
 four a b c d = simp append_assoc
-
--- a plan's end without its newline
-pub ended : (old a b c : List ℕ) → old ++ ((a ++ b) ++ c) ≡ (old ++ (a ++ b)) ++ c
-ended old a b c = simp append_assoc

@@ -1,5 +1,5 @@
 -- What is reported of the order that explains answers.
-use Rattle.std.specs.Prelude.{◌≡◌, ◌≤◌, ℕ, false, List, [], codes, length, map, Some}
+use Rattle.std.specs.Prelude.{◌≡◌, ◌≤◌, ℕ, false, true, List, [], codes, length, map, Some}
 use Rattle.hp_units.specs.declared.replies.Record.{Record}
 use Rattle.hp_schedules.specs.Orders.{IsBefore}
 use Rattle.hp_schedules.specs.Schedules.{Setting, plays}
@@ -13,6 +13,7 @@ use Rattle.hp_search.specs.FoundTexts.{found_text}
 use Rattle.hp_search.specs.Holding.{HoldsIn, InScenario, IsStoppedAfter}
 use Rattle.hp_search.specs.declared.forms.ScheduleForm.{ScheduleForm}
 use Rattle.hp_search.specs.declared.forms.ScheduleForm.TheVariants.{Words, Object, Scenario}
+use Rattle.hp_explain.specs.AnswerObjects.{AreObjectsOf}
 use Rattle.hp_explain.specs.Answers.{IsRunText, are_objects}
 use Rattle.hp_explain.specs.Explaining.{Explains, FillsExplained, IsExplained}
 use Rattle.hp_explain.specs.declared.explain_fault.ExplainFault.{ExplainFault}
@@ -66,11 +67,12 @@ IsExplanationTold form names before g seen (found.Unexplained longest) text resu
 
 -- ---- in a scenario
 
--- a processor for each script was seen, with an answer for each line; and in words, the text is what
--- `hotplug run` prints of these answers
+-- a processor for each script was seen, with an answer for each line. In words, the text is what
+-- `hotplug run` prints of these answers; otherwise its lines are objects that have them
 abbrev pub AreAnswers : (answers : List ℕ) → List (List Step) → List (List ObservedLine) → Type 0
 AreAnswers answers scripts seen =
     (map length seen ≡ map length scripts) × (are_objects answers ≡ false → IsRunText answers seen)
+    × (are_objects answers ≡ true → AreObjectsOf answers seen)
 
 -- the answers can be read as those of the setting's scripts, and this holds of what they say
 abbrev pub OfAnswers : (answers : List ℕ) → Setting → (List (List ObservedLine) → Type 0) → Type 0

@@ -27,16 +27,21 @@ quoted_text before (Some answer) = before ++ codes "`" ++ answer_text answer ++ 
 abbrev pub line_number_text : Standing → List ℕ
 line_number_text s = codes "line " ++ decimal (s.finished + 1) ++ codes " of " ++ decimal s.lines ++ codes " "
 
+-- the line after whose answer it began
+abbrev pub waiting_text : Unfinished → List ℕ
+waiting_text u =
+    codes "began after line " ++ decimal (u.line + 1) ++ codes " of cpu " ++ decimal u.cpu
+    ++ codes " was answered"
+
 -- what comes next of a line
 abbrev pub next_text : Standing → Next → List ℕ
 next_text s Finished = codes "finished"
-next_text s (Waits u) =
-    line_number_text s ++ codes "began after line " ++ decimal (u.line + 1) ++ codes " of cpu " ++ decimal u.cpu
-    ++ codes " was answered"
+next_text s (Waits u) = line_number_text s ++ waiting_text u
 next_text s (Answered answer) =
     line_number_text s ++ quoted_text (codes "would be answered ") (Some answer)
     ++ quoted_text (codes ", not ") s.seen
-next_text s GoesOn = line_number_text s ++ codes "would go on" ++ quoted_text (codes ", not be answered ") s.seen
+next_text s GoesOn =
+    line_number_text s ++ codes "would go on" ++ quoted_text (codes ", not be answered ") s.seen
 next_text s HistoryFull = line_number_text s ++ codes "has no room in the history"
 
 -- the line of a processor

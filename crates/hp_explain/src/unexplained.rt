@@ -1,13 +1,12 @@
 //! The text for answers that no order explains: the longest beginning of one, and where each processor
 //! stands after it.
 ghost use Rattle.std.specs.Prelude.{◌≡◌, ◌++◌, ◌+◌, OnOk, codes, string_bytes, true};
-ghost use Rattle.std.specs.Fmt.{decimal};
 ghost use Rattle.std.specs.List.{flat_map};
 ghost use Rattle.hp_text.specs.Plans.{end_words};
 ghost use Rattle.hp_text.specs.Separated.{separated};
 ghost use Rattle.hp_search.specs.Words.{played_text};
 ghost use Rattle.hp_explain.specs.Answers.{answer_text};
-ghost use Rattle.hp_explain.specs.Unexplained.{answer_key, call_count_text, line_number_text, next_keys, next_text, quoted_text, standing_object, standing_text, unexplained_object, unexplained_words};
+ghost use Rattle.hp_explain.specs.Unexplained.{answer_key, call_count_text, line_number_text, next_keys, next_text, quoted_text, standing_object, standing_text, unexplained_object, unexplained_words, waiting_text};
 
 use crate::standing::{Next, Standing, Unfinished};
 use hp_schedules::LineAnswer;
@@ -85,7 +84,7 @@ fn write_standing(out: &mut String, standing: Standing) -> Result<(), AllocError
     let cpu = standing.cpu;
     write!(out, "cpu {cpu}: ")?;
     write_next(out, standing)?;
-    out.push('\n')
+    out.push_str("\n")
 }
 
 /// Writes what comes next for a processor.
@@ -93,7 +92,8 @@ fn write_next(out: &mut String, standing: Standing) -> Result<(), AllocError>
     ensures { OnOk result
         (string_bytes out.new ≡ string_bytes out.old ++ next_text standing standing.next) }
 {
-    match standing.next {
+    let next = standing.next;
+    match next {
         Next::Finished => out.push_str("finished"),
         Next::Waits(unfinished) => {
             write_line_number(out, standing)?;
@@ -127,9 +127,7 @@ fn write_line_number(out: &mut String, standing: Standing) -> Result<(), AllocEr
 
 /// Writes that a line began after this one was answered.
 fn write_waiting(out: &mut String, unfinished: Unfinished) -> Result<(), AllocError>
-    ensures { OnOk result (string_bytes out.new ≡ string_bytes out.old
-        ++ codes "began after line " ++ decimal (unfinished.line + 1) ++ codes " of cpu "
-        ++ decimal unfinished.cpu ++ codes " was answered") }
+    ensures { OnOk result (string_bytes out.new ≡ string_bytes out.old ++ waiting_text unfinished) }
 {
     let number = number_of(unfinished.line);
     let cpu = unfinished.cpu;
@@ -197,7 +195,7 @@ fn write_standing_object(out: &mut String, standing: Standing) -> Result<(), All
     write!(out, "{{\"finished\": {finished}, \"lines\": {lines}")?;
     write_next_keys(out, standing.next)?;
     write_answer_key(out, "answer", standing.seen)?;
-    out.push('}')
+    out.push_str("}")
 }
 
 /// Writes what comes next for a processor, as keys of its object.
