@@ -3,7 +3,6 @@ pub mod Beginnings
 pub mod Causes
 pub mod ObjectsTaken
 pub mod Orders
-pub mod Pieces
 pub mod Rising
 pub mod Runs
 pub mod Stood

@@ -5,4 +5,3 @@ pub mod Explainers
 pub mod Explaining
 pub mod Standings
 pub mod Telling
-pub mod Unexplained

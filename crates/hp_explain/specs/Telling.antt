@@ -1,8 +1,7 @@
 -- What is reported of the order that explains answers.
-use Rattle.std.specs.Prelude.{◌≡◌, ◌≤◌, ℕ, false, true, List, [], codes, length, map, Some}
-use Rattle.hp_units.specs.declared.replies.Record.{Record}
+use Rattle.std.specs.Prelude.{◌≡◌, ◌≤◌, ℕ, false, true, List, [], codes, length, map}
 use Rattle.hp_schedules.specs.Orders.{IsBefore}
-use Rattle.hp_schedules.specs.Schedules.{Setting, plays}
+use Rattle.hp_schedules.specs.Schedules.{Setting}
 use Rattle.hp_schedules.specs.declared.scripts.Step.{Step}
 use Rattle.hp_explore.specs.Reaching.{HasRoomAlong}
 use Rattle.hp_explore.specs.declared.exploring.ExploreFault.{ExploreFault}
@@ -15,15 +14,12 @@ use Rattle.hp_search.specs.declared.forms.ScheduleForm.{ScheduleForm}
 use Rattle.hp_search.specs.declared.forms.ScheduleForm.TheVariants.{Words, Object, Scenario}
 use Rattle.hp_explain.specs.AnswerObjects.{AreObjectsOf}
 use Rattle.hp_explain.specs.Answers.{IsRunText, are_objects}
-use Rattle.hp_explain.specs.Explaining.{Explains, FillsExplained, IsExplained}
+use Rattle.hp_explain.specs.Explaining.{Explains, IsExplained}
 use Rattle.hp_explain.specs.declared.explain_fault.ExplainFault.{ExplainFault}
 use Rattle.hp_explain.specs.declared.explain_fault.ExplainFault.TheVariants.{Answers, Lab}
 use Rattle.hp_explain.specs.declared.explaining.Explanation.{Explanation}
 use Rattle.hp_explain.specs.declared.explaining.Explanation.TheVariants as found
 use Rattle.hp_explain.specs.declared.observed.ObservedLine.{ObservedLine}
-use Rattle.hp_explain.specs.Standings.{AreStandings}
-use Rattle.hp_explain.specs.Unexplained.{unexplained_text}
-use Rattle.hp_explain.specs.declared.standing.Standing.{Standing}
 use Rattle.hp_explain.specs.declared.telling.ExplainResult.{ExplainResult}
 use Rattle.hp_explain.specs.declared.telling.ExplainResult.TheVariants.{Explained, Unexplained, Unknown}
 
@@ -33,18 +29,11 @@ unknown_told Words = codes "explained: unknown\n"
 unknown_told Object = codes "{\"found\": null}\n"
 unknown_told Scenario = []
 
--- the text reports the calls of the schedule, and where each processor stands after them
-abbrev pub IsLongestTold : ScheduleForm → (names : List (List ℕ)) → Setting → List (List ObservedLine)
-    → (longest text : List ℕ) → Type 0
-IsLongestTold form names g seen longest text =
-    (news : List Record) × (standings : List Standing) × (plays g longest ≡ Some news)
-    × AreStandings g seen news standings × (text ≡ unexplained_text form names news standings)
-
 -- ---- on a machine
 
 -- the text has the first schedule that explains what was seen, as a search for an end writes the one
--- that it found, and the history has room for its calls; or no schedule explains it, and the text has
--- an explained beginning such that none is longer; or this is not known
+-- that it found, and the history has room for its calls; or no schedule explains it, and there is a
+-- longest explained beginning; or this is not known
 abbrev pub IsExplainedOn : ScheduleForm → (names : List (List ℕ)) → (before : List Line) → Setting
     → List (List ObservedLine) → (text : List ℕ) → ExplainResult → Type 0
 IsExplainedOn form names before g seen text Explained =
@@ -54,21 +43,19 @@ IsExplainedOn form names before g seen text Explained =
 IsExplainedOn form names before g seen text Unexplained =
     (longest : List ℕ) × ((s : List ℕ) → Explains g seen s → ⊥) × IsExplained g seen longest
     × ((s : List ℕ) → IsExplained g seen s → length s ≤ length longest)
-    × IsLongestTold form names g seen longest text
 IsExplainedOn form names before g seen text Unknown = text ≡ unknown_told form
 
 -- the text is that of a schedule that explains what was seen; or it reports that there is none
 abbrev pub IsExplanationTold : ScheduleForm → (names : List (List ℕ)) → (before : List Line) → Setting
-    → List (List ObservedLine) → Explanation → (text : List ℕ) → ExplainResult → Type 0
-IsExplanationTold form names before g seen (found.Explained schedule) text result =
+    → Explanation → (text : List ℕ) → ExplainResult → Type 0
+IsExplanationTold form names before g (found.Explained schedule) text result =
     (text ≡ found_text form names before g schedule.items) × (result ≡ Explained)
-IsExplanationTold form names before g seen (found.Unexplained longest) text result =
-    IsLongestTold form names g seen longest.items text × (result ≡ Unexplained)
+IsExplanationTold form names before g (found.Unexplained longest) text result = result ≡ Unexplained
 
 -- ---- in a scenario
 
--- a processor for each script was seen, with an answer for each line. In words, the text is what
--- `hotplug run` prints of these answers; otherwise its lines are objects that have them
+-- a processor for each script was seen, with an answer for each line; in words, the text is what
+-- `hotplug run` prints of these answers, and else it has an object for each
 abbrev pub AreAnswers : (answers : List ℕ) → List (List Step) → List (List ObservedLine) → Type 0
 AreAnswers answers scripts seen =
     (map length seen ≡ map length scripts) × (are_objects answers ≡ false → IsRunText answers seen)
@@ -84,12 +71,12 @@ IsExplainingOf form input answers text result =
     HoldsIn (λ names before g. OfAnswers answers g
     (λ seen. IsExplainedOn form names before g seen text result)) input 0
 
--- why a call fails in the search
-abbrev pub IsExplainingCause : (answers : List ℕ) → Setting → ExploreFault → Type 0
-IsExplainingCause answers g HistoryFull = OfAnswers answers g (FillsExplained g)
-IsExplainingCause answers g OutOfMemory = Unit {0}
+-- why a call fails in the search: never since the history is full
+abbrev pub IsExplainingCause : Setting → ExploreFault → Type 0
+IsExplainingCause g HistoryFull = ⊥
+IsExplainingCause g OutOfMemory = Unit {0}
 
--- when each fault comes; a full history only from a call that the search makes
+-- when each fault comes
 abbrev pub IsExplainFaultOf : (input answers : List ℕ) → ExplainFault → Type 0
-IsExplainFaultOf input answers (Lab fault) = IsFaultWith (IsExplainingCause answers) input 0 fault
+IsExplainFaultOf input answers (Lab fault) = IsFaultWith IsExplainingCause input 0 fault
 IsExplainFaultOf input answers (Answers fault) = InScenario input (IsStoppedAfter (λ g. Unit {0}) 0)

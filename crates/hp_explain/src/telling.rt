@@ -6,8 +6,7 @@ ghost use Rattle.hp_explore.specs.FindFaults.{find_fault_from};
 ghost use Rattle.hp_search.specs.FoundTexts.{found_text, schedule_text};
 ghost use Rattle.hp_search.specs.Prepared.{before_of, names_of, setting_of};
 ghost use Rattle.hp_explain.specs.Explaining.{IsExplainCause};
-ghost use Rattle.hp_explain.specs.Telling.{IsExplainFaultOf, IsExplainedOn, IsExplainingOf, IsExplanationTold, IsLongestTold, unknown_told};
-ghost use Rattle.hp_explain.specs.Unexplained.{unexplained_text};
+ghost use Rattle.hp_explain.specs.Telling.{IsExplainFaultOf, IsExplainedOn, IsExplainingOf, IsExplanationTold, unknown_told};
 ghost use Rattle.hp_explain.specs.declared.telling.ExplainResult.TheVariants.{Unknown};
 
 use crate::answers::read_answers;
@@ -55,8 +54,8 @@ pub struct ExplainText {
 /// # Errors
 ///
 /// Those of reading the scenario, with the first line that may not be in a script; those of reading
-/// the answers; `HistoryFull` if the history has no room for a call that the search makes;
-/// `OutOfMemory`, which may come in place of any other result.
+/// the answers; `OutOfMemory`, which may come in place of any other result. `HistoryFull` never: an
+/// order with a call for which the history has no room explains nothing.
 pub fn explain_text<W: Watch>(
     alloc: Global,
     scenario: &[u8],
@@ -90,7 +89,7 @@ fn explained<W: Watch>(
         (setting_of prepared.now) seen.now (string_bytes f.text) f.result) }
     ensures unknown { IfOk result (λ f. f.result ≡ Unknown → W.has_ended watch.new) }
     ensures err { IfErr result
-        (λ fault. IsExplainCause (setting_of prepared.now) seen.now (find_fault_from fault)) }
+        (λ fault. IsExplainCause (find_fault_from fault)) }
 {
     let machine = &prepared.start.machine;
     let scripts = prepared.start.scripts.as_slice();
@@ -132,7 +131,7 @@ fn explanation_told(
     form: ScheduleForm,
 ) -> Result<ExplainText, AllocError>
     ensures { IfOk result (λ f. IsExplanationTold form (names_of prepared.now) (before_of prepared.now)
-        (setting_of prepared.now) seen.now explanation.now (string_bytes f.text) f.result) }
+        (setting_of prepared.now) explanation.now (string_bytes f.text) f.result) }
 {
     match explanation {
         Explanation::Explained(schedule) => {
@@ -198,37 +197,20 @@ fn longest_told(
     seen: &Observed,
     longest: &[Cpu],
     form: ScheduleForm,
-) -> Result<String, AllocError>
-    ensures { IfOk result (λ text. IsLongestTold form (names_of prepared.now) (setting_of prepared.now)
-        seen.now longest.now (string_bytes text)) }
-{
+) -> Result<String, AllocError> {
     let machine = &prepared.start.machine;
     let scripts = prepared.start.scripts.as_slice();
     let mut path = path_along(alloc, machine, scripts, longest)?;
     let standings = standings_of(alloc, &mut path, seen)?;
     let mut text = String::new(alloc);
     let names = &prepared.scenario.names;
-    write_longest(&mut text, names, path.records(), &standings, form)?;
-    Ok(text)
-}
-
-/// Writes, in `form`, that no order explains the answers, given the calls of the longest beginning and
-/// where the processors stand after them.
-fn write_longest(
-    out: &mut String,
-    names: &IndexSet<Text>,
-    calls: &[Record],
-    standings: &[Standing],
-    form: ScheduleForm,
-) -> Result<(), AllocError>
-    ensures { OnOk result (string_bytes out.new
-        ≡ string_bytes out.old ++ unexplained_text form names.now.keys calls.now standings.now) }
-{
+    let calls = path.records();
     match form {
-        ScheduleForm::Words => write_unexplained(out, names, calls, standings),
-        ScheduleForm::Object => write_unexplained_object(out, names, calls, standings),
-        ScheduleForm::Scenario => Ok(()),
+        ScheduleForm::Words => write_unexplained(&mut text, names, calls, &standings)?,
+        ScheduleForm::Object => write_unexplained_object(&mut text, names, calls, &standings)?,
+        ScheduleForm::Scenario => {}
     }
+    Ok(text)
 }
 
 /// Returns, as text in `form`, that it is not known whether an order explains the answers. As a
