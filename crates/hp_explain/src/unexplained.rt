@@ -60,7 +60,8 @@ fn write_standing(out: &mut String, standing: Standing) -> Result<(), AllocError
 
 /// Writes what comes next for a processor.
 fn write_next(out: &mut String, standing: Standing) -> Result<(), AllocError> {
-    match standing.next {
+    let next = standing.next;
+    match next {
         Next::Finished => out.push_str("finished"),
         Next::Waits(unfinished) => {
             write_line_number(out, standing)?;
@@ -184,8 +185,7 @@ fn write_answer_key(
 // ---- both
 
 /// Returns the number of a line, counted from 1, given its number counted from 0.
-fn number_of(line: usize) -> u128
-{
+fn number_of(line: usize) -> u128 {
     line as u128 + 1
 }
 
