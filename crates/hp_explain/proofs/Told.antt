@@ -1,21 +1,22 @@
 -- What is told of answers: the order that explains them, or why there is none.
-use Rattle.std.proofs.Common.{◌≡◌, ℕ, ◌^◌, ◌<◌, List, sym, subst}
+use Rattle.std.proofs.Common.{◌≡◌, ℕ, false, true, List, length, map, ap, sym, subst, ◌∙◌}
 use Rattle.hp_explore.specs.FindFaults.{find_fault_from}
 use Rattle.hp_explore.specs.declared.exploring.ExploreFault.{ExploreFault}
 use Rattle.hp_explore.specs.declared.exploring.ExploreFault.TheVariants.{HistoryFull, OutOfMemory}
 use Rattle.hp_scenario.specs.declared.lines.Line.{Line}
 use Rattle.hp_schedules.specs.Schedules.{Setting}
-use Rattle.hp_search.proofs.Known.{stopped_in, unprepared_known, untold, untold_in}
+use Rattle.hp_schedules.specs.declared.scripts.Step.{Step}
+use Rattle.hp_search.proofs.Known.{untold, untold_in}
 use Rattle.hp_search.specs.Faults.{IsToldAs}
-use Rattle.hp_search.specs.Prepared.{IsPrepared, IsUnprepared, setting_of}
+use Rattle.hp_search.specs.Prepared.{IsPrepared, setting_of}
 use Rattle.hp_search.specs.declared.forms.ScheduleForm.{ScheduleForm}
 use Rattle.hp_search.specs.declared.lab_fault.LabFault.{LabFault}
 use Rattle.hp_search.specs.declared.prepared.Prepared.{Prepared}
+use Rattle.hp_explain.specs.AnswerObjects.{AreObjectsOf}
+use Rattle.hp_explain.specs.Answers.{IsRunText, are_objects}
 use Rattle.hp_explain.specs.Explaining.{IsExplainCause, IsExplanation}
-use Rattle.hp_explain.specs.Telling.{IsExplainFaultOf, IsExplainedOn, IsExplainingCause, IsExplanationTold}
-use Rattle.hp_explain.specs.declared.answers_fault.AnswersFault.{AnswersFault}
-use Rattle.hp_explain.specs.declared.explain_fault.ExplainFault.{ExplainFault}
-use Rattle.hp_explain.specs.declared.explain_fault.ExplainFault.TheVariants.{Answers, Lab}
+use Rattle.hp_explain.specs.Telling.{AreAnswers, IsExplainFaultOf, IsExplainedOn, IsExplainingCause, IsExplanationTold}
+use Rattle.hp_explain.specs.declared.explain_fault.ExplainFault.TheVariants.{Lab}
 use Rattle.hp_explain.specs.declared.explaining.Explanation.{Explanation}
 use Rattle.hp_explain.specs.declared.explaining.Explanation.TheVariants as found
 use Rattle.hp_explain.specs.declared.observed.ObservedLine.{ObservedLine}
@@ -31,18 +32,13 @@ explained_on form names before g seen (found.Explained s) text result is told =
 explained_on form names before g seen (found.Unexplained s) text result is told =
     subst (IsExplainedOn form names before g seen text) (sym told) (s.items, is.0, is.1, is.2)
 
--- the scenario cannot be searched
-pub not_prepared : (input answers : List ℕ) (why : LabFault) (fault : ExplainFault)
-    → IsUnprepared input 0 why → fault ≡ Lab why → IsExplainFaultOf input answers fault
-not_prepared input answers why fault unready is =
-    subst (IsExplainFaultOf input answers) (sym is)
-    (unprepared_known IsExplainingCause input 0 why unready)
-
--- the answers cannot be read
-pub not_read : (input answers : List ℕ) (p : Prepared) (why : AnswersFault) (fault : ExplainFault)
-    → IsPrepared input 0 p → fault ≡ Answers why → IsExplainFaultOf input answers fault
-not_read input answers p why fault ready is =
-    subst (IsExplainFaultOf input answers) (sym is) (stopped_in (λ g. Unit {0}) input 0 p ready tt)
+-- the answers that were read are those of the scripts
+pub answers_are : (answers : List ℕ) (given scripts : List (List Step)) (seen : List (List ObservedLine))
+    → given ≡ scripts → map length seen ≡ map length given
+    → (are_objects answers ≡ false → IsRunText answers seen)
+    → (are_objects answers ≡ true → AreObjectsOf answers seen) → AreAnswers answers scripts seen
+answers_are answers given scripts seen is sizes words objects =
+    (sizes ∙ ap (λ (ss : List (List Step)). map length ss) is, words, objects)
 
 -- a call fails in the search
 pub not_searched : (input answers : List ℕ) (p : Prepared) (fault : ExploreFault) (told : LabFault)

@@ -31,9 +31,7 @@ pub(crate) fn say_no_line(rt: &HostRuntime, text: &str) -> Result<(), AllocError
 
 /// Prints on standard error that no scenario is written, although one was asked for.
 pub(crate) fn say_no_scenario(rt: &HostRuntime) {
-    let _ = eprintln!(rt;
-        "hotplug_lab: no such interleaving was found, so no scenario is written"
-    );
+    let _ = eprintln!(rt; "hotplug_lab: no such interleaving was found, so no scenario is written");
 }
 
 /// Returns the name of a file, or `None` for standard input, which `-` names.

@@ -6,13 +6,12 @@ use crate::files::bytes_of;
 use crate::judging::serve_judge;
 use crate::laboratory::{Laboratory, Served};
 use crate::live::serve_live;
-use crate::messages::{
-    file_name, say_fault, say_no_line, say_no_scenario, say_unbegun, say_words,
-};
+use crate::messages::{file_name, say_fault, say_no_line, say_no_scenario, say_unbegun, say_words};
 use crate::output::Output;
 use crate::progress::{Progress, Watching, shown_on};
 use crate::words::{
-    ONE_FOUND, Request, Word, is_past_the_found, lacks_scenario, part_from, request_from, texts_from,
+    ONE_FOUND, Request, Word, is_past_the_found, lacks_scenario, part_from, request_from,
+    texts_from,
 };
 use clap::ArgMatches;
 use clap::error::ErrorKind;
