@@ -1,17 +1,14 @@
 -- Where processors stand: a call and its way back, and what it gave its line.
-use Rattle.std.proofs.Common.{◌≡◌, ℕ, ◌+◌, List, [], ◌∷◌, ◌++◌, Bool, true, length, take, Option, Some, None, slice_get, refl, ap, sym, subst, ◌∙◌, arith, inl, inr}
+use Rattle.std.proofs.Common.{◌≡◌, ℕ, ◌+◌, List, [], ◌∷◌, ◌++◌, true, length, take, Option, Some, None, slice_get, ap, sym, subst, ◌∙◌, arith, inl, inr}
 use Rattle.std.specs.Prelude.{◌⊎◌}
-use Rattle.std.proofs.lemmas.List.{append-nil, length_push, map-append, same_from_push}
+use Rattle.std.proofs.lemmas.List.{length_push, map-append, same_from_push}
 use Rattle.hp_laws.proofs.Lists.{get_push_cases}
 use Rattle.hp_laws.proofs.Replays.{take_one}
 use Rattle.hp_units.specs.declared.replies.Record.{Record}
 use Rattle.hp_explore.proofs.Paths.{path_of}
 use Rattle.hp_explore.specs.Paths.{IsBack, IsForth, PathValue}
 use Rattle.hp_schedules.proofs.Plays.{caller}
-use Rattle.hp_schedules.specs.LineAnswers.{IsAnswered, answers_at}
 use Rattle.hp_schedules.specs.Schedules.{Setting, record_of_call, schedule_of}
-use Rattle.hp_schedules.specs.declared.line_answers.FinishedLine.{FinishedLine}
-use Rattle.hp_schedules.specs.declared.line_answers.LineAnswer.{LineAnswer}
 use Rattle.hp_explain.specs.Explaining.{MayRun}
 use Rattle.hp_explain.specs.Standings.{AreStandingsBelow, IsLatestAnswer, IsNext, IsNextAnswer, IsStanding}
 use Rattle.hp_explain.specs.declared.observed.ObservedLine.{ObservedLine}
