@@ -53,42 +53,32 @@ fn write_standings(out: &mut String, standings: &[Standing]) -> Result<(), Alloc
 /// Writes where a processor stands, as a line.
 fn write_standing(out: &mut String, standing: Standing) -> Result<(), AllocError> {
     let cpu = standing.cpu;
-    write!(out, "cpu {cpu}: ")?;
-    write_next(out, standing)?;
+    let lines = standing.lines;
+    if standing.finished == lines {
+        return writeln!(out, "cpu {cpu}: finished");
+    }
+    let number = number_of(standing.finished);
+    write!(out, "cpu {cpu}: line {number} of {lines} ")?;
+    write_next(out, standing.next, standing.seen)?;
     out.push('\n')
 }
 
-/// Writes what comes next for a processor.
-fn write_next(out: &mut String, standing: Standing) -> Result<(), AllocError> {
-    let next = standing.next;
+/// Writes what comes next for a processor, given the answer that was seen of its next line.
+fn write_next(
+    out: &mut String,
+    next: Next,
+    seen: Option<LineAnswer>,
+) -> Result<(), AllocError> {
     match next {
-        Next::Finished => out.push_str("finished"),
-        Next::Waits(unfinished) => {
-            write_line_number(out, standing)?;
-            write_waiting(out, unfinished)
-        }
+        Next::Finished => out.push_str("has no call"),
+        Next::Waits(unfinished) => write_waiting(out, unfinished),
         Next::Answered(answer) => {
-            write_line_number(out, standing)?;
             write_quoted(out, "would be answered ", Some(answer))?;
-            write_quoted(out, ", not ", standing.seen)
+            write_quoted(out, ", not ", seen)
         }
-        Next::GoesOn => {
-            write_line_number(out, standing)?;
-            out.push_str("would go on")?;
-            write_quoted(out, ", not be answered ", standing.seen)
-        }
-        Next::HistoryFull => {
-            write_line_number(out, standing)?;
-            out.push_str("has no room in the history")
-        }
+        Next::GoesOn => write_quoted(out, "would go on, not be answered ", seen),
+        Next::HistoryFull => out.push_str("has no room in the history"),
     }
-}
-
-/// Writes the number of a processor's next line, and how many lines it has.
-fn write_line_number(out: &mut String, standing: Standing) -> Result<(), AllocError> {
-    let number = number_of(standing.finished);
-    let lines = standing.lines;
-    write!(out, "line {number} of {lines} ")
 }
 
 /// Writes that a line began after this one was answered.
