@@ -103,7 +103,11 @@ fn explained<W: Watch>(
 }
 
 /// Returns the text of a search that was ended, or the fault of one that failed.
-fn unknown_or(alloc: Global, form: ScheduleForm, fault: FindFault) -> Result<ExplainText, ExploreFault>
+fn unknown_or(
+    alloc: Global,
+    form: ScheduleForm,
+    fault: FindFault,
+) -> Result<ExplainText, ExploreFault>
     ensures ok { IfOk result (λ f.
         (fault ≡ Stopped) × (f.result ≡ Unknown) × (string_bytes f.text ≡ unknown_told form)) }
     ensures err { IfErr result (λ e. (find_fault_from e ≡ fault) ⊎ (e ≡ OutOfMemory)) }

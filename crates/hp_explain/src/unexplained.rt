@@ -64,11 +64,7 @@ fn write_standing(out: &mut String, standing: Standing) -> Result<(), AllocError
 }
 
 /// Writes what comes next for a processor, given the answer that was seen of its next line.
-fn write_next(
-    out: &mut String,
-    next: Next,
-    seen: Option<LineAnswer>,
-) -> Result<(), AllocError> {
+fn write_next(out: &mut String, next: Next, seen: Option<LineAnswer>) -> Result<(), AllocError> {
     match next {
         Next::Finished => out.push_str("has no call"),
         Next::Waits(unfinished) => write_waiting(out, unfinished),
