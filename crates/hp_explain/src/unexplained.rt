@@ -45,53 +45,40 @@ fn write_played(
 /// Writes where each processor stands, one per line.
 fn write_standings(out: &mut String, standings: &[Standing]) -> Result<(), AllocError> {
     for standing in standings {
-        write_standing(out, standing)?;
+        write_standing(out, *standing)?;
     }
     Ok(())
 }
 
 /// Writes where a processor stands, as a line.
-fn write_standing(out: &mut String, standing: &Standing) -> Result<(), AllocError> {
+fn write_standing(out: &mut String, standing: Standing) -> Result<(), AllocError> {
     let cpu = standing.cpu;
-    write!(out, "cpu {cpu}: ")?;
-    write_next(out, standing)?;
+    let lines = standing.lines;
+    if standing.finished == lines {
+        return writeln!(out, "cpu {cpu}: finished");
+    }
+    let number = number_of(standing.finished);
+    write!(out, "cpu {cpu}: line {number} of {lines} ")?;
+    write_next(out, standing.next, standing.seen)?;
     out.push('\n')
 }
 
-/// Writes what comes next for a processor.
-fn write_next(out: &mut String, standing: &Standing) -> Result<(), AllocError> {
-    match &standing.next {
-        Next::Finished => out.push_str("finished"),
-        Next::Waits(unfinished) => {
-            write_line_number(out, standing)?;
-            write_waiting(out, unfinished)
-        }
+/// Writes what comes next for a processor, given the answer that was seen of its next line.
+fn write_next(out: &mut String, next: Next, seen: Option<LineAnswer>) -> Result<(), AllocError> {
+    match next {
+        Next::Finished => out.push_str("has no call"),
+        Next::Waits(unfinished) => write_waiting(out, unfinished),
         Next::Answered(answer) => {
-            write_line_number(out, standing)?;
-            write_quoted(out, "would be answered ", Some(*answer))?;
-            write_quoted(out, ", not ", standing.seen)
+            write_quoted(out, "would be answered ", Some(answer))?;
+            write_quoted(out, ", not ", seen)
         }
-        Next::GoesOn => {
-            write_line_number(out, standing)?;
-            out.push_str("would go on")?;
-            write_quoted(out, ", not be answered ", standing.seen)
-        }
-        Next::HistoryFull => {
-            write_line_number(out, standing)?;
-            out.push_str("has no room in the history")
-        }
+        Next::GoesOn => write_quoted(out, "would go on, not be answered ", seen),
+        Next::HistoryFull => out.push_str("has no room in the history"),
     }
 }
 
-/// Writes the number of a processor's next line, and how many lines it has.
-fn write_line_number(out: &mut String, standing: &Standing) -> Result<(), AllocError> {
-    let number = number_of(standing.finished);
-    let lines = standing.lines;
-    write!(out, "line {number} of {lines} ")
-}
-
 /// Writes that a line began after this one was answered.
-fn write_waiting(out: &mut String, unfinished: &Unfinished) -> Result<(), AllocError> {
+fn write_waiting(out: &mut String, unfinished: Unfinished) -> Result<(), AllocError> {
     let number = number_of(unfinished.line);
     let cpu = unfinished.cpu;
     write!(out, "began after line {number} of cpu {cpu} was answered")
@@ -134,31 +121,31 @@ fn write_standing_objects(out: &mut String, standings: &[Standing]) -> Result<()
     let mut is_first = true;
     for standing in standings {
         write_mark(out, BETWEEN, is_first)?;
-        write_standing_object(out, standing)?;
+        write_standing_object(out, *standing)?;
         is_first = false;
     }
     Ok(())
 }
 
 /// Writes where a processor stands, as an object.
-fn write_standing_object(out: &mut String, standing: &Standing) -> Result<(), AllocError> {
+fn write_standing_object(out: &mut String, standing: Standing) -> Result<(), AllocError> {
     let finished = standing.finished;
     let lines = standing.lines;
     write!(out, "{{\"finished\": {finished}, \"lines\": {lines}")?;
-    write_next_keys(out, &standing.next)?;
+    write_next_keys(out, standing.next)?;
     write_answer_key(out, "answer", standing.seen)?;
     out.push('}')
 }
 
 /// Writes what comes next for a processor, as keys of its object.
-fn write_next_keys(out: &mut String, next: &Next) -> Result<(), AllocError> {
+fn write_next_keys(out: &mut String, next: Next) -> Result<(), AllocError> {
     match next {
         Next::Waits(unfinished) => {
             let number = number_of(unfinished.line);
             let cpu = unfinished.cpu;
             write!(out, ", \"after\": {{\"cpu\": {cpu}, \"line\": {number}}}")
         }
-        Next::Answered(answer) => write_answer_key(out, "next", Some(*answer)),
+        Next::Answered(answer) => write_answer_key(out, "next", Some(answer)),
         Next::Finished => Ok(()),
         Next::GoesOn => Ok(()),
         Next::HistoryFull => Ok(()),
