@@ -1,5 +1,5 @@
 -- Answers that are read line by line.
-use Rattle.std.proofs.Common.{◌≡◌, ℕ, zero, suc, ◌+◌, ◌-◌, ◌<◌, ◌≤◌, List, [], ◌∷◌, ◌++◌, Bor, length, get_or, map, take, drop, refl, ap, sym, subst, ◌∙◌, arith, append_assoc, length-append, add-zero, zero-add, length-drop}
+use Rattle.std.proofs.Common.{◌≡◌, ℕ, suc, ◌+◌, ◌-◌, ◌<◌, ◌≤◌, List, [], ◌∷◌, ◌++◌, Bor, length, get_or, map, take, drop, ap, sym, ◌∙◌, arith, append_assoc, length-append, add-zero, zero-add, length-drop}
 use Rattle.std.proofs.lemmas.List.{append-nil, drop-drop, drop-map, length-map, length-take-le, map-append, map_more, take-map}
 use Rattle.hp_explain.specs.Answers.{AreAllUntimed, AreUntimed, IsPushed, IsScriptAt, answer_text, run_lines, script_lines, seen_lines, untimed, without_times}
 use Rattle.hp_explain.specs.declared.observed.ObservedLine.{ObservedLine}

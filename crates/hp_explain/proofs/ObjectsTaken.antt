@@ -1,5 +1,5 @@
 -- Answers that are taken from one object after another.
-use Rattle.std.proofs.Common.{◌≡◌, ◌⊎◌, ℕ, zero, suc, ◌+◌, ◌<◌, ◌≤◌, ◌==◌, Bool, true, false, cond, not, List, [], ◌∷◌, ◌++◌, Bor, Option, Some, None, Result, Ok, Err, IfOk, filter, length, get_or, drop, map, take, slice_get, slice_set, add-zero, refl, ap, sym, subst, ◌∙◌, arith, inl, inr}
+use Rattle.std.proofs.Common.{◌≡◌, ◌⊎◌, ℕ, zero, suc, ◌+◌, ◌<◌, ◌≤◌, ◌==◌, Bool, true, false, cond, not, List, [], ◌∷◌, ◌++◌, Bor, Some, Result, Ok, Err, IfOk, filter, length, get_or, drop, map, take, slice_get, slice_set, add-zero, refl, ap, sym, subst, ◌∙◌, arith, inl, inr}
 use Rattle.std.proofs.lemmas.Bool.{eq-eqb, ne_eqb}
 use Rattle.std.proofs.lemmas.List.{append-nil, drop-drop, drop-set-lt, get_or-drop, length-map, length-set, map-append, map_more, take_all}
 use Rattle.std.proofs.lemmas.List.Elements.{filter-append}

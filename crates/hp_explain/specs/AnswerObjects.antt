@@ -1,5 +1,5 @@
 -- The answers of processors as JSON, one object per line.
-use Rattle.std.specs.Prelude.{◌≡◌, ◌⊎◌, ℕ, ◌<◌, ◌==◌, Bool, not, List, [], ◌∷◌, ◌++◌, codes, filter, length, map, min, replicate, Option, Some, None, option_and_then, slice_get, slice_set}
+use Rattle.std.specs.Prelude.{◌≡◌, ◌⊎◌, ℕ, ◌<◌, ◌==◌, not, List, [], ◌∷◌, ◌++◌, codes, filter, length, map, min, replicate, Option, Some, None, option_and_then, slice_get, slice_set}
 use Rattle.std.specs.Fmt.{decimal}
 use Rattle.std.specs.Str.Lines.{lines}
 use Rattle.json.specs.Find.{as_number, as_str, get}
