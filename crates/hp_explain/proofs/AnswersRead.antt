@@ -68,7 +68,8 @@ run_more cpu [] one =
     append-nil (script_lines cpu one) ∙ ap (λ n. script_lines n one) (sym (add-zero cpu))
 run_more cpu (s ∷ seen) one =
     ap (λ z. script_lines cpu s ++ z) (run_more (suc cpu) seen one)
-    ∙ (sym (append_assoc (script_lines cpu s) (run_lines (suc cpu) seen) (script_lines (suc cpu + length seen) one))
+    ∙ (sym
+    (append_assoc (script_lines cpu s) (run_lines (suc cpu) seen) (script_lines (suc cpu + length seen) one))
     ∙ ap (λ n. (script_lines cpu s ++ run_lines (suc cpu) seen) ++ script_lines n one) after)
   where
     after : suc cpu + length seen ≡ cpu + suc (length seen)
@@ -102,7 +103,8 @@ script_more {A} texts scripts cpu place count old new one script within this siz
         ∙ (length-map (take cpu scripts) (λ (z : List A). length z)
         ∙ length-take-le cpu scripts so_far.below))
 
-    sizes : map (λ (z : List ObservedLine). length z) new ≡ map (λ (z : List A). length z) (take (cpu + 1) scripts)
+    sizes : map (λ (z : List ObservedLine). length z) new
+        ≡ map (λ (z : List A). length z) (take (cpu + 1) scripts)
     sizes =
         ap (λ (z : List (List ObservedLine)). map (λ (y : List ObservedLine). length y) z) same
         ∙ (map-append (λ (z : List ObservedLine). length z) old (one ∷ [])
@@ -130,7 +132,8 @@ script_more {A} texts scripts cpu place count old new one script within this siz
     later : drop (count + 1) rest ≡ map (λ (x : Bor (List ℕ)). x.now) (drop (place + (count + 1)) texts)
     later =
         drop-map (λ (x : Bor (List ℕ)). x.now) (count + 1) (drop place texts)
-        ∙ ap (λ (z : List (Bor (List ℕ))). map (λ (x : Bor (List ℕ)). x.now) z) (drop-drop (count + 1) place texts)
+        ∙ ap (λ (z : List (Bor (List ℕ))). map (λ (x : Bor (List ℕ)). x.now) z)
+        (drop-drop (count + 1) place texts)
 
     front : run_lines 0 new ≡ run_lines 0 old ++ script_lines cpu one
     front =

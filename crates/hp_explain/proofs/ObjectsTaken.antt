@@ -30,7 +30,8 @@ objects_more (t ∷ texts) [] text o all here = absurd all
 objects_more (t ∷ texts) (x ∷ objects) text o all here = (all.0, objects_more texts objects text o all.1 here)
 
 of_cpu : (cpu : ℕ) (objects : List SeenObject) (o : SeenObject) (is : Bool) → (o.cpu == cpu) ≡ is
-    → told_of cpu (objects ++ o ∷ []) ≡ told_of cpu objects ++ map (λ (x : SeenObject). x.line) (cond is (o ∷ []) [])
+    → told_of cpu (objects ++ o ∷ [])
+    ≡ told_of cpu objects ++ map (λ (x : SeenObject). x.line) (cond is (o ∷ []) [])
 of_cpu cpu objects o is test =
     ap (map (λ (x : SeenObject). x.line))
     (filter-append (λ (x : SeenObject). x.cpu == cpu) objects (o ∷ [])
@@ -58,7 +59,8 @@ told_by_more objects o old new told taken = (
 )
   where
     own : (cpu : ℕ) (one : List ObservedLine)
-        → ((cpu ≡ o.cpu) × (taken.0 ++ o.line ∷ [] ≡ one)) ⊎ ((cpu ≡ o.cpu → ⊥) × (slice_get old cpu ≡ Some one))
+        → ((cpu ≡ o.cpu) × (taken.0 ++ o.line ∷ [] ≡ one))
+        ⊎ ((cpu ≡ o.cpu → ⊥) × (slice_get old cpu ≡ Some one))
         → one ≡ told_of cpu (objects ++ o ∷ [])
     own cpu one (inl p) =
         let before : taken.0 ≡ told_of cpu objects
@@ -94,13 +96,15 @@ full_by texts text empty test =
     ∙ ap (λ (b : Bool). full_lines texts ++ cond (not b) (text ∷ []) []) test
 
 -- what the lines keep
-pub record AreTakenUpTo (rest : List (Bor (List ℕ))) (i count : ℕ) (seen : List (List ObservedLine)) : Type 0 where
+pub record AreTakenUpTo (rest : List (Bor (List ℕ))) (i count : ℕ) (seen : List (List ObservedLine))
+    : Type 0 where
   pub objects : List SeenObject
   pub lines : AreObjects (full_lines (take i (map (λ x. x.now) rest))) objects
   pub size : length seen ≡ count
   pub told : AreToldBy objects seen
 
-pub taken_empty : (rest : List (Bor (List ℕ))) (i count : ℕ) (d : Bor (List ℕ)) (seen : List (List ObservedLine))
+pub taken_empty : (rest : List (Bor (List ℕ))) (i count : ℕ) (d : Bor (List ℕ))
+    (seen : List (List ObservedLine))
     → i < length rest → (length (get_or rest i d).now == 0) ≡ true → AreTakenUpTo rest i count seen
     → AreTakenUpTo rest (i + 1) count seen
 taken_empty rest i count d seen within empty so_far = record {
@@ -108,21 +112,25 @@ taken_empty rest i count d seen within empty so_far = record {
   lines =
       subst (λ (z : List (List ℕ)). AreObjects z so_far.objects)
       (sym (ap full_lines (take_text rest i d within)
-      ∙ (full_by (take i (map (λ (x : Bor (List ℕ)). x.now) rest)) (get_or rest i d).now true (sym (empty_told (get_or rest i d).now) ∙ empty)
+      ∙ (full_by (take i (map (λ (x : Bor (List ℕ)). x.now) rest)) (get_or rest i d).now true
+      (sym (empty_told (get_or rest i d).now) ∙ empty)
       ∙ append-nil (full_lines (take i (map (λ (x : Bor (List ℕ)). x.now) rest)))))) so_far.lines;
   size = so_far.size;
   told = so_far.told;
 }
 
-pub taken_more : (rest : List (Bor (List ℕ))) (i count : ℕ) (d : Bor (List ℕ)) (old new : List (List ObservedLine))
-    → i < length rest → (length (get_or rest i d).now == 0) ≡ false → IsLineTaken (get_or rest i d).now old new
+pub taken_more : (rest : List (Bor (List ℕ))) (i count : ℕ) (d : Bor (List ℕ))
+    (old new : List (List ObservedLine))
+    → i < length rest → (length (get_or rest i d).now == 0) ≡ false
+    → IsLineTaken (get_or rest i d).now old new
     → AreTakenUpTo rest i count old → AreTakenUpTo rest (i + 1) count new
 taken_more rest i count d old new within full taken so_far = record {
   objects = so_far.objects ++ taken.0 ∷ [];
   lines =
       subst (λ (z : List (List ℕ)). AreObjects z (so_far.objects ++ taken.0 ∷ []))
       (sym (ap full_lines (take_text rest i d within)
-      ∙ full_by (take i (map (λ (x : Bor (List ℕ)). x.now) rest)) (get_or rest i d).now false (sym (empty_told (get_or rest i d).now) ∙ full)))
+      ∙ full_by (take i (map (λ (x : Bor (List ℕ)). x.now) rest)) (get_or rest i d).now false
+      (sym (empty_told (get_or rest i d).now) ∙ full)))
       (objects_more (full_lines (take i (map (λ (x : Bor (List ℕ)). x.now) rest))) so_far.objects
       (get_or rest i d).now taken.0 so_far.lines taken.1);
   size =
@@ -174,12 +182,13 @@ filled_more {A} scripts old cpu seen observed new d one after script same within
         ∙ (get_or-drop cpu old 0 d ∙ ap (λ (n : ℕ). get_or old n d) (add-zero cpu))))
 
 -- all lines are taken
-pub taken_all : {A E : Type 0} (items : A → List (List ObservedLine)) (rest : List (Bor (List ℕ))) (i count : ℕ)
-    (seen : List (List ObservedLine)) (r : Result A E) → length rest ≤ i → AreTakenUpTo rest i count seen
+pub taken_all : {A E : Type 0} (items : A → List (List ObservedLine)) (rest : List (Bor (List ℕ)))
+    (i count : ℕ) (seen : List (List ObservedLine)) (r : Result A E) → length rest ≤ i → AreTakenUpTo rest i count seen
     → IfOk r (λ observed. items observed ≡ map filled seen)
     → IfOk r (λ observed. AreSeen (map (λ x. x.now) rest) (items observed))
 taken_all items rest i count seen (Err e) all so_far made = tt
-taken_all items rest i count seen (Ok observed) all so_far made = (so_far.objects, seen, lines, so_far.told, made)
+taken_all items rest i count seen (Ok observed) all so_far made =
+    (so_far.objects, seen, lines, so_far.told, made)
   where
     whole : take i (map (λ (x : Bor (List ℕ)). x.now) rest) ≡ map (λ (x : Bor (List ℕ)). x.now) rest
     whole =

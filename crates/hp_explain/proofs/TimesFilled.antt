@@ -60,9 +60,10 @@ fill_none old = record {
 abbrev pub lowered : ObservedLine → (later : ℕ) → ObservedLine
 lowered one later = record one { to = min one.to later }
 
-pub fill_more : (old lines : List ObservedLine) (passed later m : ℕ) (d : ObservedLine) → m + 1 + passed ≡ length old
-    → IsFilledFrom old lines passed later
-    → IsFilledFrom old (set lines m (lowered (get_or lines m d) later)) (passed + 1) (lowered (get_or lines m d) later).to
+pub fill_more : (old lines : List ObservedLine) (passed later m : ℕ) (d : ObservedLine)
+    → m + 1 + passed ≡ length old → IsFilledFrom old lines passed later
+    → IsFilledFrom old (set lines m (lowered (get_or lines m d) later)) (passed + 1)
+    (lowered (get_or lines m d) later).to
 fill_more old lines passed later m d sum so_far = record {
   start = m;
   place = omega (arith, sum);
@@ -123,7 +124,8 @@ pub fill_step : (old lines : List ObservedLine) (passed later m to : ℕ) (d : O
     → m + 1 + passed ≡ length old → to ≡ min (get_or lines m d).to later → IsFilledFrom old lines passed later
     → IsFilledFrom old (set lines m (with_to (get_or lines m d) to)) (passed + 1) to
 fill_step old lines passed later m to d sum least so_far =
-    subst (λ (z : ℕ). IsFilledFrom old (set lines m (with_to (get_or lines m d) z)) (passed + 1) z) (sym least)
+    subst (λ (z : ℕ). IsFilledFrom old (set lines m (with_to (get_or lines m d) z)) (passed + 1) z)
+    (sym least)
     (fill_more old lines passed later m d sum so_far)
 
 pub fill_all : (old lines : List ObservedLine) (passed later : ℕ) → length old ≤ passed
