@@ -1,7 +1,7 @@
 //! The text for answers that no order explains: the longest beginning of one, and where each processor
 //! stands after it.
 
-use crate::standing::{Next, Standing, Unfinished};
+use crate::standing::{Next, Standing};
 use hp_schedules::LineAnswer;
 use hp_text::{write_calls, write_mark, write_plan_end, write_reply_words};
 use hp_units::{Record, Text};
@@ -67,7 +67,11 @@ fn write_standing(out: &mut String, standing: Standing) -> Result<(), AllocError
 fn write_next(out: &mut String, next: Next, seen: Option<LineAnswer>) -> Result<(), AllocError> {
     match next {
         Next::Finished => out.push_str("has no call"),
-        Next::Waits(unfinished) => write_waiting(out, unfinished),
+        Next::Waits(unfinished) => {
+            let number = number_of(unfinished.line);
+            let cpu = unfinished.cpu;
+            write!(out, "began after line {number} of cpu {cpu} was answered")
+        }
         Next::Answered(answer) => {
             write_quoted(out, "would be answered ", Some(answer))?;
             write_quoted(out, ", not ", seen)
@@ -75,13 +79,6 @@ fn write_next(out: &mut String, next: Next, seen: Option<LineAnswer>) -> Result<
         Next::GoesOn => write_quoted(out, "would go on, not be answered ", seen),
         Next::HistoryFull => out.push_str("has no room in the history"),
     }
-}
-
-/// Writes that a line began after this one was answered.
-fn write_waiting(out: &mut String, unfinished: Unfinished) -> Result<(), AllocError> {
-    let number = number_of(unfinished.line);
-    let cpu = unfinished.cpu;
-    write!(out, "began after line {number} of cpu {cpu} was answered")
 }
 
 /// Writes an answer in quotes, with words before it; nothing if there is none.
