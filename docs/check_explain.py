@@ -209,8 +209,8 @@ def check_seen(checks, programs, draw, scenario, orders, seen, answers):
     checks.holds(where, told[:2] == (status, text), f"says {told}, not {(status, text)}")
     checks.holds(where, told[2] == warnings_of(scenario), f"warns {told[2]!r}")
     ended, line, _ = programs.explain(scenario, answers, "--json")
-    is_so = line.count("\n") == 1 and (ended, json.loads(line)) == (status, value)
-    checks.holds(f"--json {where}", is_so, f"says {ended}, {line!r}, not {value}")
+    checks.holds(f"--json {where}", (ended, line) == (status, json.dumps(value) + "\n"),
+                 f"says {ended}, {line!r}, not {value}")
     check_replay(checks, programs, where, scenario, answers, order, seen)
     if not draw.randrange(8):
         check_budgets(checks, programs, draw, where, scenario, answers, (status, text))

@@ -153,12 +153,13 @@ def check_spoiled(checks, programs):
 
 def check_scenarios(checks, programs):
     """A scenario that cannot be searched has the fault that `explore` names."""
+    no_script = "line 1 not for a script: "
     long = [f"{cpu} drain 0" for cpu in (0, 1) for _ in range(3)]
     done = "cpu 0\ndone\ndone\ndone\ncpu 1\ndone\ndone\ndone\n"
     for scenario, answers, said in (
-            (scenario_of("0 seal"), "cpu 0\nsealed 0\ncpu 1\n", "line 1 not for a script: seal makes no call"),
+            (scenario_of("0 seal"), "cpu 0\nsealed 0\ncpu 1\n", no_script + "seal makes no call"),
             (scenario_of("0 drain 0", "1 cat probe"), "", "line 2 not for a script: cat makes no call"),
-            (scenario_of("2 drain 0"), PLAIN, "line 1 not for a script: its processor is not in the layout"),
+            (scenario_of("2 drain 0"), PLAIN, no_script + "its processor is not in the layout"),
             (scenario_of("0 drain"), PLAIN, "line 1 not understood"),
             (scenario_of("0 drain 0", cpus=0), PLAIN, "layout fault BadCpus"),
             (scenario_of(*long, history=5), done, "no room in the history for all calls of an interleaving")):
