@@ -52,9 +52,10 @@ class Program:
     def __init__(self, path):
         self.path = path
 
-    def call(self, *words, scenario=None):
-        """The exit status, standard output and standard error, for a scenario or an empty input."""
-        text = b"" if scenario is None else json.dumps(scenario).encode()
+    def call(self, *words, scenario=None, text=b""):
+        """The exit status, standard output and standard error, for a scenario or a text."""
+        if scenario is not None:
+            text = json.dumps(scenario).encode()
         ran = subprocess.run([self.path, *words], input=text, capture_output=True, timeout=SECONDS)
         return ran.returncode, ran.stdout.decode(), ran.stderr.decode()
 
@@ -303,6 +304,116 @@ def check_parts(checks, lab, scripts):
                     (status, out, error))
 
 
+def answers_of(lab, scenario):
+    """What the first interleaving answers, as `hotplug run` writes it."""
+    end = json.loads(lab.call("explore", "--json", "--limit", "1", scenario=scenario)[1].splitlines()[0])
+    lines = [line for cpu, replies in enumerate(end["answers"]) for line in (f"cpu {cpu}", *replies)]
+    return "\n".join([*lines, f"{len(scenario['calls'])} records", ""])
+
+
+def answers_file(lab):
+    """A file with these answers for all calls."""
+    file = tempfile.NamedTemporaryFile("w")
+    file.write(answers_of(lab, scenario_of(CALLS)))
+    file.flush()
+    return file
+
+
+def check_explain(checks, lab):
+    """Both files are named, one of them as standard input; the budgets, the forms and the statuses
+    are those of a search."""
+    scripts = scenario_of(CALLS[:6])
+    right = answers_of(lab, scripts)
+    wrong = right.replace("done", "refused NoFrame", 1)
+    with tempfile.TemporaryDirectory() as folder:
+        scenario, found, none = (str(Path(folder) / name) for name in ("s.json", "found", "none"))
+        Path(scenario).write_text(json.dumps(scripts))
+        Path(found).write_text(right)
+        Path(none).write_text(wrong)
+        plain = lab.call("explain", scenario, found)
+        checks.same("explain", (0, "", "first:"), (plain[0], plain[2], plain[1].splitlines()[1]))
+        checks.same("explain - FILE", plain, lab.call("explain", "-", found, scenario=scripts))
+        checks.same("explain FILE -", plain, lab.call("explain", scenario, "-", text=right.encode()))
+        check_explain_forms(checks, lab, scripts, (scenario, found, none))
+        check_explain_budgets(checks, lab, scenario, none)
+        check_explain_files(checks, lab, folder, scenario, found)
+        for words in (("/dev/null", found), (scenario, "/dev/null")):
+            status, out, error = lab.call("explain", *words)
+            checks.same(f"explain {words}", (1, ""), (status, out))
+            checks.holds(f"explain {words}", error.startswith("hotplug_lab: "), f"says {error!r}")
+        more = cut_off(right) + "done\n"
+        status, out, error = lab.call("explain", scenario, "-", text=more.encode())
+        checks.same("explain of an answer too many", (1, ""), (status, out))
+        line = f"line {len(more.splitlines())} "
+        checks.holds("explain of an answer too many", line in error, f"says {error!r}")
+        for words in ((), ("-",), ("-", "-"), (scenario,), (scenario, found, found),
+                      (scenario, found, "--json", "--scenario", "1"), (scenario, found, "--setup", "0"),
+                      (scenario, found, "--scenario", "x"), (scenario, found, "--limit", "-1")):
+            status, out, error = lab.call("explain", *words, scenario=scripts)
+            checks.same(f"explain {words}", (2, ""), (status, out))
+            checks.holds(f"explain {words}", error, "says nothing")
+        for number in ("0", "2"):
+            twice = (2, "", "hotplug_lab: a search tells one interleaving: --scenario 1\n")
+            checks.same(f"explain --scenario {number}", twice,
+                        lab.call("explain", "--scenario", number, scenario, found))
+
+
+def check_explain_forms(checks, lab, scripts, files):
+    """What is found is written as a search writes it; what is not is reported."""
+    scenario, found, none = files
+    calls = json.loads(lab.call("explain", "--json", scenario, found)[1])
+    first = sorted(scripts["calls"], key=lambda call: call.split()[0])
+    checks.same("explain --json", {"found": True, "changes": 1, "first": first}, calls)
+    status, out, error = lab.call("explain", "--scenario", "1", scenario, found)
+    checks.same("explain --scenario 1", (0, ""), (status, error))
+    checks.same("explain --scenario 1", {"layout": LAYOUT, "calls": calls["first"]}, json.loads(out))
+    beginning = [call for call in scripts["calls"] if call[0] == "1"]
+    told = ["explained: none", f"longest beginning: {len(beginning)} calls",
+            ",\n".join(json.dumps(call) for call in beginning),
+            "cpu 0: line 1 of 4 would be answered `done`, not `refused NoFrame`", "cpu 1: finished", ""]
+    checks.same("explain of none", (3, "\n".join(told), ""), lab.call("explain", scenario, none))
+    told = {"found": False, "first": beginning, "processors": [
+        {"finished": 0, "lines": 4, "next": "done", "answer": "refused NoFrame"},
+        {"finished": 2, "lines": 2}]}
+    status, out, error = lab.call("explain", "--json", scenario, none)
+    checks.same("explain --json of none", (3, told, ""), (status, json.loads(out), error))
+    checks.same("explain --scenario 1 of none", (3, "", NO_SCENARIO),
+                lab.call("explain", "--scenario", "1", scenario, none))
+    unbegun = scenario_of(["0 commit 0"])
+    told = "hotplug_lab: line 1: 0 is no operation: processor 0 has begun none\n"
+    Path(found).write_text(answers_of(lab, unbegun))
+    status, _, error = lab.call("explain", "-", found, scenario=unbegun)
+    checks.same("explain of 0 before a begin", (0, told), (status, error))
+    Path(found).write_text(answers_of(lab, scripts))
+
+
+def check_explain_budgets(checks, lab, scenario, none):
+    """Each budget ends the search before it knows; a large one does not."""
+    plain = lab.call("explain", scenario, none)
+    for option in ("--limit", "--memory", "--seconds"):
+        where = f"explain {option} 0"
+        said = rf"hotplug_lab: stopped after \d+ states \({option}\)\n"
+        for form, told in (((), "explained: unknown\n"), (("--json",), '{"found": null}\n')):
+            status, out, error = lab.call("explain", option, "0", *form, scenario, none)
+            checks.same(where, (3, told), (status, out))
+            checks.holds(where, re.fullmatch(said, error), f"says {error!r}")
+        status, out, error = lab.call("explain", option, "0", "--scenario", "1", scenario, none)
+        checks.same(where, (3, ""), (status, out))
+        checks.holds(where, re.fullmatch(said + re.escape(NO_SCENARIO), error), f"says {error!r}")
+        checks.same(f"explain {option} 1000", plain,
+                    lab.call("explain", option, "1000", scenario, none))
+
+
+def check_explain_files(checks, lab, folder, scenario, found):
+    """A file that is not read is named, whichever it is."""
+    lost, long = str(Path(folder) / "lost"), str(Path(folder) / "long")
+    Path(long).write_bytes(b" " * (2**24 + 1))
+    for name, why in ((lost, "file not opened"), (folder, "reading failed"), (long, "input too long")):
+        said = (1, "", f"hotplug_lab: {name}: {why}\n")
+        checks.same(f"explain of {why}", said, lab.call("explain", name, found))
+        checks.same(f"explain of answers, {why}", said, lab.call("explain", scenario, name))
+
+
 def check_trace(checks, lab):
     whole = scenario_of(CALLS)
     plain = lab.call("trace", scenario=whole)
@@ -365,6 +476,7 @@ def check_lab(checks, lab):
     check_counts(checks, lab)
     check_explore(checks, lab)
     check_parts(checks, lab, scenario_of(CALLS[:6]))
+    check_explain(checks, lab)
     check_trace(checks, lab)
     check_picture(checks, lab)
     for words in ((), ("walk",), ("explore", "--setup", "x"), ("explore", "--setup", "-1"),
@@ -399,7 +511,8 @@ def check_lab(checks, lab):
     check_full(checks, lab)
     check_gone(checks, lab)
     check_long_parts(checks, lab)
-    for words in (("--help",), ("explore", "--help"), ("judge", "--help"), ("--version",)):
+    for words in (("--help",), ("explore", "--help"), ("explain", "--help"), ("judge", "--help"),
+                  ("--version",)):
         status, out, error = lab.call(*words)
         checks.same(f"hotplug_lab {words}", (0, ""), (status, error))
         checks.holds(f"hotplug_lab {words}", out, "writes nothing")
@@ -427,13 +540,15 @@ def check_counts(checks, lab):
 def check_gone(checks, lab):
     """Where nobody reads what is written the status is 1, and nothing is said."""
     text = json.dumps(scenario_of(CALLS)).encode()
-    for words in (("explore",), ("check",), ("trace",)):
-        reader, writer = os.pipe()
-        os.close(reader)
-        ran = subprocess.run([lab.path, *words], input=text, stdout=writer, stderr=subprocess.PIPE,
-                             timeout=SECONDS)
-        os.close(writer)
-        checks.same(f"hotplug_lab {words} without a reader", (1, b""), (ran.returncode, ran.stderr))
+    with answers_file(lab) as answers:
+        for words in (("explore",), ("check",), ("trace",), ("explain", "-", answers.name)):
+            reader, writer = os.pipe()
+            os.close(reader)
+            ran = subprocess.run([lab.path, *words], input=text, stdout=writer,
+                                 stderr=subprocess.PIPE, timeout=SECONDS)
+            os.close(writer)
+            checks.same(f"hotplug_lab {words} without a reader", (1, b""),
+                        (ran.returncode, ran.stderr))
 
 
 def check_long_parts(checks, lab):
@@ -449,12 +564,13 @@ def check_long_parts(checks, lab):
 
 def check_full(checks, lab):
     """Where the disk is full the status is 1, for the help too."""
-    for words in (("--help",), ("--version",), ("check",)):
-        with open("/dev/full", "w") as full:
-            ran = subprocess.run([lab.path, *words], input=json.dumps(scenario_of(CALLS)).encode(),
-                                 stdout=full, stderr=subprocess.PIPE, timeout=SECONDS)
-        checks.same(f"hotplug_lab {words} on a full disk", (1, "hotplug_lab: writing failed\n"),
-                    (ran.returncode, ran.stderr.decode()))
+    text = json.dumps(scenario_of(CALLS)).encode()
+    with answers_file(lab) as answers, open("/dev/full", "w") as full:
+        for words in (("--help",), ("--version",), ("check",), ("explain", "-", answers.name)):
+            ran = subprocess.run([lab.path, *words], input=text, stdout=full,
+                                 stderr=subprocess.PIPE, timeout=SECONDS)
+            checks.same(f"hotplug_lab {words} on a full disk", (1, "hotplug_lab: writing failed\n"),
+                        (ran.returncode, ran.stderr.decode()))
 
 
 def main(words):

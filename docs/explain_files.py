@@ -161,11 +161,15 @@ def check_scenarios(checks, programs):
             (scenario_of("0 drain 0", "1 cat probe"), "", "line 2 not for a script: cat makes no call"),
             (scenario_of("2 drain 0"), PLAIN, no_script + "its processor is not in the layout"),
             (scenario_of("0 drain"), PLAIN, "line 1 not understood"),
-            (scenario_of("0 drain 0", cpus=0), PLAIN, "layout fault BadCpus"),
-            (scenario_of(*long, history=5), done, "no room in the history for all calls of an interleaving")):
+            (scenario_of("0 drain 0", cpus=0), PLAIN, "layout fault BadCpus")):
         status, text, told = programs.explain(scenario, answers)
         is_so = (status, text) == (1, "") and told.startswith(f"hotplug_lab: {said}")
         checks.holds(f"{scenario['calls']} {answers!r}", is_so, f"says {status}, {text!r}, {told!r}")
+    status, text, told = programs.explain(scenario_of(*long, history=5), done)
+    is_so = (status, told) == (3, "") and text.startswith("explained: none\nlongest beginning: 5 calls\n")
+    checks.holds("a history that is full too soon",
+                 is_so and text.endswith("cpu 0: finished\ncpu 1: line 3 of 3 has no room in the history\n"),
+                 f"says {status}, {text!r}, {told!r}")
     told = programs.explain(scenario_of(*long, history=6), done)
     checks.holds("a full history", told[0] == 0, f"says {told}")
     told = programs.explain(scenario_of(), "cpu 0\ncpu 1\n0 records\n")

@@ -1,8 +1,8 @@
 -- Explained beginnings: with one call more, and which calls and places no explained schedule has.
-use Rattle.std.proofs.Common.{◌≡◌, ℕ, zero, suc, Bool, true, false, eqb, List, [], ◌∷◌, ◌++◌, length, Option, Some, None, slice_get, refl, ap, sym, subst, ◌∙◌, arith, inl, inr}
+use Rattle.std.proofs.Common.{◌≡◌, ℕ, ◌≤◌, zero, suc, Bool, true, false, eqb, List, [], ◌∷◌, ◌++◌, length, Option, Some, None, slice_get, refl, ap, sym, subst, ◌∙◌, arith, inl, inr}
 use Rattle.std.specs.Prelude.{◌⊎◌, fold}
 use Rattle.std.proofs.lemmas.Bool.{eqb-false, eqb-true}
-use Rattle.std.proofs.lemmas.List.{append-nil, append_assoc}
+use Rattle.std.proofs.lemmas.List.{append-nil, append_assoc, length-append, length_push}
 use Rattle.std.proofs.lemmas.Option.{none-some, same_Some}
 use Rattle.hp_units.specs.declared.events.Event.{Event}
 use Rattle.hp_units.specs.declared.replies.Record.{Record}
@@ -16,7 +16,7 @@ use Rattle.hp_explore.specs.Aims.{IsTried, MayBeSkipped}
 use Rattle.hp_explore.specs.Counted.{continued}
 use Rattle.hp_explain.specs.Continued.{split_in}
 use Rattle.hp_explain.specs.Explainers.{aim_of}
-use Rattle.hp_explain.specs.Explaining.{AreAsSeen, AreInTime, HasSeen, IsExplained, MayRun}
+use Rattle.hp_explain.specs.Explaining.{AreAsSeen, AreInTime, HasSeen, IsExplained, MayRun, calls_left}
 use Rattle.hp_explain.specs.declared.observed.ObservedLine.{ObservedLine}
 
 -- ---- one call more
@@ -74,17 +74,17 @@ through g p rest cpu h end first whole = by_middle (plays g (p ++ cpu ∷ [])) r
 -- ---- a call that no explained schedule has
 
 -- each sought schedule is explained
-pub sought_explained : (g : Setting) (seen : List (List ObservedLine)) (longest s : List ℕ)
-    → (aim_of g seen longest).sought s → IsExplained g seen s
-sought_explained g seen longest s (inl order) = order.begun
-sought_explained g seen longest s (inr longer) = longer.0
+pub sought_explained : (g : Setting) (seen : List (List ObservedLine)) (room : ℕ) (longest s : List ℕ)
+    → (aim_of g seen room longest).sought s → IsExplained g seen s
+sought_explained g seen room longest s (inl order) = order.begun
+sought_explained g seen room longest s (inr longer) = longer.0
 
-pub run_skipped : (g : Setting) (seen : List (List ObservedLine)) (longest schedule : List ℕ)
+pub run_skipped : (g : Setting) (seen : List (List ObservedLine)) (room : ℕ) (longest schedule : List ℕ)
     (news : List Record) (cpu : ℕ)
     → schedule ≡ schedule_of news → plays g (schedule_of news) ≡ Some news → (MayRun g seen news cpu → ⊥)
-    → MayBeSkipped (aim_of g seen longest) (schedule ++ cpu ∷ [])
-run_skipped g seen longest schedule news cpu is played waits = (
-  λ s sought on. waits (runs s (sought_explained g seen longest s sought) on),
+    → MayBeSkipped (aim_of g seen room longest) (schedule ++ cpu ∷ [])
+run_skipped g seen room longest schedule news cpu is played waits = (
+  λ s sought on. waits (runs s (sought_explained g seen room longest s sought) on),
   λ whole. whole,
 )
   where
@@ -93,6 +93,28 @@ run_skipped g seen longest schedule news cpu is played waits = (
         let past = through g schedule on.0 cpu news explained.news (ap (plays g) is ∙ played)
         (ap (plays g) (sym on.1) ∙ explained.played) in
         subst (MayRun g seen news) past.whose (explained.timed news past.r past.later past.is)
+
+-- the history has no room for one call more
+pub full_skipped : (g : Setting) (seen : List (List ObservedLine)) (room : ℕ) (longest schedule : List ℕ)
+    (cpu : ℕ)
+    → room ≡ calls_left g → room ≤ length schedule
+    → MayBeSkipped (aim_of g seen room longest) (schedule ++ cpu ∷ [])
+full_skipped g seen room longest schedule cpu is full = (
+  λ s sought on. past s (sought_explained g seen room longest s sought) on,
+  λ whole. whole,
+)
+  where
+    past : (s : List ℕ) → IsExplained g seen s → Extends s (schedule ++ cpu ∷ []) → ⊥
+    past s explained on =
+        omega (
+          arith,
+          explained.few,
+          is,
+          full,
+          ap (λ (xs : List ℕ). length xs) on.1,
+          length-append (schedule ++ cpu ∷ []) on.0,
+          length_push schedule cpu,
+        )
 
 -- ---- the answer to the latest call
 
@@ -172,23 +194,25 @@ pub record IsReached (g : Setting) (seen : List (List ObservedLine)) (news : Lis
   pub timed : AreInTime g seen h
   pub runs : MayRun g seen h r.cpu
 
-pub reached : (g : Setting) (seen : List (List ObservedLine)) (longest schedule : List ℕ)
+pub reached : (g : Setting) (seen : List (List ObservedLine)) (room : ℕ) (longest schedule : List ℕ)
     (news : List Record)
     → schedule ≡ schedule_of news → plays g (schedule_of news) ≡ Some news
-    → (t : IsTried (aim_of g seen longest) schedule) → (e : IsReached g seen news) × (e.r.cpu ≡ t.cpu)
-reached g seen longest schedule news is played t =
-    let one = one_more g t.before t.cpu t.from.news news t.from.played
+    → (t : IsTried (aim_of g seen room longest) schedule) → (e : IsReached g seen news) × (e.r.cpu ≡ t.cpu)
+reached g seen room longest schedule news is played t =
+    let one = one_more g t.before t.cpu t.from.0.news news t.from.0.played
     (ap (plays g) (sym t.longer ∙ is) ∙ played) in
-    let at : t.tried.0 ≡ t.from.news = same_Some t.tried.0 t.from.news (sym t.tried.1 ∙ t.from.played) in (
+    let tried = t.tried.0 in
+    let at : tried.0 ≡ t.from.0.news =
+    same_Some tried.0 t.from.0.news (sym tried.1 ∙ t.from.0.played) in (
       record {
-        h = t.from.news;
+        h = t.from.0.news;
         r = one.r;
         is = one.is;
-        answered = t.from.answered;
-        timed = t.from.timed;
+        answered = t.from.0.answered;
+        timed = t.from.0.timed;
         runs =
-            subst (MayRun g seen t.from.news) (sym one.whose)
-            (subst (λ (h : List Record). MayRun g seen h t.cpu) at t.tried.2);
+            subst (MayRun g seen t.from.0.news) (sym one.whose)
+            (subst (λ (h : List Record). MayRun g seen h t.cpu) at tried.2);
       },
       one.whose,
     )
@@ -206,14 +230,16 @@ last_same (a ∷ xs) (b ∷ ys) x y is =
 -- it is explained if the line that the call finished was answered as it was seen
 pub place_explained : (g : Setting) (seen : List (List ObservedLine)) (schedule : List ℕ)
     (news : List Record) (f : Option FinishedLine)
-    → schedule ≡ schedule_of news → plays g (schedule_of news) ≡ Some news → (e : IsReached g seen news)
+    → schedule ≡ schedule_of news → plays g (schedule_of news) ≡ Some news → length schedule ≤ calls_left g
+    → (e : IsReached g seen news)
     → ((before : List Record) (r : Record) → news ≡ before ++ r ∷ []
     → IsAnswered (answers_at g r.cpu before) f (answers_at g r.cpu news))
     → ((line : FinishedLine) → f ≡ Some line → HasSeen seen e.r.cpu line.line line.answer)
     → IsExplained g seen schedule
-place_explained g seen schedule news f is played e answered own = record {
+place_explained g seen schedule news f is played few e answered own = record {
   news = news;
   played = ap (plays g) is ∙ played;
+  few = few;
   answered =
       subst (AreAsSeen g seen) (sym e.is)
       (seen_more g seen e.h e.r f
@@ -223,14 +249,14 @@ place_explained g seen schedule news f is played e answered own = record {
 }
 
 -- and if not, no explained schedule continues from it
-pub place_skipped : (g : Setting) (seen : List (List ObservedLine)) (longest schedule : List ℕ)
+pub place_skipped : (g : Setting) (seen : List (List ObservedLine)) (room : ℕ) (longest schedule : List ℕ)
     (news : List Record) (line : FinishedLine)
     → schedule ≡ schedule_of news → plays g (schedule_of news) ≡ Some news → (e : IsReached g seen news)
     → IsAnswered (answers_at g e.r.cpu e.h) (Some line) (answers_at g e.r.cpu news)
     → (HasSeen seen e.r.cpu line.line line.answer → ⊥)
-    → MayBeSkipped (aim_of g seen longest) schedule
-place_skipped g seen longest schedule news line is played e answered other = (
-  λ s sought on. other (shown s (sought_explained g seen longest s sought) on),
+    → MayBeSkipped (aim_of g seen room longest) schedule
+place_skipped g seen room longest schedule news line is played e answered other = (
+  λ s sought on. other (shown s (sought_explained g seen room longest s sought) on),
   λ whole. whole,
 )
   where
@@ -248,28 +274,37 @@ place_skipped g seen longest schedule news line is played e answered other = (
 -- ---- a place that is asked
 
 -- the answer is tested by the latest call's processor
-pub asked_explained : (g : Setting) (seen : List (List ObservedLine)) (longest schedule : List ℕ)
+pub asked_explained : (g : Setting) (seen : List (List ObservedLine)) (room : ℕ) (longest schedule : List ℕ)
     (news : List Record) (f : Option FinishedLine)
     → schedule ≡ schedule_of news → plays g (schedule_of news) ≡ Some news
-    → (t : IsTried (aim_of g seen longest) schedule)
+    → (t : IsTried (aim_of g seen room longest) schedule)
     → ((before : List Record) (r : Record) → news ≡ before ++ r ∷ []
     → IsAnswered (answers_at g r.cpu before) f (answers_at g r.cpu news))
     → ((line : FinishedLine) → f ≡ Some line → HasSeen seen t.cpu line.line line.answer)
-    → IsExplained g seen schedule
-asked_explained g seen longest schedule news f is played t answered own =
-    let e = reached g seen longest schedule news is played t in
-    place_explained g seen schedule news f is played e.0 answered
-    (λ line same. subst (λ (c : ℕ). HasSeen seen c line.line line.answer) (sym e.1) (own line same))
+    → (aim_of g seen room longest).admits schedule
+asked_explained g seen room longest schedule news f is played t answered own =
+    let e = reached g seen room longest schedule news is played t in (
+      place_explained g seen schedule news f is played
+          (omega (
+            arith,
+            t.tried.1,
+            t.from.1,
+            ap (λ (xs : List ℕ). length xs) t.longer,
+            length_push t.before t.cpu,
+          )) e.0 answered
+          (λ line same. subst (λ (c : ℕ). HasSeen seen c line.line line.answer) (sym e.1) (own line same)),
+      t.from.1,
+    )
 
-pub asked_skipped : (g : Setting) (seen : List (List ObservedLine)) (longest schedule : List ℕ)
+pub asked_skipped : (g : Setting) (seen : List (List ObservedLine)) (room : ℕ) (longest schedule : List ℕ)
     (news : List Record) (line : FinishedLine)
     → schedule ≡ schedule_of news → plays g (schedule_of news) ≡ Some news
-    → (t : IsTried (aim_of g seen longest) schedule)
+    → (t : IsTried (aim_of g seen room longest) schedule)
     → ((before : List Record) (r : Record) → news ≡ before ++ r ∷ []
     → IsAnswered (answers_at g r.cpu before) (Some line) (answers_at g r.cpu news))
     → (HasSeen seen t.cpu line.line line.answer → ⊥)
-    → MayBeSkipped (aim_of g seen longest) schedule
-asked_skipped g seen longest schedule news line is played t answered other =
-    let e = reached g seen longest schedule news is played t in
-    place_skipped g seen longest schedule news line is played e.0 (answered e.0.h e.0.r e.0.is)
+    → MayBeSkipped (aim_of g seen room longest) schedule
+asked_skipped g seen room longest schedule news line is played t answered other =
+    let e = reached g seen room longest schedule news is played t in
+    place_skipped g seen room longest schedule news line is played e.0 (answered e.0.h e.0.r e.0.is)
     (λ has. other (subst (λ (c : ℕ). HasSeen seen c line.line line.answer) e.1 has))

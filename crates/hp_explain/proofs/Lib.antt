@@ -1,5 +1,10 @@
+pub mod AnswersRead
 pub mod Beginnings
 pub mod Causes
+pub mod ObjectsTaken
 pub mod Orders
 pub mod Rising
 pub mod Runs
+pub mod Stood
+pub mod TimesFilled
+pub mod Told

@@ -1,12 +1,18 @@
 -- What a search for an order found.
-use Rattle.std.proofs.Common.{◌≡◌, ℕ, ◌<◌, ◌≤◌, List, [], ◌∷◌, ◌++◌, length, Option, Some, None, slice_get, refl, ap, sym, subst, ◌∙◌, arith, inl, inr}
+use Rattle.std.proofs.Common.{◌≡◌, ℕ, ◌+◌, ◌<◌, ◌≤◌, false, true, List, [], ◌∷◌, ◌++◌, length, Option, Some, None, slice_get, refl, ap, sym, subst, ◌∙◌, arith, inl, inr}
 use Rattle.std.specs.Option.{option_map_or}
+use Rattle.std.specs.Prelude.{fold}
+use Rattle.std.proofs.lemmas.Bool.{lt-leb, or_from}
+use Rattle.std.proofs.lemmas.List.{length-append, length_push}
+use Rattle.hp_units.specs.declared.events.Event.{Event}
+use Rattle.hp_schedules.proofs.Plays.{from_news, plays_one, stays_none}
+use Rattle.hp_states.specs.Rooms.{is_full_after}
 use Rattle.std.specs.Prelude.{◌⊎◌}
 use Rattle.std.proofs.lemmas.Bool.{cases_lt}
 use Rattle.std.proofs.lemmas.Option.{none-some, same_Some}
 use Rattle.hp_units.specs.declared.replies.Record.{Record}
 use Rattle.hp_schedules.specs.LineAnswers.{answers_at, answers_in}
-use Rattle.hp_schedules.specs.Schedules.{Setting, next_call, plays, schedule_of}
+use Rattle.hp_schedules.specs.Schedules.{Setting, next_call, play_one, plays, record_of_call, schedule_of}
 use Rattle.hp_schedules.specs.declared.line_answers.LineAnswer.{LineAnswer}
 use Rattle.hp_schedules.specs.declared.scripts.Step.{Step}
 use Rattle.hp_schedules.proofs.LineAnswers.{none_begun}
@@ -14,7 +20,7 @@ use Rattle.hp_explore.specs.Aims.{IsFirstSought, IsSearchCause}
 use Rattle.hp_explore.specs.declared.fault.FindFault.{FindFault}
 use Rattle.hp_explore.specs.declared.fault.FindFault.TheVariants.{HistoryFull, OutOfMemory, Stopped}
 use Rattle.hp_explain.specs.Explainers.{aim_of}
-use Rattle.hp_explain.specs.Explaining.{Explains, IsExplainCause, IsExplained, MayRun}
+use Rattle.hp_explain.specs.Explaining.{Explains, IsExplainCause, IsExplained, calls_left}
 use Rattle.hp_explain.specs.declared.observed.ObservedLine.{ObservedLine}
 
 -- ---- before any call
@@ -37,6 +43,7 @@ unfolding plays
 start_explained g seen = record {
   news = [];
   played = refl;
+  few = omega arith;
   answered = λ cpu line answer is.
       absurd (none-some answer
       (ap (λ (xs : List (Option LineAnswer)). slice_get xs line) (sym (none_answered g cpu)) ∙ is));
@@ -58,61 +65,99 @@ order_met g seen schedule news is played explained over = record {
     same = same_Some explained.news news (sym explained.played ∙ (ap (plays g) is ∙ played))
 
 -- some is not, and the schedule is no longer than the longest
-pub beginning_missed : (g : Setting) (seen : List (List ObservedLine)) (longest schedule : List ℕ)
+pub beginning_missed : (g : Setting) (seen : List (List ObservedLine)) (room : ℕ) (longest schedule : List ℕ)
     (news : List Record)
     → schedule ≡ schedule_of news → plays g (schedule_of news) ≡ Some news
     → (((cpu : ℕ) → next_call g cpu news ≡ None) → ⊥) → length schedule ≤ length longest
-    → (aim_of g seen longest).sought schedule → ⊥
-beginning_missed g seen longest schedule news is played asks short (inl order) =
+    → (aim_of g seen room longest).sought schedule → ⊥
+beginning_missed g seen room longest schedule news is played asks short (inl order) =
     asks (λ cpu. ap (next_call g cpu) (sym same) ∙ order.over cpu)
   where
     same : order.begun.news ≡ news
     same = same_Some order.begun.news news (sym order.begun.played ∙ (ap (plays g) is ∙ played))
-beginning_missed g seen longest schedule news is played asks short (inr longer) =
+beginning_missed g seen room longest schedule news is played asks short (inr longer) =
     omega (arith, short, longer.1)
 
 -- ---- results
 
 -- no longer beginning is explained
-none_longer : (g : Setting) (seen : List (List ObservedLine)) (longest : List ℕ)
-    → ((s : List ℕ) → (aim_of g seen longest).sought s → ⊥) → (s : List ℕ) → IsExplained g seen s
+none_longer : (g : Setting) (seen : List (List ObservedLine)) (room : ℕ) (longest : List ℕ)
+    → ((s : List ℕ) → (aim_of g seen room longest).sought s → ⊥) → (s : List ℕ) → IsExplained g seen s
     → length s ≤ length longest
-none_longer g seen longest none s explained = by_length (cases_lt (length longest) (length s))
+none_longer g seen room longest none s explained = by_length (cases_lt (length longest) (length s))
   where
     by_length : (length longest < length s) ⊎ (length s ≤ length longest) → length s ≤ length longest
     by_length (inl more) = absurd (none s (inr (explained, more)))
     by_length (inr few) = few
 
 -- none explains it
-pub none_found : (g : Setting) (seen later : List (List ObservedLine)) (longest : List ℕ) → later ≡ seen
-    → IsFirstSought g (aim_of g later longest) None → IsExplained g seen longest
+pub none_found : (g : Setting) (seen later : List (List ObservedLine)) (room : ℕ) (longest : List ℕ)
+    → later ≡ seen → IsFirstSought g (aim_of g later room longest) None → IsExplained g seen longest
     → ((s : List ℕ) → Explains g seen s → ⊥) × IsExplained g seen longest
     × ((s : List ℕ) → IsExplained g seen s → length s ≤ length longest)
-none_found g seen later longest same found begun = (
+none_found g seen later room longest same found begun = (
   λ s order. none s (inl order),
   begun,
-  none_longer g seen longest none,
+  none_longer g seen room longest none,
 )
   where
-    none : (s : List ℕ) → (aim_of g seen longest).sought s → ⊥
+    none : (s : List ℕ) → (aim_of g seen room longest).sought s → ⊥
     none =
-        subst (λ (x : List (List ObservedLine)). (s : List ℕ) → (aim_of g x longest).sought s → ⊥) same found.0
+        subst (λ (x : List (List ObservedLine)). (s : List ℕ) → (aim_of g x room longest).sought s → ⊥) same
+        found.0
 
-pub explain_cause : (g : Setting) (seen later : List (List ObservedLine)) (longest : List ℕ)
+-- ---- room
+
+-- a record for each call
+calls_many : (g : Setting) (rest : List ℕ) (h end : List Record) → from_news g h rest ≡ Some end
+    → length end ≡ length h + length rest
+calls_many g [] h end is =
+    omega (arith, ap (λ (xs : List Record). length xs) (same_Some h end is))
+calls_many g (cpu ∷ rest) h end is =
+    by_call (next_call g cpu h) refl (λ r on. calls_many g rest (h ++ r ∷ []) end on)
+  where
+    by_call : (o : Option Event) → next_call g cpu h ≡ o
+        → ((r : Record) → from_news g (h ++ r ∷ []) rest ≡ Some end
+        → length end ≡ length (h ++ r ∷ []) + length rest)
+        → length end ≡ length h + length (cpu ∷ rest)
+    by_call None asked later =
+        absurd (none-some end
+        (sym (ap (λ (o : Option (List Record)). fold (play_one g) o rest) (plays_one g h cpu None asked)
+        ∙ stays_none g rest) ∙ is))
+    by_call (Some e) asked later =
+        let r = record_of_call g h cpu e in
+        omega (
+          arith,
+          later r
+              (sym (ap (λ (o : Option (List Record)). fold (play_one g) o rest)
+              (plays_one g h cpu (Some e) asked)) ∙ is),
+          length_push h r,
+        )
+
+calls_of : (g : Setting) (schedule : List ℕ) (news : List Record) → plays g schedule ≡ Some news
+    → length news ≡ length schedule
+unfolding plays
+calls_of g schedule news played =
+    let many = calls_many g schedule [] news played in omega (arith, many)
+
+-- while fewer calls were made than there is room for, the history is not full
+room_stays : (g : Setting) (news : List Record) → length news < calls_left g → is_full_after g news ≡ false
+room_stays g news low =
+    or_from _ _
+    (lt-leb g.layout.history (length (g.start ++ news))
+    (omega (arith, low, length-append g.start news)))
+    (lt-leb 18446744073709551615 (g.before + length (g.start ++ news))
+    (omega (arith, low, length-append g.start news)))
+
+pub explain_cause : (g : Setting) (later : List (List ObservedLine)) (left : ℕ) (longest : List ℕ)
     (fault : FindFault)
-    → later ≡ seen → IsSearchCause g (aim_of g later longest) fault → IsExplainCause g seen fault
-explain_cause g seen later longest HistoryFull same full =
-    let cause = subst (λ (x : List (List ObservedLine)). IsSearchCause g (aim_of g x longest) HistoryFull)
-    same full in
-    record {
-      place = cause.place;
-      call = cause.call;
-      begun = cause.admitted;
-      runs =
-          subst (λ (news : List Record). MayRun g seen news cause.call.cpu)
-          (same_Some cause.tried.0 cause.admitted.news (sym cause.tried.1 ∙ cause.admitted.played))
-          cause.tried.2;
-      none = λ s order before. cause.none s (inl order) before;
-    }
-explain_cause g seen later longest OutOfMemory same full = tt
-explain_cause g seen later longest Stopped same full = tt
+    → IsSearchCause g (aim_of g later left longest) fault → IsExplainCause fault
+explain_cause g later left longest HistoryFull full =
+    let many = calls_of g full.place full.call.news full.call.played in
+    no_room (sym (room_stays g full.call.news
+    (omega (arith, many, full.tried.1, full.admitted.1))) ∙ full.call.full)
+  where
+    no_room : false ≡ true → ⊥
+    no_room is = cc
+explain_cause g later left longest OutOfMemory full = tt
+explain_cause g later left longest Stopped full = tt

@@ -15,7 +15,7 @@ use Rattle.hp_explore.specs.Aims.{HaveSameKey, IsLawful, IsNarrower}
 use Rattle.hp_explore.specs.Starts.{same_starts}
 use Rattle.hp_explore.proofs.PlaceKeys.{steered_at}
 use Rattle.hp_explain.specs.Explainers.{AreCausedBelow, Becomes, IsMarked, aim_of}
-use Rattle.hp_explain.specs.Explaining.{AreAsSeen, AreInTime, AreOverBefore, HasSeen, IsExplained, MayRun}
+use Rattle.hp_explain.specs.Explaining.{AreAsSeen, AreInTime, AreOverBefore, HasSeen, IsExplained, MayRun, calls_left}
 use Rattle.hp_explain.specs.declared.observed.ObservedLine.{ObservedLine}
 
 -- ---- numbers of causes
@@ -176,10 +176,24 @@ explained_news g seen schedule news played explained =
       subst (AreInTime g seen) same explained.timed,
     )
 
+-- what goes on from two places with one key is as long
+as_long : (g : Setting) (h k : List Record) (rest : List ℕ) → HaveSameKey g h k
+    → length (schedule_of h ++ rest) ≡ length (schedule_of k ++ rest)
+as_long g h k rest same =
+    omega (
+      arith,
+      length-append (schedule_of h) rest,
+      length-append (schedule_of k) rest,
+      length-map h (λ (r : Record). r.cpu),
+      length-map k (λ (r : Record). r.cpu),
+      same.alike.calls,
+    )
+
 -- what goes on from two places with one key
 record IsExplainedOn (g : Setting) (seen : List (List ObservedLine)) (rest : List ℕ) (h k : List Record)
     (end : List Record) : Type 0 where
   pub on : ContinuesAs g (schedule_of k) rest h k end
+  pub few : length (schedule_of k ++ rest) ≤ calls_left g
   pub answered : AreAsSeen g seen (k ++ on.more)
   pub timed : AreInTime g seen (k ++ on.more)
 
@@ -189,6 +203,7 @@ explained_on : (g : Setting) (seen : List (List ObservedLine)) (h k : List Recor
     → IsExplainedOn g seen rest h k e.news
 explained_on g seen h k marks rest same a b here e = record {
   on = on;
+  few = omega (arith, e.few, as_long g h k rest same);
   answered =
       seen_alike g seen h k on.more (answered_alike g h k on.more marks same a b) own.0
       (subst (AreAsSeen g seen) on.end_is e.answered);
@@ -210,82 +225,82 @@ explained_alike : (g : Setting) (seen : List (List ObservedLine)) (h k : List Re
 explained_alike g seen h k rest end is = record {
   news = k ++ is.on.more;
   played = is.on.played;
+  few = is.few;
   answered = is.answered;
   timed = is.timed;
 }
 
 -- ---- the laws
 
-sought_alike : (g : Setting) (seen : List (List ObservedLine)) (longest : List ℕ) (h k : List Record)
-    (marks rest : List ℕ)
+sought_alike : (g : Setting) (seen : List (List ObservedLine)) (room : ℕ) (longest : List ℕ)
+    (h k : List Record) (marks rest : List ℕ)
     → HaveSameKey g h k → IsMarked g h marks → IsMarked g k marks → IsExplained g seen (schedule_of k)
-    → (aim_of g seen longest).sought (schedule_of h ++ rest)
-    → (aim_of g seen longest).sought (schedule_of k ++ rest)
+    → (aim_of g seen room longest).sought (schedule_of h ++ rest)
+    → (aim_of g seen room longest).sought (schedule_of k ++ rest)
 unfolding explained_alike
-sought_alike g seen longest h k marks rest same a b here (inl order) =
+sought_alike g seen room longest h k marks rest same a b here (inl order) =
     let is = explained_on g seen h k marks rest same a b here order.begun in
     inl (record {
       begun = explained_alike g seen h k rest order.begun.news is;
       over = λ cpu. sym (is.on.calls cpu) ∙ order.over cpu;
     })
-sought_alike g seen longest h k marks rest same a b here (inr longer) = inr (
+sought_alike g seen room longest h k marks rest same a b here (inr longer) = inr (
   explained_alike g seen h k rest longer.0.news (explained_on g seen h k marks rest same a b here longer.0),
-  omega (
-    arith,
-    longer.1,
-    length-append (schedule_of h) rest,
-    length-append (schedule_of k) rest,
-    length-map h (λ (r : Record). r.cpu),
-    length-map k (λ (r : Record). r.cpu),
-    same.alike.calls,
-  ),
+  omega (arith, longer.1, as_long g h k rest same),
 )
 
-sought_played : (g : Setting) (seen : List (List ObservedLine)) (longest s : List ℕ)
-    → (aim_of g seen longest).sought s → (news : List Record) × (plays g s ≡ Some news)
-sought_played g seen longest s (inl order) = (order.begun.news, order.begun.played)
-sought_played g seen longest s (inr longer) = (longer.0.news, longer.0.played)
+sought_played : (g : Setting) (seen : List (List ObservedLine)) (room : ℕ) (longest s : List ℕ)
+    → (aim_of g seen room longest).sought s → (news : List Record) × (plays g s ≡ Some news)
+sought_played g seen room longest s (inl order) = (order.begun.news, order.begun.played)
+sought_played g seen room longest s (inr longer) = (longer.0.news, longer.0.played)
 
-pub explaining_lawful : (g : Setting) (seen : List (List ObservedLine)) (longest : List ℕ)
-    → IsLawful g (aim_of g seen longest)
-explaining_lawful g seen longest = record {
-  played = sought_played g seen longest;
+pub explaining_lawful : (g : Setting) (seen : List (List ObservedLine)) (room : ℕ) (longest : List ℕ)
+    → IsLawful g (aim_of g seen room longest)
+explaining_lawful g seen room longest = record {
+  played = sought_played g seen room longest;
   counted = λ h k marks first second a b.
       let whole : length h ∷ a.0 ≡ length k ∷ b.0 = sym a.1 ∙ b.1 in
       let many : length h ≡ length k = cc in many;
   continued = λ h k marks rest same first second a b sought.
-      sought_alike g seen longest h k marks rest same a b second sought;
+      sought_alike g seen room longest h k marks rest same a b second.0 sought;
 }
 
 -- ---- the aim as it becomes
 
-sought_narrower : (g : Setting) (seen : List (List ObservedLine)) (longest new s : List ℕ)
-    → length longest ≤ length new → (aim_of g seen new).sought s → (aim_of g seen longest).sought s
-sought_narrower g seen longest new s more (inl order) = inl order
-sought_narrower g seen longest new s more (inr longer) = inr (longer.0, omega (arith, more, longer.1))
+sought_narrower : (g : Setting) (seen : List (List ObservedLine)) (room : ℕ) (longest new s : List ℕ)
+    → length longest ≤ length new → (aim_of g seen room new).sought s → (aim_of g seen room longest).sought s
+sought_narrower g seen room longest new s more (inl order) = inl order
+sought_narrower g seen room longest new s more (inr longer) = inr (longer.0, omega (arith, more, longer.1))
 
-pub explaining_narrower : (g : Setting) (seen later : List (List ObservedLine)) (longest new : List ℕ)
-    → Becomes g seen longest later new → IsNarrower (aim_of g seen longest) (aim_of g later new)
-explaining_narrower g seen later longest new becomes =
-    subst (λ (x : List (List ObservedLine)). IsNarrower (aim_of g seen longest) (aim_of g x new))
+pub explaining_narrower : (g : Setting) (seen : List (List ObservedLine)) (room : ℕ) (longest : List ℕ)
+    (later : List (List ObservedLine)) (left : ℕ) (new : List ℕ)
+    → Becomes g seen room longest later left new
+    → IsNarrower (aim_of g seen room longest) (aim_of g later left new)
+explaining_narrower g seen room longest later left new becomes =
+    subst (λ (x : List (List ObservedLine)). IsNarrower (aim_of g seen room longest) (aim_of g x left new))
     (sym becomes.0)
+    (subst (λ (n : ℕ). IsNarrower (aim_of g seen room longest) (aim_of g seen n new)) (sym becomes.1)
     (record {
-      sought = λ s sought. sought_narrower g seen longest new s becomes.1 sought;
+      sought = λ s sought. sought_narrower g seen room longest new s becomes.2 sought;
       admits = λ s admitted. admitted;
       marks = λ news numbers marked. marked;
       whole = λ whole. whole;
-    })
+    }))
 
-pub explaining_stays : (g : Setting) (seen : List (List ObservedLine)) (longest : List ℕ)
-    → Becomes g seen longest seen longest
-explaining_stays g seen longest = (refl, omega arith, λ explained. explained)
+pub explaining_stays : (g : Setting) (seen : List (List ObservedLine)) (room : ℕ) (longest : List ℕ)
+    → Becomes g seen room longest seen room longest
+explaining_stays g seen room longest = (refl, refl, omega arith, λ explained. explained)
 
-pub explaining_joined : (g : Setting) (seen mid later : List (List ObservedLine)) (longest more new : List ℕ)
-    → Becomes g seen longest mid more → Becomes g mid more later new → Becomes g seen longest later new
-explaining_joined g seen mid later longest more new first second = (
+pub explaining_joined : (g : Setting) (seen : List (List ObservedLine)) (room : ℕ) (longest : List ℕ)
+    (mid : List (List ObservedLine)) (left : ℕ) (more : List ℕ) (later : List (List ObservedLine)) (last : ℕ)
+    (new : List ℕ)
+    → Becomes g seen room longest mid left more → Becomes g mid left more later last new
+    → Becomes g seen room longest later last new
+explaining_joined g seen room longest mid left more later last new first second = (
   second.0 ∙ first.0,
-  omega (arith, first.1, second.1),
+  second.1 ∙ first.1,
+  omega (arith, first.2, second.2),
   λ explained. subst (λ (x : List (List ObservedLine)). IsExplained g x new) first.0
-      (second.2 (subst (λ (x : List (List ObservedLine)). IsExplained g x more) (sym first.0)
-      (first.2 explained))),
+      (second.3 (subst (λ (x : List (List ObservedLine)). IsExplained g x more) (sym first.0)
+      (first.3 explained))),
 )

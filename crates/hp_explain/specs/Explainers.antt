@@ -4,7 +4,7 @@ use Rattle.hp_units.specs.declared.replies.Record.{Record}
 use Rattle.hp_schedules.specs.Causes.{IsCaused}
 use Rattle.hp_schedules.specs.Schedules.{Setting, plays}
 use Rattle.hp_explore.specs.Aims.{AimValue}
-use Rattle.hp_explain.specs.Explaining.{Explains, IsExplained, MayRun}
+use Rattle.hp_explain.specs.Explaining.{Explains, IsExplained, MayRun, calls_left}
 use Rattle.hp_explain.specs.declared.observed.ObservedLine.{ObservedLine}
 
 -- two numbers for each processor below a number, of the last refusal that its plan in progress met
@@ -26,19 +26,20 @@ MayRunAfter g seen schedule cpu =
     (news : List Record) × (plays g schedule ≡ Some news) × MayRun g seen news cpu
 
 -- sought are the orders that explain what was seen, and the explained beginnings that are longer than
--- the longest known one; a search ends with an order
-abbrev pub aim_of : Setting → List (List ObservedLine) → (longest : List ℕ) → AimValue
-aim_of g seen longest = record {
+-- the longest known one; a search ends with an order. `room` is how many calls the history has room for
+abbrev pub aim_of : Setting → List (List ObservedLine) → (room : ℕ) → (longest : List ℕ) → AimValue
+aim_of g seen room longest = record {
   sought = λ s. Explains g seen s ⊎ (IsExplained g seen s × (length longest < length s));
   found = λ s. Explains g seen s;
-  admits = λ s. IsExplained g seen s;
-  tries = λ s cpu. MayRunAfter g seen s cpu;
+  admits = λ s. IsExplained g seen s × (room ≡ calls_left g);
+  tries = λ s cpu. MayRunAfter g seen s cpu × (length s < room);
   marks = λ news numbers. IsMarked g news numbers;
   is_whole = ⊥;
 }
 
--- what was seen stays; the longest known beginning gets no shorter, and stays explained
-abbrev pub Becomes : Setting → (seen : List (List ObservedLine)) → (longest : List ℕ)
-    → (later : List (List ObservedLine)) → (new : List ℕ) → Type 0
-Becomes g seen longest later new =
-    (later ≡ seen) × (length longest ≤ length new) × (IsExplained g seen longest → IsExplained g seen new)
+-- what was seen and the room stay; the longest known beginning gets no shorter, and stays explained
+abbrev pub Becomes : Setting → (seen : List (List ObservedLine)) → (room : ℕ) → (longest : List ℕ)
+    → (later : List (List ObservedLine)) → (left : ℕ) → (new : List ℕ) → Type 0
+Becomes g seen room longest later left new =
+    (later ≡ seen) × (left ≡ room) × (length longest ≤ length new)
+    × (IsExplained g seen longest → IsExplained g seen new)

@@ -1,11 +1,10 @@
 -- Which orders explain what the processors were answered.
-use Rattle.std.specs.Prelude.{◌≡◌, ℕ, ◌<◌, ◌≤◌, List, [], ◌∷◌, ◌++◌, Option, Some, None, length, slice_get}
+use Rattle.std.specs.Prelude.{◌≡◌, ℕ, ◌+◌, ◌-◌, ◌<◌, ◌≤◌, min, List, ◌∷◌, ◌++◌, Option, Some, None, length, slice_get}
 use Rattle.hp_units.specs.declared.replies.Record.{Record}
 use Rattle.hp_schedules.specs.LineAnswers.{answers_at}
 use Rattle.hp_schedules.specs.Orders.{IsBefore}
 use Rattle.hp_schedules.specs.Schedules.{Setting, next_call, plays}
 use Rattle.hp_schedules.specs.declared.line_answers.LineAnswer.{LineAnswer}
-use Rattle.hp_states.specs.Rooms.{HasNoRoom}
 use Rattle.hp_explore.specs.Reaching.{HasRoomAlong}
 use Rattle.hp_explore.specs.declared.fault.FindFault.{FindFault}
 use Rattle.hp_explore.specs.declared.fault.FindFault.TheVariants.{HistoryFull, OutOfMemory, Stopped}
@@ -59,11 +58,17 @@ AreInTime g seen news =
     (before : List Record) (r : Record) (later : List Record) → news ≡ before ++ r ∷ later
     → MayRun g seen before r.cpu
 
--- the schedule is the beginning of an order that what was seen allows: it can be played, each line that
--- it finishes was answered so, and each of its calls was made in time
+-- how many calls the history has room for, and serials are left for
+abbrev pub calls_left : Setting → ℕ
+calls_left g =
+    min (g.layout.history - length g.start) (18446744073709551615 - (g.before + length g.start))
+
+-- the schedule is the beginning of an order that what was seen allows: it can be played, the history has
+-- room for its calls, each line that it finishes was answered so, and each of its calls was made in time
 pub record IsExplained (g : Setting) (seen : List (List ObservedLine)) (schedule : List ℕ) : Type 0 where
   pub news : List Record
   pub played : plays g schedule ≡ Some news
+  pub few : length schedule ≤ calls_left g
   pub answered : AreAsSeen g seen news
   pub timed : AreInTime g seen news
 
@@ -74,8 +79,8 @@ pub record Explains (g : Setting) (seen : List (List ObservedLine)) (schedule : 
 
 -- ---- results
 
--- the first schedule that explains what was seen, in the order of the processors; the history has room
--- for each of its calls. Or none does, and no beginning that is explained is longer than this one
+-- the first schedule that explains what was seen, in the order of the processors. Or none does, and no
+-- beginning that is explained is longer than this one
 abbrev pub IsExplanation : Setting → List (List ObservedLine) → Explanation → Type 0
 IsExplanation g seen (Explained schedule) =
     Explains g seen schedule.items
@@ -85,17 +90,8 @@ IsExplanation g seen (Unexplained longest) =
     ((s : List ℕ) → Explains g seen s → ⊥) × IsExplained g seen longest.items
     × ((s : List ℕ) → IsExplained g seen s → length s ≤ length longest.items)
 
--- the history has no room for a call that a line in time makes after an explained beginning, and no
--- schedule before that call explains what was seen
-pub record FillsExplained (g : Setting) (seen : List (List ObservedLine)) : Type 0 where
-  pub place : List ℕ
-  pub call : HasNoRoom g place
-  pub begun : IsExplained g seen place
-  pub runs : MayRun g seen begun.news call.cpu
-  pub none : (s : List ℕ) → Explains g seen s → IsBefore s (place ++ call.cpu ∷ []) → ⊥
-
--- the cause of a fault
-abbrev pub IsExplainCause : Setting → List (List ObservedLine) → FindFault → Type 0
-IsExplainCause g seen HistoryFull = FillsExplained g seen
-IsExplainCause g seen OutOfMemory = Unit {0}
-IsExplainCause g seen Stopped = Unit {0}
+-- the cause of a fault: a full history is none, since no explained schedule has such a call
+abbrev pub IsExplainCause : FindFault → Type 0
+IsExplainCause HistoryFull = ⊥
+IsExplainCause OutOfMemory = Unit {0}
+IsExplainCause Stopped = Unit {0}

@@ -13,17 +13,21 @@ use std::alloc::{AllocError, Global};
 #[derive(Drop)]
 pub(crate) struct Explainer<'a> {
     seen: &'a Observed,
+    /// How many calls the history has room for.
+    room: u64,
     longest: Vec<Cpu>,
 }
 
 impl<'a> Explainer<'a> {
     /// Creates the aim of a search before any call.
-    pub(crate) fn new(alloc: Global, seen: &'a Observed) -> Explainer<'a>
+    pub(crate) fn new(alloc: Global, seen: &'a Observed, room: u64) -> Explainer<'a>
         ensures seen { result.seen.now ≡ seen.now }
+        ensures room { result.room ≡ room }
         ensures none { result.longest.items ≡ [] }
     {
         Explainer {
             seen,
+            room,
             longest: Vec::new(alloc),
         }
     }
@@ -76,12 +80,17 @@ impl<'a> Aim for Explainer<'a> {
     ghost use Rattle.hp_explain.specs.Explainers.{aim_of, Becomes};
     ghost use Rattle.hp_explain.specs.Continued.{explaining_joined, explaining_lawful, explaining_narrower, explaining_stays};
 
-    ghost shows = { λ aim g. aim_of g aim.seen.now aim.longest.items };
+    ghost shows = { λ aim g. aim_of g aim.seen.now aim.room aim.longest.items };
 
-    ghost becomes = { λ aim g new. Becomes g aim.seen.now aim.longest.items new.seen.now new.longest.items };
+    ghost becomes = { λ aim g new. Becomes g aim.seen.now aim.room aim.longest.items new.seen.now
+        new.room new.longest.items };
 
-    fn may_try(&self, path: &Path<'_>, _schedule: &[Cpu], cpu: u32) -> bool {
+    /// A call for which the history has no room is not tried.
+    fn may_try(&self, path: &Path<'_>, schedule: &[Cpu], cpu: u32) -> bool {
         path.is_played();
+        if schedule.len() as u64 >= self.room {
+            return false;
+        }
         self.may_run(path, cpu)
     }
 
@@ -127,15 +136,16 @@ impl<'a> Aim for Explainer<'a> {
         Ok(false)
     }
 
-    ghost stays = { λ aim g. explaining_stays g aim.seen.now aim.longest.items };
+    ghost stays = { λ aim g. explaining_stays g aim.seen.now aim.room aim.longest.items };
 
-    ghost joined = { λ aim g mid new first second. explaining_joined g aim.seen.now mid.seen.now new.seen.now
-        aim.longest.items mid.longest.items new.longest.items first second };
+    ghost joined = { λ aim g mid new first second. explaining_joined g aim.seen.now aim.room
+        aim.longest.items mid.seen.now mid.room mid.longest.items new.seen.now new.room new.longest.items
+        first second };
 
-    ghost narrower = { λ aim g new becomes. explaining_narrower g aim.seen.now new.seen.now aim.longest.items
-        new.longest.items becomes };
+    ghost narrower = { λ aim g new becomes. explaining_narrower g aim.seen.now aim.room aim.longest.items
+        new.seen.now new.room new.longest.items becomes };
 
-    ghost lawful = { λ aim g. explaining_lawful g aim.seen.now aim.longest.items };
+    ghost lawful = { λ aim g. explaining_lawful g aim.seen.now aim.room aim.longest.items };
 }
 
 /// Appends what the answers of the processors' plans in progress depend on, two numbers for each

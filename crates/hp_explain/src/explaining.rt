@@ -1,8 +1,9 @@
 //! The search for an order that explains what was seen.
-ghost use Rattle.std.specs.Prelude.{◌≡◌, ◌<◌, ◌^◌, IfErr, IfOk, length, map};
+ghost use Rattle.std.specs.Prelude.{◌≡◌, ◌<◌, ◌^◌, IfErr, IfOk, List, length};
 ghost use Rattle.hp_explore.specs.Settings.{setting};
 ghost use Rattle.hp_explore.specs.declared.fault.FindFault.TheVariants.{Stopped};
-ghost use Rattle.hp_explain.specs.Explaining.{IsExplainCause, IsExplanation};
+ghost use Rattle.hp_explain.specs.Explaining.{IsExplainCause, IsExplanation, calls_left};
+ghost use Rattle.hp_schedules.specs.declared.scripts.Step.{Step};
 
 use crate::explainer::Explainer;
 use crate::observed::Observed;
@@ -34,8 +35,8 @@ pub enum Explanation {
 ///
 /// # Errors
 ///
-/// `HistoryFull` if the search reaches a call for which the layout's history has no room, `OutOfMemory`
-/// if memory allocation fails, `Stopped` if the watch ended the search.
+/// `OutOfMemory` if memory allocation fails, `Stopped` if the watch ended the search. `HistoryFull` never:
+/// an order with a call for which the history has no room explains nothing.
 pub fn explain<W: Watch>(
     alloc: Global,
     machine: &Machine,
@@ -45,13 +46,22 @@ pub fn explain<W: Watch>(
 ) -> Result<Explanation, FindFault>
     requires { length scripts.now < 2 ^ 32 }
     ensures ok { IfOk result (IsExplanation (setting machine.now scripts.now) seen.now) }
-    ensures err { IfErr result (IsExplainCause (setting machine.now scripts.now) seen.now) }
+    ensures err { IfErr result IsExplainCause }
     ensures stopped { IfErr result (λ fault. fault ≡ Stopped → W.has_ended watch.new) }
 {
-    let mut explainer = Explainer::new(alloc, seen);
+    let mut explainer = Explainer::new(alloc, seen, calls_left(machine));
     let mut places = 0;
     match first_sought(alloc, machine, scripts, &mut explainer, watch, &mut places)? {
         Some(order) => Ok(Explanation::Explained(order)),
         None => Ok(Explanation::Unexplained(explainer.into_longest())),
     }
+}
+
+/// Returns how many calls the machine's history has room for, and serials are left for.
+fn calls_left(machine: &Machine) -> u64
+    ensures { (scripts : List (List Step)) → result ≡ calls_left (setting machine.now scripts) }
+{
+    let records = machine.history().len() as u64;
+    let room = machine.layout().history().saturating_sub(records);
+    room.min(u64::MAX - machine.last_serial())
 }

@@ -10,9 +10,23 @@
 //! Read specs/Explaining first, then specs/Explainers.
 #![tactic(auto)]
 
+mod answer_lines;
+mod answer_objects;
+mod answer_words;
+mod answers;
+mod answers_fault;
+mod explain_fault;
 mod explainer;
 mod explaining;
 mod observed;
+mod seen_scripts;
+mod standing;
+mod telling;
+mod unexplained;
 
+pub use answers::read_answers;
+pub use answers_fault::AnswersFault;
+pub use explain_fault::ExplainFault;
 pub use explaining::{Explanation, explain};
 pub use observed::{Observed, ObservedLine, ObservedScript};
+pub use telling::{ExplainResult, ExplainText, explain_text};

@@ -4,3 +4,4 @@ pub mod Faults
 pub mod Needs
 pub mod Scripts
 pub mod Shown
+pub mod Statuses

@@ -1,6 +1,7 @@
 //! The command line: the words of the program, each with what it does and its arguments.
 
 use crate::arguments::{Argument, arg_of};
+use crate::explain_words::EXPLAIN;
 use crate::live_arguments::LIVE;
 use crate::search_words::{EXPLORE, SUM};
 use crate::show_words::{CHECK, JUDGE, TRACE};
@@ -16,7 +17,7 @@ struct CommandWord {
 }
 
 /// The subcommands of the program.
-const WORDS: [CommandWord; 6] = [
+const WORDS: [CommandWord; 7] = [
     CommandWord {
         name: "check",
         about: "Writes what is wrong with a scenario and where; the status is 0 where there are no faults",
@@ -31,6 +32,11 @@ const WORDS: [CommandWord; 6] = [
         name: "sum",
         about: "Adds up the parts that explore --part wrote, and tells the whole as explore does",
         arguments: &SUM,
+    },
+    CommandWord {
+        name: "explain",
+        about: "Finds an order of the calls in which each line is answered as it was in threads, or that there is none",
+        arguments: &EXPLAIN,
     },
     CommandWord {
         name: "trace",
@@ -66,9 +72,9 @@ fn without_words<'a>(alloc: Global) -> Command<'a> {
         .after_help(
             "Exit status: 0; 1 after a fault, which standard error names, and after a check that \
              finds faults (warnings alone: 0); 2 for a wrong command line; 3 where --find finds \
-             nothing, where --never finds something, where either is ended before it knows, where \
-             no end has the number of --scenario, where explore stops at its limit (but for \
-             --scenario), and where a log is unlawful.",
+             nothing, where --never finds something, where no order explains answers, where any of \
+             these is ended before it knows, where no end has the number of --scenario, where \
+             explore stops at its limit (but for --scenario), and where a log is unlawful.",
         )
         .subcommand_required(true)
 }

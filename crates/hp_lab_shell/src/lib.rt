@@ -6,8 +6,9 @@
 //! word's defaults and limits, what a word needs of a scenario, and the exit status where nothing
 //! is answered. hp_check, hp_trace and hp_svg make the texts of `check` and `trace`, and
 //! hp_step_logs the lines of a log; it joins them, each with its status. hp_verdicts does all of
-//! `judge` but the command line. What clap makes of the command line, and what a file or a stream
-//! gives or takes, no contract can say: that is tried on the built program.
+//! `judge` but the command line, and hp_explain all of `explain`. What clap makes of the command
+//! line, and what a file or a stream gives or takes, no contract can say: that is tried on the built
+//! program.
 //!
 //! Read src/command.rt, src/words.rt and src/laboratory.rt first, then specs/Needs and
 //! specs/Checks.
@@ -17,6 +18,8 @@ mod arguments;
 mod budgets;
 mod checks;
 mod command;
+mod explain_words;
+mod explaining;
 mod files;
 mod judging;
 mod laboratory;

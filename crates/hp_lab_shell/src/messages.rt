@@ -29,6 +29,13 @@ pub(crate) fn say_no_line(rt: &HostRuntime, text: &str) -> Result<(), AllocError
     Ok(())
 }
 
+/// Prints on standard error that no scenario is written, although one was asked for.
+pub(crate) fn say_no_scenario(rt: &HostRuntime) {
+    let _ = eprintln!(rt;
+        "hotplug_lab: no such interleaving was found, so no scenario is written"
+    );
+}
+
 /// Returns the name of a file, or `None` for standard input, which `-` names.
 pub(crate) fn file_name(name: &str) -> Option<&str> {
     if name == "-" { None } else { Some(name) }

@@ -1,15 +1,18 @@
 //! The command line, from its words to the exit status.
 
 use crate::command::lab_command;
+use crate::explaining::serve_explain;
 use crate::files::bytes_of;
 use crate::judging::serve_judge;
 use crate::laboratory::{Laboratory, Served};
 use crate::live::serve_live;
-use crate::messages::{file_name, say_fault, say_no_line, say_unbegun, say_words};
+use crate::messages::{
+    file_name, say_fault, say_no_line, say_no_scenario, say_unbegun, say_words,
+};
 use crate::output::Output;
 use crate::progress::{Progress, Watching, shown_on};
 use crate::words::{
-    Request, Word, is_past_the_found, lacks_scenario, part_from, request_from, texts_from,
+    ONE_FOUND, Request, Word, is_past_the_found, lacks_scenario, part_from, request_from, texts_from,
 };
 use clap::ArgMatches;
 use clap::error::ErrorKind;
@@ -134,9 +137,7 @@ fn told_status(
         Ok(served) => {
             say_unbegun(rt, &served.unbegun);
             if lacks_scenario(word, served.status) {
-                let _ = eprintln!(rt;
-                    "hotplug_lab: no such interleaving was found, so no scenario is written"
-                );
+                say_no_scenario(rt);
             }
             Ok(served.status)
         }
@@ -184,6 +185,7 @@ fn serve_matches<L: Laboratory, T: Threads + Sync>(
     matches: &ArgMatches<'_>,
 ) -> Result<u8, LabProgramFault> {
     match matches.subcommand() {
+        Some(("explain", words)) => Ok(serve_explain(rt, words)),
         Some(("judge", words)) => Ok(serve_judge(rt, words)),
         Some(("live", words)) => Ok(serve_live(rt, words)),
         _ => serve_scenario(rt, lab, threads, matches),
@@ -198,7 +200,7 @@ fn serve_scenario<L: Laboratory, T: Threads + Sync>(
     matches: &ArgMatches<'_>,
 ) -> Result<u8, LabProgramFault> {
     if is_past_the_found(matches) {
-        let _ = eprintln!(rt; "hotplug_lab: a search tells one interleaving: --scenario 1");
+        let _ = eprintln!(rt; "hotplug_lab: {ONE_FOUND}");
         return Ok(2);
     }
     let Some(wanted) = wanted_from(rt, matches)? else {
@@ -253,8 +255,8 @@ fn run_words<L: Laboratory, T: Threads + Sync>(
 }
 
 /// Runs the program and returns its exit status: 0; 1 after a fault, which standard error names, and
-/// if a check finds one; 2 if the words are wrong; 3 if a search does not find what was asked for,
-/// and if a log is unlawful.
+/// if a check finds one; 2 if the words are wrong; 3 if a search does not find what was asked for, if no
+/// order explains answers, and if a log is unlawful.
 pub fn run_program<L: Laboratory, T: Threads + Sync>(
     rt: &HostRuntime,
     lab: &L,

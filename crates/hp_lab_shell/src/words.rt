@@ -34,6 +34,9 @@ pub(crate) const WIDTH: u64 = 200;
 /// Printed if there is no such subcommand; clap asks for one before.
 const NO_WORD: &str = "there is no such word";
 
+/// Printed if the scenario is asked for of a number that a search does not have.
+pub(crate) const ONE_FOUND: &str = "a search tells one interleaving: --scenario 1";
+
 /// The most threads.
 const MOST_JOBS: u64 = 256;
 
@@ -213,6 +216,11 @@ fn budgets_from(name: &str, words: &ArgMatches<'_>) -> Budgets {
     } else {
         None
     };
+    budgets_of(words, limit)
+}
+
+/// Returns how far a search with this limit on its states may go.
+pub(crate) fn budgets_of(words: &ArgMatches<'_>, limit: Option<u64>) -> Budgets {
     let memory = words.get_one::<u64>(MEMORY).unwrap_or(MEMORY_MIB);
     Budgets {
         limit,
@@ -356,7 +364,7 @@ fn ends_form_from(words: &ArgMatches<'_>) -> EndsForm {
 }
 
 /// Returns the form of the interleaving that a search finds.
-fn schedule_form_from(words: &ArgMatches<'_>) -> ScheduleForm {
+pub(crate) fn schedule_form_from(words: &ArgMatches<'_>) -> ScheduleForm {
     match words.get_one::<u64>(SCENARIO) {
         Some(_) => ScheduleForm::Scenario,
         None if words.get_flag(JSON) => ScheduleForm::Object,

@@ -11,31 +11,32 @@ use Rattle.hp_explain.proofs.Orders.{explain_cause, none_found, start_explained}
 use Rattle.hp_explain.proofs.explaining.explain.Goals as goal
 
 pub first_sought-requires-clause-admitted : goal.first_sought-requires-clause-admitted
-first_sought-requires-clause-admitted g c =
-    start_explained (setting c.args.machine.now c.args.scripts.now) c.new-explainer.result.seen.now
+first_sought-requires-clause-admitted g c = (
+  start_explained (setting c.args.machine.now c.args.scripts.now) c.new-explainer.result.seen.now,
+  c.new-explainer.ensures.room ∙ c.calls_left.ensures c.args.scripts.now,
+)
 
 pub returns-in_err-order-clause-err : goal.returns-in_err-order-clause-err
 returns-in_err-order-clause-err g c =
     let p = err_from_is_err_and c.from_residual.result c.from_residual.ensures.1 in
     let found = c.first_sought.new.aim in
     rw (p.1, p.2)
-    (explain_cause (setting c.args.machine.now c.args.scripts.now) c.args.seen.now found.seen.now
-    found.longest.items _ (c.first_sought.ensures.becomes.0 ∙ c.new-explainer.ensures.seen)
-    c.in_err-order.ensures.err)
+    (explain_cause (setting c.args.machine.now c.args.scripts.now) found.seen.now found.room
+    found.longest.items _ c.in_err-order.ensures.err)
 
 pub returns-in-None-clause-ok : goal.returns-in-None-clause-ok
 returns-in-None-clause-ok g c =
     let start = setting c.args.machine.now c.args.scripts.now in
     let found = c.first_sought.new.aim in
     let became = c.first_sought.ensures.becomes in
-    let none : IsFirstSought start (aim_of start found.seen.now found.longest.items) None =
+    let none : IsFirstSought start (aim_of start found.seen.now found.room found.longest.items) None =
     subst (λ (o : Option (Vec Cpu Global)).
-    IsFirstSought start (aim_of start found.seen.now found.longest.items) (option_map (λ s. s.items) o))
+    IsFirstSought start (aim_of start found.seen.now found.room found.longest.items) (option_map (λ s. s.items) o))
     c.in-None.is c.in_ok-order.ensures.ok in
     let begun : IsExplained start c.args.seen.now found.longest.items =
     rw (← c.new-explainer.ensures.seen)
-    (became.2
+    (became.3
     (rw c.new-explainer.ensures.none (start_explained start c.new-explainer.result.seen.now))) in
     rw (ap (λ (v : Vec Cpu Global). v.items) c.into_longest.ensures)
-    (none_found start c.args.seen.now found.seen.now found.longest.items
+    (none_found start c.args.seen.now found.seen.now found.room found.longest.items
     (became.0 ∙ c.new-explainer.ensures.seen) none begun)

@@ -5,4 +5,4 @@ use Rattle.hp_explain.proofs.explainer.ExplainerAim.is_met.Goals as goal
 pub returns-then-branch-clause-found : goal.returns-then-branch-clause-found
 returns-then-branch-clause-found c =
     λ met. order_met c.args.path.now.setting c.args.self.now.seen.now c.args.schedule.now c.args.path.now.news
-    c.requires.schedule c.is_played.ensures c.requires.admitted (c.in_ok-is_over.ensures.0 c.if-branch.true)
+    c.requires.schedule c.is_played.ensures c.requires.admitted.0 (c.in_ok-is_over.ensures.0 c.if-branch.true)

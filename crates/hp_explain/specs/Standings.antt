@@ -1,0 +1,88 @@
+-- Where a processor stands in its script after new records, and what comes next for it.
+use Rattle.std.specs.Prelude.{◌≡◌, ◌⊎◌, ℕ, List, [], ◌∷◌, ◌++◌, Option, Some, None, length, slice_get, option_map}
+use Rattle.std.specs.Option.{option_map_or}
+use Rattle.hp_units.specs.declared.events.Event.{Event}
+use Rattle.hp_units.specs.declared.replies.Record.{Record}
+use Rattle.hp_schedules.specs.LineAnswers.{answers_at}
+use Rattle.hp_schedules.specs.Schedules.{Setting, next_call, plays, record_of_call}
+use Rattle.hp_schedules.specs.declared.line_answers.LineAnswer.{LineAnswer}
+use Rattle.hp_explore.specs.Faults.{FillsHere}
+use Rattle.hp_explore.specs.Paths.{PathValue}
+use Rattle.hp_explain.specs.Explaining.{AreOverBefore, MayRun}
+use Rattle.hp_explain.specs.declared.observed.ObservedLine.{ObservedLine}
+use Rattle.hp_explain.specs.declared.standing.Next.{Next}
+use Rattle.hp_explain.specs.declared.standing.Next.TheVariants.{Answered, Finished, GoesOn, HistoryFull, Waits}
+use Rattle.hp_explain.specs.declared.standing.Standing.{Standing}
+use Rattle.hp_explain.specs.declared.standing.Unfinished.{Unfinished}
+
+-- the processor has finished as many lines, and its next one was answered before the time
+abbrev pub IsUnfinished : Setting → List (List ObservedLine) → List Record → (time : ℕ) → Unfinished → Type 0
+IsUnfinished g seen news time u =
+    (lines : List ObservedLine) × (slice_get seen u.cpu ≡ Some lines)
+    × (u.line ≡ length (answers_at g u.cpu news)) × (AreOverBefore lines u.line time → ⊥)
+
+-- the processor's next line began after a line that is not finished was answered
+abbrev pub IsWaiting : Setting → List (List ObservedLine) → List Record → (cpu : ℕ) → Unfinished → Type 0
+IsWaiting g seen news cpu u =
+    (lines : List ObservedLine) × (one : ObservedLine) × (slice_get seen cpu ≡ Some lines)
+    × (slice_get lines (length (answers_at g cpu news)) ≡ Some one) × IsUnfinished g seen news one.from u
+
+-- it did, or it may run
+abbrev pub IsWaitingFor : Setting → List (List ObservedLine) → List Record → (cpu : ℕ) → Option Unfinished
+    → Type 0
+IsWaitingFor g seen news cpu (Some u) = IsWaiting g seen news cpu u
+IsWaitingFor g seen news cpu None = MayRun g seen news cpu
+
+-- ---- answers
+
+-- the new records add this to the answers to the processor's lines
+abbrev pub Adds : Setting → (cpu : ℕ) → (before news : List Record) → List (Option LineAnswer) → Type 0
+Adds g cpu before news more = answers_at g cpu news ≡ answers_at g cpu before ++ more
+
+-- what the latest call gave the processor's line
+abbrev pub IsLatestAnswer : Setting → (cpu : ℕ) → (before news : List Record) → Next → Type 0
+IsLatestAnswer g cpu before news (Answered answer) = Adds g cpu before news (Some answer ∷ [])
+IsLatestAnswer g cpu before news GoesOn = Adds g cpu before news [] ⊎ Adds g cpu before news (None ∷ [])
+IsLatestAnswer g cpu before news next = ⊥
+
+-- the processor's next call gives its line this
+abbrev pub IsNextAnswer : Setting → List Record → (cpu : ℕ) → Next → Type 0
+IsNextAnswer g news cpu next =
+    (event : Event) × (next_call g cpu news ≡ Some event)
+    × IsLatestAnswer g cpu news (news ++ record_of_call g news cpu event ∷ []) next
+
+-- what comes next for the processor
+abbrev pub IsNext : Setting → List (List ObservedLine) → List Record → (cpu : ℕ) → Next → Type 0
+IsNext g seen news cpu Finished = next_call g cpu news ≡ None
+IsNext g seen news cpu (Waits u) = IsWaiting g seen news cpu u
+IsNext g seen news cpu (Answered answer) = MayRun g seen news cpu × IsNextAnswer g news cpu (Answered answer)
+IsNext g seen news cpu GoesOn = MayRun g seen news cpu × IsNextAnswer g news cpu GoesOn
+IsNext g seen news cpu HistoryFull = MayRun g seen news cpu × FillsHere g news cpu
+
+-- the lines that were seen of a processor; none if there is no such processor
+abbrev pub seen_of : List (List ObservedLine) → (cpu : ℕ) → List ObservedLine
+seen_of seen cpu = option_map_or (λ lines. lines) (slice_get seen cpu) []
+
+-- how many of its lines the processor has finished, what was seen of the next one, and what comes next
+pub record IsStanding (g : Setting) (seen : List (List ObservedLine)) (news : List Record) (cpu : ℕ)
+    (s : Standing) : Type 0 where
+  pub cpu_is : s.cpu ≡ cpu
+  pub finished : s.finished ≡ length (answers_at g cpu news)
+  pub lines : s.lines ≡ length (seen_of seen cpu)
+  pub seen_is : s.seen ≡ option_map (λ one. one.answer) (slice_get (seen_of seen cpu) s.finished)
+  pub next : IsNext g seen news cpu s.next
+
+-- the same of each processor below a number
+abbrev pub AreStandingsBelow : Setting → List (List ObservedLine) → List Record → (cpus : ℕ) → List Standing
+    → Type 0
+AreStandingsBelow g seen news cpus all =
+    (length all ≡ cpus)
+    × ((cpu : ℕ) (s : Standing) → slice_get all cpu ≡ Some s → IsStanding g seen news cpu s)
+
+-- the same of all processors
+abbrev pub AreStandings : Setting → List (List ObservedLine) → List Record → List Standing → Type 0
+AreStandings g seen news all = AreStandingsBelow g seen news (length seen) all
+
+-- the path is where the schedule of the setting leads
+abbrev pub IsAlong : Setting → (schedule : List ℕ) → PathValue → Type 0
+IsAlong g schedule path = (path.setting ≡ g) × (plays g schedule ≡ Some path.news)

@@ -1,0 +1,82 @@
+-- What is reported of the order that explains answers.
+use Rattle.std.specs.Prelude.{◌≡◌, ◌≤◌, ℕ, false, true, List, [], codes, length, map}
+use Rattle.hp_schedules.specs.Orders.{IsBefore}
+use Rattle.hp_schedules.specs.Schedules.{Setting}
+use Rattle.hp_schedules.specs.declared.scripts.Step.{Step}
+use Rattle.hp_explore.specs.Reaching.{HasRoomAlong}
+use Rattle.hp_explore.specs.declared.exploring.ExploreFault.{ExploreFault}
+use Rattle.hp_explore.specs.declared.exploring.ExploreFault.TheVariants.{HistoryFull, OutOfMemory}
+use Rattle.hp_scenario.specs.declared.lines.Line.{Line}
+use Rattle.hp_search.specs.Faults.{IsFaultWith}
+use Rattle.hp_search.specs.FoundTexts.{found_text}
+use Rattle.hp_search.specs.Holding.{HoldsIn, InScenario, IsStoppedAfter}
+use Rattle.hp_search.specs.declared.forms.ScheduleForm.{ScheduleForm}
+use Rattle.hp_search.specs.declared.forms.ScheduleForm.TheVariants.{Words, Object, Scenario}
+use Rattle.hp_explain.specs.AnswerObjects.{AreObjectsOf}
+use Rattle.hp_explain.specs.Answers.{IsRunText, are_objects}
+use Rattle.hp_explain.specs.Explaining.{Explains, IsExplained}
+use Rattle.hp_explain.specs.declared.explain_fault.ExplainFault.{ExplainFault}
+use Rattle.hp_explain.specs.declared.explain_fault.ExplainFault.TheVariants.{Answers, Lab}
+use Rattle.hp_explain.specs.declared.explaining.Explanation.{Explanation}
+use Rattle.hp_explain.specs.declared.explaining.Explanation.TheVariants as found
+use Rattle.hp_explain.specs.declared.observed.ObservedLine.{ObservedLine}
+use Rattle.hp_explain.specs.declared.telling.ExplainResult.{ExplainResult}
+use Rattle.hp_explain.specs.declared.telling.ExplainResult.TheVariants.{Explained, Unexplained, Unknown}
+
+-- it is not known whether an order explains the answers; there is no scenario then
+abbrev pub unknown_told : ScheduleForm → List ℕ
+unknown_told Words = codes "explained: unknown\n"
+unknown_told Object = codes "{\"found\": null}\n"
+unknown_told Scenario = []
+
+-- ---- on a machine
+
+-- the text has the first schedule that explains what was seen, as a search for an end writes the one
+-- that it found, and the history has room for its calls; or no schedule explains it, and there is a
+-- longest explained beginning; or this is not known
+abbrev pub IsExplainedOn : ScheduleForm → (names : List (List ℕ)) → (before : List Line) → Setting
+    → List (List ObservedLine) → (text : List ℕ) → ExplainResult → Type 0
+IsExplainedOn form names before g seen text Explained =
+    (schedule : List ℕ) × Explains g seen schedule
+    × ((s : List ℕ) → Explains g seen s → IsBefore s schedule → ⊥) × HasRoomAlong g schedule
+    × (text ≡ found_text form names before g schedule)
+IsExplainedOn form names before g seen text Unexplained =
+    (longest : List ℕ) × ((s : List ℕ) → Explains g seen s → ⊥) × IsExplained g seen longest
+    × ((s : List ℕ) → IsExplained g seen s → length s ≤ length longest)
+IsExplainedOn form names before g seen text Unknown = text ≡ unknown_told form
+
+-- the text is that of a schedule that explains what was seen; or it reports that there is none
+abbrev pub IsExplanationTold : ScheduleForm → (names : List (List ℕ)) → (before : List Line) → Setting
+    → Explanation → (text : List ℕ) → ExplainResult → Type 0
+IsExplanationTold form names before g (found.Explained schedule) text result =
+    (text ≡ found_text form names before g schedule.items) × (result ≡ Explained)
+IsExplanationTold form names before g (found.Unexplained longest) text result = result ≡ Unexplained
+
+-- ---- in a scenario
+
+-- a processor for each script was seen, with an answer for each line; in words, the text is what
+-- `hotplug run` prints of these answers, and else it has an object for each
+abbrev pub AreAnswers : (answers : List ℕ) → List (List Step) → List (List ObservedLine) → Type 0
+AreAnswers answers scripts seen =
+    (map length seen ≡ map length scripts) × (are_objects answers ≡ false → IsRunText answers seen)
+    × (are_objects answers ≡ true → AreObjectsOf answers seen)
+
+-- the answers can be read as those of the setting's scripts, and this holds of what they say
+abbrev pub OfAnswers : (answers : List ℕ) → Setting → (List (List ObservedLine) → Type 0) → Type 0
+OfAnswers answers g P = (seen : List (List ObservedLine)) × AreAnswers answers g.scripts seen × P seen
+
+-- the text is that of a search in the scenario, all of whose lines are in scripts
+abbrev pub IsExplainingOf : ScheduleForm → (input answers : List ℕ) → (text : List ℕ) → ExplainResult → Type 0
+IsExplainingOf form input answers text result =
+    HoldsIn (λ names before g. OfAnswers answers g
+    (λ seen. IsExplainedOn form names before g seen text result)) input 0
+
+-- why a call fails in the search: never since the history is full
+abbrev pub IsExplainingCause : Setting → ExploreFault → Type 0
+IsExplainingCause g HistoryFull = ⊥
+IsExplainingCause g OutOfMemory = Unit {0}
+
+-- when each fault comes
+abbrev pub IsExplainFaultOf : (input answers : List ℕ) → ExplainFault → Type 0
+IsExplainFaultOf input answers (Lab fault) = IsFaultWith IsExplainingCause input 0 fault
+IsExplainFaultOf input answers (Answers fault) = InScenario input (IsStoppedAfter (λ g. Unit {0}) 0)

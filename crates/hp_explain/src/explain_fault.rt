@@ -1,0 +1,54 @@
+//! Why no order was searched.
+ghost use Rattle.std.specs.Prelude.{◌≡◌};
+ghost use Rattle.hp_search.specs.declared.lab_fault.LabFault.TheVariants.{OutOfMemory};
+ghost use Rattle.hp_explain.specs.declared.explain_fault.ExplainFault.TheVariants.{Answers, Lab};
+
+use crate::answers_fault::AnswersFault;
+use hp_search::LabFault;
+use std::alloc::AllocError;
+use std::error::Error;
+use std::fmt;
+
+/// Why no order was searched that explains answers. Out of memory may come in place of any other.
+#[derive(Clone, Copy, Debug, PartialEq, Eq, Drop)]
+pub enum ExplainFault {
+    /// The scenario cannot be read or searched.
+    Lab(LabFault),
+    /// The answers cannot be read.
+    Answers(AnswersFault),
+}
+
+impl fmt::Display for ExplainFault {
+    fn fmt<W: fmt::Write>(&self, f: &mut fmt::Formatter<W>) -> fmt::Result {
+        match self {
+            ExplainFault::Lab(fault) => write!(f, "{fault}"),
+            ExplainFault::Answers(fault) => write!(f, "{fault}"),
+        }
+    }
+}
+
+impl Error for ExplainFault {}
+
+impl From<AllocError> for ExplainFault {
+    ghost from_gives = { λ _ e. e ≡ Lab OutOfMemory };
+
+    fn from(_e: AllocError) -> ExplainFault {
+        ExplainFault::Lab(LabFault::OutOfMemory)
+    }
+}
+
+impl From<LabFault> for ExplainFault {
+    ghost from_gives = { λ fault e. e ≡ Lab fault };
+
+    fn from(fault: LabFault) -> ExplainFault {
+        ExplainFault::Lab(fault)
+    }
+}
+
+impl From<AnswersFault> for ExplainFault {
+    ghost from_gives = { λ fault e. e ≡ Answers fault };
+
+    fn from(fault: AnswersFault) -> ExplainFault {
+        ExplainFault::Answers(fault)
+    }
+}

@@ -1,0 +1,226 @@
+//! The order that explains answers, as text.
+ghost use Rattle.std.specs.Prelude.{◌≡◌, ◌++◌, ◌^◌, ◌<◌, ◌⊎◌, IfErr, IfOk, OnOk, length, option_map, string_bytes};
+ghost use Rattle.hp_explore.specs.declared.exploring.ExploreFault.TheVariants.{OutOfMemory};
+ghost use Rattle.hp_explore.specs.declared.fault.FindFault.TheVariants.{Stopped};
+ghost use Rattle.hp_explore.specs.FindFaults.{find_fault_from};
+ghost use Rattle.hp_search.specs.FoundTexts.{found_text, schedule_text};
+ghost use Rattle.hp_search.specs.Prepared.{before_of, names_of, setting_of};
+ghost use Rattle.hp_explain.specs.Explaining.{IsExplainCause};
+ghost use Rattle.hp_explain.specs.Telling.{IsExplainFaultOf, IsExplainedOn, IsExplainingOf, IsExplanationTold, unknown_told};
+ghost use Rattle.hp_explain.specs.declared.telling.ExplainResult.TheVariants.{Unknown};
+
+use crate::answers::read_answers;
+use crate::explain_fault::ExplainFault;
+use crate::explaining::{Explanation, explain};
+use crate::observed::Observed;
+use crate::standing::{Standing, path_along, standings_of};
+use crate::unexplained::{write_unexplained, write_unexplained_object};
+use hp_explore::{ExploreFault, FindFault, Watch, changes_of};
+use hp_search::{Prepared, ScheduleForm, found_object, nearest_text, prepare};
+use hp_units::{Cpu, Record, Text};
+use indexmap::IndexSet;
+use std::alloc::{AllocError, Global};
+
+/// What a search for an order that explains answers came to.
+#[derive(Clone, Copy, Debug, PartialEq, Eq, Drop)]
+pub enum ExplainResult {
+    /// An order explains them.
+    Explained,
+    /// No order does.
+    Unexplained,
+    /// The search was ended before it knew.
+    Unknown,
+}
+
+/// The result of a search for an order that explains answers, with its text.
+#[derive(Drop)]
+pub struct ExplainText {
+    /// The order that was found, or a text that reports that there is none, or that it is not known.
+    pub text: String,
+    /// What the search came to.
+    pub result: ExplainResult,
+}
+
+/// Searches the scenario in `scenario` for the first order of all calls in which each line is
+/// answered as `answers` has it, processor 0 first. Each line is in the script of its processor, and
+/// a plan's calls are interleaved one by one with those of other processors. `read_answers` documents
+/// the form of the answers, and `explain` the search.
+///
+/// If there is such an order, the text has it as `find_text` writes what it found. If there is none,
+/// the text has the longest beginning of one, where each processor is after it, and what its next
+/// line would be answered. As a scenario the text is empty then. If `watch` ended the search, the
+/// text reports that nothing is known.
+///
+/// # Errors
+///
+/// Those of reading the scenario, with the first line that may not be in a script; those of reading
+/// the answers; `OutOfMemory`, which may come in place of any other result. `HistoryFull` never: an
+/// order with a call for which the history has no room explains nothing.
+pub fn explain_text<W: Watch>(
+    alloc: Global,
+    scenario: &[u8],
+    answers: &[u8],
+    form: ScheduleForm,
+    watch: &mut W,
+) -> Result<ExplainText, ExplainFault>
+    ensures ok { IfOk result (λ f.
+        IsExplainingOf form scenario.now answers.now (string_bytes f.text) f.result) }
+    ensures unknown { IfOk result (λ f. f.result ≡ Unknown → W.has_ended watch.new) }
+    ensures err { IfErr result (IsExplainFaultOf scenario.now answers.now) }
+{
+    let prepared = prepare(alloc, scenario, 0)?;
+    let seen = read_answers(alloc, answers, prepared.start.scripts.as_slice())?;
+    match explained(alloc, &prepared, &seen, form, watch) {
+        Ok(told) => Ok(told),
+        Err(fault) => Err(ExplainFault::Lab(prepared.told_fault(alloc, fault))),
+    }
+}
+
+/// Searches a prepared scenario and returns the result as text in `form`.
+fn explained<W: Watch>(
+    alloc: Global,
+    prepared: &Prepared,
+    seen: &Observed,
+    form: ScheduleForm,
+    watch: &mut W,
+) -> Result<ExplainText, ExploreFault>
+    requires { length prepared.now.start.scripts.items < 2 ^ 32 }
+    ensures ok { IfOk result (λ f. IsExplainedOn form (names_of prepared.now) (before_of prepared.now)
+        (setting_of prepared.now) seen.now (string_bytes f.text) f.result) }
+    ensures unknown { IfOk result (λ f. f.result ≡ Unknown → W.has_ended watch.new) }
+    ensures err { IfErr result
+        (λ fault. IsExplainCause (find_fault_from fault)) }
+{
+    let machine = &prepared.start.machine;
+    let scripts = prepared.start.scripts.as_slice();
+    match explain(alloc, machine, scripts, seen, watch) {
+        Ok(explanation) => {
+            let told = explanation_told(alloc, prepared, seen, &explanation, form)?;
+            Ok(told)
+        }
+        Err(fault) => unknown_or(alloc, form, fault),
+    }
+}
+
+/// Returns the text of a search that was ended, or the fault of one that failed.
+fn unknown_or(alloc: Global, form: ScheduleForm, fault: FindFault) -> Result<ExplainText, ExploreFault>
+    ensures ok { IfOk result (λ f.
+        (fault ≡ Stopped) × (f.result ≡ Unknown) × (string_bytes f.text ≡ unknown_told form)) }
+    ensures err { IfErr result (λ e. (find_fault_from e ≡ fault) ⊎ (e ≡ OutOfMemory)) }
+{
+    match fault {
+        FindFault::HistoryFull => Err(ExploreFault::HistoryFull),
+        FindFault::OutOfMemory => Err(ExploreFault::OutOfMemory),
+        FindFault::Stopped => {
+            let told = unknown_told(form);
+            let text = format!(in alloc; "{told}")?;
+            Ok(ExplainText {
+                text,
+                result: ExplainResult::Unknown,
+            })
+        }
+    }
+}
+
+/// Returns what a search found, as text in `form`. Replays the schedule.
+fn explanation_told(
+    alloc: Global,
+    prepared: &Prepared,
+    seen: &Observed,
+    explanation: &Explanation,
+    form: ScheduleForm,
+) -> Result<ExplainText, AllocError>
+    ensures { IfOk result (λ f. IsExplanationTold form (names_of prepared.now) (before_of prepared.now)
+        (setting_of prepared.now) explanation.now (string_bytes f.text) f.result) }
+{
+    match explanation {
+        Explanation::Explained(schedule) => {
+            let text = schedule_told(alloc, prepared, schedule.as_slice(), form)?;
+            Ok(ExplainText {
+                text,
+                result: ExplainResult::Explained,
+            })
+        }
+        Explanation::Unexplained(longest) => {
+            let text = longest_told(alloc, prepared, seen, longest.as_slice(), form)?;
+            Ok(ExplainText {
+                text,
+                result: ExplainResult::Unexplained,
+            })
+        }
+    }
+}
+
+/// Returns a schedule of the scripts and its calls as text in `form`. Replays the schedule.
+fn schedule_told(
+    alloc: Global,
+    prepared: &Prepared,
+    schedule: &[Cpu],
+    form: ScheduleForm,
+) -> Result<String, AllocError>
+    ensures { IfOk result (λ text. string_bytes text ≡ found_text form (names_of prepared.now)
+        (before_of prepared.now) (setting_of prepared.now) schedule.now) }
+{
+    // The search has made these calls, so only memory can run out.
+    let Ok(played) = prepared.played(alloc, schedule) else {
+        return Err(AllocError);
+    };
+    let text = text_of(alloc, prepared, schedule, prepared.calls_of(&played), form)?;
+    Ok(text)
+}
+
+/// Returns a schedule and its calls as text in `form`.
+fn text_of(
+    alloc: Global,
+    prepared: &Prepared,
+    schedule: &[Cpu],
+    calls: Option<&[Record]>,
+    form: ScheduleForm,
+) -> Result<String, AllocError>
+    ensures { IfOk result (λ text. string_bytes text
+        ≡ schedule_text form (names_of prepared.now) (before_of prepared.now)
+        (setting_of prepared.now).layout schedule.now (option_map (λ c. c.now) calls.entry)) }
+{
+    let names = &prepared.scenario.names;
+    match form {
+        ScheduleForm::Words => nearest_text(alloc, names, changes_of(schedule), calls),
+        ScheduleForm::Object => found_object(alloc, names, changes_of(schedule), calls),
+        ScheduleForm::Scenario => prepared.replay_of(alloc, calls),
+    }
+}
+
+/// Returns, as text in `form`, that no order explains the answers, with the longest beginning of one
+/// and where the processors stand after it. As a scenario there is no text. Replays the schedule.
+fn longest_told(
+    alloc: Global,
+    prepared: &Prepared,
+    seen: &Observed,
+    longest: &[Cpu],
+    form: ScheduleForm,
+) -> Result<String, AllocError> {
+    let machine = &prepared.start.machine;
+    let scripts = prepared.start.scripts.as_slice();
+    let mut path = path_along(alloc, machine, scripts, longest)?;
+    let standings = standings_of(alloc, &mut path, seen)?;
+    let mut text = String::new(alloc);
+    let names = &prepared.scenario.names;
+    let calls = path.records();
+    match form {
+        ScheduleForm::Words => write_unexplained(&mut text, names, calls, &standings)?,
+        ScheduleForm::Object => write_unexplained_object(&mut text, names, calls, &standings)?,
+        ScheduleForm::Scenario => {}
+    }
+    Ok(text)
+}
+
+/// Returns, as text in `form`, that it is not known whether an order explains the answers. As a
+/// scenario there is no text.
+fn unknown_told(form: ScheduleForm) -> &'static str
+    ensures { result.now ≡ unknown_told form }
+{
+    match form {
+        ScheduleForm::Words => "explained: unknown\n",
+        ScheduleForm::Object => "{\"found\": null}\n",
+        ScheduleForm::Scenario => "",
+    }
+}

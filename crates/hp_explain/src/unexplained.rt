@@ -1,0 +1,202 @@
+//! The text for answers that no order explains: the longest beginning of one, and where each processor
+//! stands after it.
+
+use crate::standing::{Next, Standing, Unfinished};
+use hp_schedules::LineAnswer;
+use hp_text::{write_calls, write_mark, write_plan_end, write_reply_words};
+use hp_units::{Record, Text};
+use indexmap::IndexSet;
+use std::alloc::AllocError;
+
+/// The separator of two values of a list.
+const BETWEEN: &str = ", ";
+
+// ---- words
+
+/// Writes that no order explains the answers, the calls of the longest beginning, and a line for each
+/// processor. Owners are written by name.
+pub(crate) fn write_unexplained(
+    out: &mut String,
+    names: &IndexSet<Text>,
+    calls: &[Record],
+    standings: &[Standing],
+) -> Result<(), AllocError> {
+    out.push_str("explained: none\nlongest beginning: ")?;
+    write_played(out, names, calls)?;
+    write_standings(out, standings)
+}
+
+/// Writes how many calls there are, and the calls as strings of a scenario's `calls`, one per line.
+fn write_played(
+    out: &mut String,
+    names: &IndexSet<Text>,
+    calls: &[Record],
+) -> Result<(), AllocError> {
+    let count = calls.len();
+    let noun = if count == 1 { "call" } else { "calls" };
+    writeln!(out, "{count} {noun}")?;
+    if count == 0 {
+        return Ok(());
+    }
+    write_calls(out, names, calls, ",\n")?;
+    out.push('\n')
+}
+
+/// Writes where each processor stands, one per line.
+fn write_standings(out: &mut String, standings: &[Standing]) -> Result<(), AllocError> {
+    for standing in standings {
+        write_standing(out, *standing)?;
+    }
+    Ok(())
+}
+
+/// Writes where a processor stands, as a line.
+fn write_standing(out: &mut String, standing: Standing) -> Result<(), AllocError> {
+    let cpu = standing.cpu;
+    write!(out, "cpu {cpu}: ")?;
+    write_next(out, standing)?;
+    out.push('\n')
+}
+
+/// Writes what comes next for a processor.
+fn write_next(out: &mut String, standing: Standing) -> Result<(), AllocError> {
+    match standing.next {
+        Next::Finished => out.push_str("finished"),
+        Next::Waits(unfinished) => {
+            write_line_number(out, standing)?;
+            write_waiting(out, unfinished)
+        }
+        Next::Answered(answer) => {
+            write_line_number(out, standing)?;
+            write_quoted(out, "would be answered ", Some(answer))?;
+            write_quoted(out, ", not ", standing.seen)
+        }
+        Next::GoesOn => {
+            write_line_number(out, standing)?;
+            out.push_str("would go on")?;
+            write_quoted(out, ", not be answered ", standing.seen)
+        }
+        Next::HistoryFull => {
+            write_line_number(out, standing)?;
+            out.push_str("has no room in the history")
+        }
+    }
+}
+
+/// Writes the number of a processor's next line, and how many lines it has.
+fn write_line_number(out: &mut String, standing: Standing) -> Result<(), AllocError> {
+    let number = number_of(standing.finished);
+    let lines = standing.lines;
+    write!(out, "line {number} of {lines} ")
+}
+
+/// Writes that a line began after this one was answered.
+fn write_waiting(out: &mut String, unfinished: Unfinished) -> Result<(), AllocError> {
+    let number = number_of(unfinished.line);
+    let cpu = unfinished.cpu;
+    write!(out, "began after line {number} of cpu {cpu} was answered")
+}
+
+/// Writes an answer in quotes, with words before it; nothing if there is none.
+fn write_quoted(
+    out: &mut String,
+    before: &str,
+    answer: Option<LineAnswer>,
+) -> Result<(), AllocError> {
+    match answer {
+        Some(answer) => {
+            write!(out, "{before}`")?;
+            write_line_answer(out, answer)?;
+            out.push('`')
+        }
+        None => Ok(()),
+    }
+}
+
+// ---- JSON
+
+/// Writes the same as an object of JSON.
+pub(crate) fn write_unexplained_object(
+    out: &mut String,
+    names: &IndexSet<Text>,
+    calls: &[Record],
+    standings: &[Standing],
+) -> Result<(), AllocError> {
+    out.push_str("{\"found\": false, \"first\": [")?;
+    write_calls(out, names, calls, BETWEEN)?;
+    out.push_str("], \"processors\": [")?;
+    write_standing_objects(out, standings)?;
+    out.push_str("]}\n")
+}
+
+/// Writes where each processor stands, as objects.
+fn write_standing_objects(out: &mut String, standings: &[Standing]) -> Result<(), AllocError> {
+    let mut is_first = true;
+    for standing in standings {
+        write_mark(out, BETWEEN, is_first)?;
+        write_standing_object(out, *standing)?;
+        is_first = false;
+    }
+    Ok(())
+}
+
+/// Writes where a processor stands, as an object.
+fn write_standing_object(out: &mut String, standing: Standing) -> Result<(), AllocError> {
+    let finished = standing.finished;
+    let lines = standing.lines;
+    write!(out, "{{\"finished\": {finished}, \"lines\": {lines}")?;
+    write_next_keys(out, standing.next)?;
+    write_answer_key(out, "answer", standing.seen)?;
+    out.push('}')
+}
+
+/// Writes what comes next for a processor, as keys of its object.
+fn write_next_keys(out: &mut String, next: Next) -> Result<(), AllocError> {
+    match next {
+        Next::Waits(unfinished) => {
+            let number = number_of(unfinished.line);
+            let cpu = unfinished.cpu;
+            write!(out, ", \"after\": {{\"cpu\": {cpu}, \"line\": {number}}}")
+        }
+        Next::Answered(answer) => write_answer_key(out, "next", Some(answer)),
+        Next::Finished => Ok(()),
+        Next::GoesOn => Ok(()),
+        Next::HistoryFull => Ok(()),
+    }
+}
+
+/// Writes an answer under a key; nothing if there is none.
+fn write_answer_key(
+    out: &mut String,
+    key: &str,
+    answer: Option<LineAnswer>,
+) -> Result<(), AllocError> {
+    match answer {
+        Some(answer) => {
+            write!(out, ", \"{key}\": \"")?;
+            write_line_answer(out, answer)?;
+            out.push('"')
+        }
+        None => Ok(()),
+    }
+}
+
+// ---- both
+
+/// Returns the number of a line, counted from 1, given its number counted from 0.
+fn number_of(line: usize) -> u128
+{
+    line as u128 + 1
+}
+
+/// Writes the answer to a line as `hotplug run` does, without a newline.
+fn write_line_answer(out: &mut String, answer: LineAnswer) -> Result<(), AllocError> {
+    match answer {
+        LineAnswer::Reply(reply) => write_reply_words(out, reply),
+        LineAnswer::Plan(end) => {
+            write_plan_end(out, end)?;
+            let _newline = out.pop();
+            Ok(())
+        }
+    }
+}
