@@ -116,9 +116,9 @@ SPOILED_OBJECTS = (
     ((FIRST, SECOND, FIRST, OTHER), "line 3 of the answers: processor 0 has fewer lines"),
     ((FIRST, OTHER), "processor 0: answers to 1 of 2 lines"),
     ((SECOND, FIRST), "processor 1: answers to 0 of 1 lines"),
-    (((0, "done", 5, 4), SECOND, OTHER), "line 1 of the answers: its times fall"),
-    (((0, "done", 1, 9), OTHER, (0, "frame 0", 1, 8)), "line 3 of the answers: its times fall"),
-    (((0, "done", 9), OTHER, (0, "frame 0", 1, 8)), "line 3 of the answers: its times fall"))
+    (((0, "done", 5, 4), SECOND, OTHER), "line 1 of the answers: its times are out of order"),
+    (((0, "done", 1, 9), OTHER, (0, "frame 0", 1, 8)), "line 3 of the answers: its times are out of order"),
+    (((0, "done", 9), OTHER, (0, "frame 0", 1, 8)), "line 3 of the answers: its times are out of order"))
 TIMED = (
     ((0, "done", 0, LAST), (0, "frame 0", LAST, LAST), (1, "done", 5)),
     ((1, "done", None, 3), "", FIRST, "", SECOND, ""),
