@@ -5,15 +5,15 @@ takes the folder of the crates:
 
     python3 docs/check_explain.py [CRATES [SEED [COUNT [SLACK]]]]   without: crates, 51, 150 and 1
 
-On COUNT scenarios that are drawn at random, with all events and plans and at most 150 orders, each
-with room in the history: an order's answers are explained, as words, and as JSON with times that
-were made from the order; so are those with one answer changed, with times of another order and with
-times drawn at random, where an order explains them. It is the first of these, printed as `--find`
-prints it, also with `--json`, and with `--scenario 1` as a scenario that `hotplug serial` answers
-so. Where none explains them that is printed, with the first of the longest explained beginnings,
-and of each processor how many of its lines are over, and what its next line would be answered or
-waits for. With a limit of states, no memory or no time the same is printed, or that nothing is
-known.
+On COUNT scenarios that are drawn at random, with all events and plans and at most 150 orders, for
+some of which the history may have no room: an order's answers are explained, as words, and as JSON
+with times that were made from the order; so are those with one answer changed, with times of
+another order and with times drawn at random, where an order explains them. It is the first of
+these, printed as `--find` prints it, also with `--json`, and with `--scenario 1` as a scenario that
+`hotplug serial` answers so. Where none explains them that is printed, with the first of the longest
+explained beginnings, and of each processor how many of its lines are over, and what its next line
+would be answered or waits for. With a limit of states, no memory or no time the same is printed, or
+that nothing is known.
 
 What `hotplug run` prints of scenarios with more lines is always explained. So is what the program
 of bench/peer prints, where there is cargo, and with the race that it can plant some run is not.
@@ -209,16 +209,36 @@ def check_seen(checks, programs, draw, scenario, orders, seen, answers):
     checks.holds(where, told[:2] == (status, text), f"says {told}, not {(status, text)}")
     checks.holds(where, told[2] == warnings_of(scenario), f"warns {told[2]!r}")
     ended, line, _ = programs.explain(scenario, answers, "--json")
-    is_so = line.count("\n") == 1 and (ended, json.loads(line)) == (status, value)
-    checks.holds(f"--json {where}", is_so, f"says {ended}, {line!r}, not {value}")
+    checks.holds(f"--json {where}", (ended, line) == (status, json.dumps(value) + "\n"),
+                 f"says {ended}, {line!r}, not {value}")
     check_replay(checks, programs, where, scenario, answers, order, seen)
     if not draw.randrange(8):
         check_budgets(checks, programs, draw, where, scenario, answers, (status, text))
 
 
+def drawn_answers(draw, orders, cpus):
+    """The answers of an order, often of one whose answers are not those of the first, and often
+    with one changed; and the order."""
+    odd = [it for it in orders if answers_in(it, cpus) != answers_in(orders[0], cpus)]
+    order = draw.choice(odd if odd and draw.randrange(2) else orders)
+    answers = answers_in(order, cpus)
+    return changed(draw, answers, orders, cpus) if draw.randrange(2) else answers, order
+
+
+def drawn_spans(draw, order, other, cpus):
+    """Times that fit an order, and times that need not."""
+    spans, others = spans_of(order, cpus), spans_of(other, cpus)
+    end = max(over for lines in spans for _, over in lines) + 1
+    yield [stretched(draw, lines, draw.choice((1, 10, 40))) for lines in spans]
+    if draw.randrange(2):
+        yield [stretched(draw, lines, draw.choice((1, 10, 40))) for lines in others]
+    else:
+        yield [random_spans(draw, len(lines), end) for lines in spans]
+
+
 def check_drawn(checks, programs, draw):
     """Checks a scenario that is drawn; it answers whether it has few enough orders, with room for
-    each."""
+    each. If plans make some orders longer, the history is mostly too short for these."""
     cpus = draw.choice((1, 2, 2, 2, 3, 3, 4))
     scenario = drawn_scenario(draw, (0, 0, 0, 1, 2), cpus, draw.randrange(2, 8))
     try:
@@ -227,21 +247,17 @@ def check_drawn(checks, programs, draw):
         return False
     if len(orders) > MOST_ORDERS:
         return False
-    other = draw.choice(orders)
-    odd = [it for it in orders if answers_in(it, cpus) != answers_in(orders[0], cpus)]
-    order = draw.choice(odd if odd and draw.randrange(2) else orders)
-    answers, spans = answers_in(order, cpus), spans_of(order, cpus)
-    end = max(over for lines in spans for _, over in lines) + 1
-    if draw.randrange(2):
-        answers = changed(draw, answers, orders, cpus)
+    answers, order = drawn_answers(draw, orders, cpus)
+    times = list(drawn_spans(draw, order, draw.choice(orders), cpus))
+    shortest, longest = min(map(len, orders)), max(map(len, orders))
+    if shortest < longest or not draw.randrange(12):
+        scenario["layout"]["history"] = draw.randrange(max(1, shortest - 1), longest + 1)
+        orders = Orders(programs, scenario, MOST_ORDERS).all
     plain = [list(map(Seen, replies)) for replies in answers]
     records = f"{len(order)} records\n" if draw.randrange(2) else ""
     check_seen(checks, programs, draw, scenario, orders, plain, as_words(plain) + records)
-    near = [stretched(draw, lines, draw.choice((1, 10, 40))) for lines in spans]
-    far = [stretched(draw, lines, draw.choice((1, 10, 40))) for lines in spans_of(other, cpus)]
-    wild = [random_spans(draw, len(lines), end) for lines in spans]
-    for times in (near, draw.choice((far, wild))):
-        seen = timed(draw, answers, times)
+    for spans in times:
+        seen = timed(draw, answers, spans)
         check_seen(checks, programs, draw, scenario, orders, seen, as_objects(draw, seen))
     return True
 

@@ -116,9 +116,9 @@ SPOILED_OBJECTS = (
     ((FIRST, SECOND, FIRST, OTHER), "line 3 of the answers: processor 0 has fewer lines"),
     ((FIRST, OTHER), "processor 0: answers to 1 of 2 lines"),
     ((SECOND, FIRST), "processor 1: answers to 0 of 1 lines"),
-    (((0, "done", 5, 4), SECOND, OTHER), "line 1 of the answers: its times fall"),
-    (((0, "done", 1, 9), OTHER, (0, "frame 0", 1, 8)), "line 3 of the answers: its times fall"),
-    (((0, "done", 9), OTHER, (0, "frame 0", 1, 8)), "line 3 of the answers: its times fall"))
+    (((0, "done", 5, 4), SECOND, OTHER), "line 1 of the answers: its times are out of order"),
+    (((0, "done", 1, 9), OTHER, (0, "frame 0", 1, 8)), "line 3 of the answers: its times are out of order"),
+    (((0, "done", 9), OTHER, (0, "frame 0", 1, 8)), "line 3 of the answers: its times are out of order"))
 TIMED = (
     ((0, "done", 0, LAST), (0, "frame 0", LAST, LAST), (1, "done", 5)),
     ((1, "done", None, 3), "", FIRST, "", SECOND, ""),
@@ -153,12 +153,13 @@ def check_spoiled(checks, programs):
 
 def check_scenarios(checks, programs):
     """A scenario that cannot be searched has the fault that `explore` names."""
+    no_script = "line 1 not for a script: "
     long = [f"{cpu} drain 0" for cpu in (0, 1) for _ in range(3)]
     done = "cpu 0\ndone\ndone\ndone\ncpu 1\ndone\ndone\ndone\n"
     for scenario, answers, said in (
-            (scenario_of("0 seal"), "cpu 0\nsealed 0\ncpu 1\n", "line 1 not for a script: seal makes no call"),
+            (scenario_of("0 seal"), "cpu 0\nsealed 0\ncpu 1\n", no_script + "seal makes no call"),
             (scenario_of("0 drain 0", "1 cat probe"), "", "line 2 not for a script: cat makes no call"),
-            (scenario_of("2 drain 0"), PLAIN, "line 1 not for a script: its processor is not in the layout"),
+            (scenario_of("2 drain 0"), PLAIN, no_script + "its processor is not in the layout"),
             (scenario_of("0 drain"), PLAIN, "line 1 not understood"),
             (scenario_of("0 drain 0", cpus=0), PLAIN, "layout fault BadCpus")):
         status, text, told = programs.explain(scenario, answers)

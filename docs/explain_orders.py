@@ -86,6 +86,10 @@ def guess(call, serial):
                                                                                "done")
 
 
+# Ends an order in place of a call for which the history has no room.
+FULL = Step(-1, "", 0, None)
+
+
 class Orders:
     """The orders of all calls of a scenario, processor 0 first. An order is a list of steps."""
 
@@ -127,6 +131,9 @@ class Orders:
         more = self.nexts(receipts)
         if not any(more):
             self.all.append(self.steps(calls, receipts))
+        elif len(calls) == self.layout["history"]:
+            self.all.append(self.steps(calls, receipts) + [FULL])
+            return
         for cpu, call in enumerate(more):
             if call and len(self.all) <= self.most:
                 longer = calls + (f"{cpu} {call[1]}",)
@@ -195,11 +202,11 @@ def missing(seen, over, cpu, line):
 
 
 def beginning(order, seen):
-    """How many of an order's first calls agree with what was seen: each line that they end is
-    answered so, and none begins before one that was answered by then is over."""
+    """How many of an order's first calls agree with what was seen: there is room for each, each line
+    that they end is answered so, and none begins before one that was answered by then is over."""
     over = set()
     for at, step in enumerate(order):
-        if missing(seen, over, step.cpu, step.line):
+        if step is FULL or missing(seen, over, step.cpu, step.line):
             return at
         if step.answer is not None:
             if step.answer != seen[step.cpu][step.line].answer:
@@ -222,7 +229,7 @@ def explaining(orders, seen):
 class Place(NamedTuple):
     """Where a processor is after a beginning: how many of its lines are over, of how many, and what
     its next line waits for (a processor and its line), or would be answered in place of what was
-    seen."""
+    seen. A line for which the history has no room does neither."""
     over: int
     lines: int
     waits: tuple | None
@@ -240,10 +247,8 @@ def places(orders, seen, longest):
             told.append(Place(count, len(lines), None, None, None))
             continue
         waits = missing(seen, over, cpu, count)
-        size, nexts = len(longest), []
-        if not waits:
-            nexts = [order[size].answer for order in orders
-                     if order[:size] == longest and order[size].cpu == cpu]
+        nexts = {order[len(longest)] for order in orders if order[:len(longest)] == longest}
+        would = [step.answer for step in nexts if step.cpu == cpu and not waits]
         told.append(Place(count, len(lines), waits[0] if waits else None,
-                          None if waits else nexts[0], lines[count].answer))
+                          would[0] if would else None, lines[count].answer))
     return told

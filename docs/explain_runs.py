@@ -114,8 +114,8 @@ def peer_built(folder, *features):
     """The program of bench/peer with some features, built in a folder."""
     subprocess.run(["cargo", "build", "--quiet", "--offline", "--locked", "--bin", "hotplug",
                     "--target-dir", folder, *features], cwd=ROOT / "bench/peer", check=True,
-                   timeout=BUILD_SECONDS, stdout=subprocess.DEVNULL)
-    return f"{folder}/debug/hotplug"
+                   timeout=BUILD_SECONDS, capture_output=True)
+    return shutil.copy(f"{folder}/debug/hotplug", f"{folder}/hotplug{len(features)}")
 
 
 def check_race(checks, programs, peer):
@@ -134,10 +134,16 @@ def check_race(checks, programs, peer):
 
 
 def check_peer(checks, programs, draw, drawn_scenario):
+    """What the peer prints of runs, where cargo builds it."""
     if shutil.which("cargo") is None:
         print("peer: skipped, there is no cargo")
         return
     with tempfile.TemporaryDirectory() as folder:
+        try:
+            peer, racing = peer_built(folder), peer_built(folder, "--features", "race")
+        except subprocess.SubprocessError as error:
+            print(f"peer: skipped, cargo does not build it: {error}")
+            return
         scenarios = drawn_runs(draw, drawn_scenario, PEER_SCENARIOS)
-        check_all_runs(checks, programs, "run of the peer", peer_built(folder), scenarios, 1)
-        check_race(checks, programs, peer_built(folder, "--features", "race"))
+        check_all_runs(checks, programs, "run of the peer", peer, scenarios, 1)
+        check_race(checks, programs, racing)

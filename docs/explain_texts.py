@@ -50,6 +50,8 @@ def place_text(cpu, place):
     if place.waits is not None:
         other, line = place.waits
         return f"{start}began after line {line + 1} of cpu {other} was answered\n"
+    if place.would is None:
+        return f"{start}has no room in the history\n"
     return f"{start}would be answered `{place.would}`, not `{place.was}`\n"
 
 
@@ -61,6 +63,8 @@ def place_object(place):
     if place.waits is not None:
         other, line = place.waits
         return {**value, "after": {"cpu": other, "line": line + 1}, "answer": place.was}
+    if place.would is None:
+        return {**value, "answer": place.was}
     return {**value, "next": place.would, "answer": place.was}
 
 
