@@ -6,8 +6,9 @@ alone it takes the folder of the crates:
     python3 docs/check_find.py [CRATES [SEED [COUNT]]]        without them: crates, 34 and 400
 
 On so many scenarios that are drawn at random, with events of all kinds and plans, where 0 may stand
-for an operation of the setup, with at most 120 orders each that all have room: `explore` tells the
-ends of the orders, each with its count and its first order, in the order of these; past a limit,
+for an operation of the setup, and on a quarter as many in which most lines name a result or work on
+one by its name, with at most 120 orders each that all have room: `explore` tells the ends of the
+orders, each with its count and its first order, in the order of these; past a limit,
 those of the first orders, also where memory or time ends the search. An interleaving is found where
 an order has an end with the lines; it is one of those orders, with the fewest changes of processor;
 and where there is none, that is told. Of one in four, with a limit of states, no memory or time a
@@ -16,8 +17,8 @@ prints the same with the other status, `--scenario 1` writes what is found as a 
 setup's lines before the calls, `--json` the same as an object, scripts that use 0 before a begin
 are told, and a text that no end has as a line ends with status 2.
 
-`--group` puts those ends together that agree in their blocks, or in their answers, and adds their
-counts, in words and as JSON, also past a limit; `--summary` has a line of each end or group with
+`--group` puts those ends together that agree in their blocks, in their answers, or in how the plans
+of each processor ended, and adds their counts, in words and as JSON, also past a limit; `--summary` has a line of each end or group with
 its count, its share, how many calls were refused, and the blocks, neighbours that are alike joined.
 
 Of each: the parts of 1, of 3 and of 7, in any order, add up to what `explore` prints, in words and
@@ -37,6 +38,7 @@ from pathlib import Path
 
 from check_lab import (LAYOUT, ROOT, SECONDS, Checks, Programs, answers_and_state, end_of,
                        end_with, ends_of)
+from lab_names import made_plain, named_calls, result_of, unnamed, with_numbers
 
 SEED = 34
 COUNT = 400
@@ -46,15 +48,22 @@ NO_LINES = ("", "refused", "refused Nonsense", "refused NotFree x", "refused Not
             "opened 3", "block x", "block 1", "block 1 online", "block 1 offline normal", "cpu 0",
             "0:done", "x: done", "0: 1: done", "done ", "moved 1", "interleavings: 1", "not", "not ",
             "not not done", "cpu 0: done", "cpu 0 answer 0: done", "cpu 0 answer x: done",
-            "cpu 0 reply 1: done", "cpu 0 answer 1:done")
+            "cpu 0 reply 1: done", "cpu 0 answer 1:done", "plan", "plan: ", "plan:done", "plan: opened 1",
+            "plan: done 1", "plan: refused", "plan: refused NoFrame 1", "plan: cancelled -",
+            "plan: cancelled NoFrame", "plan: cancelled - 1 restored", "plan: cancelled NoFrame 1 restored",
+            "plan: cancelled NoFrame dropped", "plan: left - HistoryFull", "0: plan", "0:plan: done",
+            "x: plan: done", "plan: 0: done", "0: 1: plan: done", "cpu 0 answer 1: plan: done",
+            "not plan: left 4 HistoryFull")
 LINE_FORMS = ("hotplug_lab: a line is an answer, as `refused NotFree`, one of a processor, as `0: done` or "
-              "`cpu 0 answer 2: done`, or a memory block, as `block 1 offline`; `not ` before it wants an "
-              "end without it")
+              "`cpu 0 answer 2: done`, the end of a plan, as `plan: cancelled` or `0: plan: done`, or a "
+              "memory block, as `block 1 offline`; `not ` before it wants an end without it")
 PAST = ("{cpus}: done", "{cpus}: refused NotFree", "block {blocks} offline", "refused Twice {blocks}",
         "refused Busy {blocks}", "refused NotOnline {blocks}", "refused NotOffline {blocks}",
         "refused NotAbsent {blocks}", "frame {frames}", "0: frame {frames}", "moved {frames} 0",
         "moved 0 {frames}", "refused Unmovable {frames}", "refused NotFree {frames}",
-        "cpu {cpus} answer 1: done", "cpu 0 answer 9: frame {frames}", "not block {blocks} offline")
+        "cpu {cpus} answer 1: done", "cpu 0 answer 9: frame {frames}", "not block {blocks} offline",
+        "{cpus}: plan: done", "plan: refused Twice {blocks}", "0: plan: refused NotOnline {blocks}",
+        "plan: cancelled NotFree {frames} restored", "not {cpus}: plan: cancelled")
 
 
 class Searches(Programs):
@@ -125,16 +134,22 @@ def calls_of(text, cpus):
         yield text
 
 
-def next_call(script, cpus, begun, receipts):
-    """What a processor asks for after the number of its last begin in the setup and its receipts,
-    each a call with its serial and reply; None where its script is over."""
+def next_call(script, cpus, begun, named, receipts):
+    """What a processor asks for after the number of its last begin in the setup, those of the
+    names there, and its receipts, each a call with its serial and reply; None where its script is
+    over."""
     left = [(serial, reply) for _, serial, reply in receipts]
-    for text in script:
-        calls = calls_of(text, cpus)
+    numbers = dict(named)
+    for line in script:
+        text, name = unnamed(line)
+        calls = calls_of(with_numbers(text, numbers), cpus)
         try:
             call = next(calls)
             while left:
-                call = calls.send(left.pop(0))
+                serial, reply = left.pop(0)
+                if name:
+                    numbers[name] = result_of(text, serial, reply)
+                call = calls.send((serial, reply))
         except StopIteration:
             continue
         words = call.split()
@@ -154,7 +169,9 @@ class Orders:
 
     def __init__(self, programs, scenario, setup):
         self.programs, self.layout = programs, scenario["layout"]
-        self.setup, lines = scenario["calls"][:setup], scenario["calls"][setup:]
+        self.setup, named = made_plain(programs, self.layout, scenario["calls"][:setup])
+        self.named = [named.get(str(cpu), {}) for cpu in range(self.layout["cpus"])]
+        lines = scenario["calls"][setup:]
         self.scripts = [[line.partition(" ")[2] for line in lines if line.split()[0] == str(cpu)]
                         for cpu in range(self.layout["cpus"])]
         self.begun = [self.begun_by(cpu) for cpu in range(self.layout["cpus"])]
@@ -193,11 +210,14 @@ class Orders:
         lines, state = self.played(calls)
         receipts, is_over, orders = self.receipts(calls, lines), True, []
         for cpu, script in enumerate(self.scripts):
-            call = next_call(script, self.layout["cpus"], self.begun[cpu], receipts[cpu])
+            call = next_call(script, self.layout["cpus"], self.begun[cpu], self.named[cpu],
+                             receipts[cpu])
             if call is not None and len(orders) <= most:
                 is_over = False
                 orders += self.all_from(calls + [f"{cpu} {call}"], most)
-        return [(calls, end_with(self.layout["cpus"], calls, lines, state))] if is_over else orders
+        if not is_over:
+            return orders
+        return [(calls, End(end_with(self.layout["cpus"], calls, lines, state), self.scripts))]
 
 
 def changes_of(calls):
@@ -206,10 +226,64 @@ def changes_of(calls):
     return sum(cpu != other for cpu, other in zip(cpus, cpus[1:]))
 
 
+def plan_end(calls):
+    """How a plan ended by its driver's calls and the replies to them."""
+    call, reply = calls[-1]
+    verb = call.split()[0]
+    causes = [reply.removeprefix("refused ") for call, reply in calls
+              if call.split()[0] in ("migrate", "commit") and reply.startswith("refused ")]
+    if reply == "refused NoOp":
+        return "undone"
+    return f"cancelled {causes[-1] if causes else '-'} {reply}" if verb == "cancel" else reply
+
+
+def plan_ends(scripts, answers):
+    """For each processor how its plans ended that are over, by its answers."""
+    ends = []
+    for script, replies in zip(scripts, answers, strict=True):
+        left, own = list(replies), []
+        for text in script:
+            calls, made = calls_of(text, len(scripts)), []
+            try:
+                call = next(calls)
+                while left:
+                    made.append((call, left.pop(0)))
+                    call = calls.send((0, made[-1][1]))
+                break
+            except StopIteration:
+                own += [plan_end(made)] if text.startswith(("plan ", "echo ")) else []
+        ends.append(own)
+    return ends
+
+
+class End(tuple):
+    """The answers and the blocks of an end, with how the plans of each processor ended."""
+
+    def __new__(cls, end, scripts):
+        self = super().__new__(cls, end)
+        self.plans = plan_ends(scripts, end[0])
+        return self
+
+
+def without_numbers(end):
+    """The end of a plan without the block or frame that a refusal names."""
+    return re.sub("([A-Za-z]) [0-9]+", r"\1", end)
+
+
+def has_plan(end, cpu, wanted):
+    """Whether a plan of this processor, or of any, ended so."""
+    ends = [plan for at, plans in enumerate(end.plans) for plan in plans if cpu in ("", str(at))]
+    return any(wanted in (plan, without_numbers(plan), plan.partition(" ")[0])
+               and not (wanted == "refused" and plan != wanted) for plan in ends)
+
+
 def has_line(end, text):
     """Whether an end has a line, or lacks it where `not` comes before."""
     if text.startswith("not "):
         return not has_line(end, text.removeprefix("not "))
+    cpu, mark, plan = text.rpartition("plan: ")
+    if mark:
+        return has_plan(end, cpu.removesuffix(": "), plan)
     answers, blocks = end
     who, colon, reply = text.partition(": ")
     wanted = reply if colon else text
@@ -250,11 +324,24 @@ def drawn_texts(draw, ends):
               if re.fullmatch("(. )?refused [A-Za-z]+ [0-9]+", line)]
     lines += [f"cpu {cpu} answer {at}: {reply}" for cpu, replies in enumerate(answers)
               for at, reply in enumerate(replies, draw.choice((1, 1, 2)))]
-    some = [[draw.choice(lines)], draw.sample(lines, min(3, len(lines))), [f"not {draw.choice(lines)}"],
+    plans = plan_lines(draw.choice(ends))
+    lines += plans
+    some = [[draw.choice(plans)]] if plans else []
+    some += [[draw.choice(lines)], draw.sample(lines, min(3, len(lines))), [f"not {draw.choice(lines)}"],
             [draw.choice(lines), f"not {draw.choice(lines)}"]]
     return some + [[text] for text in ("refused NotFree", "0: restored", "block 1 going movable",
                                        f"{len(answers) - 1}: refused NoFrame", "block 2 absent",
-                                       "refused Twice 1")]
+                                       "refused Twice 1", "plan: done", "plan: cancelled",
+                                       "plan: cancelled NotFree restored", "0: plan: undone",
+                                       f"not {len(answers) - 1}: plan: done", "plan: refused NotOnline")]
+
+
+def plan_lines(end):
+    """Lines about the plans of an end."""
+    ends = [(cpu, plan) for cpu, plans in enumerate(end.plans) for plan in plans]
+    forms = [(cpu, form) for cpu, plan in ends
+             for form in {plan, without_numbers(plan), plan.partition(" ")[0]} - {"refused"}]
+    return sorted([f"plan: {plan}" for _, plan in forms] + [f"{cpu}: plan: {plan}" for cpu, plan in forms])
 
 
 def warnings_of(scenario, setup):
@@ -273,7 +360,7 @@ def warnings_of(scenario, setup):
     return "".join(told)
 
 
-def check_search(checks, programs, scenario, setup, orders, texts):
+def check_search(checks, programs, scenario, setup, before, orders, texts):
     where = f"--find {texts} --setup {setup} {json.dumps(scenario)}"
     found = [calls for calls, end in orders if all(has_line(end, text) for text in texts)]
     status, text = programs.find(scenario, setup, "--find", texts)
@@ -294,7 +381,7 @@ def check_search(checks, programs, scenario, setup, orders, texts):
     checks.holds(where, (status, head) == (0, f"changes: {fewest}"), f"says {status}, {head!r}")
     checks.holds(where, calls in found and changes_of(calls) == fewest, f"{calls} is none of them")
     status, text = programs.find(scenario, setup, "--find", texts, "--scenario", "1")
-    replay = dict(scenario, calls=scenario["calls"][:setup] + calls)
+    replay = dict(scenario, calls=before + calls)
     is_so = status == 0 and json.loads(text) == replay
     checks.holds(where, is_so, f"--scenario 1 says {status}, {text!r}")
     check_object(checks, programs, scenario, setup, texts,
@@ -503,20 +590,22 @@ def check_ends(checks, programs, scenario, setup, orders):
 
 
 def grouped(ends, part):
-    """Ends put together by a part of their end: each group with the count of all and the rest of
-    the first."""
+    """Ends put together by a part of their end, or by their plans without one: each group with the
+    count of all and the rest of the first."""
     groups = {}
     for count, end, first in ends:
-        so_far, leader, schedule = groups.get(end[part], (0, end, first))
-        groups[end[part]] = so_far + count, leader, schedule
+        key = json.dumps(end.plans) if part is None else end[part]
+        so_far, leader, schedule = groups.get(key, (0, end, first))
+        groups[key] = so_far + count, leader, schedule
     return list(groups.values())
 
 
-def grouped_objects(objects, key):
-    """The objects of ends put together by a key, numbered anew."""
+def grouped_objects(objects, key, scripts):
+    """The objects of ends put together by a key, or by their plans, numbered anew."""
     groups = {}
     for end in objects:
-        leader = groups.setdefault(json.dumps(end[key]), {**end, "interleavings": 0})
+        part = plan_ends(scripts, end["answers"]) if key == "plans" else end[key]
+        leader = groups.setdefault(json.dumps(part), {**end, "interleavings": 0})
         leader["interleavings"] += end["interleavings"]
     return [{**end, "end": number} for number, end in enumerate(groups.values(), 1)]
 
@@ -550,7 +639,7 @@ def summary_of(ends):
 
 def check_groups(checks, programs, scenario, setup, orders, limit):
     """Groups are those of the ends, whatever else is asked for; a summary has a line of each."""
-    for by, part in (("answers", 0), ("blocks", 1)):
+    for by, part in (("answers", 0), ("blocks", 1), ("plans", None)):
         words = ("--group", by)
         where = f"{words} --setup {setup} {json.dumps(scenario)}"
         status, text = programs.search(scenario, setup, *words)
@@ -571,7 +660,8 @@ def check_group_forms(checks, programs, scenario, setup, by):
     """As JSON groups are those of the objects, and threads find them too."""
     where = f"--json --group {by} --setup {setup} {json.dumps(scenario)}"
     _, whole = programs.search(scenario, setup, "--json")
-    expected = grouped_objects([json.loads(line) for line in whole.splitlines()], by)
+    scripts = Orders(programs, scenario, setup).scripts
+    expected = grouped_objects([json.loads(line) for line in whole.splitlines()], by, scripts)
     for more in ((), ("--jobs", "2")):
         status, text = programs.search(scenario, setup, "--json", "--group", by, *more)
         told = status, [json.loads(line) for line in text.splitlines()]
@@ -587,17 +677,27 @@ def check_summary(checks, programs, scenario, setup, ends, *words):
     checks.holds(where, told == expected, f"{told} in place of {expected}")
 
 
-def check_drawn(checks, programs, draw, drawn):
+def drawn_calls(draw, cpus, count):
+    """Lines without names for results."""
+    return [drawn_call(draw, draw.randrange(cpus), cpus) for _ in range(count)]
+
+
+def calls_with_names(draw, cpus, count):
+    """Lines of which most name a result, or work on one by its name."""
+    return named_calls(draw, cpus, count + 1, drawn_call)
+
+
+def check_drawn(checks, programs, draw, drawn, calls_by):
     """Checks a scenario that is drawn, after so many, its searches and some of its sums; it answers
     whether it has few enough orders, with room for each."""
     cpus = draw.choice((1, 2, 2, 2, 3))
     layout = dict(LAYOUT, cpus=cpus, history=200)
     setup = draw.randrange(3)
-    calls = [drawn_call(draw, draw.randrange(cpus), cpus)
-             for _ in range(setup + draw.randrange(2, 6))]
+    calls = calls_by(draw, cpus, setup + draw.randrange(2, 6))
     scenario = {"layout": layout, "calls": calls}
     try:
-        orders = Orders(programs, scenario, setup).all_from([], MOST_ORDERS)
+        all_orders = Orders(programs, scenario, setup)
+        orders = all_orders.all_from([], MOST_ORDERS)
     except NoRoom:
         return False
     if len(orders) > MOST_ORDERS:
@@ -611,7 +711,7 @@ def check_drawn(checks, programs, draw, drawn):
     if drawn % SPOILED == 0:
         check_part_limit(checks, programs, scenario, setup, orders)
     for texts in drawn_texts(draw, [end for _, end in orders]):
-        check_search(checks, programs, scenario, setup, orders, texts)
+        check_search(checks, programs, scenario, setup, all_orders.setup, orders, texts)
         if drawn % SPOILED == 0:
             check_budgets(checks, programs, draw, scenario, setup, texts)
     return True
@@ -649,9 +749,10 @@ def main(words):
         programs = Searches(Path(crates).resolve())
         check_no_lines(checks, programs)
         check_past(checks, programs)
-        drawn = 0
-        while drawn < int(count):
-            drawn += check_drawn(checks, programs, draw, drawn)
+        for number, calls_by in ((int(count), drawn_calls), (int(count) // 4, calls_with_names)):
+            drawn = 0
+            while drawn < number:
+                drawn += check_drawn(checks, programs, draw, drawn, calls_by)
     except (ValueError, LookupError, OSError, subprocess.SubprocessError) as error:
         checks.holds("find", False, f"cannot be checked: {error!r}")
     for failure in checks.failures:

@@ -32,18 +32,21 @@ scenarios: what a reader knows after each line is what `hotplug serial` prints f
 there; the deltas of each step lead to its state; what an undo or a cancel drops are the last steps,
 and leads back to the state before them. Of `hotplug_lab check`: it finds no fault in any file
 of examples/, and one where a text that is no line comes last; with a setup it says how many
-interleavings there are.
+interleavings there are. Of lines with names for results, drawn at random: all that is shown of them
+is what is shown of the lines with the numbers that `hotplug serial` gives, which reads no names.
 None of them writes a control character.
 The last line is 'lab: N passed, M failed'; the exit status is 0 where nothing failed, else 1.
 """
 import json
+import random
 import subprocess
 import sys
 from pathlib import Path
 from xml.etree import ElementTree
 
 from lab_json import check_json
-from lab_traces import check_drawn, check_wide, hostile
+from lab_names import named_calls, plain_lines
+from lab_traces import check_drawn, check_long, check_wide, hostile
 
 ROOT = Path(__file__).resolve().parent.parent
 SECONDS = 60
@@ -374,6 +377,33 @@ def check_runs(checks, programs):
             checks.holds(f"run of race {number}", outcome in known, f"{outcome} is no end")
 
 
+# Names for results
+
+NAMED = 60
+SHOWN = ((), ("--orders",), ("--svg",), ("--json",), ("--html",), ("--log",), ("--from", "2"))
+
+
+def check_named(checks, programs, seed):
+    """All that is shown of lines with names is what is shown of the plain ones."""
+    draw = random.Random(seed)
+    layout = dict(LAYOUT, history=draw.choice((3, 40)))
+    calls = named_calls(draw, LAYOUT["cpus"], draw.randrange(2, 14))
+    named = {"layout": layout, "calls": calls}
+    plain = dict(named, calls=plain_lines(programs, layout, calls))
+    where = f"names {seed}: {calls}"
+    for options in SHOWN:
+        told, expected = programs.trace(named, *options), programs.trace(plain, *options)
+        checks.holds(where, told == expected, f"trace {options} says {told!r}, not {expected!r}")
+    for options in (("--json",), ("--scenario", "1")):
+        told = programs.explore(named, len(calls), *options)
+        expected = programs.explore(plain, len(calls), *options)
+        checks.holds(where, told == expected, f"explore {options} says {told!r}, not {expected!r}")
+    text = programs.check(named)
+    checks.holds(where, "\nfaults: 0, " in "\n" + text, f"check says {text!r}")
+    is_plain = " as " in "".join(calls) and "understood" not in programs.serial(layout, calls)
+    checks.holds(where, not is_plain, "hotplug reads the names")
+
+
 # Findings
 
 def check_findings(checks, programs, file):
@@ -398,8 +428,11 @@ def check_all(checks, programs):
         check_drawn(checks, programs, file.name, json.loads(file.read_text()))
     check_drawn(checks, programs, "hostile texts", hostile(ROOT))
     check_wide(checks, programs)
+    check_long(checks, programs)
     check_json(checks, programs)
     check_runs(checks, programs)
+    for seed in range(NAMED):
+        check_named(checks, programs, seed)
 
 
 def main(words):

@@ -8,6 +8,8 @@
   are what `hotplug serial` prints; so they are for the scenario that the session gives. One in four
   sends all lines at once, one in four sends some lines as the scenario's `calls`, and one in four
   asks for the state with each object, which leads to the state that `serial` prints.
+- 100 random scenarios with names for results, of which some lines come as the scenario's `calls`: the
+  texts, the state and the scenario that is kept are those of the lines with their numbers.
 - The words that ask for nothing, and files that are not read.
 - For a person: what is printed is what `hotplug_lab trace --from` prints.
 - On a pseudo-terminal: a prompt before each line, and what was typed is answered.
@@ -28,6 +30,8 @@ from pathlib import Path
 
 from check_lab import ROOT, SECONDS, Checks, Programs
 from lab_json import Reader
+from lab_names import named_calls, plain_lines
+from lab_traces import spread
 
 sys.path.insert(0, str(ROOT / "bench"))
 from differ import Lines, Seen, layout_of  # noqa: E402
@@ -115,6 +119,30 @@ def check_scenario(checks, programs, number):
     checks.holds(where, session.end() == 0, "the status is not 0")
 
 
+NAMED = 100
+
+
+def check_named(checks, programs, number):
+    """A random scenario with names for results: its lines are answered as the plain ones are, and are
+    kept without names."""
+    some = random.Random(number)
+    layout = dict(layout_of(some), history=some.choice([4, 10_000]), blocks=3, cpus=2, owners=1,
+                  boot=[some.choice(["normal", "movable"]) for _ in range(3)])
+    calls = named_calls(some, 2, some.randint(1, 14))
+    before = calls[:some.randint(0, len(calls))]
+    plain = plain_lines(programs, layout, calls)
+    first = programs.serial(layout, plain[:len(before)]).rpartition("state\nblock 0 ")[0]
+    printed = programs.serial(layout, plain)
+    session = Session(programs.lab, {"layout": layout, "calls": before}, "--json")
+    objects = [session.asked(line) for line in calls[len(before):]]
+    state, kept = session.asked("state"), session.asked("scenario")
+    where = f"names {number}: {calls}"
+    checks.holds(where, first + joined(objects) + state["state"] == printed, f"{objects} in place of {printed}")
+    checks.holds(where, json.loads(kept["scenario"]) == {"layout": layout, "calls": plain},
+                 f"{kept} in place of {plain}")
+    checks.holds(where, session.end() == 0, "the status is not 0")
+
+
 def check_states(checks, where, layout, objects, state):
     """The changes of the objects lead to the state, unless there is no object."""
     reader = Reader({"layout": layout, "names": names_in(state["state"])})
@@ -133,15 +161,19 @@ def names_in(state):
 # For a person
 
 def check_rows(checks, programs):
-    """What is printed for lines is what `trace` prints from there."""
+    """What is printed for lines are all rows that `trace` has from there."""
     layout = {"order": 2, "pageblocks": 1, "blocks": 4, "cpus": 2, "batch": 2, "high": 2, "owners": 2,
               "pages": 8, "words": 2, "history": 100, "boot": ["normal", "normal", "movable", "offline"]}
     calls = ["0 map db 0", "0 write db 0 1 7", "0 plan 4 off 2", "0 cat buddyinfo", "1 kalloc 1",
              "0 echo sideways memory1/state", "0 seal", "0 undo 2"]
-    for options in ([], ["--orders"], ["--width", "80"]):
+    named = ["0 kalloc 1 as k", "0 begin off 2 as x", "0 kfree $k", "1 kalloc 0 as x", "0 migrate $x",
+             "0 commit $x", "1 kfree $x", "1 cat buddyinfo"]
+    cases = [(calls, options) for options in ([], ["--orders"], ["--width", "80"])] + [(named, [])]
+    for calls, options in cases:
         for count in (0, 2, 8):
             whole = {"layout": layout, "calls": calls}
-            wanted = programs.trace(whole, "--from", str(count + 1), *options) if count < 8 else None
+            trace = programs.trace(whole, "--from", str(count + 1), *options) if count < 8 else ""
+            wanted = spread(trace) if trace else None
             with tempfile.NamedTemporaryFile("w", suffix=".json") as file:
                 json.dump({"layout": layout, "calls": calls[:count]}, file)
                 file.flush()
@@ -245,6 +277,8 @@ def main():
     check_terminal(checks, programs)
     for number in range(count):
         check_scenario(checks, programs, number)
+    for number in range(min(count, NAMED)):
+        check_named(checks, programs, number)
     check_oracle(checks, programs)
     for failure in checks.failures:
         print(failure)

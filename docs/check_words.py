@@ -5,7 +5,8 @@ takes the folder of the crates:
     python3 docs/check_words.py [CRATES]        without CRATES: crates
 
 Of `hotplug`: each command writes what it alone writes, and other words end with status 2 and the
-names of the commands. Of `hotplug_lab`: each option has its place and its default, the file is
+names of the commands; it reads no names for results. Of `hotplug_lab`: wrong names for results are
+explained, by `check` and by `live`, and their line is named elsewhere; each option has its place and its default, the file is
 read as standard input is, `-` names standard input, a file that is not read is named, the status is
 that of the help, and other words, or words that contradict one another, end with status 2.
 The last line is 'words: N passed, M failed'; the exit status is 0 where nothing failed, else 1.
@@ -78,6 +79,69 @@ def check_commands(checks, hotplug):
     for words in ((), ("walk",), ("",), ("help",), ("--help",), ("--serial",), ("run", "twice"),
                   ("serial", "run")):
         checks.same(f"hotplug {words}", (2, "", NO_COMMAND), hotplug.call(*words, scenario=whole))
+
+
+# Names for results
+
+NAMED = ["0 begin off 1 as out", "0 kalloc 0 as own", "1 kalloc 0 as other"]
+UNKNOWN = "is no result of an earlier line of its processor"
+NOT_HERE = "may come for an OP and for a kfree's FRAME alone"
+NO_RESULT = "names no result: only a begin and a kalloc have one"
+WRONG = {
+    "0 migrate $owt": f"`$owt` {UNKNOWN}; perhaps `$out`; wanted: C migrate OP",
+    "0 kfree $ow": f"`$ow` {UNKNOWN}; perhaps `$own`; wanted: C kfree FRAME",
+    "0 kfree $other": f"`$other` {UNKNOWN}; it is one of processor 1; wanted: C kfree FRAME",
+    "1 cancel $out": f"`$out` {UNKNOWN}; it is one of processor 0; wanted: C cancel OP",
+    "0 commit $nothing": f"`$nothing` {UNKNOWN}; wanted: C commit OP",
+    "0 kfree $": f"`$` {UNKNOWN}; wanted: C kfree FRAME",
+    "0 drainfor $own 1": "`$own` is a frame, not an operation; wanted: C drainfor OP CPU",
+    "0 kfree $out": "`$out` is an operation, not a frame; wanted: C kfree FRAME",
+    "0 map $own 0": f"`$own` {NOT_HERE}; wanted: C map NAME PAGE",
+    "0 drainfor 1 $out": f"`$out` {NOT_HERE}; wanted: C drainfor OP CPU",
+    "0 undo $out": f"`$out` {NOT_HERE}; wanted: C undo SERIAL",
+    "0 migrate $out as x": f"`x` {NO_RESULT}; wanted: C migrate OP",
+    "0 drain 0 as x": f"`x` {NO_RESULT}; wanted: C drain CPU",
+    "0 kalloc 0 as Own": "`Own` has capital letters; wanted: C kalloc ORDER",
+    "0 kalloc 0 as 1x": "`1x` is no name; wanted: C kalloc ORDER",
+    "0 kalloc 00 as k": "`00` has a zero in front; wanted: C kalloc ORDER",
+    "0 kalloc as k": "wanted: C kalloc ORDER",
+    "0 drainfor $out": "wanted: C drainfor OP CPU",
+}
+RIGHT = ["0 drainfor $out 1", "0 migrate $out", "0 commit $out", "0 kfree $own", "1 kfree $other",
+         "1 begin off 1 as other", "0 begin off 1 off 0 as out", "0 begin as none"]
+
+
+def live_reply(lab, calls, line):
+    """What `live --json` replies to a line after a scenario."""
+    with tempfile.NamedTemporaryFile("w", suffix=".json") as file:
+        json.dump(scenario_of(calls), file)
+        file.flush()
+        _, out, _ = lab.call("live", "--json", file.name, text=line.encode())
+    return json.loads(out)
+
+
+def check_names(checks, hotplug, lab):
+    """Each wrong name is explained, and makes its line no line; each right one makes it a line, but
+    not for `hotplug`."""
+    for line, said in WRONG.items():
+        wrong = scenario_of(NAMED + [line])
+        expected = (1, f"calls 4 (line 1): `{line}`: {said}\nfaults: 1, warnings: 0\n", "")
+        checks.same(f"check of {line}", expected, lab.call("check", scenario=wrong))
+        for words in (("trace",), ("trace", "--json"), ("explore",), ("explore", "--setup", "4"),
+                      ("explore", "--find", "done"), ("trace", "--log")):
+            status, out, error = lab.call(*words, scenario=wrong)
+            checks.same(f"{words} of {line}", (1, ""), (status, out))
+            checks.holds(f"{words} of {line}", "line 4 not understood\n" in error, f"says {error!r}")
+        checks.same(f"live: {line}", {"line": 4, "text": "", "fault": "no line", "hint": said},
+                    live_reply(lab, NAMED, line))
+    for line in RIGHT:
+        status, out, _ = lab.call("check", scenario=scenario_of(NAMED + [line]))
+        checks.holds(f"check of {line}", (status, "faults: 0," in out) == (0, True), f"says {out!r}")
+        checks.same(f"live: {line}", 4, live_reply(lab, NAMED, line).get("serial"))
+    for calls in (NAMED[:1], NAMED[1:2]):
+        for word in ("serial", "run", "audit"):
+            checks.same(f"hotplug {word} of {calls}", (1, "", "hotplug: line 1 not understood\n"),
+                        hotplug.call(word, scenario=scenario_of(calls)))
 
 
 # hotplug_lab
@@ -209,7 +273,7 @@ def check_groups(checks, lab, scripts):
         checks.same(f"explore --group {by}", (0, "interleavings: 15", ""),
                     (status, out.split("\n")[0], error))
     for by in ("", "block", "Blocks", "ends", "blocks,answers"):
-        refused = "hotplug_lab: --group may be blocks or answers\n"
+        refused = "hotplug_lab: --group may be blocks, answers or plans\n"
         checks.same(f"explore --group={by}", (2, "", refused),
                     lab.call("explore", f"--group={by}", scenario=scripts))
     for boot, shown in ((["normal", "movable"] * 16, "0:N 1:M 2:N"),
@@ -524,7 +588,8 @@ def check_counts(checks, lab):
     unknown = "not known: the calls of a plan are counted only by explore"
     for calls, setup, told in ((CALLS, 0, "126"), (CALLS, 7, "2"), (CALLS, 9, "1"),
                                (many, 1, "5200300"),
-                               (many, 0, "more than 10000000: explore counts more with --limit N"),
+                               (many, 0, str(READ_ORDERS)),
+                               (many * 3, 0, f"more than {2**64 - 1}"),
                                (["0 drain 0", "0 plan 2 off 1"], 1, unknown),
                                (["0 echo offline memory1/state"], 0, unknown)):
         status, out, error = lab.call("check", "--setup", str(setup), scenario=scenario_of(calls))
@@ -579,6 +644,8 @@ def main(words):
     try:
         check_commands(checks, Program(crates / "hotplug/out/hotplug"))
         check_lab(checks, Program(crates / "hotplug_lab/out/hotplug_lab"))
+        check_names(checks, Program(crates / "hotplug/out/hotplug"),
+                    Program(crates / "hotplug_lab/out/hotplug_lab"))
     except (ValueError, LookupError, OSError, subprocess.SubprocessError) as error:
         checks.holds("words", False, f"cannot be tried: {error!r}")
     for failure in checks.failures:

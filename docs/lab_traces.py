@@ -19,8 +19,8 @@ def shown(call):
 
 
 def unfolded(text):
-    """The rows and the other lines of a trace; what stands below the columns goes on with a row,
-    after a null character."""
+    """The rows and the other lines of a trace; what is below the columns goes on with a row, after a
+    null character."""
     rows = []
     for line in text.splitlines():
         if line.startswith(" " * 29):
@@ -30,12 +30,67 @@ def unfolded(text):
     return rows
 
 
+MORE = re.compile(r"     \((\d+) more (rounds?) like this, serials (\d+) to (\d+)\)")
+CALL = re.compile(r"(.{30})(\d+): ([A-Za-z0-9 ]*?) *((?: \d+:[^ \[]*\[.*| =)?)")
+
+
+def grouped(text):
+    """The lines of each row of a trace."""
+    rows = []
+    for line in text.splitlines():
+        if line.startswith(" " * 29):
+            rows[-1].append(line)
+        else:
+            rows.append([line])
+    return rows
+
+
+def memory_of(row):
+    """The memory of a row, in lines without its columns."""
+    first = CALL.fullmatch(row[0])[4]
+    return ([first] if first else []) + [line[COLUMNS:] for line in row[1:]]
+
+
+def again(row, by, memory):
+    """The row of the same call with a serial that much higher, and this memory."""
+    asked, serial, words, _ = CALL.fullmatch(row[0]).groups()
+    answer = f"{int(serial) + by}: {words}"
+    if len(answer) > 25:
+        return [asked + answer, *(" " * COLUMNS + line for line in memory)]
+    return [asked + answer.ljust(25) + memory[0], *(" " * COLUMNS + line for line in memory[1:])]
+
+
+def more_rounds(done, more, memory):
+    """The rows of the rounds that a line only counts, from the rows above it. It raises a ValueError
+    if the line has other serials than they."""
+    begin = max(at for at, row in enumerate(done) if row[0].startswith("     migrate "))
+    above, count = done[begin:], int(more[1])
+    rows = [again(row, turn * len(above), memory or memory_of(done[-1]))
+            for turn in range(1, count + 1) for row in above]
+    ends = [int(CALL.fullmatch(row[0])[2]) for row in (rows[0], rows[-1])]
+    if ends != [int(more[3]), int(more[4])] or more[2] != ("round" if count == 1 else "rounds"):
+        raise ValueError(f"{more[0]!r} below {above}, where the serials are {ends}")
+    return rows
+
+
+def spread(text):
+    """A trace with the rows of all rounds, also of those that it only counts: each of their calls is
+    that of the round above, with the serial counted on and the memory as it was."""
+    rows = grouped(text)
+    has_changes_only = len(rows[0]) > 1 or re.search(r"\[\d+: ", rows[0][0])
+    done = []
+    for row in rows:
+        more = MORE.fullmatch(row[0])
+        done += more_rounds(done, more, [" ="] if has_changes_only else []) if more else [row]
+    return "".join(f"{line}\n" for row in done for line in row)
+
+
 def traced(text, calls):
     """What each line answers in a trace, and the lines that it lacks. A row of a plan's call begins
     with five spaces, and the memory in a row with block 0."""
     answers = []
     lacking = [f"{number:>4} {shown(call)}" for number, call in enumerate(calls, 1)]
-    for line in unfolded(text)[1:]:
+    for line in unfolded(spread(text))[1:]:
         if lacking and line.startswith(lacking[0]):
             answer = line.removeprefix(lacking.pop(0)).partition(" 0:")[0].strip(" \0")
             answers += [answer] if answer else []
@@ -239,6 +294,7 @@ def words_of(text):
     words = []
     for line in unfolded(text):
         block = BLOCK.search(line)
+        line = line.strip() if MORE.fullmatch(line) else line
         asked, answer = label_of(line[:block.start()]) if block else (line, "")
         words += [part for part in (asked.rstrip(), answer.strip()) if part]
         words += [f" {head}" for head in re.findall(r" ([0-9]+:[^ \[]*)\[", line)]
@@ -336,6 +392,32 @@ def check_frame(checks, where, svg, block):
         if h == 12:
             checks.holds(where, ends.get(y, 0) <= x, f"cells on one another at {x} {y}")
             ends[y] = x + w
+
+
+LONG = {"order": 2, "pageblocks": 1, "blocks": 3, "cpus": 2, "batch": 2, "high": 2, "owners": 1,
+        "pages": 16, "words": 1, "history": 4000, "boot": ["normal", "movable", "movable"]}
+LONG_CALLS = ["0 kalloc 2", *(f"{page % 2} map db {page}" for page in range(5)),
+              "0 echo offline memory1/state", "0 plan 1 off 1", "1 plan 3 off 1", "0 read db 0 0"]
+LONG_ROWS, LONG_HEIGHT = 60, 1000
+
+
+def check_long(checks, programs):
+    """A plan that finds no room: all its equal rounds take a line. The last calls are shown."""
+    scenario = {"layout": LONG, "calls": LONG_CALLS}
+    check_drawn(checks, programs, "a plan without room", scenario)
+    text = programs.trace(scenario)
+    counts = [int(count) for count, *_ in MORE.findall(text)]
+    checks.holds("a plan without room", counts and max(counts) > 1000, f"counts {counts}")
+    rows = len(text.splitlines())
+    checks.holds("a plan without room", rows < LONG_ROWS, f"{rows} rows")
+    for options in ("--width", "60"), ("--width", "80"), ("--orders", "--width", "70"):
+        lines = spread(programs.trace(scenario, *options)).splitlines()
+        missing = programs.trace(scenario, "--json").count('"serial"') - len(
+            [line for line in lines if re.match(r".{29} \d+: ", line)])
+        checks.holds(f"a plan without room, {options}", missing == 0, f"lacks {missing} calls")
+    root = ElementTree.fromstring(programs.trace(scenario, "--svg"))
+    height = int(root.get("height"))
+    checks.holds("a plan without room", height < LONG_HEIGHT, f"its picture is {height} high")
 
 
 def hostile(root):

@@ -1,4 +1,4 @@
--- The text and the exit status of each word, and when each fault comes.
+-- The text and the exit status of each command, and when each fault comes.
 use Rattle.std.specs.Prelude.{◌≡◌, ◌⊎◌, ℕ, ◌<◌, ◌≤◌, Bool, List, length, Option, IfSome, if◌then◌else◌}
 use Rattle.std.specs.Io.KnownBytes.{Appends}
 use Rattle.hp_questions.specs.declared.wanted.Wanted.{Wanted}
@@ -9,7 +9,7 @@ use Rattle.hp_schedules.specs.PartNumbers.{NumberValue}
 use Rattle.hp_search.specs.declared.forms.EndsForm.{EndsForm}
 use Rattle.hp_search.specs.declared.forms.ScheduleForm.{ScheduleForm}
 use Rattle.hp_scenario.specs.Gives.{Fails}
-use Rattle.hp_scenario.specs.Scenario.{scenario_in}
+use Rattle.hp_names.specs.Named.{named_in}
 use Rattle.hp_scenario.specs.declared.fault.ScenarioFault.{ScenarioFault}
 use Rattle.hp_streams.specs.Reading.{limit}
 use Rattle.hp_part_files.specs.Faults.{IsSumFault}
@@ -73,11 +73,11 @@ IsAnswerOf (Picture drawing) input text status = HasRows drawing.view input × (
 IsAnswerOf Log input text status = HasLog input × (status ≡ 0)
 IsAnswerOf (Told form) input text status = HasJson form input text × (status ≡ 0)
 
--- the text and the status of a word, for a scenario that has the lines that the word names
+-- the text and the status of a command, on a scenario that has the lines that the command names
 abbrev pub Answers : Word → (input text : List ℕ) → (status : ℕ) → Type 0
 Answers word input text status = HasLines word input × IsAnswerOf word input text status
 
--- why a word fails: the fault of the exploration or the search, or of the scenario that is traced;
+-- why a command fails: the fault of the exploration or the search, or of the scenario that is traced;
 -- otherwise only out of memory
 abbrev pub IsLabCause : Word → (input : List ℕ) → LabFault → Type 0
 IsLabCause (Check setup) input fault = fault ≡ OutOfMemory
@@ -99,10 +99,10 @@ IsScenarioCause (Part asked part) input fault = ⊥
 IsScenarioCause (Sum form) input fault = ⊥
 IsScenarioCause (Find setup wanted form) input fault = ⊥
 IsScenarioCause (Never setup wanted form) input fault = ⊥
-IsScenarioCause (Trace view) input fault = Fails fault (scenario_in input)
-IsScenarioCause (Picture drawing) input fault = Fails fault (scenario_in input)
-IsScenarioCause Log input fault = Fails fault (scenario_in input)
-IsScenarioCause (Told form) input fault = Fails fault (scenario_in input)
+IsScenarioCause (Trace view) input fault = Fails fault (named_in input)
+IsScenarioCause (Picture drawing) input fault = Fails fault (named_in input)
+IsScenarioCause Log input fault = Fails fault (named_in input)
+IsScenarioCause (Told form) input fault = Fails fault (named_in input)
 
 -- why parts cannot be added up
 abbrev pub IsPartCause : Word → (input : List ℕ) → PartFault → Type 0
@@ -121,7 +121,7 @@ IsUnanswered word input WriteFailed = ⊥
 
 -- ---- from a reader to a writer
 
--- the word's text for these bytes was written, and nothing else, with this status
+-- the command's text for these bytes was written, and nothing else, with this status
 abbrev pub ServesText : Word → (input : List ℕ) → (old new : Option (List ℕ)) → (status : ℕ) → Type 0
 ServesText word input old new status =
     (text : List ℕ) × Appends old new text × Answers word input text status
@@ -130,7 +130,7 @@ ServesText word input old new status =
 abbrev pub Serves : Word → (known old new : Option (List ℕ)) → (status : ℕ) → Type 0
 Serves word known old new status = IfSome known (λ input. ServesText word input old new status)
 
--- when each fault comes where nothing is read; `written` is that a call of the writer failed
+-- when each fault comes if nothing is read; `written` is that a call of the writer failed
 abbrev pub IsTextFault : Word → (input : List ℕ) → (written : Type 0) → LabProgramFault → Type 0
 IsTextFault word input written (Lab fault) = (fault ≡ OutOfMemory) ⊎ IsLabCause word input fault
 IsTextFault word input written WriteFailed = written

@@ -1,4 +1,4 @@
-//! The text and the exit status of each word, from a scenario's bytes.
+//! The text and the exit status of each command, from a scenario's bytes.
 
 ghost use Rattle.std.specs.Prelude.{◌≡◌, if◌then◌else◌, IfErr, IfOk, string_bytes};
 ghost use Rattle.hotplug_lab.specs.Words.{IsAddedOf, IsAnswerOf, IsExploringOf, IsPartialOf, IsSearchOf, IsUnanswered, find_status};
@@ -16,7 +16,7 @@ use hp_states::Watch;
 use std::alloc::Global;
 use std::thread::Threads;
 
-/// Returns the text and the exit status of a word for a scenario. `watch` gets the progress of a
+/// Returns the text and the exit status of a command on a scenario. `watch` gets the progress of a
 /// search.
 pub(crate) fn answer_to<W: Watch>(
     rt: &(impl Threads + Sync),

@@ -4,13 +4,18 @@
 //! The libraries write the texts: hp_check that of `check`; hp_search that of `explore`, and
 //! hp_part_files that of its parts and their `sum`; hp_trace that of `trace` and its log, and
 //! hp_svg its picture; hp_verdicts that of `judge`, which reads no scenario. hp_lab_shell has the
-//! command line, the files and the messages; this program serves the other words.
+//! command line, the files and the messages; this program runs the other commands.
 //!
-//! The exit status is 0; 1 after a fault, which standard error names, and after a check that finds
-//! faults; 2 for a wrong command line; 3 if a search finds nothing, finds what it should not, or is
-//! ended before it knows; if there is no end with the number that was asked for; if only the first
-//! interleavings are counted; and if a log is unlawful. It is the same if standard error takes no
-//! text. The help is a text like any other: if standard output does not take it, the status is 1.
+//! The exit status is:
+//! - 1 after a fault, which standard error names, and after a check that finds faults,
+//! - 2 for a wrong command line,
+//! - 3 if a search finds nothing, finds what it should not, or is ended before it knows; if there
+//!   is no end with the number that was asked for; if only the first interleavings are counted; and
+//!   if a log is unlawful,
+//! - 0 otherwise.
+//!
+//! It is the same if standard error takes no text. The help is a text like any other: if standard
+//! output does not take it, the status is 1.
 #![tactic(auto)]
 
 mod answering;
@@ -25,7 +30,7 @@ use std::alloc::Global;
 use std::process::ExitCode;
 use std::thread::{self, Threads};
 
-/// Serves the words of the program.
+/// Runs the commands of the program.
 #[derive(Drop)]
 struct Searches;
 

@@ -1,11 +1,11 @@
-//! Serves a word from a reader to a writer.
+//! Runs a command from a reader to a writer.
 
 ghost use Rattle.std.specs.Prelude.{◌≡◌, ◌≢◌, ◌<◌, ◌-◌, ◌^◌, IfErr, IfOk, IfSome, OnOk, string_bytes};
 ghost use Rattle.std.specs.Io.KnownBytes.{Appends, Keeps};
 ghost use Rattle.hp_streams.specs.Reading.{ReadsAll};
 ghost use Rattle.hp_lab_shell.specs.Needs.{unbegun_of};
 ghost use Rattle.hotplug_lab.specs.Words.{Answers, IsServeFault, IsTextFault, IsUnanswered, Serves, ServesText};
-ghost use Rattle.hp_scenario.specs.Scenario.{scenario_in};
+ghost use Rattle.hp_names.specs.Named.{named_in};
 
 use crate::answering::answer_to;
 use hp_lab_shell::{Served, TextAndStatus, Word, look_for_line, unbegun_of};
@@ -15,7 +15,7 @@ use hp_streams::{Failed, Sink, Source, read_all, write_all};
 use std::alloc::Global;
 use std::thread::Threads;
 
-/// Reads a scenario, does a word on it, and writes the text. Returns the exit status, with the
+/// Reads a scenario, runs a command on it, and writes the text. Returns the exit status, with the
 /// script lines that deserve a warning. `watch` gets the progress of a search, and is dropped
 /// before anything is written.
 pub fn serve_word<R: Source, W: Sink, P: Watch + Drop>(
@@ -31,12 +31,12 @@ pub fn serve_word<R: Source, W: Sink, P: Watch + Drop>(
 
     // The reader gave all that it had, at most the limit.
     ensures read { OnOk result (ReadsAll (R.remaining reader.old) (R.remaining reader.new)) }
-    // The writer got the word's text for the bytes that were read, and nothing else.
+    // The writer got the command's text for the bytes that were read, and nothing else.
     ensures ok { IfOk result (λ served. Serves word.entry (R.remaining reader.old) (W.contents writer.old)
         (W.contents writer.new) served.status) }
     // The script lines that deserve a warning.
     ensures told { IfOk result (λ served. IfSome (R.remaining reader.old)
-        (λ input. served.unbegun.items ≡ unbegun_of word.entry (scenario_in input))) }
+        (λ input. served.unbegun.items ≡ unbegun_of word.entry (named_in input))) }
     // After any other fault, nothing was written.
     ensures silent { IfErr result
         (λ fault. fault ≢ LabProgramFault.WriteFailed
@@ -49,7 +49,7 @@ pub fn serve_word<R: Source, W: Sink, P: Watch + Drop>(
     serve_text(rt, alloc, word, &input, writer, watch)
 }
 
-/// Does a word on a text that has been read, and writes what it comes to, as `serve_word` does.
+/// Runs a command on a text that has been read, and writes the result, as `serve_word` does.
 pub fn serve_text<W: Sink, P: Watch + Drop>(
     rt: &(impl Threads + Sync),
     alloc: Global,
@@ -62,7 +62,7 @@ pub fn serve_text<W: Sink, P: Watch + Drop>(
     ensures ok { IfOk result (λ served. ServesText word.entry input.now (W.contents writer.old)
         (W.contents writer.new) served.status) }
     ensures told { IfOk result
-        (λ served. served.unbegun.items ≡ unbegun_of word.entry (scenario_in input.now)) }
+        (λ served. served.unbegun.items ≡ unbegun_of word.entry (named_in input.now)) }
     ensures silent { IfErr result
         (λ fault. fault ≢ LabProgramFault.WriteFailed
         → Keeps (W.contents writer.old) (W.contents writer.new)) }
@@ -90,7 +90,7 @@ fn write_answer<W: Sink>(writer: &mut W, answer: &TextAndStatus) -> Result<u8, L
     }
 }
 
-/// Returns the text and the exit status of a word for a scenario. `watch` gets the progress of a
+/// Returns the text and the exit status of a command on a scenario. `watch` gets the progress of a
 /// search, and is dropped.
 fn watched_answer<P: Watch + Drop>(
     rt: &(impl Threads + Sync),

@@ -60,10 +60,10 @@ of_test e h = of_fault (ap lacks e) h
 
 -- ---- a loop
 
-or_assoc : (a b c : Option ScenarioFault) → option_or (option_or a b) c ≡ option_or a (option_or b c)
+pub or_assoc : (a b c : Option ScenarioFault) → option_or (option_or a b) c ≡ option_or a (option_or b c)
 or_assoc a b c = grind arith
 
-or_none : (a : Option ScenarioFault) → option_or a None ≡ a
+pub or_none : (a : Option ScenarioFault) → option_or a None ≡ a
 or_none a = grind arith
 
 last_at : {X : Type 0} (f : ℕ → X → Option ScenarioFault) (number : ℕ) (xs : List X) (x : X)

@@ -11,11 +11,12 @@ use Rattle.hp_units.specs.LayoutParts.{LayoutParts, layout_fault}
 use Rattle.hp_units.specs.declared.layouts.LayoutFault.{LayoutFault}
 use Rattle.hp_scenario.specs.Form.{Form, boots_at, form_of, has_keys, parts_of, parts_with, texts_at}
 use Rattle.hp_scenario.specs.Gives.{◌>>=◌, or_fault}
-use Rattle.hp_scenario.specs.Scenario.{ScenarioValue, Script, json_of, layout_or, lines_from, nothing, scenario_in, scenario_of, scenario_with}
+use Rattle.hp_scenario.specs.Scenario.{json_of, layout_or}
 use Rattle.hp_scenario.specs.declared.fault.ScenarioFault.{ScenarioFault}
 use Rattle.hp_scenario.specs.declared.fault.ScenarioFault.TheVariants.{NotJson, BadShape, Layout}
-use Rattle.hp_check.specs.Adds.{Adds, IsFirst, IsLayout, IsNotJson, IsRepeat, IsShape, IsWarning, ValueCause, fault_in, first_at, lacks, limit_fault_of}
-use Rattle.hp_check.specs.Calls.{IsBadCall, entries_in, entry_fault}
+use Rattle.hp_names.specs.Named.{NamedValue, ReadingValue, lines_from, named_in, named_of, named_with, nothing}
+use Rattle.hp_check.specs.Adds.{Adds, IsFirst, IsLayout, IsNotJson, IsRepeat, IsShape, IsWarning, ValueCause, fault_in, lacks, limit_fault_of}
+use Rattle.hp_check.specs.Calls.{IsBadCall, calls_fault, entries_in}
 use Rattle.hp_check.specs.Checking.{Agrees, Begins, HasCause, HaveCauses, IsFindingOf, IsPastLimits}
 use Rattle.hp_check.specs.Findings.{is_fault}
 use Rattle.hp_check.specs.Ranges.{parts_in}
@@ -57,16 +58,20 @@ form_is_made d form h = made_of d (get (codes "layout") d) form refl (if_some (h
 
 -- ---- the first fault of a value
 
-abbrev pub with_script : LayoutParts → Result Script ScenarioFault → Result ScenarioValue ScenarioFault
-with_script layout r =
-    r >>= λ script. Ok (record { layout = layout; names = script.names; lines = script.lines })
+abbrev pub with_script : LayoutParts → Result ReadingValue ScenarioFault → Result NamedValue ScenarioFault
+with_script layout read =
+    read >>= λ r. Ok (record {
+      scenario = record { layout = layout; names = r.names; lines = r.lines };
+      sources = r.sources;
+      bound = r.bound;
+    })
 
-abbrev pub after_layout : Form → Option LayoutFault → Result ScenarioValue ScenarioFault
+abbrev pub after_layout : Form → Option LayoutFault → Result NamedValue ScenarioFault
 after_layout form o =
     layout_or form.parts o >>= λ layout. with_script layout (lines_from 1 nothing form.calls)
 
-form_fault : (form : Form) → scenario_with form ≡ after_layout form (layout_fault form.parts)
-unfolding scenario_with
+form_fault : (form : Form) → named_with form ≡ after_layout form (layout_fault form.parts)
+unfolding named_with
 form_fault form = refl
 
 layout_then_lines : (form : Form) (lines : Option ScenarioFault) (o : Option LayoutFault)
@@ -76,20 +81,20 @@ layout_then_lines form lines o e = grind arith
 
 abbrev pub all_faults : Data → Bool → Option LayoutParts → Option ScenarioFault
 all_faults d fine parts =
-    option_or (option_or (lacks fine) (limit_fault_of parts)) (first_at entry_fault 1 (entries_in d))
+    option_or (option_or (lacks fine) (limit_fault_of parts)) (calls_fault 0 [] (entries_in d))
 
 value_fault_of : (d : Data) (o : Option Form) → form_of d ≡ o
-    → all_faults d (is_some o) (parts_in d) ≡ fault_in (or_fault BadShape o >>= scenario_with)
+    → all_faults d (is_some o) (parts_in d) ≡ fault_in (or_fault BadShape o >>= named_with)
 value_fault_of d None e = refl
 value_fault_of d (Some form) e =
     let m = form_is_made d form e in
     ap (all_faults d true) m.parts
-    ∙ layout_then_lines form (first_at entry_fault 1 (entries_in d)) (layout_fault form.parts)
-    (calls_stop d nothing form.calls m.calls)
+    ∙ layout_then_lines form (calls_fault 0 [] (entries_in d)) (layout_fault form.parts)
+    (calls_stop d form.calls m.calls)
     ∙ ap fault_in (sym (form_fault form))
 
-value_fault : (d : Data) → all_faults d (is_some (form_of d)) (parts_in d) ≡ fault_in (scenario_of d)
-unfolding scenario_of
+value_fault : (d : Data) → all_faults d (is_some (form_of d)) (parts_in d) ≡ fault_in (named_of d)
+unfolding named_of
 value_fault d = value_fault_of d (form_of d) refl
 
 -- ---- causes
@@ -118,7 +123,7 @@ layout_cause : (d : Data) → is_some (limit_fault_of (parts_in d)) ≡ true
 layout_cause d h (finding.Layout out) is = past_limits d (parts_in d) refl h
 layout_cause d h (finding.NotJson hint line column) is = is
 layout_cause d h (finding.Shape s) is = absurd is
-layout_cause d h (finding.BadCall number text) is = absurd is
+layout_cause d h (finding.BadCall number text names) is = absurd is
 layout_cause d h f is = is
 
 call_cause : (d : Data) (f : Finding) → IsBadCall (entries_in d) f → ValueCause d f
@@ -128,8 +133,8 @@ call_cause d f is = grind arith
 pub value_found : (d : Data) (old shape limits new : List Finding)
     → Adds IsShape (lacks (is_some (form_of d))) old shape
     → Adds IsLayout (limit_fault_of (parts_in d)) shape limits
-    → Adds (IsBadCall (entries_in d)) (first_at entry_fault 1 (entries_in d)) limits new
-    → Adds (ValueCause d) (fault_in (scenario_of d)) old new
+    → Adds (IsBadCall (entries_in d)) (calls_fault 0 [] (entries_in d)) limits new
+    → Adds (ValueCause d) (fault_in (named_of d)) old new
 value_found d old shape limits new one two three =
     of_fault (value_fault d)
     (both_added
@@ -139,15 +144,15 @@ value_found d old shape limits new one two three =
 
 -- the faults of a text that is JSON, and of one that is none
 pub text_found : (input : List ℕ) (d : Data) (found : List Finding) → json_of input ≡ Some d
-    → Adds (ValueCause d) (fault_in (scenario_of d)) [] found
-    → Adds (HasCause input) (fault_in (scenario_in input)) [] found
-unfolding scenario_in
+    → Adds (ValueCause d) (fault_in (named_of d)) [] found
+    → Adds (HasCause input) (fault_in (named_in input)) [] found
+unfolding named_in
 text_found input d found e h = grind (arith, of_fault, by_cause)
 
 pub no_json_found : (input : List ℕ) (found : List Finding) → json_of input ≡ None
     → Adds IsNotJson (Some NotJson) [] found
-    → Adds (HasCause input) (fault_in (scenario_in input)) [] found
-unfolding scenario_in
+    → Adds (HasCause input) (fault_in (named_in input)) [] found
+unfolding named_in
 no_json_found input found e h = grind (arith, of_fault, by_cause)
 
 -- ---- what is promised
@@ -156,8 +161,8 @@ pub repeats_are_warnings : (lines : ℕ) (found : List Finding) → All IsRepeat
     → All (IsWarning lines) found
 repeats_are_warnings lines found all = grind (arith, All-weaker)
 
-pub warnings_have_causes : (input : List ℕ) (s : ScenarioValue) (found : List Finding)
-    → scenario_in input ≡ Ok s → All (IsWarning (length s.lines)) found → HaveCauses input found
+pub warnings_have_causes : (input : List ℕ) (s : NamedValue) (found : List Finding)
+    → named_in input ≡ Ok s → All (IsWarning (length s.scenario.lines)) found → HaveCauses input found
 warnings_have_causes input s found e all = grind (arith, All-weaker)
 
 no_fault : (lines : ℕ) (f : Finding) → IsWarning lines f → is_fault f ≡ false
@@ -182,9 +187,9 @@ none_counted lines (f ∷ fs) all =
       none_counted lines fs (All-tail (IsWarning lines) f fs all),
     )
 
-pub warnings_agree : (input : List ℕ) (s : ScenarioValue) (found : List Finding) → scenario_in input ≡ Ok s
-    → All (IsWarning (length s.lines)) found → Agrees (scenario_in input) found
-warnings_agree input s found e all = rw e (none_counted (length s.lines) found all)
+pub warnings_agree : (input : List ℕ) (s : NamedValue) (found : List Finding) → named_in input ≡ Ok s
+    → All (IsWarning (length s.scenario.lines)) found → Agrees (named_in input) found
+warnings_agree input s found e all = rw e (none_counted (length s.scenario.lines) found all)
 
 not_a_repeat : (fault : ScenarioFault) (p : ScenarioObject) (k : Key)
     → IsFindingOf fault (finding.Repeat p k) → ⊥
@@ -197,7 +202,7 @@ some_fault : (fault : ScenarioFault) (found : List Finding) → Begins fault fou
 some_fault fault [] h = absurd h
 some_fault fault (f ∷ fs) h = omega (arith, counted true f fs (first_is_fault fault f h))
 
-agrees_of : (r : Result ScenarioValue ScenarioFault) (found : List Finding) → IsFirst (fault_in r) found
+agrees_of : (r : Result NamedValue ScenarioFault) (found : List Finding) → IsFirst (fault_in r) found
     → Agrees r found
 agrees_of r found h = grind (arith, some_fault)
 
@@ -207,9 +212,9 @@ all_added : {P : Finding → Type 0} {fault : Option ScenarioFault} {found : Lis
 all_added {P} {fault} h = grind arith
 
 pub faults_agree : (input : List ℕ) (found : List Finding)
-    → Adds (HasCause input) (fault_in (scenario_in input)) [] found → Agrees (scenario_in input) found
-faults_agree input found h = agrees_of (scenario_in input) found (all_added h).0
+    → Adds (HasCause input) (fault_in (named_in input)) [] found → Agrees (named_in input) found
+faults_agree input found h = agrees_of (named_in input) found (all_added h).0
 
 pub faults_have_causes : (input : List ℕ) (found : List Finding)
-    → Adds (HasCause input) (fault_in (scenario_in input)) [] found → HaveCauses input found
+    → Adds (HasCause input) (fault_in (named_in input)) [] found → HaveCauses input found
 faults_have_causes input found h = (all_added h).1

@@ -1,8 +1,8 @@
 -- The first entry of `calls` that is no line is the line that reading stops at.
-use Rattle.std.proofs.Common.{◌≡◌, ℕ, ◌+◌, ◌<◌, ◌≤◌, Bool, true, false, cond, List, [], ◌∷◌, ◌++◌, codes, length, get_or, map, slice_get, take, Option, Some, None, Result, is_some, option_and_then, refl, sym, ap, ◌∙◌, arith}
+use Rattle.std.proofs.Common.{◌≡◌, ℕ, ◌+◌, ◌<◌, ◌≤◌, Bool, true, false, cond, List, [], ◌∷◌, ◌++◌, codes, length, get_or, map, slice_get, take, Option, Some, None, Result, is_some, option_and_then, refl, sym, ap, subst, ◌∙◌, arith}
 use Rattle.std.specs.Option.{option_map, option_or}
-use Rattle.std.proofs.lemmas.List.{get_or-map, length-map}
-use Rattle.std.proofs.lemmas.Option.{same_Some, slice_get-map, slice_get_read}
+use Rattle.std.proofs.lemmas.List.{get_or-map, length-append, length-take, take_all, take_more}
+use Rattle.std.proofs.lemmas.Option.{same_Some, slice_get_read}
 use Rattle.serde_json.specs.Data.{Data, Items, no_items, item}
 use Rattle.serde_json.specs.Find.{get, as_array, as_str}
 use Rattle.serde_json.specs.View.{view, items_of, items_view}
@@ -11,14 +11,17 @@ use Rattle.hp_scenario.specs.Form.{each_in, texts_at}
 use Rattle.hp_scenario.specs.Gives.{◌>>=◌, or_fault}
 use Rattle.hp_scenario.specs.Lines.{Said, line_says}
 use Rattle.hp_scenario.specs.Names.{line_in, numbered}
-use Rattle.hp_scenario.specs.Scenario.{Script, lines_from, with_line}
 use Rattle.hp_scenario.specs.declared.fault.ScenarioFault.{ScenarioFault}
 use Rattle.hp_scenario.specs.declared.fault.ScenarioFault.TheVariants.{BadLine}
-use Rattle.hp_check.specs.Adds.{Adds, fault_in, first_at}
-use Rattle.hp_check.specs.Calls.{IsBadCall, IsBadText, data_of, entries_in, entry_fault, items_or_none, text_fault}
+use Rattle.hp_names.specs.Bindings.{Bound, bound_after}
+use Rattle.hp_names.specs.Named.{ReadingValue, lines_from, nothing, with_line}
+use Rattle.hp_names.specs.Plain.{plain_in}
+use Rattle.hp_names.specs.declared.plain.PlainLine.{PlainLine}
+use Rattle.hp_check.specs.Adds.{Adds, IsFirst, fault_in}
+use Rattle.hp_check.specs.Calls.{AddsBadCall, IsBadCall, IsBadText, bound_past, bound_text, bound_through, calls_fault, data_of, entries_in, entry_fault, is_line_after, items_or_none, text_fault}
 use Rattle.hp_check.specs.declared.finding.Finding.{Finding}
 use Rattle.hp_check.specs.declared.finding.Finding.TheVariants as finding
-use Rattle.hp_check.proofs.Added.{by_cause, item_added, items_added, none_added, of_fault, one_added}
+use Rattle.hp_check.proofs.Added.{both_added, by_cause, none_added, of_fault, one_added, or_assoc, or_none}
 
 -- ---- entries
 
@@ -31,91 +34,192 @@ items_seen vs = items_are (map view vs)
 
 -- the entry at a place
 pub entry_there : (vs : List Value) (i : ℕ) (v : Value) → i < length vs → v ≡ get_or vs i v
-    → slice_get (map view vs) i ≡ Some (view v)
-entry_there vs i v lt at = rw (slice_get-map view vs i, slice_get_read vs (length vs) i v refl lt at)
+    → view v ≡ get_or (map view vs) i (view v)
+entry_there vs i v lt at = ap view at ∙ sym (get_or-map view vs i v (view v) lt)
+
+-- ---- one entry more
+
+bound_more : (place : ℕ) (bound : Bound) (ds : List Data) (d : Data)
+    → bound_through place bound (ds ++ d ∷ [])
+    ≡ bound_past (place + length ds) (bound_through place bound ds) d
+bound_more place bound [] d = ap (λ (n : ℕ). bound_past n bound d) (omega arith)
+bound_more place bound (e ∷ ds) d =
+    let next = bound_past place bound e in
+    bound_more (place + 1) next ds d
+    ∙ ap (λ (n : ℕ). bound_past n (bound_through (place + 1) next ds) d) (omega arith)
+
+fault_more : (place : ℕ) (bound : Bound) (ds : List Data) (d : Data)
+    → calls_fault place bound (ds ++ d ∷ [])
+    ≡ option_or (calls_fault place bound ds) (entry_fault (place + length ds) (bound_through place bound ds) d)
+fault_more place bound [] d =
+    or_none (entry_fault place bound d) ∙ ap (λ (n : ℕ). entry_fault n bound d) (omega arith)
+fault_more place bound (e ∷ ds) d =
+    let next = bound_past place bound e in
+    let first = entry_fault place bound e in
+    let rest = calls_fault (place + 1) next ds in
+    let last = bound_through (place + 1) next ds in
+    ap (option_or first) (fault_more (place + 1) next ds d)
+    ∙ sym (or_assoc first rest (entry_fault (place + 1 + length ds) last d))
+    ∙ ap (λ (n : ℕ). option_or (option_or first rest) (entry_fault n last d)) (omega arith)
 
 -- what is wrong with one entry is wrong with that entry of all
-pub bad_entry : (ds : List Data) (at : ℕ) (d : Data) → slice_get ds at ≡ Some d
-    → (f : Finding) → IsBadText (at + 1) d f → IsBadCall ds f
-bad_entry ds at d here (finding.BadCall number text) h =
+bad_entry : (ds : List Data) (at : ℕ) (d : Data) → slice_get ds at ≡ Some d
+    → (f : Finding) → IsBadText at (bound_through 0 [] (take at ds)) d f → IsBadCall ds f
+bad_entry ds at d here (finding.BadCall number text names) h =
     record { at = at; entry = d; counted = h.0; here = here; is_text = h.1; no_line = h.2 }
 bad_entry ds at d here f h = absurd h
 
--- one entry more
-pub entry_added : (vs : List Value) (i : ℕ) (v : Value) {old now next : List Finding}
-    → i < length vs → v ≡ get_or vs i v
-    → Adds (IsBadCall (map view vs)) (first_at entry_fault 1 (take i (map view vs))) old now
-    → Adds (IsBadText (i + 1) (view v)) (entry_fault (i + 1) (view v)) now next
-    → Adds (IsBadCall (map view vs)) (first_at entry_fault 1 (take (i + 1) (map view vs))) old next
-entry_added vs i v lt at so_far more =
-    let same : view v ≡ get_or (map view vs) i (view v) =
-    ap view at ∙ sym (get_or-map view vs i v (view v) lt) in
-    item_added entry_fault (map view vs) i (view v) (omega (arith, lt, length-map vs view)) so_far
-    (of_fault (ap (entry_fault (i + 1)) same)
-    (by_cause (bad_entry (map view vs) i (view v) (entry_there vs i v lt at)) more))
+-- the entries up to a place were looked at, and the names are those of their lines
+pub record AreLookedAt (ds : List Data) (i : ℕ) (old now : List Finding) (bound : Bound) : Type 0 where
+  pub found : Adds (IsBadCall ds) (calls_fault 0 [] (take i ds)) old now
+  pub names : bound ≡ bound_through 0 [] (take i ds)
 
-pub entries_added : (vs : List Value) (i : ℕ) {old now : List Finding} → length vs ≤ i
-    → Adds (IsBadCall (map view vs)) (first_at entry_fault 1 (take i (map view vs))) old now
-    → Adds (IsBadCall (map view vs)) (first_at entry_fault 1 (map view vs)) old now
-entries_added vs i over so_far = grind (arith, items_added, length-map)
+pub none_looked_at : (ds : List Data) (old : List Finding) (bound : Bound) → bound ≡ []
+    → AreLookedAt ds 0 old old bound
+none_looked_at ds old bound none = record { found = none_added (IsBadCall ds) old; names = none }
 
--- an entry that is no text, one that is a line, and one that is none
-pub no_text_added : (n : ℕ) (d : Data) (old : List Finding) → None ≡ as_str d
-    → Adds (IsBadText n d) (entry_fault n d) old old
-no_text_added n d old is = of_fault (ap (text_fault n) is) (none_added (IsBadText n d) old)
+pub entry_added : (ds : List Data) (i : ℕ) (d : Data) (bound last : Bound) {old now next : List Finding}
+    → i < length ds → d ≡ get_or ds i d → AreLookedAt ds i old now bound
+    → Adds (IsBadText i bound d) (entry_fault i bound d) now next → last ≡ bound_past i bound d
+    → AreLookedAt ds (i + 1) old next last
+entry_added ds i d bound last {old} {now} {next} lt at so_far more is =
+    let here : slice_get ds i ≡ Some d = slice_get_read ds (length ds) i d refl lt at in
+    let before = bound_through 0 [] (take i ds) in
+    let counted : 0 + length (take i ds) ≡ i = omega (arith, length-take i ds) in
+    let front : take (i + 1) ds ≡ take i ds ++ d ∷ [] =
+    take_more ds i d lt ∙ ap (λ (x : Data). take i ds ++ x ∷ []) (sym at) in
+    let one : Adds (IsBadText i before d) (entry_fault i before d) now next =
+    subst (λ (b : Bound). Adds (IsBadText i b d) (entry_fault i b d) now next) so_far.names more in
+    record {
+      found =
+          of_fault (sym (ap (calls_fault 0 []) front ∙ fault_more 0 [] (take i ds) d
+          ∙ ap (λ (n : ℕ). option_or (calls_fault 0 [] (take i ds)) (entry_fault n before d)) counted))
+          (both_added so_far.found (by_cause (bad_entry ds i d here) one));
+      names =
+          is ∙ ap (λ (b : Bound). bound_past i b d) so_far.names
+          ∙ sym (ap (bound_through 0 []) front ∙ bound_more 0 [] (take i ds) d
+          ∙ ap (λ (n : ℕ). bound_past n before d) counted);
+    }
 
-said_fault : (n : ℕ) (text : List ℕ) (b : Bool) → b ≡ is_some (line_says text)
-    → cond b None (Some (BadLine n)) ≡ text_fault n (Some text)
-said_fault n text b e = ap (λ (x : Bool). cond x None (Some (BadLine n))) e
+pub entries_added : (ds : List Data) (i : ℕ) (bound : Bound) {old now : List Finding} → length ds ≤ i
+    → AreLookedAt ds i old now bound → Adds (IsBadCall ds) (calls_fault 0 [] ds) old now
+entries_added ds i bound over so_far = of_fault (ap (calls_fault 0 []) (take_all i ds over)) so_far.found
 
-pub line_added : (n : ℕ) (d : Data) (text : List ℕ) (old : List Finding) → Some text ≡ as_str d
-    → true ≡ is_some (line_says text) → Adds (IsBadText n d) (entry_fault n d) old old
-line_added n d text old is line = grind (arith, of_fault, said_fault, none_added)
+-- ---- an entry that is no text, one that is a line, and one that is none
 
-pub bad_added : (n : ℕ) (d : Data) (text kept : List ℕ) (old new : List Finding) → Some text ≡ as_str d
-    → false ≡ is_some (line_says text) → kept ≡ text → new ≡ old ++ finding.BadCall n kept ∷ []
-    → Adds (IsBadText n d) (entry_fault n d) old new
-bad_added n d text kept old new is line same pushed = grind (arith, of_fault, said_fault, one_added)
+pub no_text_added : (place : ℕ) (bound : Bound) (d : Data) (old : List Finding) → None ≡ as_str d
+    → Adds (IsBadText place bound d) (entry_fault place bound d) old old
+no_text_added place bound d old is =
+    of_fault (ap (text_fault place bound) is) (none_added (IsBadText place bound d) old)
+
+pub no_text_past : (place : ℕ) (bound : Bound) (d : Data) → None ≡ as_str d → bound ≡ bound_past place bound d
+no_text_past place bound d is = ap (bound_text place bound) is
+
+said_after : (bound : Bound) (text : List ℕ) (plain : PlainLine) (b : Bool) → plain ≡ plain_in bound text
+    → b ≡ is_some (line_says plain.text) → b ≡ is_line_after bound text
+said_after bound text plain b same e = e ∙ ap (λ (p : PlainLine). is_some (line_says p.text)) same
+
+pub line_added : (place : ℕ) (bound : Bound) (d : Data) (text : List ℕ) (plain : PlainLine)
+    (old : List Finding)
+    → Some text ≡ as_str d → plain ≡ plain_in bound text → true ≡ is_some (line_says plain.text)
+    → Adds (IsBadText place bound d) (entry_fault place bound d) old old
+line_added place bound d text plain old is same line =
+    of_fault (ap (λ (b : Bool). cond b None (Some (BadLine (place + 1)))) (said_after bound text plain true same line)
+    ∙ ap (text_fault place bound) is)
+    (none_added (IsBadText place bound d) old)
+
+pub line_past : (place : ℕ) (bound new : Bound) (d : Data) (text : List ℕ) (plain : PlainLine)
+    → Some text ≡ as_str d → plain ≡ plain_in bound text → true ≡ is_some (line_says plain.text)
+    → new ≡ bound_after bound plain.naming place 0 → new ≡ bound_past place bound d
+line_past place bound new d text plain is same line bind =
+    let after = bound_after bound (plain_in bound text).naming place 0 in
+    bind ∙ ap (λ (p : PlainLine). bound_after bound p.naming place 0) same
+    ∙ ap (λ (b : Bool). cond b after bound) (said_after bound text plain true same line)
+    ∙ ap (bound_text place bound) is
+
+pub bad_added : (place : ℕ) (bound : Bound) (d : Data) (text : List ℕ) (plain : PlainLine)
+    (old new : List Finding)
+    → Some text ≡ as_str d → plain ≡ plain_in bound text → false ≡ is_some (line_says plain.text)
+    → AddsBadCall (place + 1) text old new
+    → Adds (IsBadText place bound d) (entry_fault place bound d) old new
+bad_added place bound d text plain old new is same line adds =
+    let none : false ≡ is_line_after bound text = said_after bound text plain false same line in
+    one_added (IsBadText place bound d) (entry_fault place bound d) (finding.BadCall (place + 1) text adds.0) old
+    new adds.1 (refl, sym is, sym none)
+    (subst (λ (fault : Option ScenarioFault). IsFirst fault (finding.BadCall (place + 1) text adds.0 ∷ []))
+    (ap (λ (b : Bool). cond b None (Some (BadLine (place + 1)))) none ∙ ap (text_fault place bound) is) refl)
+
+pub bad_past : (place : ℕ) (bound : Bound) (d : Data) (text : List ℕ) (plain : PlainLine)
+    → Some text ≡ as_str d → plain ≡ plain_in bound text → false ≡ is_some (line_says plain.text)
+    → bound ≡ bound_past place bound d
+bad_past place bound d text plain is same line =
+    let after = bound_after bound (plain_in bound text).naming place 0 in
+    ap (λ (b : Bool). cond b after bound) (said_after bound text plain false same line)
+    ∙ ap (bound_text place bound) is
 
 -- ---- where reading stops
 
-abbrev pub goes_on : (n : ℕ) → (xs : List (List ℕ)) → Script → Option Said → Result Script ScenarioFault
-goes_on n xs script says =
-    or_fault (BadLine n) (option_map (numbered script.names) says) >>= λ m.
-    lines_from (n + 1) (with_line script m) xs
+abbrev goes_on : (n : ℕ) → (xs : List (List ℕ)) → ReadingValue → PlainLine → Option Said
+    → Result ReadingValue ScenarioFault
+goes_on n xs r plain says =
+    or_fault (BadLine n) (option_map (with_line r plain) (option_map (numbered r.names) says)) >>= λ next.
+    lines_from (n + 1) next xs
 
-first_line : (n : ℕ) (x : List ℕ) (xs : List (List ℕ)) (script : Script)
-    → lines_from n script (x ∷ xs) ≡ goes_on n xs script (line_says x)
+first_line : (n : ℕ) (x : List ℕ) (xs : List (List ℕ)) (r : ReadingValue)
+    → lines_from n r (x ∷ xs) ≡ goes_on n xs r (plain_in r.bound x) (line_says (plain_in r.bound x).text)
 unfolding lines_from line_in
-first_line n x xs script = refl
+first_line n x xs r = refl
 
-text_step : (n : ℕ) (d : Data) (script : Script) (later : Option ScenarioFault) (texts : List (List ℕ))
-    (o : Option (List ℕ)) (r : Option (List (List ℕ)))
-    → option_and_then (λ x. option_and_then (λ xs. Some (x ∷ xs)) r) o ≡ Some texts
-    → ((next : Script) (xs : List (List ℕ)) → r ≡ Some xs → later ≡ fault_in (lines_from (n + 1) next xs))
-    → option_or (text_fault n o) later ≡ fault_in (lines_from n script texts)
-text_step n d script later texts o r t rest = grind (arith, first_line, same_Some)
-
-no_line : (n : ℕ) (script : Script) → fault_in (lines_from n script []) ≡ None
+no_line : (n : ℕ) (r : ReadingValue) → fault_in (lines_from n r []) ≡ None
 unfolding lines_from
-no_line n script = refl
+no_line n r = refl
 
-pub entries_stop : (n : ℕ) (ds : Items) (script : Script) (texts : List (List ℕ))
-    → each_in as_str ds ≡ Some texts
-    → first_at entry_fault n (data_of ds) ≡ fault_in (lines_from n script texts)
+one_step : (n place : ℕ) (xs : List (List ℕ)) (r : ReadingValue) (plain : PlainLine) (says : Option Said)
+    (later : Bound → Option ScenarioFault)
+    → n ≡ place + 1 → place ≡ length r.lines
+    → ((said : Said) → later (bound_after r.bound plain.naming (length r.lines) 0)
+    ≡ fault_in (lines_from (n + 1) (with_line r plain (numbered r.names said)) xs))
+    → option_or (cond (is_some says) None (Some (BadLine (place + 1))))
+    (later (cond (is_some says) (bound_after r.bound plain.naming place 0) r.bound))
+    ≡ fault_in (goes_on n xs r plain says)
+one_step n place xs r plain None later number at rest = ap (λ (k : ℕ). Some (BadLine k)) (sym number)
+one_step n place xs r plain (Some said) later number at rest =
+    ap (λ (k : ℕ). later (bound_after r.bound plain.naming k 0)) at ∙ rest said
+
+text_step : (n place : ℕ) (r : ReadingValue) (texts : List (List ℕ)) (o : Option (List ℕ))
+    (more : Option (List (List ℕ))) (later : Bound → Option ScenarioFault)
+    → n ≡ place + 1 → place ≡ length r.lines
+    → option_and_then (λ x. option_and_then (λ xs. Some (x ∷ xs)) more) o ≡ Some texts
+    → ((next : ReadingValue) (xs : List (List ℕ)) → place + 1 ≡ length next.lines → more ≡ Some xs
+    → later next.bound ≡ fault_in (lines_from (n + 1) next xs))
+    → option_or (text_fault place r.bound o) (later (bound_text place r.bound o))
+    ≡ fault_in (lines_from n r texts)
+text_step n place r texts None more later number at t rest = absurd cc
+text_step n place r texts (Some x) None later number at t rest = absurd cc
+text_step n place r texts (Some x) (Some xs) later number at t rest =
+    let plain = plain_in r.bound x in
+    one_step n place xs r plain (line_says plain.text) later number at
+    (λ said. rest (with_line r plain (numbered r.names said)) xs
+    (omega (arith, at, length-append r.lines ((numbered r.names said).line ∷ []))) refl)
+    ∙ ap fault_in (sym (first_line n x xs r))
+    ∙ ap (λ (ts : List (List ℕ)). fault_in (lines_from n r ts)) (same_Some (x ∷ xs) texts t)
+
+entries_stop : (ds : Items) (n place : ℕ) (r : ReadingValue) (texts : List (List ℕ))
+    → n ≡ place + 1 → place ≡ length r.lines → each_in as_str ds ≡ Some texts
+    → calls_fault place r.bound (data_of ds) ≡ fault_in (lines_from n r texts)
 unfolding each_in
-entries_stop n no_items script texts t = rw (← no_line n script, same_Some [] texts t)
-entries_stop n (item d ds) script texts t =
-    text_step n d script (first_at entry_fault (n + 1) (data_of ds)) texts (as_str d) (each_in as_str ds) t
-    (λ next xs e. entries_stop (n + 1) ds next xs e)
+entries_stop no_items n place r texts number at t = rw (← no_line n r, same_Some [] texts t)
+entries_stop (item d ds) n place r texts number at t =
+    text_step n place r texts (as_str d) (each_in as_str ds)
+    (λ bound. calls_fault (place + 1) bound (data_of ds)) number at t
+    (λ next xs counted e. entries_stop ds (n + 1) (place + 1) next xs (omega (arith, number)) counted e)
 
-list_stops : (o : Option Items) (script : Script) (texts : List (List ℕ))
-    → option_and_then (each_in as_str) o ≡ Some texts
-    → first_at entry_fault 1 (items_or_none o) ≡ fault_in (lines_from 1 script texts)
-list_stops o script texts t = grind (arith, entries_stop)
+list_stops : (o : Option Items) (texts : List (List ℕ)) → option_and_then (each_in as_str) o ≡ Some texts
+    → calls_fault 0 [] (items_or_none o) ≡ fault_in (lines_from 1 nothing texts)
+list_stops None texts t = absurd cc
+list_stops (Some ds) texts t = entries_stop ds 1 0 nothing texts refl refl t
 
-pub calls_stop : (d : Data) (script : Script) (texts : List (List ℕ))
-    → texts_at (codes "calls") d ≡ Some texts
-    → first_at entry_fault 1 (entries_in d) ≡ fault_in (lines_from 1 script texts)
+pub calls_stop : (d : Data) (texts : List (List ℕ)) → texts_at (codes "calls") d ≡ Some texts
+    → calls_fault 0 [] (entries_in d) ≡ fault_in (lines_from 1 nothing texts)
 unfolding texts_at entries_in
-calls_stop d script texts t = list_stops (option_and_then as_array (get (codes "calls") d)) script texts t
+calls_stop d texts t = list_stops (option_and_then as_array (get (codes "calls") d)) texts t

@@ -1,4 +1,4 @@
--- Findings that are added to others, and what the first of them says.
+-- Findings that are added to others, and which fault the first of them reports.
 use Rattle.std.specs.Prelude.{◌≡◌, ℕ, ◌+◌, ◌≤◌, Bool, true, false, List, [], ◌∷◌, ◌++◌, Option, Some, None, Result, Ok, Err}
 use Rattle.std.specs.List.{All}
 use Rattle.std.specs.Option.{option_map, option_or}
@@ -13,7 +13,7 @@ use Rattle.hp_check.specs.declared.finding.Finding.{Finding}
 use Rattle.hp_check.specs.declared.finding.Finding.TheVariants as finding
 use Rattle.hp_check.specs.declared.finding.OutOfRange.{OutOfRange}
 
--- the first says what the fault says; where there is no fault there is none
+-- the first of the added findings reports this fault; without a fault there is none
 abbrev pub IsFirst : Option ScenarioFault → List Finding → Type 0
 IsFirst None added = added ≡ []
 IsFirst (Some fault) added = Begins fault added
@@ -29,17 +29,17 @@ abbrev pub first_at : {X : Type 0} → (ℕ → X → Option ScenarioFault) → 
 first_at f number [] = None
 first_at f number (x ∷ xs) = option_or (f number x) (first_at f (number + 1) xs)
 
--- the fault of a shape where a condition does not hold
+-- a fault of the shape unless a condition holds
 abbrev pub lacks : Bool → Option ScenarioFault
 lacks true = None
 lacks false = Some BadShape
 
--- the fault of a layout at a part that is out of its range, if it is
+-- the layout fault of a part that is out of its range, if there is such a part
 abbrev pub out_fault : (number : ℕ) → Option OutOfRange → Option ScenarioFault
 out_fault number None = None
 out_fault number (Some out) = Some (Layout (fault_of out))
 
--- that at all its parts, where they can be read
+-- the fault of a layout's limits; and of a layout whose parts may be unreadable
 abbrev pub limit_fault : LayoutParts → Option ScenarioFault
 limit_fault l = option_map Layout (layout_fault l)
 
@@ -80,5 +80,5 @@ IsWarning lines f = ⊥
 abbrev pub ValueCause : Data → Finding → Type 0
 ValueCause d (finding.Shape s) = form_of d ≡ None
 ValueCause d (finding.Layout out) = IsPastLimits d
-ValueCause d (finding.BadCall number text) = IsBadEntry (entries_in d) number text
+ValueCause d (finding.BadCall number text names) = IsBadEntry (entries_in d) number text
 ValueCause d f = ⊥

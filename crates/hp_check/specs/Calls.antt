@@ -1,12 +1,16 @@
 -- The entries of `calls`, and which of them are no lines.
-use Rattle.std.specs.Prelude.{◌≡◌, ℕ, ◌+◌, List, [], ◌∷◌, codes, Option, Some, None, is_some, slice_get, option_and_then, if◌then◌else◌}
+use Rattle.std.specs.Prelude.{◌≡◌, ℕ, ◌+◌, Bool, false, List, [], ◌∷◌, ◌++◌, codes, take, Option, Some, None, is_some, slice_get, option_and_then, if◌then◌else◌}
+use Rattle.std.specs.Option.{option_or}
 use Rattle.serde_json.specs.Data.{Data, Items, no_items, item}
 use Rattle.serde_json.specs.Find.{get, as_array, as_str}
 use Rattle.hp_scenario.specs.Lines.{line_says}
 use Rattle.hp_scenario.specs.declared.fault.ScenarioFault.{ScenarioFault}
 use Rattle.hp_scenario.specs.declared.fault.ScenarioFault.TheVariants.{BadLine}
+use Rattle.hp_names.specs.Bindings.{Bound, bound_after}
+use Rattle.hp_names.specs.Plain.{plain_in}
 use Rattle.hp_check.specs.declared.finding.Finding.{Finding}
 use Rattle.hp_check.specs.declared.finding.Finding.TheVariants as finding
+use Rattle.hp_check.specs.declared.name_slips.NameSlip.{NameSlip}
 
 abbrev pub data_of : Items → List Data
 data_of no_items = []
@@ -20,30 +24,63 @@ items_or_none (Some ds) = data_of ds
 unfoldable pub entries_in : Data → List Data
 entries_in d = items_or_none (option_and_then as_array (get (codes "calls") d))
 
--- the entry of this number, counted from 1, is this text, which is no line
+-- ---- the names of results
+
+-- a text is a line after lines with these names
+abbrev pub is_line_after : Bound → (text : List ℕ) → Bool
+is_line_after bound text = is_some (line_says (plain_in bound text).text)
+
+-- the names after an entry at this place: if it is a line, its own is added
+abbrev pub bound_text : (place : ℕ) → Bound → Option (List ℕ) → Bound
+bound_text place bound None = bound
+bound_text place bound (Some text) =
+    if is_line_after bound text then bound_after bound (plain_in bound text).naming place 0 else bound
+
+abbrev pub bound_past : (place : ℕ) → Bound → Data → Bound
+bound_past place bound d = bound_text place bound (as_str d)
+
+-- the names after entries, of which the first is at this place
+abbrev pub bound_through : (place : ℕ) → Bound → List Data → Bound
+bound_through place bound [] = bound
+bound_through place bound (d ∷ ds) = bound_through (place + 1) (bound_past place bound d) ds
+
+-- ---- what is no line
+
+-- the entry of this number, counted from 1, is this text, which is no line after the lines before it
 pub record IsBadEntry (entries : List Data) (number : ℕ) (text : List ℕ) : Type 0 where
   pub at : ℕ
   pub entry : Data
   pub counted : number ≡ at + 1
   pub here : slice_get entries at ≡ Some entry
   pub is_text : as_str entry ≡ Some text
-  pub no_line : line_says text ≡ None
+  pub no_line : is_line_after (bound_through 0 [] (take at entries)) text ≡ false
 
 -- the same of a finding
 abbrev pub IsBadCall : (entries : List Data) → Finding → Type 0
-IsBadCall entries (finding.BadCall number text) = IsBadEntry entries number text
+IsBadCall entries (finding.BadCall number text names) = IsBadEntry entries number text
 IsBadCall entries f = ⊥
 
--- and of one entry
-abbrev pub IsBadText : (number : ℕ) → Data → Finding → Type 0
-IsBadText number d (finding.BadCall n text) =
-    (n ≡ number) × (as_str d ≡ Some text) × (line_says text ≡ None)
-IsBadText number d f = ⊥
+-- and of one entry, after lines with these names
+abbrev pub IsBadText : (place : ℕ) → Bound → Data → Finding → Type 0
+IsBadText place bound d (finding.BadCall number text names) =
+    (number ≡ place + 1) × (as_str d ≡ Some text) × (is_line_after bound text ≡ false)
+IsBadText place bound d f = ⊥
+
+-- the finding of a text was added, with what is wrong with its names, if they are the reason
+abbrev pub AddsBadCall : (number : ℕ) → (text : List ℕ) → (old new : List Finding) → Type 0
+AddsBadCall number text old new =
+    (names : Option NameSlip) × (new ≡ old ++ finding.BadCall number text names ∷ [])
 
 -- the fault that reading has at a text, or at an entry that may be one
-abbrev pub text_fault : (number : ℕ) → Option (List ℕ) → Option ScenarioFault
-text_fault number None = None
-text_fault number (Some text) = if is_some (line_says text) then None else Some (BadLine number)
+abbrev pub text_fault : (place : ℕ) → Bound → Option (List ℕ) → Option ScenarioFault
+text_fault place bound None = None
+text_fault place bound (Some text) = if is_line_after bound text then None else Some (BadLine (place + 1))
 
-abbrev pub entry_fault : (number : ℕ) → Data → Option ScenarioFault
-entry_fault number d = text_fault number (as_str d)
+abbrev pub entry_fault : (place : ℕ) → Bound → Data → Option ScenarioFault
+entry_fault place bound d = text_fault place bound (as_str d)
+
+-- the first fault of entries, of which the first is at this place, after lines with these names
+abbrev pub calls_fault : (place : ℕ) → Bound → List Data → Option ScenarioFault
+calls_fault place bound [] = None
+calls_fault place bound (d ∷ ds) =
+    option_or (entry_fault place bound d) (calls_fault (place + 1) (bound_past place bound d) ds)

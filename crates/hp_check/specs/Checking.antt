@@ -6,9 +6,10 @@ use Rattle.hp_units.specs.LayoutParts.{LayoutParts, layout_fault}
 use Rattle.hp_units.specs.declared.layouts.LayoutFault.{LayoutFault}
 use Rattle.hp_units.specs.declared.layouts.LayoutFault.TheVariants.{BadOrder, BadPageblocks, BadBlocks, TooManyFrames, BadCpus, BadMarks, BadOwners, BadPages, BadWords, BadLimit, BadBoot}
 use Rattle.hp_scenario.specs.Form.{form_of}
-use Rattle.hp_scenario.specs.Scenario.{ScenarioValue, json_of, scenario_in}
+use Rattle.hp_scenario.specs.Scenario.{json_of}
 use Rattle.hp_scenario.specs.declared.fault.ScenarioFault.{ScenarioFault}
 use Rattle.hp_scenario.specs.declared.fault.ScenarioFault.TheVariants.{NotJson, BadShape, Layout, BadLine}
+use Rattle.hp_names.specs.Named.{NamedValue, named_in}
 use Rattle.hp_check.specs.Calls.{IsBadEntry, entries_in}
 use Rattle.hp_check.specs.Findings.{is_fault}
 use Rattle.hp_check.specs.Ranges.{parts_in}
@@ -34,20 +35,20 @@ fault_of (range.Words n) = BadWords
 fault_of (range.History n) = BadLimit
 fault_of (range.Boot words blocks) = BadBoot
 
--- the finding says what this fault of reading says
+-- the finding reports this fault of reading
 abbrev pub IsFindingOf : ScenarioFault → Finding → Type 0
 IsFindingOf NotJson (finding.NotJson hint line column) = Unit {0}
 IsFindingOf BadShape (finding.Shape s) = Unit {0}
 IsFindingOf (Layout fault) (finding.Layout out) = fault ≡ fault_of out
-IsFindingOf (BadLine line) (finding.BadCall number text) = line ≡ number
+IsFindingOf (BadLine line) (finding.BadCall number text names) = line ≡ number
 IsFindingOf fault f = ⊥
 
 abbrev pub Begins : ScenarioFault → List Finding → Type 0
 Begins fault [] = ⊥
 Begins fault (f ∷ fs) = IsFindingOf fault f
 
--- a scenario has no fault; where reading has a fault, that is the first finding
-abbrev pub Agrees : Result ScenarioValue ScenarioFault → List Finding → Type 0
+-- a scenario has no fault; if reading has a fault, the first finding reports it
+abbrev pub Agrees : Result NamedValue ScenarioFault → List Finding → Type 0
 Agrees (Ok scenario) found = count_by is_fault found ≡ 0
 Agrees (Err fault) found = Begins fault found × (1 ≤ count_by is_fault found)
 
@@ -63,7 +64,7 @@ IsPastLimits d = (l : LayoutParts) × (parts_in d ≡ Some l) × (is_some (layou
 
 -- the text is a scenario, and this holds of its number of lines
 abbrev pub IsScenarioWith : (P : ℕ → Type 0) → (input : List ℕ) → Type 0
-IsScenarioWith P input = (s : ScenarioValue) × (scenario_in input ≡ Ok s) × P (length s.lines)
+IsScenarioWith P input = (s : NamedValue) × (named_in input ≡ Ok s) × P (length s.scenario.lines)
 
 -- why there is a finding: a text that is no JSON; a value of another form; a layout past its limits; an
 -- entry of `calls`, of this number and text, that is no line. Only a scenario has warnings, and the
@@ -72,7 +73,8 @@ abbrev pub HasCause : (input : List ℕ) → Finding → Type 0
 HasCause input (finding.NotJson hint line column) = json_of input ≡ None
 HasCause input (finding.Shape s) = IsJsonWith (λ d. form_of d ≡ None) input
 HasCause input (finding.Layout out) = IsJsonWith IsPastLimits input
-HasCause input (finding.BadCall number text) = IsJsonWith (λ d. IsBadEntry (entries_in d) number text) input
+HasCause input (finding.BadCall number text names) =
+    IsJsonWith (λ d. IsBadEntry (entries_in d) number text) input
 HasCause input (finding.Repeat place k) = IsScenarioWith (λ lines. Unit {0}) input
 HasCause input (finding.Warning number w) =
     IsScenarioWith (λ lines. (1 ≤ number) × (number ≤ lines)) input

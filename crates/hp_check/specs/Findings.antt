@@ -12,7 +12,7 @@ abbrev pub is_fault : Finding → Bool
 is_fault (finding.NotJson hint line column) = true
 is_fault (finding.Shape s) = true
 is_fault (finding.Layout r) = true
-is_fault (finding.BadCall number text) = true
+is_fault (finding.BadCall number text names) = true
 is_fault (finding.Repeat place k) = false
 is_fault (finding.Warning number w) = false
 

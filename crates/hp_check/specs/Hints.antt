@@ -1,6 +1,6 @@
--- Texts that say what is wrong. What they say is tested.
+-- Texts that report what is wrong. Their wording is tested.
 use Rattle.std.specs.Prelude.{ℕ, ◌≡◌, List, ◌++◌}
 
--- a text was written behind another, which stays
+-- a text was appended to another
 abbrev pub AddsText : (old new : List ℕ) → Type 0
 AddsText old new = (text : List ℕ) × (new ≡ old ++ text)

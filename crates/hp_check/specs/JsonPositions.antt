@@ -23,7 +23,7 @@ pub record IsSignLine (input : List ℕ) (line : ℕ) : Type 0 where
 abbrev pub AreSignLines : (input lines : List ℕ) → Type 0
 AreSignLines input lines = All (IsSignLine input) lines
 
--- lines stay such lines of a text, if the one that may be noted is such a line
+-- the lines are still such lines of the text, if the line that may have been noted is one
 abbrev pub KeepSignLines : (is_noted : Bool) → (line : ℕ) → (old new : List ℕ) → Type 0
 KeepSignLines is_noted line old new =
     (input : List ℕ) → AreSignLines input old → (is_noted ≡ true → IsSignLine input line)

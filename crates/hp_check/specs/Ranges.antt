@@ -15,7 +15,8 @@ parts_in d =
     (λ layout. option_and_then (λ boot. parts_with boot layout) (boots_at (codes "boot") layout))
     (get (codes "layout") d)
 
--- more frames than there may be, where what they come of is in its range
+-- the sizes that make up the number of frames are in their ranges; that number; and the number if it is
+-- too large although they are
 abbrev pub has_sizes : LayoutParts → Bool
 has_sizes l = is_within 0 10 l.order && (is_pageblock_count l.pageblocks && is_within 1 256 l.blocks)
 

@@ -33,6 +33,6 @@ are_boots d = is_some (option_and_then (each_in boot_at) (as_array d))
 abbrev pub are_texts : Data → Bool
 are_texts d = is_some (option_and_then (each_in as_str) (as_array d))
 
--- the value at a key, where there is one, is a number
+-- the value at a key is a number, or is missing
 abbrev pub is_number_at : Data → Key → Bool
 is_number_at d k = if_there is_number (get (key_name k) d)

@@ -1,10 +1,13 @@
 //! The texts of `calls` that are no lines.
-ghost use Rattle.std.specs.Prelude.{◌≡◌, OnOk, map};
+ghost use Rattle.std.specs.Prelude.{◌≡◌, ◌^◌, ◌<◌, [], OnOk, map};
 ghost use Rattle.serde_json.specs.View.{view};
-ghost use Rattle.hp_check.specs.Adds.{Adds, first_at};
-ghost use Rattle.hp_check.specs.Calls.{IsBadCall, IsBadText, entries_in, entry_fault};
+ghost use Rattle.hp_names.specs.Bindings.{bound_after};
+ghost use Rattle.hp_check.specs.Adds.{Adds};
+ghost use Rattle.hp_check.specs.Calls.{AddsBadCall, IsBadCall, IsBadText, bound_past, calls_fault, entries_in, entry_fault};
 
 use crate::finding::Finding;
+use crate::name_slips::name_slip;
+use hp_names::{Bindings, Naming, plain_line};
 use hp_scenario::is_line;
 use hp_units::Text;
 use serde_json::Value;
@@ -17,11 +20,12 @@ pub(crate) fn push_calls(
     value: &Value,
 ) -> Result<(), AllocError>
     ensures { OnOk result (Adds (IsBadCall (entries_in (view value.now)))
-        (first_at entry_fault 1 (entries_in (view value.now))) found.old.items found.new.items) }
+        (calls_fault 0 [] (entries_in (view value.now))) found.old.items found.new.items) }
 {
     let calls = entries_of(value);
+    let mut bound = Bindings::new(alloc);
     for index in 0..calls.len() {
-        push_entry(found, alloc, index as u64 + 1, &calls[index])?;
+        push_entry(found, &mut bound, alloc, index, &calls[index])?;
     }
     Ok(())
 }
@@ -40,23 +44,56 @@ fn entries_of(value: &Value) -> &[Value]
     }
 }
 
-/// Adds an entry if it is a text and no line.
+/// Adds an entry if it is a text and no line. The names of results are those of the lines before it;
+/// if it is a line, its own name is added.
 fn push_entry(
     found: &mut Vec<Finding>,
+    bound: &mut Bindings,
     alloc: Global,
-    number: u64,
+    place: usize,
     call: &Value,
 ) -> Result<(), AllocError>
-    ensures { OnOk result (Adds (IsBadText number (view call.now))
-        (entry_fault number (view call.now)) found.old.items found.new.items) }
+    requires { place < 2 ^ 63 }
+    ensures found { OnOk result (Adds (IsBadText place bound.old (view call.now))
+        (entry_fault place bound.old (view call.now)) found.old.items found.new.items) }
+    ensures bound { OnOk result (bound.new ≡ bound_past place bound.old (view call.now)) }
 {
     let Some(text) = call.as_str() else {
         return Ok(());
     };
-    if is_line(alloc, text)? {
-        return Ok(());
+    let plain = plain_line(alloc, text, bound)?;
+    if is_line(alloc, plain.text.as_str())? {
+        return bind(bound, plain.naming, place);
     }
+    push_bad_call(found, bound, alloc, place as u64 + 1, text)
+}
+
+/// Gives the line at a place the name of its result, if it has one. The number is not known.
+fn bind(bound: &mut Bindings, naming: Option<Naming>, place: usize) -> Result<(), AllocError>
+    ensures { OnOk result (bound.new ≡ bound_after bound.old naming place 0) }
+{
+    match naming {
+        Some(naming) => bound.bind(naming, place, 0),
+        None => Ok(()),
+    }
+}
+
+/// Adds a text that is no line, after lines with these names.
+fn push_bad_call(
+    found: &mut Vec<Finding>,
+    bound: &Bindings,
+    alloc: Global,
+    number: u64,
+    text: &str,
+) -> Result<(), AllocError>
+    ensures { OnOk result (AddsBadCall number text.now found.old.items found.new.items) }
+{
+    let names = name_slip(alloc, text, bound)?;
     let text = Text::new(String::from_str(alloc, text)?);
-    found.push(Finding::BadCall { number, text })?;
+    found.push(Finding::BadCall {
+        number,
+        text,
+        names,
+    })?;
     Ok(())
 }

@@ -3,7 +3,7 @@ ghost use Rattle.std.specs.Prelude.{◌≡◌, [], IfOk, Some, count_by, length}
 ghost use Rattle.std.specs.List.{All};
 ghost use Rattle.serde_json.specs.Errors.{IsMemory};
 ghost use Rattle.serde_json.specs.View.{view};
-ghost use Rattle.hp_scenario.specs.Scenario.{scenario_in, scenario_of};
+ghost use Rattle.hp_names.specs.Named.{named_in, named_of};
 ghost use Rattle.hp_check.specs.Adds.{Adds, IsNotJson, IsWarning, ValueCause, fault_in};
 ghost use Rattle.hp_check.specs.Checking.{Agrees, HasCause, HaveCauses};
 ghost use Rattle.hp_check.specs.Findings.{is_fault};
@@ -15,34 +15,36 @@ use crate::ranges::push_ranges;
 use crate::repeats::push_repeats;
 use crate::shape::push_shape;
 use crate::warnings::push_warnings;
-use hp_scenario::{Scenario, ScenarioFault};
+use hp_names::NamedScenario;
+use hp_scenario::ScenarioFault;
 use serde_json::{Error, Value};
 use std::alloc::{AllocError, Global};
 
 /// Finds all that is wrong with a scenario: its faults, or the warnings of a text without faults.
 ///
-/// Faults come in the order of those of `Scenario::read`, which stops at the first: of the keys and
-/// kinds of values, of the layout's ranges if its parts can be read, and of each text of `calls` that
-/// is no line. Warnings are of keys that the text has more than once, and then of lines; a line has
-/// at most one. The first `setup` lines run in order, before the scripts of the processors.
+/// Faults come in the order of those of `NamedScenario::read`, which stops at the first. They are of
+/// the keys and kinds of values, of the layout's ranges if its parts can be read, and of each text of
+/// `calls` that is no line. Warnings are of keys that the text has more than once, and then of
+/// lines; a line has at most one. The first `setup` lines run in order, before the scripts of the
+/// processors.
 pub fn check(alloc: Global, input: &[u8], setup: u64) -> Result<Vec<Finding>, AllocError>
-    ensures agrees { IfOk result (λ found. Agrees (scenario_in input.now) found.items) }
+    ensures agrees { IfOk result (λ found. Agrees (named_in input.now) found.items) }
     ensures causes { IfOk result (λ found. HaveCauses input.now found.items) }
 {
-    match Scenario::read(alloc, input) {
-        Ok(scenario) => warnings_in(alloc, input, &scenario, setup),
+    match NamedScenario::read(alloc, input) {
+        Ok(named) => warnings_in(alloc, input, &named, setup),
         Err(fault) => unless_memory(alloc, input, &fault),
     }
 }
 
-/// Returns all that is wrong with bytes that `Scenario::read` refused with this fault.
+/// Returns all that is wrong with bytes that `NamedScenario::read` refused with this fault.
 fn unless_memory(
     alloc: Global,
     input: &[u8],
     fault: &ScenarioFault,
 ) -> Result<Vec<Finding>, AllocError>
     ensures { IfOk result (λ found.
-        Adds (HasCause input.now) (fault_in (scenario_in input.now)) [] found.items) }
+        Adds (HasCause input.now) (fault_in (named_in input.now)) [] found.items) }
 {
     match fault {
         ScenarioFault::OutOfMemory => Err(AllocError),
@@ -55,22 +57,24 @@ fn unless_memory(
 fn warnings_in(
     alloc: Global,
     input: &[u8],
-    scenario: &Scenario,
+    named: &NamedScenario,
     setup: u64,
 ) -> Result<Vec<Finding>, AllocError>
-    ensures { IfOk result (λ found. All (IsWarning (length scenario.now.lines)) found.items) }
+    ensures { IfOk result (λ found. All (IsWarning (length named.now.scenario.lines)) found.items) }
 {
     let mut found = Vec::new(alloc);
     push_repeats(&mut found, input)?;
-    let lines = scenario.lines.as_slice();
-    push_warnings(&mut found, alloc, &scenario.layout, setup, lines)?;
+    let layout = &named.scenario.layout;
+    let lines = named.scenario.lines.as_slice();
+    let sources = named.sources.as_slice();
+    push_warnings(&mut found, alloc, layout, setup, lines, sources)?;
     Ok(found)
 }
 
 /// Returns all that is wrong with bytes that are no scenario.
 fn faults_of(alloc: Global, input: &[u8]) -> Result<Vec<Finding>, AllocError>
     ensures { IfOk result (λ found.
-        Adds (HasCause input.now) (fault_in (scenario_in input.now)) [] found.items) }
+        Adds (HasCause input.now) (fault_in (named_in input.now)) [] found.items) }
 {
     match Value::from_slice(alloc, input) {
         Ok(value) => value_faults(alloc, &value),
@@ -81,7 +85,7 @@ fn faults_of(alloc: Global, input: &[u8]) -> Result<Vec<Finding>, AllocError>
 /// Returns all that is wrong with a value that is no scenario.
 fn value_faults(alloc: Global, value: &Value) -> Result<Vec<Finding>, AllocError>
     ensures { IfOk result (λ found.
-        Adds (ValueCause (view value.now)) (fault_in (scenario_of (view value.now))) [] found.items) }
+        Adds (ValueCause (view value.now)) (fault_in (named_of (view value.now))) [] found.items) }
 {
     let mut found = Vec::new(alloc);
     push_shape(&mut found, alloc, value)?;

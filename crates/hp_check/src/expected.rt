@@ -2,13 +2,18 @@
 ghost use Rattle.std.specs.Prelude.{OnOk, string_bytes};
 ghost use Rattle.hp_check.specs.Hints.{AddsText};
 
+use crate::name_slips::{NameSlip, write_name_slip};
 use crate::slips::write_slip;
 use hp_units::number32;
 use std::alloc::AllocError;
 
-/// Writes why a text is not a line: a space at one of its ends, or the wrong word, if it can be
-/// found, and what was expected.
-pub fn write_expected(out: &mut String, text: &str) -> Result<(), AllocError>
+/// Writes why a text is not a line: a space at one of its ends, or the wrong name or word, if it can
+/// be found, and what was expected. `names` is what `name_slip` returned for the text.
+pub fn write_expected(
+    out: &mut String,
+    text: &str,
+    names: &Option<NameSlip>,
+) -> Result<(), AllocError>
     ensures { OnOk result (AddsText (string_bytes out.old) (string_bytes out.new)) }
 {
     if text.starts_with(' ') {
@@ -17,12 +22,26 @@ pub fn write_expected(out: &mut String, text: &str) -> Result<(), AllocError>
     if text.ends_with(' ') {
         return out.push_str("it ends with a space");
     }
-    write_slip(out, text)?;
+    write_wrong_word(out, text, names)?;
     out.push_str(wanted(text))
 }
 
-/// Returns what was expected of a text: the number of a processor, a verb, or what comes after its
-/// verb.
+/// Writes the wrong name or word, and why it is wrong, if that can be told.
+fn write_wrong_word(
+    out: &mut String,
+    text: &str,
+    names: &Option<NameSlip>,
+) -> Result<(), AllocError>
+    ensures { OnOk result (AddsText (string_bytes out.old) (string_bytes out.new)) }
+{
+    match names {
+        Some(slip) => write_name_slip(out, text, slip),
+        None => write_slip(out, text),
+    }
+}
+
+/// Returns what to report of a text that is not a line: a first word that is no processor's number,
+/// a missing or unknown verb, or the form that its verb requires.
 fn wanted(text: &str) -> &'static str {
     let mut words = text.split(' ');
     let cpu = words.next().and_then(|word| number32(word));
@@ -35,7 +54,8 @@ fn wanted(text: &str) -> &'static str {
     }
 }
 
-/// Returns what was expected of a line with this verb.
+/// Returns the form of a line with this verb. For an unknown verb, returns a text that reports it,
+/// with a guess if there is one.
 fn wanted_of(verb: &str) -> &'static str {
     match text_beside(verb, forms()) {
         Some(form) => form,

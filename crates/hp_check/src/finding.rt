@@ -2,6 +2,7 @@
 ghost use Rattle.std.specs.Prelude.{◌≡◌};
 ghost use Rattle.hp_check.specs.Findings.{is_fault, key_name};
 
+use crate::name_slips::NameSlip;
 use hp_requests::ControlFault;
 use hp_scenario::Unfit;
 use hp_units::{Serial, Text};
@@ -12,18 +13,33 @@ use hp_units::{Serial, Text};
 pub enum Finding {
     /// The text is not JSON. The reader stopped at this line, counted from 1, and column, which may
     /// be 0.
-    NotJson { hint: Hint, line: u64, column: u64 },
+    NotJson {
+        hint: Hint,
+        line: u64,
+        column: u64,
+    },
     /// A key or the kind of a value does not belong in a scenario.
     Shape(Shape),
     /// A part of the layout is out of its range.
     Layout(OutOfRange),
-    /// A text of `calls` is not a line.
-    BadCall { number: u64, text: Text },
+    /// A text of `calls` is not a line; what is wrong with its names for results, if they are the
+    /// reason.
+    BadCall {
+        number: u64,
+        text: Text,
+        names: Option<NameSlip>,
+    },
     /// A warning: an object has a key more than once, and the last one counts. Repeated keys of the
     /// layout are reported only if the scenario itself repeats none.
-    Repeat { place: ScenarioObject, key: Key },
+    Repeat {
+        place: ScenarioObject,
+        key: Key,
+    },
     /// A warning: a line probably does not do what it is meant to do.
-    Warning { number: u64, warning: Warning },
+    Warning {
+        number: u64,
+        warning: Warning,
+    },
 }
 
 impl Finding {
@@ -189,7 +205,7 @@ pub enum What {
 /// Why a line probably does not do what it is meant to do.
 #[derive(Clone, Copy)]
 pub enum Warning {
-    /// A number past the layout, where numbers are below `count`: the call is refused.
+    /// A number past the layout, whose numbers are below `count`: the call is refused.
     Past { what: What, number: u64, count: u64 },
     /// The number of an operation that no earlier line begins.
     NoBegin { op: Serial },

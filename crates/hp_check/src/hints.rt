@@ -1,4 +1,4 @@
-//! Why a text is likely to be no JSON.
+//! The likely reason why a text is not JSON.
 use crate::finding::Hint;
 use crate::json_positions::{halves_at, has_comment, is_blank, nests_deeper};
 use crate::quotes::is_odd;
@@ -6,10 +6,11 @@ use crate::quotes::is_odd;
 /// The byte order mark of UTF-8.
 const MARK: &[u8] = &[0xEF, 0xBB, 0xBF];
 
-/// The greatest number of objects and lists that the reader of JSON takes in one another.
+/// The most objects and lists that the JSON reader accepts inside one another.
 const DEEPEST: u64 = 127;
 
-/// Returns why a text is likely to be no JSON, if its reader stopped at this line and column.
+/// Returns the likely reason why a text is not JSON, given the line and column at which the reader
+/// stopped.
 pub(crate) fn hint_of(input: &[u8], line: u64, column: u64) -> Hint {
     if is_blank(input) {
         Hint::NoText
@@ -23,7 +24,7 @@ pub(crate) fn hint_of(input: &[u8], line: u64, column: u64) -> Hint {
     }
 }
 
-/// Returns the reason at the place where the reader stopped, or else one from the whole text.
+/// Returns the reason at the point where the reader stopped, or else one from the whole text.
 fn hint_at(input: &[u8], before: &[u8], rest: &[u8]) -> Hint {
     if is_comma_too_many(before, rest) {
         return Hint::Comma;
@@ -47,7 +48,7 @@ fn odd_start(text: &[u8]) -> Option<char> {
     if is_odd(c) { Some(c) } else { None }
 }
 
-/// Returns a reason that can be seen anywhere in the text.
+/// Returns a reason that may be anywhere in the text.
 fn hint_in(input: &[u8]) -> Hint {
     if nests_deeper(input, DEEPEST) {
         Hint::TooDeep

@@ -1,18 +1,19 @@
 //! Where things are in a scenario's text: the lines in which the entries of `calls` begin, repeated
 //! keys, comments, how deep brackets nest.
 //!
-//! One walk goes over the signs, words and texts of JSON. It reads no number and no escape, and takes
-//! any bytes.
+//! One walk goes over the brackets, commas, colons, words and strings of the JSON. It decodes no
+//! number and no escape, and accepts any bytes.
 ghost use Rattle.std.specs.Prelude.{◌≡◌, ℕ, ◌≤◌, ◌+◌, ◌^◌, ◌<◌, List, [], true, false, IfOk, OnOk, is_some};
 ghost use Rattle.hp_check.specs.JsonPositions.{AreSignLines, KeepSignLines, is_space as is_white, line_after as line_then};
 
 use std::alloc::{AllocError, Global};
 
-/// A walk over the lexemes of a JSON text: how many brackets are open, and what came of `calls`.
+/// A walk over the lexemes of a JSON text: how many brackets are open, and what it has found of
+/// `calls`.
 #[derive(Drop)]
 struct Walk {
     depth: u64,
-    /// Whether the last key of the whole is `calls`.
+    /// Whether the latest key of the scenario itself is `calls`.
     is_key_calls: bool,
     is_in_calls: bool,
     is_entry_next: bool,
@@ -21,7 +22,7 @@ struct Walk {
 }
 
 impl Walk {
-    /// Goes past a lexeme that begins in this line, if there is one.
+    /// Goes past a lexeme, if one begins in this line.
     fn pass(&mut self, line: u64, lexeme: Option<Lexeme>) -> Result<(), AllocError>
         requires { self.old.depth + 1 < 2 ^ 64 }
         ensures depth { OnOk result (self.new.depth ≤ self.old.depth + 1) }
@@ -75,7 +76,7 @@ impl Walk {
         Ok(())
     }
 
-    /// Goes into a list. A list at the key `calls` forgets the lines of an earlier one.
+    /// Enters a list. The list at the key `calls` drops the lines of an earlier one.
     fn open_list(&mut self)
         requires { self.old.depth + 1 < 2 ^ 64 }
         ensures depth { self.new.depth ≡ self.old.depth + 1 }
@@ -90,7 +91,7 @@ impl Walk {
         self.depth += 1;
     }
 
-    /// Goes out of a list or an object.
+    /// Leaves a list or an object.
     fn close(&mut self)
         ensures depth { self.new.depth ≤ self.old.depth }
         ensures lines { self.new.lines.items ≡ self.old.lines.items }
@@ -134,23 +135,23 @@ fn line_after(line: u64, byte: u8) -> u64
     if byte == b'\n' { line + 1 } else { line }
 }
 
-/// How a byte of a JSON text is read.
+/// Where a byte is in a JSON text, which decides how it is read.
 #[derive(Clone, Copy, PartialEq, Eq, Drop)]
 enum Mode {
-    /// Between signs, words and texts.
+    /// Outside of words and strings.
     Between,
-    /// In a word, as a number.
+    /// In a word, such as a number.
     Word,
-    /// In a text.
+    /// In a string.
     Text,
-    /// In a text, after a backslash.
+    /// In a string, after a backslash.
     Escape,
 }
 
 /// What begins at a byte of a JSON text.
 #[derive(Clone, Copy, PartialEq, Eq, Drop)]
 enum Lexeme {
-    /// A text, which may be `calls` written without escapes.
+    /// A string, which may be `calls` written without escapes.
     Text { is_calls: bool },
     /// A number or another word.
     Word,
@@ -180,7 +181,7 @@ fn is_sign(byte: u8) -> bool
     matches!(byte, b'{' | b'}' | b'[' | b']' | b',' | b':')
 }
 
-/// Returns whether a sign, a word or a text begins at a byte.
+/// Returns whether a bracket, a comma, a colon, a word or a string begins at a byte.
 fn begins(mode: Mode, byte: u8) -> bool
     ensures { result ≡ true → is_white byte ≡ false }
 {
@@ -191,7 +192,7 @@ fn begins(mode: Mode, byte: u8) -> bool
     }
 }
 
-/// Returns how the byte after a byte is read.
+/// Returns the mode of the next byte.
 fn mode_after(mode: Mode, byte: u8) -> Mode {
     match (mode, byte) {
         (Mode::Escape, _) => Mode::Text,
@@ -233,7 +234,7 @@ pub fn is_blank(input: &[u8]) -> bool {
     input.iter().all(|byte| is_space(*byte))
 }
 
-/// Returns whether a word outside of texts begins with a slash or with `#`, as a comment does in
+/// Returns whether a word outside of strings begins with a slash or with `#`, as a comment does in
 /// other languages. JSON has no such word.
 pub fn has_comment(input: &[u8]) -> bool {
     let mut mode = Mode::Between;
@@ -248,7 +249,7 @@ pub fn has_comment(input: &[u8]) -> bool {
 }
 
 /// Returns whether more than `limit` objects and lists are open at once somewhere, by the brackets
-/// outside of texts.
+/// outside of strings.
 pub fn nests_deeper(input: &[u8], limit: u64) -> bool {
     let mut mode = Mode::Between;
     let mut nested = 0u64;
@@ -262,8 +263,8 @@ pub fn nests_deeper(input: &[u8], limit: u64) -> bool {
     false
 }
 
-/// Returns how many keys have this name while `depth` objects and lists are open. A key is a text
-/// with a colon after it. Escapes are not read.
+/// Returns how many keys have this name while `depth` objects and lists are open. A key is a string
+/// with a colon after it. Escapes are not decoded.
 pub fn keys_at(input: &[u8], depth: u64, name: &[u8]) -> u64 {
     let mut mode = Mode::Between;
     let mut nested = 0u64;
@@ -287,8 +288,7 @@ fn is_key(text: &[u8], name: &[u8]) -> bool {
     text.starts_with(name) && is_end_of_key(&text[name.len()..])
 }
 
-/// Returns whether a text begins with a quotation mark, and a colon is the next byte but for white
-/// space.
+/// Returns whether a text begins with a quotation mark and then, after white space, a colon.
 fn is_end_of_key(text: &[u8]) -> bool {
     let [b'"', text @ ..] = text else {
         return false;

@@ -1,8 +1,9 @@
 //! What is wrong with a scenario and where: findings, and their text.
 //!
-//! The crate owns the findings: faults, for which a text is no scenario, and warnings, for which a
-//! scenario hardly does what its writer wants. It runs no machine and opens no file or stream. What
-//! a scenario is, hp_scenario says. Where things are in a text, its module `json_positions` finds.
+//! The crate owns the findings. There are faults, for which a text is no scenario, and warnings,
+//! for which a scenario probably does not do what its writer wants. hp_scenario defines what a
+//! scenario is, and hp_names what names for results mean. The module `json_positions` finds where
+//! things are in a text. The crate runs no machine and opens no file or stream.
 //!
 //! Read specs/Checking first: what `check` promises. The texts of findings are tested (lab_tests).
 #![tactic(auto)]
@@ -13,6 +14,7 @@ mod expected;
 mod finding;
 mod hints;
 mod json_positions;
+mod name_slips;
 mod quotes;
 mod ranges;
 mod repeats;
@@ -27,4 +29,5 @@ pub use checking::{check, fault_count};
 pub use expected::write_expected;
 pub use finding::{Finding, Hint, Key, OutOfRange, ScenarioObject, Shape, Warning, What};
 pub use json_positions::{call_lines, halves_at, has_comment, is_blank, keys_at, nests_deeper};
+pub use name_slips::{Meant, NameSlip, name_slip};
 pub use report::write_report;

@@ -1,4 +1,4 @@
-//! Texts of a scenario as findings quote them.
+//! Quotes from a scenario's text, as findings have them.
 ghost use Rattle.std.specs.Prelude.{OnOk, string_bytes};
 ghost use Rattle.hp_check.specs.Hints.{AddsText};
 
@@ -8,8 +8,7 @@ use std::alloc::AllocError;
 /// The most characters of a text that are shown.
 const MOST: usize = 60;
 
-/// Writes the start of a text between backquotes, with its control characters and those that cannot
-/// be seen as JSON has them.
+/// Writes the start of a text between backquotes, escaped as in JSON.
 pub(crate) fn write_quoted(out: &mut String, text: &str) -> Result<(), AllocError>
     ensures { OnOk result (AddsText (string_bytes out.old) (string_bytes out.new)) }
 {
@@ -25,8 +24,8 @@ pub(crate) fn write_unexpected(out: &mut String, c: char) -> Result<(), AllocErr
     write_quoted(out, c.encode_utf8(&mut buffer))
 }
 
-/// Returns whether a character is odd: a control character, or one beyond ASCII. No sign of JSON and
-/// no word of a line has one.
+/// Returns whether a character is odd: a control character, or one beyond ASCII. No punctuation of
+/// JSON and no word of a line has one.
 pub(crate) fn is_odd(c: char) -> bool {
     !c.is_ascii() || c.is_ascii_control()
 }

@@ -81,7 +81,7 @@ fn push_parts(found: &mut Vec<Finding>, parts: &Parts<'_>) -> Result<(), AllocEr
     push_each(found, &outs)
 }
 
-/// Adds those that there are.
+/// Adds each part in the list.
 fn push_each(found: &mut Vec<Finding>, outs: &[Option<OutOfRange>]) -> Result<(), AllocError>
     ensures { OnOk result
         (Adds IsLayout (first_at out_fault 1 outs.now) found.old.items found.new.items) }
@@ -95,21 +95,22 @@ fn push_each(found: &mut Vec<Finding>, outs: &[Option<OutOfRange>]) -> Result<()
     Ok(())
 }
 
-/// Returns a part that is out of its range unless this holds.
+/// Returns `out` unless the condition holds.
 fn unless(holds: bool, out: OutOfRange) -> Option<OutOfRange>
     ensures { result ≡ then_some (not holds) out }
 {
     if holds { None } else { Some(out) }
 }
 
-/// Returns a number that is not within a range.
+/// Returns `out` if a number is not within a range.
 fn outside(low: u64, high: u64, n: u64, out: OutOfRange) -> Option<OutOfRange>
     ensures { result ≡ then_some (not (lies_within low high n)) out }
 {
     unless(is_within(low, high, n), out)
 }
 
-/// Returns the number of frames if it is too large, and what it comes of is in its range.
+/// Returns the number of frames if it is too large although the sizes that make it up are in their
+/// ranges.
 fn frames_out(parts: &Parts<'_>) -> Option<OutOfRange>
     ensures { result ≡ frames_out (parts_seen parts.now) }
 {

@@ -8,10 +8,10 @@ use crate::json_positions::keys_at;
 use crate::shape::keys_of;
 use std::alloc::AllocError;
 
-/// Adds the keys of a scenario that its text has more than once, of which the last counts.
+/// Adds the keys of a scenario that its text has more than once; the last one counts.
 ///
-/// Those of the layout are added only if no key of the whole comes twice: a key of a value that does
-/// not count could be taken for one of the layout.
+/// Keys of the layout are added only if no key of the scenario itself comes twice. Otherwise a key
+/// of a value that does not count could be taken for one of the layout.
 pub(crate) fn push_repeats(found: &mut Vec<Finding>, input: &[u8]) -> Result<(), AllocError>
     requires { All IsRepeat found.old.items }
     ensures { OnOk result (All IsRepeat found.new.items) }

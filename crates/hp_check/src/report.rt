@@ -3,6 +3,7 @@ use crate::checking::fault_count;
 use crate::expected::write_expected;
 use crate::finding::{Finding, Hint, OutOfRange, ScenarioObject, Shape, Warning};
 use crate::json_positions::call_lines;
+use crate::name_slips::NameSlip;
 use crate::quotes::{write_quoted, write_unexpected};
 use crate::shape::keys_of;
 use std::alloc::{AllocError, Global};
@@ -35,9 +36,13 @@ fn write_finding(out: &mut String, lines: &[u64], finding: &Finding) -> Result<(
         }
         Finding::Shape(shape) => write_shape(out, lines, shape),
         Finding::Layout(part) => write_range(out, *part),
-        Finding::BadCall { number, text } => {
+        Finding::BadCall {
+            number,
+            text,
+            names,
+        } => {
             write_head(out, lines, *number)?;
-            write_call(out, text.as_str())
+            write_call(out, text.as_str(), names)
         }
         Finding::Repeat { place, key } => {
             let name = key.name();
@@ -72,10 +77,10 @@ fn write_hint(out: &mut String, hint: Hint) -> Result<(), AllocError> {
 }
 
 /// Writes a text that is no line, and what was expected.
-fn write_call(out: &mut String, text: &str) -> Result<(), AllocError> {
+fn write_call(out: &mut String, text: &str, names: &Option<NameSlip>) -> Result<(), AllocError> {
     write_quoted(out, text)?;
     out.push_str(": ")?;
-    write_expected(out, text)?;
+    write_expected(out, text, names)?;
     out.push_str("\n")
 }
 

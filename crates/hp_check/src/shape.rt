@@ -210,7 +210,7 @@ fn push_numbers(found: &mut Vec<Finding>, layout: &Value) -> Result<(), AllocErr
     Ok(())
 }
 
-/// Returns whether a value is a number or is missing, which is another fault.
+/// Returns whether a value is a number or is missing. A missing value is another fault.
 fn may_be_number(value: Option<&Value>) -> bool
     ensures { result ≡ means.if_there means.is_number (option_map (λ v. view v.now) value.entry) }
 {

@@ -1,4 +1,4 @@
-//! The word at which a text is no line.
+//! The first wrong word of a text that is no line.
 ghost use Rattle.std.specs.Prelude.{OnOk, string_bytes};
 ghost use Rattle.hp_check.specs.Hints.{AddsText};
 
@@ -22,7 +22,8 @@ enum Kind {
     Word,
 }
 
-/// Writes the word at which a text is no line, and why, if that can be told.
+/// Writes the first wrong word of a text that is no line, and what is wrong with it, if that can be
+/// found.
 pub(crate) fn write_slip(out: &mut String, text: &str) -> Result<(), AllocError>
     ensures { OnOk result (AddsText (string_bytes out.old) (string_bytes out.new)) }
 {
@@ -35,8 +36,8 @@ pub(crate) fn write_slip(out: &mut String, text: &str) -> Result<(), AllocError>
     }
 }
 
-/// Returns the first word of a text that is not of the kind at its place, and why: the number of a
-/// processor, a verb, or what comes after it.
+/// Returns the first word of a text that is not of the kind that its place requires, and what is
+/// wrong with it. The places are the processor's number, the verb, and what comes after it.
 fn slip_in(text: &str) -> Option<(&str, &'static str)> {
     let mut words = text.split(' ');
     let cpu = words.next()?;
@@ -57,7 +58,7 @@ fn slip_in(text: &str) -> Option<(&str, &'static str)> {
     None
 }
 
-/// Returns why a word is not of its kind, if that can be told.
+/// Returns what is wrong with a word that should be of this kind, if that can be found.
 fn why_not(kind: Kind, word: &str) -> Option<&'static str> {
     match kind {
         Kind::Narrow => number_slip(number32(word).is_some(), word, " is above 4294967295; "),
@@ -66,12 +67,12 @@ fn why_not(kind: Kind, word: &str) -> Option<&'static str> {
             word,
             " is above 18446744073709551615; ",
         ),
-        Kind::Name => name_slip(word),
+        Kind::Name => spelling_slip(word),
         Kind::Word => capitals_slip(word),
     }
 }
 
-/// Returns why digits are no number, if they are none: a zero in front, or else too many.
+/// Returns what is wrong with digits that are no number: a leading zero, or else `too_many`.
 fn number_slip(is_number: bool, word: &str, too_many: &'static str) -> Option<&'static str> {
     if is_number || !word.as_bytes().iter().all(|byte| byte.is_ascii_digit()) {
         return None;
@@ -83,8 +84,8 @@ fn number_slip(is_number: bool, word: &str, too_many: &'static str) -> Option<&'
     }
 }
 
-/// Returns why a word is no name, if it has other letters than a name, or too many.
-fn name_slip(word: &str) -> Option<&'static str> {
+/// Returns what is wrong with a name, if it has characters that no name has, or too many.
+pub(crate) fn spelling_slip(word: &str) -> Option<&'static str> {
     let capitals = capitals_slip(word);
     if capitals.is_some() {
         return capitals;
@@ -99,7 +100,7 @@ fn name_slip(word: &str) -> Option<&'static str> {
     }
 }
 
-/// Returns why a word is none of the language, if it has capitals.
+/// Returns what is wrong with a word of the language, if it has capitals.
 fn capitals_slip(word: &str) -> Option<&'static str> {
     if word.as_bytes().iter().any(|byte| byte.is_ascii_uppercase()) {
         Some(" has capital letters; ")

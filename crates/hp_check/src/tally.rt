@@ -9,12 +9,14 @@ use std::alloc::{AllocError, Global};
 /// of the calls is not known.
 #[derive(Drop)]
 pub(crate) struct Tally {
-    /// Whether each record begins an operation, up to the first plan: how many records that makes is
-    /// not known.
+    /// Whether each record begins an operation, up to the first plan. How many records a plan makes
+    /// is not known.
     begins: Vec<bool>,
     /// Whether a record after these may begin one.
     any_later: bool,
     in_scripts: bool,
+    /// Whether the line at hand works on the result of an earlier line, by its name.
+    by_name: bool,
     used: u64,
 }
 
@@ -25,11 +27,12 @@ impl Tally {
             begins: Vec::new(alloc),
             any_later: false,
             in_scripts: false,
+            by_name: false,
             used: 0,
         }
     }
 
-    /// Adds a line on a layout.
+    /// Adds the records of a line's work, on a machine of this layout.
     pub(crate) fn add(&mut self, layout: &Layout, work: &Work) -> Result<(), AllocError> {
         match work.asked() {
             Asked::Event(event) => self.add_record(layout.history(), mark_of(event).is_opening()),
@@ -72,6 +75,12 @@ impl Tally {
         self.in_scripts = true;
     }
 
+    /// Notes whether the next line works on the result of an earlier line, by its name. The number in
+    /// such a line is 0.
+    pub(crate) fn note_name(&mut self, by_name: bool) {
+        self.by_name = by_name;
+    }
+
     /// Returns whether the lines that are added are in scripts.
     pub(crate) fn in_scripts(&self) -> bool {
         self.in_scripts
@@ -84,11 +93,11 @@ impl Tally {
         history <= self.used
     }
 
-    /// Returns whether the record of a serial may begin an operation. In scripts, 0 is the operation
-    /// that the processor began last.
+    /// Returns whether the record of a serial may begin an operation. 0 is the operation of an earlier
+    /// line that is named, and in scripts the one that the processor began last.
     pub(crate) fn may_begin(&self, op: Serial) -> bool {
         if op.0 == 0 {
-            return self.in_scripts;
+            return self.in_scripts || self.by_name;
         }
         let place = op.0 - 1;
         if place < self.begins.len() as u64 {

@@ -1,4 +1,4 @@
-//! The names of what a finding speaks of.
+//! The names of the things that a finding mentions.
 use crate::finding::{ScenarioObject, What};
 use std::fmt;
 

@@ -1,4 +1,4 @@
-//! Lines that hardly do what is wanted.
+//! Lines that probably do not do what they are meant to do.
 ghost use Rattle.std.specs.Prelude.{OnOk, length};
 ghost use Rattle.std.specs.List.{All};
 ghost use Rattle.hp_check.specs.Adds.{IsWarning};
@@ -12,19 +12,20 @@ use hp_units::{Cpu, Event, Layout, Owner, Page, Plan, Serial};
 use std::alloc::{AllocError, Global};
 
 /// Adds the warnings of lines on a layout. The first `setup` lines are the setup, the others are in
-/// the scripts of their processors.
+/// the scripts of their processors. A line with a source works on the result of an earlier line.
 pub(crate) fn push_warnings(
     found: &mut Vec<Finding>,
     alloc: Global,
     layout: &Layout,
     setup: u64,
     lines: &[Line],
+    sources: &[Option<usize>],
 ) -> Result<(), AllocError>
     requires { All (IsWarning (length lines.now)) found.old.items }
     ensures { OnOk result (All (IsWarning (length lines.now)) found.new.items) }
 {
     let mut tally = Tally::new(alloc);
-    push_each(found, layout, &mut tally, setup, lines)
+    push_each(found, layout, &mut tally, setup, lines, sources)
 }
 
 /// Adds the warnings of lines; the tally is that of the lines before them.
@@ -34,6 +35,7 @@ fn push_each(
     tally: &mut Tally,
     setup: u64,
     lines: &[Line],
+    sources: &[Option<usize>],
 ) -> Result<(), AllocError>
     requires { All (IsWarning (length lines.now)) found.old.items }
     ensures { OnOk result (All (IsWarning (length lines.now)) found.new.items) }
@@ -42,6 +44,7 @@ fn push_each(
         if index as u64 == setup {
             tally.end_setup(&lines[index..]);
         }
+        tally.note_name(has_source(sources, index));
         let line = &lines[index];
         let warning = line_warning(layout, tally, line);
         tally.add(layout, &line.work)?;
@@ -52,6 +55,14 @@ fn push_each(
         found.push(Finding::Warning { number, warning })?;
     }
     Ok(())
+}
+
+/// Returns whether the line at a place has a source.
+fn has_source(sources: &[Option<usize>], place: usize) -> bool {
+    match sources.get(place) {
+        Some(source) => source.is_some(),
+        None => false,
+    }
 }
 
 /// Returns the warning of a line: the first that applies.
@@ -84,7 +95,7 @@ fn unfit_warning(cpus: u32, in_scripts: bool, line: &Line) -> Option<Warning> {
     }
 }
 
-/// Returns the warning of what a line asks for.
+/// Returns a warning about what a line asks for, if there is one.
 fn asked_warning(layout: &Layout, tally: &Tally, cpu: Cpu, work: &Work) -> Option<Warning> {
     match work.asked() {
         Asked::Event(event) => {
@@ -99,7 +110,7 @@ fn asked_warning(layout: &Layout, tally: &Tally, cpu: Cpu, work: &Work) -> Optio
     }
 }
 
-/// Returns the fault of reading the file at a path, if it has one in every state.
+/// Returns a warning if reading the file at a path fails in every state.
 fn cat_warning(layout: &Layout, path: &str) -> Option<Warning> {
     let Some(file) = file_at(path) else {
         return Some(Warning::Cat(ControlFault::NoFile));
@@ -117,8 +128,9 @@ fn cat_warning(layout: &Layout, path: &str) -> Option<Warning> {
     }
 }
 
-/// Returns a warning if the history has no room for the begin of a plan, a round of drains, all its
-/// turns, and a commit: of a `plan` line, or of a plan that an `echo` asks for.
+/// Returns a warning if the history has no room for all calls of a plan: the begin, a round of
+/// drains, all its turns, and a commit. The plan is that of a `plan` line, or one that an `echo`
+/// asks for.
 fn turns_warning(layout: &Layout, work: &Work) -> Option<Warning> {
     let Asked::Plan { plan: _, turns } = work.asked() else {
         return None;
@@ -140,7 +152,7 @@ fn caller_warning(layout: &Layout, tally: &Tally, cpu: Cpu) -> Option<Warning> {
     past(What::Processor, cpu.0, layout.cpus())
 }
 
-/// Returns a number if it is past this many.
+/// Returns a warning if a number is not below `count`.
 fn past(what: What, number: u32, count: u32) -> Option<Warning> {
     if number < count {
         return None;
@@ -154,18 +166,19 @@ fn past(what: What, number: u32, count: u32) -> Option<Warning> {
     })
 }
 
-/// Returns an owner or else a page that is past the layout.
+/// Returns a warning if an owner, or else a page, is past the layout.
 fn page_past(layout: &Layout, owner: Owner, page: Page) -> Option<Warning> {
     let owner = past(What::Owner, owner.0, layout.owners());
     owner.or(past(What::Page, page.0, layout.pages()))
 }
 
-/// Returns an owner, a page or else a word that is past the layout.
+/// Returns a warning if an owner, a page, or else a word is past the layout.
 fn word_past(layout: &Layout, owner: Owner, page: Page, index: u32) -> Option<Warning> {
     page_past(layout, owner, page).or(past(What::Word, index, layout.words()))
 }
 
-/// Returns the first memory block of a plan that is past the layout.
+/// Returns a warning about the first memory block of a plan that is past the layout, if there is
+/// one.
 fn plan_past(layout: &Layout, plan: &Plan) -> Option<Warning> {
     let blocks = layout.blocks();
     let item = plan
@@ -179,7 +192,7 @@ fn plan_past(layout: &Layout, plan: &Plan) -> Option<Warning> {
     })
 }
 
-/// Returns the memory block that begins at an address, if it is past the layout.
+/// Returns a warning if the memory block that begins at an address is past the layout.
 fn address_past(layout: &Layout, address: u64) -> Option<Warning> {
     let bytes = layout.block_bytes();
     if address % bytes != 0 {
@@ -197,7 +210,7 @@ fn address_past(layout: &Layout, address: u64) -> Option<Warning> {
     })
 }
 
-/// Returns the number of an operation if no line before begins it.
+/// Returns a warning if no line before begins the operation.
 fn no_begin(tally: &Tally, op: Serial) -> Option<Warning> {
     if tally.may_begin(op) {
         None
@@ -206,7 +219,7 @@ fn no_begin(tally: &Tally, op: Serial) -> Option<Warning> {
     }
 }
 
-/// Returns the first thing that an event names and that is not there.
+/// Returns a warning about the first thing that an event names and that does not exist.
 fn event_warning(layout: &Layout, tally: &Tally, event: &Event) -> Option<Warning> {
     match event {
         Event::KernelAlloc { order } => past(What::Order, order.0, layout.order() + 1),

@@ -1,6 +1,5 @@
 pub mod AnswersRead
 pub mod Beginnings
-pub mod Causes
 pub mod ObjectsTaken
 pub mod Orders
 pub mod Rising

@@ -55,16 +55,17 @@ abbrev pub first_to : List ObservedLine → ℕ
 first_to [] = 18446744073709551615
 first_to (one ∷ later) = one.to
 
--- a line was answered by the time by which a later one was
+-- the lines, each with the lowest `to` of its own and the later ones: a line was answered no later than
+-- a later one
 abbrev pub filled : List ObservedLine → List ObservedLine
 filled [] = []
 filled (one ∷ later) = record one { to = min one.to (first_to (filled later)) } ∷ filled later
 
--- nothing was seen of so many processors
+-- nothing was seen yet of this many processors
 abbrev pub AreUnseen : (processors : ℕ) → List (List ObservedLine) → Type 0
 AreUnseen processors seen = seen ≡ replicate processors []
 
--- one more answer of a processor
+-- one more answer of a processor was appended
 abbrev pub IsTaken : (old : List (List ObservedLine)) → SeenObject → (new : List (List ObservedLine)) → Type 0
 IsTaken old o new =
     (own : List ObservedLine) × (slice_get old o.cpu ≡ Some own)
@@ -80,7 +81,8 @@ AreToldBy objects seen =
     ((cpu : ℕ) (own : List ObservedLine) → slice_get seen cpu ≡ Some own → own ≡ told_of cpu objects)
     × ((k : ℕ) (o : SeenObject) → slice_get objects k ≡ Some o → o.cpu < length seen)
 
--- the lines are objects, and these are the processors' lines with the times that follow
+-- the texts that are not empty are objects, and these are the processors' lines, with their times
+-- filled in
 abbrev pub AreSeen : (texts : List (List ℕ)) → List (List ObservedLine) → Type 0
 AreSeen texts seen =
     (objects : List SeenObject) × (told : List (List ObservedLine)) × AreObjects (full_lines texts) objects

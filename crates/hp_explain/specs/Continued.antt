@@ -1,88 +1,31 @@
--- Places that continue alike are explained alike: what the laws of an aim ask.
+-- From equivalent places, the same continuations are explained, as the laws of an aim require.
 use Rattle.std.proofs.Common.{◌≡◌, ℕ, zero, suc, ◌<◌, ◌≤◌, List, [], ◌∷◌, ◌++◌, length, Some, slice_get, refl, ap, sym, subst, ◌∙◌, arith, inl, inr}
 use Rattle.std.specs.Prelude.{◌⊎◌}
 use Rattle.std.proofs.lemmas.Bool.{cases_lt}
 use Rattle.std.proofs.lemmas.List.{append_assoc, length-append, length-map}
 use Rattle.std.proofs.lemmas.Option.{same_Some, slice_get_past}
 use Rattle.hp_units.specs.declared.replies.Record.{Record}
-use Rattle.hp_schedules.specs.Causes.{AnswerAlike, IsCaused}
+use Rattle.hp_schedules.specs.Causes.{AnswerAlike}
 use Rattle.hp_schedules.specs.Continuing.{ContinuesAs}
 use Rattle.hp_schedules.specs.LineAnswers.{answers_at}
 use Rattle.hp_schedules.specs.Schedules.{Setting, plays, schedule_of}
-use Rattle.hp_schedules.proofs.Caused.{answer_alike}
 use Rattle.hp_schedules.proofs.Continuing.{continues_as}
 use Rattle.hp_explore.specs.Aims.{HaveSameKey, IsLawful, IsNarrower}
-use Rattle.hp_explore.specs.Starts.{same_starts}
-use Rattle.hp_explore.proofs.PlaceKeys.{steered_at}
-use Rattle.hp_explain.specs.Explainers.{AreCausedBelow, Becomes, IsMarked, aim_of}
+use Rattle.hp_explore.specs.CausesBelow.{answered_alike}
+use Rattle.hp_explain.specs.Explainers.{Becomes, IsMarked, aim_of}
 use Rattle.hp_explain.specs.Explaining.{AreAsSeen, AreInTime, AreOverBefore, HasSeen, IsExplained, MayRun, calls_left}
 use Rattle.hp_explain.specs.declared.observed.ObservedLine.{ObservedLine}
 
--- ---- numbers of causes
-
-caused_long : (g : Setting) (h k : List Record) (n : ℕ) (xs ys : List ℕ) → AreCausedBelow g n h xs
-    → AreCausedBelow g n k ys → length xs ≡ length ys
-caused_long g h k zero xs ys a b = ap (λ (zs : List ℕ). length zs) (a ∙ sym b)
-caused_long g h k (suc n) xs ys a b =
-    omega (
-      arith,
-      ap (λ (zs : List ℕ). length zs) a.2,
-      ap (λ (zs : List ℕ). length zs) b.2,
-      length-append a.0 a.1,
-      length-append b.0 b.1,
-      a.3,
-      b.3,
-      caused_long g h k n a.0 b.0 a.5 b.5,
-    )
-
--- those of one processor
-caused_at : (g : Setting) (h k : List Record) (n : ℕ) (xs ys : List ℕ) → xs ≡ ys
-    → AreCausedBelow g n h xs → AreCausedBelow g n k ys → (cpu : ℕ) → cpu < n
-    → (part : List ℕ) × IsCaused g cpu h part × IsCaused g cpu k part
-caused_at g h k zero xs ys is a b cpu less = absurd (omega (arith, less))
-caused_at g h k (suc n) xs ys is a b cpu less =
-    by_place (cases_lt cpu n) (λ below. caused_at g h k n a.0 b.0 same.0 a.5 b.5 cpu below)
-  where
-    same : (a.0 ≡ b.0) × (a.1 ≡ b.1)
-    same = same_starts a.0 a.1 b.0 b.1 (caused_long g h k n a.0 b.0 a.5 b.5) (sym a.2 ∙ (is ∙ b.2))
-
-    by_place : (cpu < n) ⊎ (n ≤ cpu)
-        → (cpu < n → (part : List ℕ) × IsCaused g cpu h part × IsCaused g cpu k part)
-        → (part : List ℕ) × IsCaused g cpu h part × IsCaused g cpu k part
-    by_place (inl below) before = before below
-    by_place (inr past) before =
-        let last : n ≡ cpu = omega (arith, less, past) in
-        subst (λ (c : ℕ). (part : List ℕ) × IsCaused g c h part × IsCaused g c k part) last
-        (a.1, a.4, subst (IsCaused g n k) (sym same.1) b.4)
-
 -- ---- answers after the same further records
 
--- a processor without a script has none
-none_at : (g : Setting) (cpu : ℕ) (news : List Record) → length g.scripts ≤ cpu → answers_at g cpu news ≡ []
-unfolding answers_at
-none_at g cpu news past = rw (slice_get_past g.scripts cpu past) refl
-
-answered_alike : (g : Setting) (h k more : List Record) (marks : List ℕ) → HaveSameKey g h k
+answers_marked : (g : Setting) (h k more : List Record) (marks : List ℕ) → HaveSameKey g h k
     → IsMarked g h marks → IsMarked g k marks → (cpu : ℕ) → AnswerAlike g cpu h k more
-answered_alike g h k more marks same a b cpu = by_place (cases_lt cpu (length g.scripts))
-  where
-    causes : a.0 ≡ b.0
-    causes = let whole : length h ∷ a.0 ≡ length k ∷ b.0 = sym a.1 ∙ b.1 in cc
+answers_marked g h k more marks same a b =
+    let whole : length h ∷ a.0 ≡ length k ∷ b.0 = sym a.1 ∙ b.1 in
+    let causes : a.0 ≡ b.0 = cc in
+    answered_alike g h k more a.0 b.0 causes same a.2 b.2
 
-    by_place : (cpu < length g.scripts) ⊎ (length g.scripts ≤ cpu) → AnswerAlike g cpu h k more
-    by_place (inl below) =
-        let steered = steered_at g h k (length g.scripts) same.steering same.steering refl same.first_steered
-        same.second_steered cpu below in
-        let caused = caused_at g h k (length g.scripts) a.0 b.0 causes a.2 b.2 cpu below in
-        answer_alike g cpu h k more steered.0 caused.0 steered.1 steered.2 caused.1 caused.2
-    by_place (inr past) = record {
-      many = ap length (none_at g cpu h past ∙ sym (none_at g cpu k past));
-      later = [];
-      first = rw (none_at g cpu h past) (none_at g cpu (h ++ more) past);
-      second = rw (none_at g cpu k past) (none_at g cpu (k ++ more) past);
-    }
-
--- so as many lines are finished
+-- so equally many lines are finished
 many_alike : (g : Setting) (cpu : ℕ) (h k more : List Record) → AnswerAlike g cpu h k more
     → length (answers_at g cpu (h ++ more)) ≡ length (answers_at g cpu (k ++ more))
 many_alike g cpu h k more alike =
@@ -95,9 +38,9 @@ many_alike g cpu h k more alike =
       length-append (answers_at g cpu k) alike.later,
     )
 
--- ---- items of lists that go on alike
+-- ---- items of lists with the same end
 
--- an item of the one is its own, or one of the other's too
+-- an item of `ys ++ zs` is one of `ys`, or has the same index in `xs ++ zs`
 item_alike : {T : Type 0} (xs ys zs : List T) (i : ℕ) (x : T) → length xs ≡ length ys
     → slice_get (ys ++ zs) i ≡ Some x → (slice_get ys i ≡ Some x) ⊎ (slice_get (xs ++ zs) i ≡ Some x)
 item_alike [] [] zs i x long is = inr is
@@ -106,7 +49,7 @@ item_alike (a ∷ xs) [] zs i x long is = absurd (omega (arith, long))
 item_alike (a ∷ xs) (b ∷ ys) zs zero x long is = inl is
 item_alike (a ∷ xs) (b ∷ ys) zs (suc i) x long is = item_alike xs ys zs i x (omega (arith, long)) is
 
--- an item and what is before it lie in the first part, or the item in the second
+-- in a joined list, an item is in the first part, or in the second with the whole first part before it
 pub split_in : {T : Type 0} (k more before later : List T) (r : T) → k ++ more ≡ before ++ r ∷ later
     → ((rest : List T) × (k ≡ before ++ r ∷ rest))
     ⊎ ((mid : List T) × (before ≡ k ++ mid) × (more ≡ mid ++ r ∷ later))
@@ -125,7 +68,7 @@ split_in {T} (x ∷ k) more (y ∷ before) later r is =
     by_place first (inl within) = inl (within.0, cc)
     by_place first (inr past) = inr (past.0, cc, past.2)
 
--- ---- explained alike
+-- ---- explained from equivalent places
 
 seen_alike : (g : Setting) (seen : List (List ObservedLine)) (h k more : List Record)
     → ((cpu : ℕ) → AnswerAlike g cpu h k more) → AreAsSeen g seen k → AreAsSeen g seen (h ++ more)
@@ -166,7 +109,7 @@ timed_alike g seen h k more alike here there before r later is =
         (there (h ++ past.0) r later
         (ap (λ (xs : List Record). h ++ xs) past.2 ∙ sym (append_assoc h past.0 (r ∷ later)))))
 
--- an explained beginning, by its records
+-- what an explained beginning promises, in terms of its records
 pub explained_news : (g : Setting) (seen : List (List ObservedLine)) (schedule : List ℕ) (news : List Record)
     → plays g schedule ≡ Some news → IsExplained g seen schedule
     → AreAsSeen g seen news × AreInTime g seen news
@@ -176,7 +119,7 @@ explained_news g seen schedule news played explained =
       subst (AreInTime g seen) same explained.timed,
     )
 
--- what goes on from two places with one key is as long
+-- a continuation leads to equally many calls from two places with one key
 as_long : (g : Setting) (h k : List Record) (rest : List ℕ) → HaveSameKey g h k
     → length (schedule_of h ++ rest) ≡ length (schedule_of k ++ rest)
 as_long g h k rest same =
@@ -189,7 +132,8 @@ as_long g h k rest same =
       same.alike.calls,
     )
 
--- what goes on from two places with one key
+-- what the same continuation leads to from the other of two places with one key, and that this is
+-- explained
 record IsExplainedOn (g : Setting) (seen : List (List ObservedLine)) (rest : List ℕ) (h k : List Record)
     (end : List Record) : Type 0 where
   pub on : ContinuesAs g (schedule_of k) rest h k end
@@ -205,16 +149,16 @@ explained_on g seen h k marks rest same a b here e = record {
   on = on;
   few = omega (arith, e.few, as_long g h k rest same);
   answered =
-      seen_alike g seen h k on.more (answered_alike g h k on.more marks same a b) own.0
+      seen_alike g seen h k on.more (answers_marked g h k on.more marks same a b) own.0
       (subst (AreAsSeen g seen) on.end_is e.answered);
   timed =
-      timed_alike g seen h k on.more (λ mid. answered_alike g h k mid marks same a b) own.1
+      timed_alike g seen h k on.more (λ mid. answers_marked g h k mid marks same a b) own.1
       (subst (AreInTime g seen) on.end_is e.timed);
 }
   where
     on : ContinuesAs g (schedule_of k) rest h k e.news
     on =
-        continues_as g (schedule_of h) (schedule_of k) rest h k e.news same.undo same.first_played
+        continues_as g (schedule_of h) (schedule_of k) rest h k e.news same.mergeable same.first_played
         same.second_played same.alike e.played
 
     own : AreAsSeen g seen k × AreInTime g seen k

@@ -1,18 +1,11 @@
--- The aim of a search for an order that explains what was seen, and what the laws of an aim say of it.
-use Rattle.std.specs.Prelude.{◌≡◌, ◌⊎◌, ℕ, zero, suc, ◌<◌, ◌≤◌, List, [], ◌∷◌, ◌++◌, Some, length}
+-- The aim of a search for an order that explains what was seen, and how the search changes it.
+use Rattle.std.specs.Prelude.{◌≡◌, ◌⊎◌, ℕ, ◌<◌, ◌≤◌, List, [], ◌∷◌, ◌++◌, Some, length}
 use Rattle.hp_units.specs.declared.replies.Record.{Record}
-use Rattle.hp_schedules.specs.Causes.{IsCaused}
 use Rattle.hp_schedules.specs.Schedules.{Setting, plays}
 use Rattle.hp_explore.specs.Aims.{AimValue}
+use Rattle.hp_explore.specs.CausesBelow.{AreCausedBelow}
 use Rattle.hp_explain.specs.Explaining.{Explains, IsExplained, MayRun, calls_left}
 use Rattle.hp_explain.specs.declared.observed.ObservedLine.{ObservedLine}
-
--- two numbers for each processor below a number, of the last refusal that its plan in progress met
-abbrev pub AreCausedBelow : Setting → (cpus : ℕ) → List Record → List ℕ → Type 0
-AreCausedBelow g zero news numbers = numbers ≡ []
-AreCausedBelow g (suc cpus) news numbers =
-    (rest : List ℕ) × (part : List ℕ) × (numbers ≡ rest ++ part) × (length part ≡ 2)
-    × IsCaused g cpus news part × AreCausedBelow g cpus news rest
 
 -- the marks: the number of calls, and these numbers of all processors
 abbrev pub IsMarked : Setting → List Record → List ℕ → Type 0

@@ -63,8 +63,9 @@ abbrev pub calls_left : Setting → ℕ
 calls_left g =
     min (g.layout.history - length g.start) (18446744073709551615 - (g.before + length g.start))
 
--- the schedule is the beginning of an order that what was seen allows: it can be played, the history has
--- room for its calls, each line that it finishes was answered so, and each of its calls was made in time
+-- the schedule is the beginning of an order that what was seen allows. It can be played, and the
+-- history has room for its calls. Each line that it finishes was answered so, and each of its calls was
+-- made in time
 pub record IsExplained (g : Setting) (seen : List (List ObservedLine)) (schedule : List ℕ) : Type 0 where
   pub news : List Record
   pub played : plays g schedule ≡ Some news

@@ -1,4 +1,4 @@
--- Where a processor stands in its script after new records, and what comes next for it.
+-- How far a processor is in its script after new records, and what comes next for it.
 use Rattle.std.specs.Prelude.{◌≡◌, ◌⊎◌, ℕ, List, [], ◌∷◌, ◌++◌, Option, Some, None, length, slice_get, option_map}
 use Rattle.std.specs.Option.{option_map_or}
 use Rattle.hp_units.specs.declared.events.Event.{Event}
@@ -15,7 +15,8 @@ use Rattle.hp_explain.specs.declared.standing.Next.TheVariants.{Answered, Finish
 use Rattle.hp_explain.specs.declared.standing.Standing.{Standing}
 use Rattle.hp_explain.specs.declared.standing.Unfinished.{Unfinished}
 
--- the processor has finished as many lines, and its next one was answered before the time
+-- this is the first line that the processor has not finished, and not all of its lines that were
+-- answered before the time are finished
 abbrev pub IsUnfinished : Setting → List (List ObservedLine) → List Record → (time : ℕ) → Unfinished → Type 0
 IsUnfinished g seen news time u =
     (lines : List ObservedLine) × (slice_get seen u.cpu ≡ Some lines)
@@ -27,7 +28,7 @@ IsWaiting g seen news cpu u =
     (lines : List ObservedLine) × (one : ObservedLine) × (slice_get seen cpu ≡ Some lines)
     × (slice_get lines (length (answers_at g cpu news)) ≡ Some one) × IsUnfinished g seen news one.from u
 
--- it did, or it may run
+-- the processor waits for this line; or its next line may run
 abbrev pub IsWaitingFor : Setting → List (List ObservedLine) → List Record → (cpu : ℕ) → Option Unfinished
     → Type 0
 IsWaitingFor g seen news cpu (Some u) = IsWaiting g seen news cpu u
@@ -39,13 +40,13 @@ IsWaitingFor g seen news cpu None = MayRun g seen news cpu
 abbrev pub Adds : Setting → (cpu : ℕ) → (before news : List Record) → List (Option LineAnswer) → Type 0
 Adds g cpu before news more = answers_at g cpu news ≡ answers_at g cpu before ++ more
 
--- what the latest call gave the processor's line
+-- the answer that the latest call gave the processor's line; or that it gave none
 abbrev pub IsLatestAnswer : Setting → (cpu : ℕ) → (before news : List Record) → Next → Type 0
 IsLatestAnswer g cpu before news (Answered answer) = Adds g cpu before news (Some answer ∷ [])
 IsLatestAnswer g cpu before news GoesOn = Adds g cpu before news [] ⊎ Adds g cpu before news (None ∷ [])
 IsLatestAnswer g cpu before news next = ⊥
 
--- the processor's next call gives its line this
+-- the same for the processor's next call
 abbrev pub IsNextAnswer : Setting → List Record → (cpu : ℕ) → Next → Type 0
 IsNextAnswer g news cpu next =
     (event : Event) × (next_call g cpu news ≡ Some event)

@@ -9,7 +9,7 @@ use Rattle.hp_explore.specs.declared.exploring.ExploreFault.TheVariants.{History
 use Rattle.hp_scenario.specs.declared.lines.Line.{Line}
 use Rattle.hp_search.specs.Faults.{IsFaultWith}
 use Rattle.hp_search.specs.FoundTexts.{found_text}
-use Rattle.hp_search.specs.Holding.{HoldsIn, InScenario, IsStoppedAfter}
+use Rattle.hp_search.specs.Holding.{HoldsAfter, HoldsIn, InScenario}
 use Rattle.hp_search.specs.declared.forms.ScheduleForm.{ScheduleForm}
 use Rattle.hp_search.specs.declared.forms.ScheduleForm.TheVariants.{Words, Object, Scenario}
 use Rattle.hp_explain.specs.AnswerObjects.{AreObjectsOf}
@@ -23,7 +23,7 @@ use Rattle.hp_explain.specs.declared.observed.ObservedLine.{ObservedLine}
 use Rattle.hp_explain.specs.declared.telling.ExplainResult.{ExplainResult}
 use Rattle.hp_explain.specs.declared.telling.ExplainResult.TheVariants.{Explained, Unexplained, Unknown}
 
--- it is not known whether an order explains the answers; there is no scenario then
+-- the text if it is not known whether an order explains the answers; there is no scenario then
 abbrev pub unknown_told : ScheduleForm → List ℕ
 unknown_told Words = codes "explained: unknown\n"
 unknown_told Object = codes "{\"found\": null}\n"
@@ -32,7 +32,7 @@ unknown_told Scenario = []
 -- ---- on a machine
 
 -- the text has the first schedule that explains what was seen, as a search for an end writes the one
--- that it found, and the history has room for its calls; or no schedule explains it, and there is a
+-- that it found, and the history has room for its calls. Or no schedule explains it, and there is a
 -- longest explained beginning; or this is not known
 abbrev pub IsExplainedOn : ScheduleForm → (names : List (List ℕ)) → (before : List Line) → Setting
     → List (List ObservedLine) → (text : List ℕ) → ExplainResult → Type 0
@@ -54,14 +54,14 @@ IsExplanationTold form names before g (found.Unexplained longest) text result = 
 
 -- ---- in a scenario
 
--- a processor for each script was seen, with an answer for each line; in words, the text is what
--- `hotplug run` prints of these answers, and else it has an object for each
+-- what was seen has a line for each line of each script. In words, the text is what `hotplug run`
+-- prints of these answers; otherwise it has an object for each
 abbrev pub AreAnswers : (answers : List ℕ) → List (List Step) → List (List ObservedLine) → Type 0
 AreAnswers answers scripts seen =
     (map length seen ≡ map length scripts) × (are_objects answers ≡ false → IsRunText answers seen)
     × (are_objects answers ≡ true → AreObjectsOf answers seen)
 
--- the answers can be read as those of the setting's scripts, and this holds of what they say
+-- the text gives answers to the setting's scripts, and `P` holds of what was seen
 abbrev pub OfAnswers : (answers : List ℕ) → Setting → (List (List ObservedLine) → Type 0) → Type 0
 OfAnswers answers g P = (seen : List (List ObservedLine)) × AreAnswers answers g.scripts seen × P seen
 
@@ -79,4 +79,5 @@ IsExplainingCause g OutOfMemory = Unit {0}
 -- when each fault comes
 abbrev pub IsExplainFaultOf : (input answers : List ℕ) → ExplainFault → Type 0
 IsExplainFaultOf input answers (Lab fault) = IsFaultWith IsExplainingCause input 0 fault
-IsExplainFaultOf input answers (Answers fault) = InScenario input (IsStoppedAfter (λ g. Unit {0}) 0)
+IsExplainFaultOf input answers (Answers fault) =
+    InScenario input 0 (HoldsAfter (λ g. Unit {0}) 0)

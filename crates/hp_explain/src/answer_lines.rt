@@ -87,7 +87,7 @@ fn is_heading(alloc: Global, text: &str, cpu: u32) -> Result<bool, AllocError>
     Ok(text == heading.as_str())
 }
 
-/// Returns what is wrong with a line in place of the processor's heading.
+/// Returns the fault of a line that is not the heading of the processor whose answers come next.
 fn not_heading(
     alloc: Global,
     text: &str,
@@ -104,8 +104,7 @@ fn not_heading(
     Ok(AnswersFault::NoHeading { cpu, line })
 }
 
-/// Returns the number of the processor that the text is the heading of, if there is no such
-/// processor.
+/// Returns the number of the processor whose heading the text is, if there is no such processor.
 fn past_last(text: &str, processors: u32) -> Option<u64> {
     let cpu = headed(text)?;
     if cpu < u64::from(processors) {
@@ -115,7 +114,7 @@ fn past_last(text: &str, processors: u32) -> Option<u64> {
     }
 }
 
-/// Returns the number of the processor that the text is the heading of.
+/// Returns the number of the processor whose heading the text is.
 fn headed(text: &str) -> Option<u64> {
     number64(text.strip_prefix("cpu ")?)
 }
@@ -145,7 +144,7 @@ fn read_lines(
     Ok(seen)
 }
 
-/// Appends the answer that the text is, and returns whether it is one.
+/// Appends the answer in the text, and returns whether the text is an answer.
 fn push_answer(seen: &mut Vec<ObservedLine>, alloc: Global, text: &str) -> Result<bool, AllocError>
     ensures { IfOk result (λ is. is ≡ true → IsPushed seen.old.items text.now seen.new.items) }
 {
@@ -168,7 +167,7 @@ fn push_untimed(seen: &mut Vec<ObservedLine>, answer: LineAnswer) -> Result<bool
     Ok(true)
 }
 
-/// Returns that a processor has fewer answers than lines.
+/// Returns the fault for a processor with fewer answers than lines.
 pub(crate) fn too_few(cpu: u32, answers: usize, lines: usize) -> AnswersFault {
     AnswersFault::TooFew {
         cpu,
@@ -177,8 +176,8 @@ pub(crate) fn too_few(cpu: u32, answers: usize, lines: usize) -> AnswersFault {
     }
 }
 
-/// Returns what is wrong with the first line of `rest`, which is no answer, after `index` answers of
-/// a processor. `number` is the number of the line of the first of them.
+/// Returns the fault for the first line of `rest`, which is no answer. It comes after `index`
+/// answers of a processor, and `number` is the number of the line of the first of them.
 fn no_answer(rest: &[&str], number: u64, cpu: u32, index: usize, count: usize) -> AnswersFault {
     let line = number.saturating_add(index as u64);
     let [text, ..] = rest else {
@@ -190,7 +189,7 @@ fn no_answer(rest: &[&str], number: u64, cpu: u32, index: usize, count: usize) -
     not_understood(text, line)
 }
 
-/// Returns what is wrong with a text that is no answer.
+/// Returns the fault for a text that is no answer.
 pub(crate) fn not_understood(text: &str, line: u64) -> AnswersFault {
     if is_of_no_call(text) {
         AnswersFault::NotOfACall { line }
@@ -218,7 +217,7 @@ fn check_last(
     Err(not_last(alloc, text, number, processors)?)
 }
 
-/// Returns what is wrong with a line after the last processor's answers.
+/// Returns the fault for a line after the last processor's answers.
 fn not_last(
     alloc: Global,
     text: &str,
@@ -249,7 +248,7 @@ fn are_empty(lines: &[&str]) -> bool
     true
 }
 
-/// Returns whether the text is that of a number of records.
+/// Returns whether the text gives a number of records.
 fn is_records(alloc: Global, text: &str) -> Result<bool, AllocError>
     ensures { IfOk result (λ is. is ≡ true → IsRecords text.now) }
 {
@@ -260,7 +259,7 @@ fn is_records(alloc: Global, text: &str) -> Result<bool, AllocError>
     Ok(text == records.as_str())
 }
 
-/// Returns the number of records that the text has.
+/// Returns the number of records that the text gives.
 fn recorded(text: &str) -> Option<u64> {
     number64(text.strip_suffix(" records")?)
 }

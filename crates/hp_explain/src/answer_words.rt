@@ -31,7 +31,7 @@ pub(crate) fn is_answer(alloc: Global, text: &str) -> Result<bool, AllocError> {
     }
 }
 
-/// Returns the answer if the text is, byte for byte, what is written of it.
+/// Returns the answer if the text is, byte for byte, what is written for it.
 fn answer_if_spelled(
     alloc: Global,
     text: &str,
@@ -46,7 +46,7 @@ fn answer_if_spelled(
     }
 }
 
-/// Returns whether the text is, byte for byte, the answer's.
+/// Returns whether the text is, byte for byte, what is written for the answer.
 fn is_spelled(alloc: Global, text: &str, answer: &LineAnswer) -> Result<bool, AllocError>
     ensures { IfOk result (λ is. is ≡ true → text.now ≡ answer_text answer.now) }
 {
@@ -67,7 +67,8 @@ fn write_answer_line(out: &mut String, answer: &LineAnswer) -> Result<(), AllocE
     }
 }
 
-/// Parses an answer. One whose text differs from what is written of the result is no answer.
+/// Parses an answer. Also takes some texts that are no answers: the caller compares the text with
+/// what is written for the result.
 fn answer_like(alloc: Global, text: &str) -> Result<Option<LineAnswer>, AllocError> {
     match text.strip_prefix("plan: ") {
         Some(end) => plan_like(alloc, end),
@@ -165,8 +166,8 @@ fn cause_of(words: &[&str]) -> Option<Option<Refusal>> {
     }
 }
 
-/// Returns whether the text is an answer of a line that no call finished: one whose call left no
-/// record, or one that seals.
+/// Returns whether the text is that of a line that no call finished: one whose call left no record,
+/// or one that seals.
 pub(crate) fn is_of_no_call(text: &str) -> bool {
     text.starts_with("fault ") || text.starts_with("plan: left ") || text.starts_with("sealed ")
 }

@@ -1,4 +1,4 @@
-//! What the processors of a scenario were answered, read from a text.
+//! The answers that a scenario's processors got, read from a text.
 ghost use Rattle.std.specs.Prelude.{◌≡◌, ◌<◌, ◌^◌, IfOk, OnOk, false, length, map, true};
 ghost use Rattle.std.specs.Str.Lines.{lines as lines_of};
 ghost use Rattle.hp_explain.specs.AnswerObjects.{AreObjectsOf};
@@ -12,23 +12,23 @@ use hp_schedules::CallScript;
 use std::alloc::{AllocError, Global};
 use std::str::from_utf8;
 
-/// Reads what the processors of a scenario were answered. Script k is that of processor k.
+/// Reads the answers that a scenario's processors got. Script k is that of processor k.
 ///
-/// The text is what `hotplug run` prints: for each processor in order a line `cpu C`, then the answer
-/// to each line of its script. The number of records, in the last line, may be missing. The times of
-/// these answers are unknown.
+/// The text is what `hotplug run` prints: for each processor in order a line `cpu C`, then the
+/// answer to each line of its script. The number of records, in the last line, may be missing. The
+/// times of these answers are unknown.
 ///
 /// Or each line is a JSON object such as `{"cpu": 0, "answer": "done", "from": 3, "to": 7}`. A
-/// processor's objects are in the order of its lines. `from` and `to` are whole numbers: the line began
-/// at `from` or later, and was answered at `to` or before. A missing `from` is 0, and a missing `to` is
-/// that of the processor's next line that has one.
+/// processor's objects are in the order of its lines. `from` and `to` are whole numbers: the line
+/// began at `from` or later, and was answered at `to` or before. A missing `from` is 0, and a
+/// missing `to` is that of the processor's next line that has one.
 ///
 /// A line may end in `\r\n`. Empty lines at the end are ignored, and those between objects.
 ///
 /// # Errors
 ///
-/// The first line at fault, or `TooFew` with a processor that has fewer answers than lines. `NotUtf8`
-/// if the text is not UTF-8, `OutOfMemory` if memory allocation fails.
+/// The first line at fault, or `TooFew` with a processor that has fewer answers than lines.
+/// `NotUtf8` if the text is not UTF-8, `OutOfMemory` if memory allocation fails.
 pub fn read_answers(
     alloc: Global,
     input: &[u8],

@@ -1,4 +1,4 @@
-//! Why a text is not what the processors of a scenario were answered.
+//! Why a text does not give the answers that a scenario's processors got.
 ghost use Rattle.std.specs.Prelude.{◌≡◌};
 ghost use Rattle.hp_explain.specs.declared.answers_fault.AnswersFault.TheVariants.{OutOfMemory};
 
@@ -6,13 +6,13 @@ use std::alloc::{AllocError, AllocFailed};
 use std::error::Error;
 use std::fmt;
 
-/// Why a text is not what the processors of a scenario were answered. Lines are those of the text,
-/// counted from 1. `OutOfMemory` may come in place of any other.
+/// Why a text does not give the answers that a scenario's processors got. Lines are those of the
+/// text, counted from 1. `OutOfMemory` may come in place of any other.
 #[derive(Clone, Copy, Debug, PartialEq, Eq, Drop)]
 pub enum AnswersFault {
     /// The text is not UTF-8.
     NotUtf8,
-    /// The line is neither an answer nor anything else that may stand there.
+    /// The line is neither an answer nor anything else that may come there.
     BadLine { line: u64 },
     /// The line is not the heading of the processor whose answers come next.
     NoHeading { cpu: u32, line: u64 },
@@ -22,7 +22,8 @@ pub enum AnswersFault {
     TooMany { cpu: u32, line: u64 },
     /// The processor has fewer answers than lines.
     TooFew { cpu: u32, answers: u64, lines: u64 },
-    /// No call gets this answer: a call left no record, or the line seals.
+    /// The line is what a run prints for a line that no call finished: its call left no record, or
+    /// it seals.
     NotOfACall { line: u64 },
     /// The line was answered before it began, or before an earlier line of its processor began or was
     /// answered.

@@ -1,4 +1,4 @@
-//! Why no order was searched.
+//! Why there was no search for an order.
 ghost use Rattle.std.specs.Prelude.{◌≡◌};
 ghost use Rattle.hp_search.specs.declared.lab_fault.LabFault.TheVariants.{OutOfMemory};
 ghost use Rattle.hp_explain.specs.declared.explain_fault.ExplainFault.TheVariants.{Answers, Lab};
@@ -9,7 +9,8 @@ use std::alloc::AllocError;
 use std::error::Error;
 use std::fmt;
 
-/// Why no order was searched that explains answers. Out of memory may come in place of any other.
+/// Why there was no search for an order that explains the answers. `OutOfMemory` may come in place
+/// of any other.
 #[derive(Clone, Copy, Debug, PartialEq, Eq, Drop)]
 pub enum ExplainFault {
     /// The scenario cannot be read or searched.

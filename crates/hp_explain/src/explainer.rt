@@ -1,10 +1,10 @@
 //! The aim of a search for an order that explains what was seen.
 ghost use Rattle.std.specs.Prelude.{◌≡◌, ◌↔◌, ◌++◌, ◌∷◌, [], IfOk, IsTrue, List, OnOk, length, ℕ};
-ghost use Rattle.hp_explain.specs.Explainers.{AreCausedBelow, IsMarked};
+ghost use Rattle.hp_explain.specs.Explainers.{IsMarked};
 ghost use Rattle.hp_explain.specs.Explaining.{AreAllOverBefore, HasSeen, MayRun};
 
 use crate::observed::Observed;
-use hp_explore::{Aim, Path, is_over};
+use hp_explore::{Aim, Path, is_over, push_all_causes};
 use hp_schedules::FinishedLine;
 use hp_units::Cpu;
 use std::alloc::{AllocError, Global};
@@ -146,21 +146,4 @@ impl<'a> Aim for Explainer<'a> {
         new.seen.now new.room new.longest.items becomes };
 
     ghost lawful = { λ aim g. explaining_lawful g aim.seen.now aim.room aim.longest.items };
-}
-
-/// Appends what the answers of the processors' plans in progress depend on, two numbers for each
-/// processor.
-fn push_all_causes(
-    path: &Path<'_>,
-    processors: u32,
-    numbers: &mut Vec<u32>,
-) -> Result<(), AllocError>
-    requires { processors ≡ length path.now.setting.scripts }
-    ensures { OnOk result ((part : List ℕ) × (numbers.new.items ≡ numbers.old.items ++ part)
-        × AreCausedBelow path.now.setting processors path.now.news part) }
-{
-    for cpu in 0..processors {
-        path.push_causes(cpu, numbers)?;
-    }
-    Ok(())
 }

@@ -13,30 +13,31 @@ use hp_schedules::CallScript;
 use hp_units::Cpu;
 use std::alloc::Global;
 
-/// What explains the answers that were seen.
+/// The result of a search for an order that explains what was seen.
 #[derive(Drop)]
 pub enum Explanation {
     /// The first order in which each line is answered as it was seen, as the processors in the order
     /// of their calls.
     Explained(Vec<Cpu>),
-    /// There is none. This is the first of the longest beginnings of an order in which each finished
-    /// line is answered so.
+    /// No order does. This is the first of the longest beginnings of an order in which each
+    /// finished line is answered as it was seen.
     Unexplained(Vec<Cpu>),
 }
 
-/// Finds the first order of all calls that explains what was seen: each line is answered as it was
-/// seen, and no line begins before one that had been answered by then is finished. Script k is that of
-/// processor k. The machine is not changed. `watch` is called for each place that the search comes to,
-/// and may end it.
+/// Finds the first order of all calls that explains what was seen. Each line is answered as it was
+/// seen, and begins only when each line that had been answered before it began is finished. Script
+/// k is that of processor k. The machine is not changed. `watch` is called for each place that the
+/// search comes to, and may end it.
 ///
-/// Orders are in the order of their processors, the lower one first. A plan's calls are interleaved one
-/// by one with those of other processors. The search gives a beginning up at its first answer that
-/// differs, and tries a place once, unless a script undoes steps by their serials.
+/// Orders are in the order of their processors, the lower one first. A plan's calls are interleaved
+/// one by one with those of other processors. The search gives up a beginning at its first answer
+/// that differs. It tries a place once, unless a script undoes steps by their serials, or works on
+/// an operation other than the latest.
 ///
 /// # Errors
 ///
-/// `OutOfMemory` if memory allocation fails, `Stopped` if the watch ended the search. `HistoryFull` never:
-/// an order with a call for which the history has no room explains nothing.
+/// `OutOfMemory` if memory allocation fails, `Stopped` if the watch ended the search. `HistoryFull`
+/// never: an order with a call for which the history has no room explains nothing.
 pub fn explain<W: Watch>(
     alloc: Global,
     machine: &Machine,

@@ -1,11 +1,12 @@
-//! Finds an order of a scenario's calls that explains what the processors were answered in threads.
+//! Finds an order of a scenario's calls that explains the answers that its processors got in
+//! threads.
 //!
-//! What was seen is the answer to each line of each processor, and, where it is known, when the line
-//! began and when its answer came (`observed`). An order explains it if each line is answered as it
-//! was seen, and no line begins before another that had been answered by then: it is linearizable
-//! (Herlihy and Wing 1990; Wing and Gong 1993 search in the same way). `explaining` finds the first
-//! such order by the search of hp_explore, or shows that there is none, with the longest beginning
-//! that is explained.
+//! What was seen is the answer to each line of each processor and, if known, when the line began
+//! and when its answer came (`observed`). An order explains it if each line is answered as it was
+//! seen, and each line comes after all lines that had been answered before it began. What was seen
+//! is then linearizable (Herlihy and Wing 1990; Wing and Gong 1993 search in the same way).
+//! `explaining` finds the first such order by the search of hp_explore, or reports that there is
+//! none, with the longest beginning that is explained.
 //!
 //! Read specs/Explaining first, then specs/Explainers.
 #![tactic(auto)]

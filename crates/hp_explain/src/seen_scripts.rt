@@ -44,7 +44,7 @@ pub(crate) fn read_objects(
     read_all(alloc, seen.as_mut_slice(), lines, scripts)
 }
 
-/// Reads the answers of all processors. Nothing was seen of them so far.
+/// Reads the answers of all processors into `seen`, which has none so far.
 fn read_all(
     alloc: Global,
     seen: &mut [SeenScript],
@@ -152,7 +152,8 @@ impl SeenScript {
         Ok(())
     }
 
-    /// Takes the lines as those of a processor with `count` lines.
+    /// Returns the lines as those of a processor with `count` lines, and empties this value. Fails
+    /// if there are not that many.
     fn finish(
         &mut self,
         alloc: Global,
@@ -194,7 +195,7 @@ fn scripts_of(
     Ok(observed)
 }
 
-/// Lowers each line's `to` to that of a later line.
+/// Lowers each line's `to` to the lowest `to` of the lines after it, if that is lower.
 fn fill_times(lines: &mut [ObservedLine])
     ensures rising { AreRising lines.new }
     ensures filled { lines.new ≡ filled lines.old }

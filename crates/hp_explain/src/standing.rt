@@ -1,4 +1,4 @@
-//! Where the processors stand in their scripts after a beginning of an order.
+//! How far the processors are in their scripts after a beginning of an order.
 ghost use Rattle.std.specs.Prelude.{◌≡◌, ◌++◌, ◌∷◌, [], ℕ, List, IfNone, IfOk, IfSome, OnOk, length, option_map, slice_get};
 ghost use Rattle.hp_units.specs.declared.replies.Record.{Record};
 ghost use Rattle.hp_explore.specs.Settings.{setting};
@@ -38,7 +38,7 @@ pub(crate) enum Next {
     HistoryFull,
 }
 
-/// Where a processor stands in its script.
+/// How far a processor is in its script.
 #[derive(Clone, Copy, Drop)]
 pub(crate) struct Standing {
     /// The processor.
@@ -83,7 +83,7 @@ fn play_along(alloc: Global, path: &mut Path<'_>, schedule: &[Cpu]) -> Result<()
     Ok(())
 }
 
-/// Returns where each processor stands. Makes the next call of each, and takes it back.
+/// Returns how far each processor is. Makes the next call of each, and takes it back.
 pub(crate) fn standings_of(
     alloc: Global,
     path: &mut Path<'_>,
@@ -100,7 +100,7 @@ pub(crate) fn standings_of(
     Ok(all)
 }
 
-/// Adds where a processor stands. Makes its next call, and takes it back.
+/// Adds how far a processor is. Makes its next call, and takes it back.
 fn push_standing(
     all: &mut Vec<Standing>,
     alloc: Global,
@@ -198,7 +198,7 @@ fn unfinished_before(path: &Path<'_>, seen: &Observed, time: u64) -> Option<Unfi
     None
 }
 
-/// Returns what the latest call gave its line.
+/// Returns whether the latest call gave its line an answer, and which.
 fn latest_answer(path: &Path<'_>) -> Next
     ensures { (before : List Record) (r : Record) → path.now.news ≡ before ++ r ∷ []
         → IsLatestAnswer path.now.setting r.cpu before path.now.news result }

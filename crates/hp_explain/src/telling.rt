@@ -21,7 +21,7 @@ use hp_units::{Cpu, Record, Text};
 use indexmap::IndexSet;
 use std::alloc::{AllocError, Global};
 
-/// What a search for an order that explains answers came to.
+/// How a search for an order that explains answers ended.
 #[derive(Clone, Copy, Debug, PartialEq, Eq, Drop)]
 pub enum ExplainResult {
     /// An order explains them.
@@ -37,19 +37,19 @@ pub enum ExplainResult {
 pub struct ExplainText {
     /// The order that was found, or a text that reports that there is none, or that it is not known.
     pub text: String,
-    /// What the search came to.
+    /// How the search ended.
     pub result: ExplainResult,
 }
 
-/// Searches the scenario in `scenario` for the first order of all calls in which each line is
-/// answered as `answers` has it, processor 0 first. Each line is in the script of its processor, and
-/// a plan's calls are interleaved one by one with those of other processors. `read_answers` documents
+/// Searches the scenario in `scenario` for the first order of all calls that gives each line its
+/// answer in `answers`, processor 0 first. Each line is in the script of its processor, and a
+/// plan's calls are interleaved one by one with those of other processors. `read_answers` documents
 /// the form of the answers, and `explain` the search.
 ///
-/// If there is such an order, the text has it as `find_text` writes what it found. If there is none,
-/// the text has the longest beginning of one, where each processor is after it, and what its next
-/// line would be answered. As a scenario the text is empty then. If `watch` ended the search, the
-/// text reports that nothing is known.
+/// If there is such an order, the text has it as `find_text` writes what it found. If there is
+/// none, the text has the longest beginning of one, how far each processor is after it, and the
+/// answer that its next line would get. As a scenario the text is empty then. If `watch` ended the
+/// search, the text reports that nothing is known.
 ///
 /// # Errors
 ///
@@ -193,8 +193,8 @@ fn text_of(
     }
 }
 
-/// Returns, as text in `form`, that no order explains the answers, with the longest beginning of one
-/// and where the processors stand after it. As a scenario there is no text. Replays the schedule.
+/// Returns the text, in `form`, for answers that no order explains: the longest beginning of one,
+/// and how far the processors are after it. As a scenario the text is empty. Replays the schedule.
 fn longest_told(
     alloc: Global,
     prepared: &Prepared,
@@ -217,8 +217,8 @@ fn longest_told(
     Ok(text)
 }
 
-/// Returns, as text in `form`, that it is not known whether an order explains the answers. As a
-/// scenario there is no text.
+/// Returns the text, in `form`, of a search that was ended before it knew. As a scenario the text
+/// is empty.
 fn unknown_told(form: ScheduleForm) -> &'static str
     ensures { result.now ≡ unknown_told form }
 {

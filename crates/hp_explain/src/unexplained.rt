@@ -1,5 +1,5 @@
-//! The text for answers that no order explains: the longest beginning of one, and where each processor
-//! stands after it.
+//! The text for answers that no order explains: the longest beginning of one, and how far each
+//! processor is after it.
 
 use crate::standing::{Next, Standing};
 use hp_schedules::LineAnswer;
@@ -42,7 +42,7 @@ fn write_played(
     out.push('\n')
 }
 
-/// Writes where each processor stands, one per line.
+/// Writes how far each processor is, one per line.
 fn write_standings(out: &mut String, standings: &[Standing]) -> Result<(), AllocError> {
     for standing in standings {
         write_standing(out, *standing)?;
@@ -50,7 +50,7 @@ fn write_standings(out: &mut String, standings: &[Standing]) -> Result<(), Alloc
     Ok(())
 }
 
-/// Writes where a processor stands, as a line.
+/// Writes how far a processor is, as a line.
 fn write_standing(out: &mut String, standing: Standing) -> Result<(), AllocError> {
     let cpu = standing.cpu;
     let lines = standing.lines;
@@ -113,7 +113,7 @@ pub(crate) fn write_unexplained_object(
     out.push_str("]}\n")
 }
 
-/// Writes where each processor stands, as objects.
+/// Writes how far each processor is, as objects.
 fn write_standing_objects(out: &mut String, standings: &[Standing]) -> Result<(), AllocError> {
     let mut is_first = true;
     for standing in standings {
@@ -124,7 +124,7 @@ fn write_standing_objects(out: &mut String, standings: &[Standing]) -> Result<()
     Ok(())
 }
 
-/// Writes where a processor stands, as an object.
+/// Writes how far a processor is, as an object.
 fn write_standing_object(out: &mut String, standing: Standing) -> Result<(), AllocError> {
     let finished = standing.finished;
     let lines = standing.lines;

@@ -3,7 +3,7 @@ use Rattle.std.proofs.Common.{◌≡◌, ℕ, ◌+◌, ◌<◌, Bool, true, fals
 use Rattle.hp_units.specs.History.{effect_of}
 use Rattle.hp_units.specs.declared.events.Event.{Event}
 use Rattle.hp_units.specs.declared.replies.Record.{Record}
-use Rattle.hp_schedules.specs.Alike.{UndoNothing, leaves_steps}
+use Rattle.hp_schedules.specs.Alike.{AreMergeable, leaves_steps}
 use Rattle.hp_schedules.specs.Schedules.{Setting, next_call, plays, record_of_call, schedule_of}
 use Rattle.hp_schedules.proofs.Continuing.{call_leaves, event_kept}
 use Rattle.hp_states.specs.Rooms.{is_full_after}
@@ -55,19 +55,19 @@ turn_over aim p q s t next visited v lawful is less here played forth same =
 -- is followed by the visited places
 followed : (p : PathValue) (cpu : ℕ) (event : Event) (latest : Record) (old new : Visited)
     → next_call p.setting cpu p.news ≡ Some event → latest ≡ record_of_call p.setting p.news cpu event
-    → (old.is_on ≡ true → UndoNothing p.setting.scripts) → AreFollowed p.setting p.news old
+    → (old.is_on ≡ true → AreMergeable p.setting.scripts) → AreFollowed p.setting p.news old
     → ((g : Setting) (news : List Record) → AreFollowed g news old
     → (old.is_on ≡ true → leaves_steps (effect_of latest.event) ≡ true)
     → AreFollowed g (news ++ latest ∷ []) new)
     → AreFollowed p.setting (p.news ++ record_of_call p.setting p.news cpu event ∷ []) new
-followed p cpu event latest old new asked is undo way on =
+followed p cpu event latest old new asked is mergeable way on =
     subst (λ (r : Record). AreFollowed p.setting (p.news ++ r ∷ []) new) is (on p.setting p.news way leaves)
   where
     leaves : old.is_on ≡ true → leaves_steps (effect_of latest.event) ≡ true
     leaves set =
         subst (λ (e : Event). leaves_steps (effect_of e) ≡ true)
         (sym (ap (λ (r : Record). r.event) is ∙ event_kept p.setting p.news cpu event))
-        (call_leaves p.setting p.news cpu event (undo set) asked)
+        (call_leaves p.setting p.news cpu event (mergeable set) asked)
 
 -- and leads to a place
 pub comes_to : (aim : AimValue) (p q : PathValue) (s t : List ℕ) (next : ℕ) (latest : Record)
@@ -89,7 +89,7 @@ comes_to aim p q s t next latest old new v is here played forth longer tried las
     (stops_kept p.setting aim s old new on keys keep there.visited)
     (followed p next forth.0 latest old new forth.1
     (last p.news (record_of_call p.setting p.news next forth.0) (ap (λ (x : PathValue). x.news) forth.3))
-    there.visited.undo there.way way)))
+    there.visited.mergeable there.way way)))
   where
     there : IsSearching aim (search_at p s next old)
     there = subst (IsSearching aim) (sym is) here

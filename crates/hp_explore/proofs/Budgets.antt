@@ -62,7 +62,7 @@ far_skipped g wanted (Some b) place far = (
 -- a place from which no end can be as wanted
 pub lost_skipped : (g : Setting) (wanted : List Wanted) (budget : Option ℕ) (news : List Record)
     → is_some budget ≡ true → plays g (schedule_of news) ≡ Some news
-    → IsLost wanted (length g.scripts) news
+    → IsLost g.layout.cpus g.scripts wanted (length g.scripts) news
     → MayBeSkipped (aim_within g wanted budget) (schedule_of news)
 unfolding outcome_after
 lost_skipped g wanted None news some played lost = absurd cc
@@ -71,7 +71,7 @@ lost_skipped g wanted (Some b) news some played lost = (
       let more = continued g (schedule_of news) on.0 news sought.0.1.news played
       (ap (plays g) (sym on.1) ∙ sought.0.1.played) in
       lost more.0 g.layout (value_of g.layout g.base (g.start ++ sought.0.1.news))
-      (subst (Meets wanted) (sym sought.0.1.ends
+      (subst (Meets g.layout.cpus g.scripts wanted) (sym sought.0.1.ends
       ∙ ap (λ (h : List Record). outcome (length g.scripts) h g.layout
       (value_of g.layout g.base (g.start ++ sought.0.1.news))) more.1) sought.0.2),
   λ whole. cc,

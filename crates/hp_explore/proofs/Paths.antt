@@ -4,14 +4,24 @@ use Rattle.std.proofs.lemmas.List.{length_push, reverse-append}
 use Rattle.hp_units.specs.declared.events.Event.{Event}
 use Rattle.hp_units.specs.declared.replies.Record.{Record}
 use Rattle.hp_steps.specs.Steps.{StepsValue}
-use Rattle.hp_schedules.specs.Cursors.{AreCursors}
+use Rattle.hp_schedules.specs.Cursors.{AreCursors, IsCalledFor}
 use Rattle.hp_explore.specs.Paths.{IsAdvanced, IsBack, IsForth, IsPath, IsTakenBack, IsTurned, IsWayBack, PathValue}
 use Rattle.hp_schedules.specs.Schedules.{Setting, next_call, record_of_call}
 use Rattle.hp_states.specs.Walks.{IsAt}
 use Rattle.hp_schedules.specs.declared.cursors.Cursor.{Cursor}
+use Rattle.hp_schedules.specs.declared.cursors.NextCall.{NextCall}
 use Rattle.hp_explore.specs.declared.exploring.ExploreFault.{ExploreFault}
 use Rattle.hp_explore.specs.declared.ways.Turn.{Turn}
 use Rattle.hp_explore.specs.declared.ways.Way.{Way}
+
+-- what a script asks for after the new records
+pub called_there : (g : Setting) (cpu : ℕ) (given news : List Record) (cursors : List Cursor)
+    (request : Option NextCall) → given ≡ news
+    → (AreCursors g given cursors → IsCalledFor g cpu given request)
+    → AreCursors g news cursors → IsCalledFor g cpu news request
+called_there g cpu given news cursors request is told at =
+    subst (λ (h : List Record). IsCalledFor g cpu h request) is
+    (told (subst (λ (h : List Record). AreCursors g h cursors) (sym is) at))
 
 -- where scripts stand after new records
 abbrev pub path_of : Setting → List Record → PathValue

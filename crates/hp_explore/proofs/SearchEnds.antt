@@ -28,15 +28,15 @@ no_end g wanted news played asks reaches =
 -- where all are over it is one just where its outcome has the lines
 an_end : (g : Setting) (wanted : List Wanted) (news : List Record)
     → plays g (schedule_of news) ≡ Some news → ((cpu : ℕ) → next_call g cpu news ≡ None)
-    → Meets wanted (outcome_after g news) → Reaches g wanted (schedule_of news)
+    → Meets g.layout.cpus g.scripts wanted (outcome_after g news) → Reaches g wanted (schedule_of news)
 an_end g wanted news played over meets =
     (outcome_after g news, record { news = news; played = played; over = over; ends = refl }, meets)
 
 end_meets : (g : Setting) (wanted : List Wanted) (news : List Record)
     → plays g (schedule_of news) ≡ Some news → ((cpu : ℕ) → next_call g cpu news ≡ None)
-    → Reaches g wanted (schedule_of news) → Meets wanted (outcome_after g news)
+    → Reaches g wanted (schedule_of news) → Meets g.layout.cpus g.scripts wanted (outcome_after g news)
 end_meets g wanted news played over reaches =
-    subst (Meets wanted)
+    subst (Meets g.layout.cpus g.scripts wanted)
     (only_this g (schedule_of news) news (schedule_of news) reaches.0 played over
     ([], sym (append-nil (schedule_of news))) reaches.1).1 reaches.2
 
@@ -51,11 +51,11 @@ outcome_here p processors x is all =
 -- so a test of the outcome tells whether it is one
 pub end_told : (p : PathValue) (wanted : List Wanted) (processors : ℕ) (x : OutcomeValue) (told : Bool)
     → plays p.setting (schedule_of p.news) ≡ Some p.news → IsOver p → processors ≡ length p.setting.scripts
-    → x ≡ outcome processors p.news p.setting.layout (state_at p) → (IsTrue told ↔ Meets wanted x)
+    → x ≡ outcome processors p.news p.setting.layout (state_at p) → (IsTrue told ↔ Meets p.setting.layout.cpus p.setting.scripts wanted x)
     → IsTrue told ↔ Reaches p.setting wanted (schedule_of p.news)
 end_told p wanted processors x told played over all is met =
     let here : x ≡ outcome_after p.setting p.news = outcome_here p processors x is all in (
-      λ yes. an_end p.setting wanted p.news played over (subst (Meets wanted) here (met.0 yes)),
+      λ yes. an_end p.setting wanted p.news played over (subst (Meets p.setting.layout.cpus p.setting.scripts wanted) here (met.0 yes)),
       λ reaches. met.1
-          (subst (Meets wanted) (sym here) (end_meets p.setting wanted p.news played over reaches)),
+          (subst (Meets p.setting.layout.cpus p.setting.scripts wanted) (sym here) (end_meets p.setting wanted p.news played over reaches)),
     )

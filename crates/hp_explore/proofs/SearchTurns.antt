@@ -43,7 +43,7 @@ started g aim v admitted begun =
       along = room_none g;
       none = none_first aim;
       spared = λ whole. spared_none g;
-      visited = visited_none g aim begun.visited begun.undo begun.none;
+      visited = visited_none g aim begun.visited begun.mergeable begun.none;
       way = begun.way;
     })
 

@@ -4,7 +4,7 @@ use Rattle.std.specs.Prelude.{◌⊎◌}
 use Rattle.std.proofs.lemmas.List.{append-nil, append_assoc, length-append, length-map, length_push}
 use Rattle.hp_laws.proofs.Lists.{get_push_cases}
 use Rattle.hp_units.specs.declared.replies.Record.{Record}
-use Rattle.hp_schedules.specs.Alike.{UndoNothing}
+use Rattle.hp_schedules.specs.Alike.{AreMergeable}
 use Rattle.hp_schedules.specs.Continuing.{ContinueAlike}
 use Rattle.hp_schedules.specs.Orders.{Extends}
 use Rattle.hp_schedules.specs.Schedules.{Setting, plays, schedule_of}
@@ -31,14 +31,14 @@ known_done g aim before cpu news v lawful played longer admitted visited known =
 
     alike : ContinueAlike g there.news news
     alike =
-        keys_alike g aim v.stops there.news news known.key lawful there.played played there.key_is
-        known.key_is
+        keys_alike g aim v.stops there.news news known.key lawful (visited.mergeable known.on) there.played
+        played there.key_is known.key_is
 
     by_kind : IsDone g aim (schedule_of there.news) ⊎ Extends before (schedule_of there.news)
         → IsDone g aim (schedule_of news)
     by_kind (inl done) =
-        done_alike g aim v.stops there.news news known.key lawful (visited.undo known.on) there.played played
-        there.admitted admitted there.key_is known.key_is done
+        done_alike g aim v.stops there.news news known.key lawful (visited.mergeable known.on) there.played
+        played there.admitted admitted there.key_is known.key_is done
     by_kind (inr on) =
         absurd (omega (
           arith,
@@ -71,7 +71,7 @@ pub stops_kept : (g : Setting) (aim : AimValue) (schedule : List ℕ)
     → new.is_on ≡ old.is_on → new.keys ≡ old.keys → KeepStops old.stops new.stops
     → AreVisited g aim schedule old → AreVisited g aim schedule new
 stops_kept g aim schedule old new on keys keep visited = record {
-  undo = λ set. visited.undo (sym on ∙ set);
+  mergeable = λ set. visited.mergeable (sym on ∙ set);
   each = λ i key here.
       let was = visited.each i key (ap (λ (ks : List (List ℕ)). slice_get ks i) (sym keys) ∙ here) in
       record {
@@ -88,7 +88,7 @@ pub visited_longer : (g : Setting) (aim : AimValue) (before : List ℕ) (cpu : �
     (v : Visited)
     → AreVisited g aim before v → AreVisited g aim (before ++ cpu ∷ []) v
 visited_longer g aim before cpu v visited = record {
-  undo = visited.undo;
+  mergeable = visited.mergeable;
   each = λ i key here.
       let was = visited.each i key here in
       record {
@@ -116,7 +116,7 @@ pub visited_more : (g : Setting) (aim : AimValue) (schedule : List ℕ)
 visited_more g aim schedule news old new played is admitted on keep (inl same) visited =
     stops_kept g aim schedule old new on same keep visited
 visited_more g aim schedule news old new played is admitted on keep (inr more) visited = record {
-  undo = λ set. visited.undo (sym on ∙ set);
+  mergeable = λ set. visited.mergeable (sym on ∙ set);
   each = λ i key here. by_place i key
       (get_push_cases old.keys more.0 key i
       (ap (λ (ks : List (List ℕ)). slice_get ks i) (sym more.1) ∙ here));
@@ -148,7 +148,7 @@ pub visited_shorter : (g : Setting) (aim : AimValue) (before : List ℕ) (cpu : 
     → IsDone g aim (before ++ cpu ∷ []) → AreVisited g aim (before ++ cpu ∷ []) v
     → AreVisited g aim before v
 visited_shorter g aim before cpu v done_here visited = record {
-  undo = visited.undo;
+  mergeable = visited.mergeable;
   each = λ i key here.
       let was = visited.each i key here in
       record {
@@ -168,9 +168,9 @@ visited_shorter g aim before cpu v done_here visited = record {
 
 -- none is visited at the start
 pub visited_none : (g : Setting) (aim : AimValue) (v : Visited)
-    → (v.is_on ≡ true → UndoNothing g.scripts) → v.keys ≡ [] → AreVisited g aim [] v
-visited_none g aim v undo none = record {
-  undo = undo;
+    → (v.is_on ≡ true → AreMergeable g.scripts) → v.keys ≡ [] → AreVisited g aim [] v
+visited_none g aim v mergeable none = record {
+  mergeable = mergeable;
   each = λ i key here.
       absurd (let none_here = ap (λ (ks : List (List ℕ)). slice_get ks i) (sym none) ∙ here in cc);
 }
@@ -186,7 +186,7 @@ done_narrower g old new place narrower done = (
 pub visited_narrower : (g : Setting) (old new : AimValue) (schedule : List ℕ) (v : Visited)
     → IsNarrower old new → AreVisited g old schedule v → AreVisited g new schedule v
 visited_narrower g old new schedule v narrower visited = record {
-  undo = visited.undo;
+  mergeable = visited.mergeable;
   each = λ i key here.
       let was = visited.each i key here in
       record {

@@ -83,7 +83,7 @@ way_on p q cpu latest memo later ends forth kept last way on =
     leaves set =
         subst (λ (e : Event). leaves_steps (effect_of e) ≡ true)
         (sym (ap (λ (r : Record). r.event) latest_is ∙ event_kept p.setting p.news cpu forth.0))
-        (call_leaves p.setting p.news cpu forth.0 (kept.undo set) forth.1)
+        (call_leaves p.setting p.news cpu forth.0 (kept.mergeable set) forth.1)
 
 -- and after a call was taken back
 pub way_taken : (p q : PathValue) (cpu : ℕ) (memo later : MemoValue) → IsBack p (Some cpu) q

@@ -1,7 +1,7 @@
 -- What a search looks for, where it may go, and what it finds.
 use Rattle.std.specs.Prelude.{◌≡◌, ℕ, zero, suc, List, [], ◌∷◌, ◌++◌, Option, Some, None, length}
 use Rattle.hp_units.specs.declared.replies.Record.{Record}
-use Rattle.hp_schedules.specs.Alike.{UndoNothing}
+use Rattle.hp_schedules.specs.Alike.{AreMergeable}
 use Rattle.hp_schedules.specs.Continuing.{ContinueAlike}
 use Rattle.hp_schedules.specs.Cursors.{IsSteered}
 use Rattle.hp_schedules.specs.Orders.{Extends, IsBefore}
@@ -21,19 +21,19 @@ use Rattle.hp_explore.specs.declared.fault.FindFault.TheVariants.{HistoryFull, O
 pub record AimValue : Type 1 where
   -- the schedules that are looked for
   pub sought : List ℕ → Type 0
-  -- what is found of them: the schedule with which a search ends
+  -- the schedules that a search may return
   pub found : List ℕ → Type 0
   -- the places that the search may come to
   pub admits : List ℕ → Type 0
   -- the calls that may be tried from an admitted place, before their replies are known
   pub tries : List ℕ → (cpu : ℕ) → Type 0
-  -- numbers of the place after these records. They tell which of its continuations are sought, with the
-  -- state, the operations that can be cancelled and what the processors' further calls depend on
+  -- numbers of the place after these records. Together with the rest of the place's key, they decide
+  -- which of its continuations are sought
   pub marks : List Record → List ℕ → Type 0
   -- the search has to come to every place, so that it finds each call for which the history has no room
   pub is_whole : Type 0
 
--- no sought schedule is before the place, and none continues from it
+-- no sought schedule is before the place; and none continues from it
 abbrev pub NoneBefore : AimValue → (place : List ℕ) → Type 0
 NoneBefore aim place = (s : List ℕ) → aim.sought s → IsBefore s place → ⊥
 
@@ -44,7 +44,7 @@ NoneFrom aim place = (s : List ℕ) → aim.sought s → Extends s place → ⊥
 abbrev pub MayBeSkipped : AimValue → (place : List ℕ) → Type 0
 MayBeSkipped aim place = NoneFrom aim place × (aim.is_whole → ⊥)
 
--- a call led to the place that may be tried from the place before it
+-- the call that led to the place may be tried from the place before it, which is admitted
 pub record IsTried (aim : AimValue) (place : List ℕ) : Type 0 where
   pub before : List ℕ
   pub cpu : ℕ
@@ -59,19 +59,19 @@ pub record IsNarrower (old new : AimValue) : Type 0 where
   pub marks : (news : List Record) (numbers : List ℕ) → old.marks news numbers → new.marks news numbers
   pub whole : new.is_whole → old.is_whole
 
--- ---- places that continue alike
+-- ---- equivalent places
 
--- what the further calls of each processor below a number depend on, five numbers for each
+-- what the further calls of the processors below `cpus` depend on: a part of the numbers per processor
 abbrev pub AreSteered : Setting → (cpus : ℕ) → List Record → List ℕ → Type 0
 AreSteered g zero news numbers = numbers ≡ []
 AreSteered g (suc cpus) news numbers =
-    (rest : List ℕ) × (part : List ℕ) × (numbers ≡ rest ++ part) × (length part ≡ 5)
+    (rest : List ℕ) × (part : List ℕ) × (numbers ≡ rest ++ part)
     × IsSteered g cpus news part × AreSteered g cpus news rest
 
 -- two places whose keys are equal, apart from the marks: the same calls continue from both, to equal
 -- states
 pub record HaveSameKey (g : Setting) (first second : List Record) : Type 0 where
-  pub undo : UndoNothing g.scripts
+  pub mergeable : AreMergeable g.scripts
   pub first_played : plays g (schedule_of first) ≡ Some first
   pub second_played : plays g (schedule_of second) ≡ Some second
   pub alike : ContinueAlike g first second
@@ -79,8 +79,8 @@ pub record HaveSameKey (g : Setting) (first second : List Record) : Type 0 where
   pub first_steered : AreSteered g (length g.scripts) first steering
   pub second_steered : AreSteered g (length g.scripts) second steering
 
--- what the search rests on: a sought schedule can be played; equally many calls lead to places with the
--- same marks; and from admitted places with the same key and marks, the same continuations are sought
+-- what the search rests on. A sought schedule can be played. Places with the same marks have equally
+-- many calls. From admitted places with the same key and marks, the same continuations are sought
 pub record IsLawful (g : Setting) (aim : AimValue) : Type 0 where
   pub played : (s : List ℕ) → aim.sought s → (news : List Record) × (plays g s ≡ Some news)
   pub counted : (first second : List Record) (marks : List ℕ)
@@ -114,7 +114,7 @@ pub record FillsSearch (g : Setting) (aim : AimValue) : Type 0 where
   pub tried : aim.tries place call.cpu
   pub none : NoneBefore aim (place ++ call.cpu ∷ [])
 
--- the cause of a fault: of one turn of the search, and of the search
+-- the cause of a fault: of one step of the search, and of the whole search
 abbrev pub IsTurnCause : Setting → AimValue → ExploreFault → Type 0
 IsTurnCause g aim explore.HistoryFull = FillsSearch g aim
 IsTurnCause g aim explore.OutOfMemory = Unit {0}

@@ -16,7 +16,7 @@ use Rattle.hp_questions.proofs.Marking.{replies_append}
 
 -- ---- what is played on from records
 
--- it begins with them
+-- what is played on from records begins with those records
 pub grown : (g : Setting) (rest : List ℕ) (h end : List Record) → from_news g h rest ≡ Some end
     → (more : List Record) × (end ≡ h ++ more)
 grown g [] h end is = ([], sym (same_Some h end is) ∙ sym (append-nil h))
@@ -113,7 +113,8 @@ none_many : (cpus : ℕ) → many_to cpus [] ≡ 0
 none_many zero = refl
 none_many (suc cpu) = omega (arith, none_many cpu)
 
--- each call is one of a script's processor
+-- each further call is by a processor that has a script, so there are still as many replies to these
+-- processors as records
 many_played : (g : Setting) (rest : List ℕ) (h end : List Record)
     → many_to (length g.scripts) h ≡ length h → from_news g h rest ≡ Some end
     → many_to (length g.scripts) end ≡ length end
@@ -144,10 +145,11 @@ pub calls_counted : (g : Setting) (h : List Record) → plays g (schedule_of h) 
 unfolding plays
 calls_counted g h played = many_played g (schedule_of h) [] h (none_many (length g.scripts)) played
 
--- so places with the same marks have as many records
+-- so places with the same marks have equally many records
 pub calls_counted_alike : (g : Setting) (wanted : List Wanted) (h k : List Record) (marks : List ℕ)
     → plays g (schedule_of h) ≡ Some h → plays g (schedule_of k) ≡ Some k
-    → AreMarks wanted (length g.scripts) h marks → AreMarks wanted (length g.scripts) k marks
+    → AreMarks g.layout.cpus g.scripts wanted (length g.scripts) h marks
+    → AreMarks g.layout.cpus g.scripts wanted (length g.scripts) k marks
     → length h ≡ length k
 calls_counted_alike g wanted h k marks first second a b =
     omega (

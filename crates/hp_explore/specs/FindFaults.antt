@@ -13,7 +13,7 @@ use Rattle.hp_explore.specs.declared.finding.Found.{Found}
 use Rattle.hp_explore.specs.declared.finding.Found.TheVariants.{Nearest, Absent}
 use Rattle.hp_questions.specs.declared.wanted.Wanted.{Wanted}
 
--- schedules with fewer changes than this are searched before all are
+-- the search tries the schedules with fewer changes than this before it tries all
 abbrev pub few_changes : ℕ
 few_changes = 3
 
@@ -58,9 +58,9 @@ IsNearCause g wanted below Stopped = Unit {0}
 
 -- ---- for the whole search
 
--- the cause of a fault. `HistoryFull`: there is no room for a call with few changes; or no schedule
--- with few changes ends as wanted, and there is none for a call that comes before each schedule that
--- ends as wanted, or for one with fewer changes than the first of these
+-- the cause of a fault. `HistoryFull` comes if there is no room for a call with few changes. It also
+-- comes if no schedule with few changes ends as wanted, and there is no room for one of two calls: one
+-- before each schedule that ends as wanted, or one with fewer changes than the first of these
 abbrev pub IsFindCause : Setting → List Wanted → FindFault → Type 0
 IsFindCause g wanted HistoryFull =
     FillsNear g wanted few_changes

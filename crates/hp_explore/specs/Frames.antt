@@ -17,17 +17,17 @@ use Rattle.hp_explore.specs.declared.walk.Turned.{Turned}
 use Rattle.hp_explore.specs.declared.walk.Turned.TheVariants.{On, Over, Full}
 use Rattle.hp_explore.specs.declared.walk.Walk.{Walk}
 
--- all before the frame's next processor is walked, and it is known whether a
--- processor so far had a call
+-- everything before the level's next processor is walked, and the level records whether a processor so
+-- far had a call
 pub record AreTurns (g : Setting) (part : PartValue) (news : List Record) (ends : List Ending)
     (frame : Level) : Type 0 where
   pub walked : IsPartWalkedBefore g part (schedule_of news ++ frame.next ∷ []) ends
   pub over : IsOverBelow g news frame.next frame.is_over
   pub within : frame.next ≤ length g.scripts
 
--- the places below one, latest first: each led on by a call of the processor before its next, the
--- history had room for that call, and the trail was not longer there than at the place above,
--- where it was `most` long
+-- the levels below one on the stack, latest first. At each, the processor before its next made a call,
+-- and the history had room for it. The trail was at most as long there as at the level above, where it
+-- was `most` long
 abbrev pub AreBelow : Setting → PartValue → TallyValue → (most : ℕ) → List Record → List Level → Type 0
 AreBelow g part tally most news [] = news ≡ []
 AreBelow g part tally most news (frame ∷ frames) =
@@ -37,7 +37,7 @@ AreBelow g part tally most news (frame ∷ frames) =
     × (is_full_after g before ≡ false) × IsFrame g part before tally frame
     × AreBelow g part tally frame.start before frames × (frame.start ≤ most)
 
--- the places of a walk, latest first; with none left, everything is walked
+-- the levels of a walk, latest first; with none left, everything is walked
 abbrev pub AreWalked : Setting → PartValue → TallyValue → List Record → List Level → Type 0
 AreWalked g part tally news [] = IsPartWalkedThrough g part [] tally.ends
 AreWalked g part tally news (frame ∷ frames) =
@@ -46,7 +46,7 @@ AreWalked g part tally news (frame ∷ frames) =
 
 -- ---- the walk
 
--- what holds of a walk whose frames, latest first, are these
+-- what holds of a walk whose levels, latest first, are these
 pub record IsWalking (w : Walk) (frames : List Level) : Type 0 where
   pub walked : AreWalked w.path.setting w.part w.tally w.path.news frames
   pub memo : IsMemo w.path.setting w.tally.ends w.memo
@@ -69,7 +69,8 @@ left_of n most frames = digits n frames * (n + 2) ^ (most + 1 - length frames)
 abbrev pub left : Walk → List Level → ℕ
 left w frames = left_of w.processors w.path.setting.layout.history frames
 
--- how much is left before a turn, if this is left after the turn and its place
+-- how much of a walk is left when it has reached a place that has no level yet, and these are the
+-- levels below
 abbrev pub left_before : Walk → List Level → ℕ
 left_before w frames =
     (digits w.processors frames + 1)
@@ -80,8 +81,8 @@ abbrev pub IsSameWalk : Walk → Walk → Type 0
 IsSameWalk old new =
     (new.path.setting ≡ old.path.setting) × (new.tally.limit ≡ old.tally.limit) × (new.part ≡ old.part)
 
--- the walk has just reached a place by a call, or begins: all before it is walked, and the frames,
--- latest first, are those of the places below
+-- the walk has just reached a place by a call, or begins: all before it is walked, and these are the
+-- levels below, latest first
 pub record IsComing (w : Walk) (frames : List Level) : Type 0 where
   pub walked : IsPartWalkedBefore w.path.setting w.part (schedule_of w.path.news) w.tally.ends
   pub on : IsOn (length w.path.setting.scripts) w.part (schedule_of w.path.news)
@@ -101,7 +102,7 @@ pub record IsHalted (w : Walk) : Type 0 where
   pub first : AreFirstInPart w.path.setting w.part (counted w.tally.ends) w.tally.ends
   pub cause : (counted w.tally.ends ≡ w.tally.limit) ⊎ (w.reach.is_stopped ≡ true)
 
--- the result of a turn: less is left; all is walked; or there is a schedule that is not to be counted
+-- the result of a step: less is left; all is walked; or there is a schedule that is not to be counted
 abbrev pub IsTurnedTo : (old new : Walk) → Turned → Type 0
 IsTurnedTo old new On =
     IsWalking new (frames_of new) × (left new (frames_of new) < left old (frames_of old))

@@ -1,5 +1,6 @@
 pub mod Adding
 pub mod Aims
+pub mod CausesBelow
 pub mod Changes
 pub mod Counted
 pub mod Faults
@@ -11,6 +12,7 @@ pub mod Reaching
 pub mod Searches
 pub mod Settings
 pub mod Starts
+pub mod SteeredBelow
 pub mod Sums
 pub mod Visited
 pub mod Walks

@@ -1,4 +1,4 @@
--- The place of a walk over schedules, and the way back.
+-- The place of a walk over schedules, and how its calls are taken back.
 use Rattle.std.specs.Prelude.{◌≡◌, ℕ, ◌<◌, Bool, true, false, List, [], ◌∷◌, ◌++◌, Option, Some, None, length, reverse, slice_set}
 use Rattle.hp_units.specs.History.{value_of}
 use Rattle.hp_units.specs.Memory.{Memory}
@@ -43,12 +43,12 @@ IsOver p = (cpu : ℕ) → next_call p.setting cpu p.news ≡ None
 
 -- ---- what a path keeps
 
--- the way leads back from the new steps over this record to the old steps
+-- `way` leads from the new steps, past this record, back to the old steps
 abbrev pub IsWayOver : Way → StepsValue → Record → StepsValue → Type 0
 IsWayOver (Mark mark) old r new = IsLater old r mark new
 IsWayOver (Kept steps) old r new = (steps.value ≡ old) × (new.records ≡ old.records ++ r ∷ [])
 
--- the processor's event was made, and there is a way back over it
+-- the processor's event was made, and `way` undoes it
 pub record IsTurned (g : Setting) (old : StepsValue) (cpu : ℕ) (event : Event) (way : Way)
     (new : StepsValue) : Type 0 where
   pub at : IsAt g new
@@ -56,8 +56,8 @@ pub record IsTurned (g : Setting) (old : StepsValue) (cpu : ℕ) (event : Event)
   pub records : new.records ≡ old.records ++ record_of_call g old.records cpu event ∷ []
   pub over : IsWayOver way old (record_of_call g old.records cpu event) new
 
--- the turns lead back to the beginning of the scripts, latest first: each over its record, with its
--- processor's cursor put back
+-- the calls lead back to the beginning of the scripts, latest first: each undoes its record, and
+-- restores its processor's cursor
 abbrev pub IsWayBack : Setting → StepsValue → List Cursor → List Turn → Type 0
 IsWayBack g here cursors [] = here.records ≡ []
 IsWayBack g here cursors (turn ∷ turns) =
@@ -66,14 +66,14 @@ IsWayBack g here cursors (turn ∷ turns) =
     × AreCursors g old.records (slice_set cursors r.cpu turn.from)
     × IsWayBack g old (slice_set cursors r.cpu turn.from) turns
 
--- a path is where its schedule leads, its cursors are where the scripts are, and
--- its turns lead back
+-- a path is at the place to which its schedule leads, its cursors are the positions in the scripts, and
+-- its calls lead back
 pub record IsPath (g : Setting) (here : StepsValue) (cursors : List Cursor) (turns : List Turn) : Type 0 where
   pub at : IsAt g here
   pub cursors_at : AreCursors g here.records cursors
   pub back : IsWayBack g here cursors (reverse turns)
 
--- the processor's call was made and has a way back; or it had no call to make, and nothing changed
+-- the processor's call was made and can be undone; or it had no call to make, and nothing changed
 abbrev pub IsAdvanced : Setting → StepsValue → List Cursor → List Turn → (cpu : ℕ) → (went : Bool)
     → StepsValue → List Cursor → List Turn → Type 0
 IsAdvanced g old cursors turns cpu true new moved later =
@@ -83,7 +83,7 @@ IsAdvanced g old cursors turns cpu true new moved later =
 IsAdvanced g old cursors turns cpu false new moved later =
     (next_call g cpu old.records ≡ None) × (new ≡ old) × (moved ≡ cursors) × (later ≡ turns)
 
--- the latest turn, of this processor, was taken back; or there was none
+-- the latest call, of this processor, was taken back; or there was none
 abbrev pub IsTakenBack : Setting → StepsValue → Option ℕ → StepsValue → List Cursor → List Turn → Type 0
 IsTakenBack g old None new cursors turns = (old.records ≡ []) × (new ≡ old) × IsPath g new cursors turns
 IsTakenBack g old (Some cpu) new cursors turns =

@@ -12,7 +12,7 @@ use Rattle.hp_questions.specs.declared.wanted.Wanted.{Wanted}
 
 -- a complete schedule of the scripts whose end has all wanted lines
 abbrev pub Reaches : Setting → List Wanted → List ℕ → Type 0
-Reaches g wanted s = (x : OutcomeValue) × EndsWith g s x × Meets wanted x
+Reaches g wanted s = (x : OutcomeValue) × EndsWith g s x × Meets g.layout.cpus g.scripts wanted x
 
 -- each schedule that ends as wanted has at least this many changes
 abbrev pub NeedsChanges : Setting → List Wanted → (least : ℕ) → Type 0

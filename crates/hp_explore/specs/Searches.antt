@@ -1,7 +1,7 @@
 -- How far a search is.
 use Rattle.std.specs.Prelude.{◌≡◌, ℕ, zero, suc, ◌+◌, ◌-◌, ◌*◌, ◌<◌, ◌≤◌, true, List, [], ◌∷◌, ◌++◌, None, Some, length}
 use Rattle.hp_units.specs.declared.replies.Record.{Record}
-use Rattle.hp_schedules.specs.Alike.{UndoNothing}
+use Rattle.hp_schedules.specs.Alike.{AreMergeable}
 use Rattle.hp_schedules.specs.Orders.{Extends}
 use Rattle.hp_schedules.specs.Schedules.{Setting, schedule_of}
 use Rattle.hp_states.specs.Stops.{AreSameStops}
@@ -14,15 +14,15 @@ use Rattle.hp_explore.specs.declared.searching.Turn.{Turn}
 use Rattle.hp_explore.specs.declared.searching.Turn.TheVariants.{On, New, Found, Over}
 use Rattle.hp_explore.specs.declared.visited.Visited.{Visited}
 
--- ---- how many turns are left
+-- ---- how many steps are left
 
--- the most turns that a search takes below one continuation of a place, if this many calls may
--- still be made, each by one of the processors
+-- the most steps that a search takes below one continuation of a place, if this many calls may still be
+-- made, each by one of the processors
 abbrev pub turns_below : (processors calls : ℕ) → ℕ
 turns_below processors zero = 0
 turns_below processors (suc calls) = processors * (turns_below processors calls + 2) + 1
 
--- the most turns that are left at a place, from its continuation by the next processor on
+-- the most steps that are left at a place, from its continuation by the next processor on
 abbrev pub turns_left : (processors calls : ℕ) → (place : List ℕ) → (next : ℕ) → ℕ
 turns_left processors calls [] next = (processors - next) * (turns_below processors calls + 2) + 1
 turns_left processors calls (cpu ∷ place) next =
@@ -47,12 +47,13 @@ abbrev pub search_at : (path : PathValue) → (schedule : List ℕ) → (next : 
 search_at path schedule next visited =
     record { path = path; schedule = schedule; next = next; visited = visited }
 
--- each place on the way to this one is admitted
+-- each place before this one on the path is admitted
 abbrev pub AreAdmitted : AimValue → (place : List ℕ) → Type 0
 AreAdmitted aim place =
     (start : List ℕ) (cpu : ℕ) → Extends place (start ++ cpu ∷ []) → aim.admits start
 
--- the search passed all that is before its next call; its place is admitted, and each on the way to it
+-- the search passed all that is before its next call; its place and each place before it on the path
+-- are admitted
 pub record IsSearching (aim : AimValue) (v : SearchValue) : Type 0 where
   pub schedule : v.schedule ≡ schedule_of v.path.news
   pub here : aim.admits v.schedule
@@ -65,7 +66,7 @@ pub record IsSearching (aim : AimValue) (v : SearchValue) : Type 0 where
   pub visited : AreVisited v.path.setting aim v.schedule v.visited
   pub way : AreFollowed v.path.setting v.path.news v.visited
 
--- the most turns that are left to the search
+-- the most steps that are left to the search
 abbrev pub turns_of : SearchValue → ℕ
 turns_of v = turns_left (length v.path.setting.scripts) (room_of v.path.setting) v.schedule v.next
 
@@ -74,11 +75,11 @@ pub record IsBegun (g : Setting) (v : SearchValue) : Type 0 where
   pub visited : Visited
   pub is : v ≡ search_at (record { setting = g; news = [] }) [] 0 visited
   pub none : visited.keys ≡ []
-  pub undo : visited.is_on ≡ true → UndoNothing g.scripts
+  pub mergeable : visited.is_on ≡ true → AreMergeable g.scripts
   pub way : AreFollowed g [] visited
 
--- the search has just come to its place, by a call that may be tried: it passed all that is before the
--- place, and visited the places that lead to the one before it
+-- the search has just come to its place, by a call that may be tried. It passed all that is before the
+-- place, and visited the places before it on the path
 pub record IsArriving (aim : AimValue) (v : SearchValue) : Type 0 where
   pub schedule : v.schedule ≡ schedule_of v.path.news
   pub on_way : AreAdmitted aim v.schedule
@@ -90,20 +91,20 @@ pub record IsArriving (aim : AimValue) (v : SearchValue) : Type 0 where
   pub visited : AreVisited v.path.setting aim call.before v.visited
   pub way : AreFollowed v.path.setting v.path.news v.visited
 
--- the search goes on from another with fewer turns left
+-- the search goes on from another with fewer steps left
 pub record IsCloser (aim : AimValue) (v w : SearchValue) : Type 0 where
   pub searching : IsSearching aim w
   pub same : w.path.setting ≡ v.path.setting
   pub fewer : turns_of w < turns_of v
 
--- the result of one turn
+-- the result of one step
 abbrev pub IsTurned : AimValue → SearchValue → SearchValue → Turn → Type 0
 IsTurned aim v w On = IsCloser aim v w
 IsTurned aim v w New = IsCloser aim v w
 IsTurned aim v w Found = IsFirstSought v.path.setting aim (Some w.schedule)
 IsTurned aim v w Over = IsFirstSought v.path.setting aim None
 
--- the result of coming to a place: the search goes on with no more turns left than from the place's
+-- the result of coming to a place: the search goes on, with no more steps left than from the place's
 -- first continuation on
 pub record IsNear (aim : AimValue) (v w : SearchValue) : Type 0 where
   pub searching : IsSearching aim w
@@ -116,7 +117,7 @@ HasArrived aim v w New = IsNear aim v w
 HasArrived aim v w Found = ⊥
 HasArrived aim v w Over = IsFirstSought v.path.setting aim None
 
--- ---- the way back
+-- ---- taking calls back
 
 -- the latest call was taken back, and the processor after the one that made it is tried; or there
 -- was no call

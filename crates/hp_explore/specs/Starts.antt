@@ -1,8 +1,8 @@
--- Lists that are one, cut at one place.
+-- Two equal lists, cut after the same number of items.
 use Rattle.std.specs.Prelude.{◌≡◌, ℕ, List, [], ◌∷◌, ◌++◌, length}
 use Rattle.std.proofs.Common.{refl, ap, arith, ◌∙◌}
 
--- their parts are equal
+-- their first parts are equal, and so are the others
 pub same_starts : (a b c d : List ℕ) → length a ≡ length c → a ++ b ≡ c ++ d → (a ≡ c) × (b ≡ d)
 same_starts [] b [] d long is = (refl, is)
 same_starts [] b (y ∷ c) d long is = absurd (omega (arith, long))

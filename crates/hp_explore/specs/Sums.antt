@@ -6,7 +6,7 @@ use Rattle.hp_explore.specs.Faults.{FillsPart}
 use Rattle.hp_schedules.specs.Schedules.{Setting}
 use Rattle.hp_schedules.specs.declared.tally.Ending.{Ending}
 
--- the part at `index` of `of`, told apart by the first `calls` calls
+-- the part at `index` of `of` parts, which the first `calls` calls decide
 abbrev pub part : (of calls index : ℕ) → PartValue
 part of calls index = record { index = index; of = of; calls = calls }
 

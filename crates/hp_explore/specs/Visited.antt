@@ -1,7 +1,7 @@
 -- The places that a search has visited, each by its key.
 use Rattle.std.specs.Prelude.{◌≡◌, ◌⊎◌, ℕ, Bool, true, false, List, [], ◌∷◌, ◌++◌, Some, length, slice_get}
 use Rattle.hp_units.specs.declared.replies.Record.{Record}
-use Rattle.hp_schedules.specs.Alike.{UndoNothing}
+use Rattle.hp_schedules.specs.Alike.{AreMergeable}
 use Rattle.hp_schedules.specs.Orders.{Extends}
 use Rattle.hp_schedules.specs.Schedules.{Setting, plays, schedule_of}
 use Rattle.hp_states.specs.Stops.{AreNumbersAt, AreStopsAt, StopsValue}
@@ -32,9 +32,9 @@ pub record IsVisited (g : Setting) (aim : AimValue) (schedule : List ℕ) (stops
   pub key_is : IsPlaceKey g aim stops news key
   pub done : IsDone g aim (schedule_of news) ⊎ Extends schedule (schedule_of news)
 
--- all keys are such; and if any are kept, no script undoes steps by their serials
+-- all keys are those of visited places; and if any are kept, the scripts are mergeable
 pub record AreVisited (g : Setting) (aim : AimValue) (schedule : List ℕ) (v : Visited) : Type 0 where
-  pub undo : v.is_on ≡ true → UndoNothing g.scripts
+  pub mergeable : v.is_on ≡ true → AreMergeable g.scripts
   pub each : (i : ℕ) (key : List ℕ) → slice_get v.keys i ≡ Some key
       → IsVisited g aim schedule v.stops key
 

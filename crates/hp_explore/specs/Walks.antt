@@ -62,7 +62,7 @@ abbrev pub IsGone : (start : MachineValue) → (cpu serial : ℕ) → Event → 
 IsGone start cpu serial event =
     (kept : ℕ) × (event ≡ UndoAfter kept) × (serial ≤ kept) × (cpu < start.layout.cpus)
 
--- the same state after one more record, with no way back
+-- the same state after one more record, with no deltas to undo
 abbrev pub with_record : StepsValue → Record → StepsValue
 with_record p latest =
     record { layout = p.layout; state = p.state; deltas = []; records = p.records ++ latest ∷ [] }

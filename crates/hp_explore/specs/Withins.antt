@@ -1,18 +1,28 @@
 -- The aim of a search for an end as wanted, with at most as many changes of processor as a budget, if
--- there is one; and what the laws of an aim say of it.
-use Rattle.std.specs.Prelude.{◌≡◌, ℕ, ◌+◌, List, [], ◌∷◌, ◌++◌, Option, Some, None, length}
+-- there is one; and why it obeys the laws of an aim.
+use Rattle.std.specs.Prelude.{◌≡◌, ℕ, ◌+◌, ◌<◌, Bool, true, false, List, [], ◌∷◌, ◌++◌, Option, Some, None, length, slice_get, slice_index_or}
 use Rattle.std.proofs.Common.{refl, ap, sym, subst, ◌∙◌, arith}
+use Rattle.std.proofs.lemmas.List.{length-append}
+use Rattle.std.proofs.lemmas.List.FromFn.{get_or-map-range_with_len}
+use Rattle.std.proofs.lemmas.Option.{slice_get-get_or}
 use Rattle.hp_units.specs.History.{value_of}
 use Rattle.hp_units.specs.declared.replies.Record.{Record}
+use Rattle.hp_units.specs.declared.replies.OpEnd.{OpEnd}
+use Rattle.hp_units.specs.declared.replies.Reply.{Reply}
+use Rattle.hp_plan_ends.specs.PlanEnds.{ends_answered, plan_ends, plan_ends_of}
+use Rattle.hp_plan_ends.proofs.Played.{ends_are_answers}
+use Rattle.hp_plan_ends.proofs.Reading.{ends_append}
 use Rattle.hp_schedules.specs.Continuing.{ContinuesAs}
-use Rattle.hp_schedules.specs.Outcomes.{ended_rows_below, outcome}
+use Rattle.hp_schedules.specs.LineAnswers.{answers_at}
+use Rattle.hp_schedules.specs.Outcomes.{ended_rows_below, outcome, replies_below, replies_to}
 use Rattle.hp_schedules.specs.Schedules.{Setting, outcome_after, plays, schedule_of}
 use Rattle.hp_schedules.proofs.Continuing.{continues_as}
-use Rattle.hp_questions.specs.Marks.{AreMarks}
+use Rattle.hp_questions.specs.Marks.{AreMarks, PlansGoOn, asks_no_plans}
 use Rattle.hp_questions.specs.Wanted.{Meets}
 use Rattle.hp_questions.specs.declared.wanted.Wanted.{Wanted}
 use Rattle.hp_questions.proofs.Marking.{marks_meet}
 use Rattle.hp_explore.specs.Aims.{AimValue, HaveSameKey, IsLawful, IsNarrower}
+use Rattle.hp_explore.specs.CausesBelow.{AreCausedBelow, answered_alike}
 use Rattle.hp_explore.specs.Changes.{changes, changes_after}
 use Rattle.hp_explore.specs.Counted.{calls_counted_alike}
 use Rattle.hp_explore.specs.Reaching.{IsWithin, Reaches}
@@ -24,14 +34,22 @@ AreSpent None schedule numbers = numbers ≡ []
 AreSpent (Some budget) schedule numbers =
     (start : List ℕ) × (cpu : ℕ) × (schedule ≡ start ++ cpu ∷ []) × (numbers ≡ cpu ∷ changes schedule ∷ [])
 
--- what of the wanted lines is met, and what of the budget is spent
+-- what the answers of plans in progress depend on, if a wanted line is about plans
+abbrev pub AreCausedIf : (none : Bool) → Setting → List Record → List ℕ → Type 0
+AreCausedIf true g news numbers = numbers ≡ []
+AreCausedIf false g news numbers = AreCausedBelow g (length g.scripts) news numbers
+
+-- the place's marks: how far the wanted lines are met, how much of the budget is spent, and what the
+-- further ends of plans depend on
 pub record IsMarked (g : Setting) (wanted : List Wanted) (budget : Option ℕ) (news : List Record)
     (numbers : List ℕ) : Type 0 where
   pub met : List ℕ
   pub spent : List ℕ
-  pub parts : numbers ≡ met ++ spent
-  pub met_are : AreMarks wanted (length g.scripts) news met
+  pub causes : List ℕ
+  pub parts : numbers ≡ (met ++ spent) ++ causes
+  pub met_are : AreMarks g.layout.cpus g.scripts wanted (length g.scripts) news met
   pub spent_are : AreSpent budget (schedule_of news) spent
+  pub causes_are : AreCausedIf (asks_no_plans wanted) g news causes
 
 -- the schedules within the budget that end as wanted are sought, from places within it; without a budget
 -- the search comes to every place
@@ -47,12 +65,42 @@ aim_within g wanted budget = record {
 
 -- ---- laws
 
+spent_long : (budget : Option ℕ) (s t xs ys : List ℕ) → AreSpent budget s xs → AreSpent budget t ys
+    → length xs ≡ length ys
+spent_long None s t xs ys a b = ap (λ (zs : List ℕ). length zs) (a ∙ sym b)
+spent_long (Some n) s t xs ys a b =
+    ap (λ (zs : List ℕ). length zs) a.3 ∙ sym (ap (λ (zs : List ℕ). length zs) b.3)
+
 -- the parts of the same marks
-met_parts : (g : Setting) (wanted : List Wanted) (budget : Option ℕ) (h k : List Record) (marks : List ℕ)
+record SameParts (g : Setting) (wanted : List Wanted) (budget : Option ℕ) (h k : List Record)
+    (marks : List ℕ) (a : IsMarked g wanted budget h marks) (b : IsMarked g wanted budget k marks)
+    : Type 0 where
+  pub met : a.met ≡ b.met
+  pub spent : a.spent ≡ b.spent
+  pub causes : a.causes ≡ b.causes
+
+same_parts : (g : Setting) (wanted : List Wanted) (budget : Option ℕ) (h k : List Record) (marks : List ℕ)
     → (a : IsMarked g wanted budget h marks) → (b : IsMarked g wanted budget k marks)
-    → (a.met ≡ b.met) × (a.spent ≡ b.spent)
-met_parts g wanted budget h k marks a b =
-    same_starts a.met a.spent b.met b.spent (a.met_are.many ∙ sym b.met_are.many) (sym a.parts ∙ b.parts)
+    → SameParts g wanted budget h k marks a b
+same_parts g wanted budget h k marks a b = record { met = two.0; spent = two.1; causes = one.1 }
+  where
+    long : length a.met ≡ length b.met
+    long = a.met_are.many ∙ sym b.met_are.many
+
+    one : (a.met ++ a.spent ≡ b.met ++ b.spent) × (a.causes ≡ b.causes)
+    one =
+        same_starts (a.met ++ a.spent) a.causes (b.met ++ b.spent) b.causes
+        (omega (
+          arith,
+          long,
+          length-append a.met a.spent,
+          length-append b.met b.spent,
+          spent_long budget (schedule_of h) (schedule_of k) a.spent b.spent a.spent_are b.spent_are,
+        ))
+        (sym a.parts ∙ b.parts)
+
+    two : (a.met ≡ b.met) × (a.spent ≡ b.spent)
+    two = same_starts a.met a.spent b.met b.spent long one.0
 
 within_counted : (g : Setting) (wanted : List Wanted) (budget : Option ℕ) (h k : List Record)
     (marks : List ℕ)
@@ -60,10 +108,11 @@ within_counted : (g : Setting) (wanted : List Wanted) (budget : Option ℕ) (h k
     → IsMarked g wanted budget h marks → IsMarked g wanted budget k marks → length h ≡ length k
 within_counted g wanted budget h k marks first second a b =
     calls_counted_alike g wanted h k b.met first second
-    (subst (AreMarks wanted (length g.scripts) h) (met_parts g wanted budget h k marks a b).0 a.met_are)
+    (subst (AreMarks g.layout.cpus g.scripts wanted (length g.scripts) h)
+    (same_parts g wanted budget h k marks a b).met a.met_are)
     b.met_are
 
--- the changes of what continues after the latest processor
+-- the changes of a schedule and its continuation: those up to the latest processor, and those after it
 last_after : (b : ℕ) (p rest : List ℕ) (c : ℕ)
     → changes_after b ((p ++ c ∷ []) ++ rest) ≡ changes_after b (p ++ c ∷ []) + changes_after c rest
 last_after b [] rest c = omega arith
@@ -88,13 +137,58 @@ within_alike (Some n) s t rest xs ys is a b within =
     let to = changes_joined t b.0 rest b.1 b.2 in
     omega (arith, within, from, to, spent, ap (λ (c : ℕ). changes_after c rest) last)
 
+-- ---- ends of plans
+
+-- after a schedule they are among the answers
+ends_at : (g : Setting) (schedule : List ℕ) (news : List Record) (cpu : ℕ) → plays g schedule ≡ Some news
+    → cpu < length g.scripts
+    → plan_ends_of g.layout.cpus g.scripts (replies_below (length g.scripts) news) cpu
+    ≡ ends_answered (answers_at g cpu news)
+ends_at g schedule news cpu played within =
+    ap (λ (replies : List Reply). plan_ends g.layout.cpus (slice_index_or g.scripts cpu []) replies)
+    (get_or-map-range_with_len (λ (c : ℕ). replies_to c news) 0 (length g.scripts) cpu cpu [] within
+    (omega arith))
+    ∙ ends_are_answers g schedule news cpu (slice_index_or g.scripts cpu []) played
+    (slice_get-get_or g.scripts cpu [] within)
+
+-- so from places with the same key and causes, further plans end alike
+plans_go_on : (g : Setting) (h k more : List Record) (rest xs ys : List ℕ) → xs ≡ ys → HaveSameKey g h k
+    → AreCausedBelow g (length g.scripts) h xs → AreCausedBelow g (length g.scripts) k ys
+    → plays g (schedule_of h ++ rest) ≡ Some (h ++ more)
+    → plays g (schedule_of k ++ rest) ≡ Some (k ++ more)
+    → PlansGoOn g.layout.cpus g.scripts (length g.scripts) h k more
+plans_go_on g h k more rest xs ys causes same a b first second cpu within =
+    let alike = answered_alike g h k more xs ys causes same a b cpu in (
+      ends_answered alike.later,
+      ends_at g (schedule_of h ++ rest) (h ++ more) cpu first within
+          ∙ (ap ends_answered alike.first ∙ (ends_append (answers_at g cpu h) alike.later
+          ∙ ap (λ (ends : List OpEnd). ends ++ ends_answered alike.later)
+          (sym (ends_at g (schedule_of h) h cpu same.first_played within)))),
+      ends_at g (schedule_of k ++ rest) (k ++ more) cpu second within
+          ∙ (ap ends_answered alike.second ∙ (ends_append (answers_at g cpu k) alike.later
+          ∙ ap (λ (ends : List OpEnd). ends ++ ends_answered alike.later)
+          (sym (ends_at g (schedule_of k) k cpu same.second_played within)))),
+    )
+
+plans_if : (none : Bool) (g : Setting) (h k more : List Record) (rest xs ys : List ℕ) → none ≡ false
+    → xs ≡ ys → HaveSameKey g h k → AreCausedIf none g h xs → AreCausedIf none g k ys
+    → plays g (schedule_of h ++ rest) ≡ Some (h ++ more)
+    → plays g (schedule_of k ++ rest) ≡ Some (k ++ more)
+    → PlansGoOn g.layout.cpus g.scripts (length g.scripts) h k more
+plans_if true g h k more rest xs ys is causes same a b first second = absurd cc
+plans_if false g h k more rest xs ys is causes same a b first second =
+    plans_go_on g h k more rest xs ys causes same a b first second
+
+-- ---- ends as wanted
+
 -- what ends as wanted from the one does so from the other
-reaches_alike : (g : Setting) (wanted : List Wanted) (h k : List Record) (met rest : List ℕ)
-    → HaveSameKey g h k → AreMarks wanted (length g.scripts) h met
-    → AreMarks wanted (length g.scripts) k met → Reaches g wanted (schedule_of h ++ rest)
-    → Reaches g wanted (schedule_of k ++ rest)
+reaches_alike : (g : Setting) (wanted : List Wanted) (h k : List Record) (met rest xs ys : List ℕ)
+    → HaveSameKey g h k → AreMarks g.layout.cpus g.scripts wanted (length g.scripts) h met
+    → AreMarks g.layout.cpus g.scripts wanted (length g.scripts) k met → xs ≡ ys
+    → AreCausedIf (asks_no_plans wanted) g h xs → AreCausedIf (asks_no_plans wanted) g k ys
+    → Reaches g wanted (schedule_of h ++ rest) → Reaches g wanted (schedule_of k ++ rest)
 unfolding outcome_after
-reaches_alike g wanted h k met rest same a b reaches = (
+reaches_alike g wanted h k met rest xs ys same a b causes caused others reaches = (
   outcome_after g (k ++ on.more),
   record {
     news = k ++ on.more;
@@ -102,19 +196,21 @@ reaches_alike g wanted h k met rest same a b reaches = (
     over = λ cpu. sym (on.calls cpu) ∙ reaches.1.over cpu;
     ends = refl;
   },
-  marks_meet wanted (length g.scripts) h k on.more met g.layout
+  marks_meet g.layout.cpus g.scripts wanted (length g.scripts) h k on.more met g.layout
       (value_of g.layout g.base (g.start ++ reaches.1.news))
       (value_of g.layout g.base (g.start ++ (k ++ on.more))) a b
+      (λ about. plans_if (asks_no_plans wanted) g h k on.more rest xs ys about causes same caused others
+      (reaches.1.played ∙ ap Some on.end_is) on.played)
       (ap (ended_rows_below g.layout.blocks) on.state)
-      (subst (Meets wanted) (sym reaches.1.ends
+      (subst (Meets g.layout.cpus g.scripts wanted) (sym reaches.1.ends
       ∙ ap (λ (news : List Record). outcome (length g.scripts) news g.layout
       (value_of g.layout g.base (g.start ++ reaches.1.news))) on.end_is) reaches.2),
 )
   where
     on : ContinuesAs g (schedule_of k) rest h k reaches.1.news
     on =
-        continues_as g (schedule_of h) (schedule_of k) rest h k reaches.1.news same.undo same.first_played
-        same.second_played same.alike reaches.1.played
+        continues_as g (schedule_of h) (schedule_of k) rest h k reaches.1.news same.mergeable
+        same.first_played same.second_played same.alike reaches.1.played
 
 within_continued : (g : Setting) (wanted : List Wanted) (budget : Option ℕ) (h k : List Record)
     (marks rest : List ℕ)
@@ -122,10 +218,11 @@ within_continued : (g : Setting) (wanted : List Wanted) (budget : Option ℕ) (h
     → (aim_within g wanted budget).sought (schedule_of h ++ rest)
     → (aim_within g wanted budget).sought (schedule_of k ++ rest)
 within_continued g wanted budget h k marks rest same a b sought =
-    let parts = met_parts g wanted budget h k marks a b in (
-      reaches_alike g wanted h k b.met rest same
-          (subst (AreMarks wanted (length g.scripts) h) parts.0 a.met_are) b.met_are sought.0,
-      within_alike budget (schedule_of h) (schedule_of k) rest a.spent b.spent parts.1 a.spent_are
+    let parts = same_parts g wanted budget h k marks a b in (
+      reaches_alike g wanted h k b.met rest a.causes b.causes same
+          (subst (AreMarks g.layout.cpus g.scripts wanted (length g.scripts) h) parts.met a.met_are)
+          b.met_are parts.causes a.causes_are b.causes_are sought.0,
+      within_alike budget (schedule_of h) (schedule_of k) rest a.spent b.spent parts.spent a.spent_are
           b.spent_are sought.1,
     )
 

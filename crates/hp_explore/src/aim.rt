@@ -9,14 +9,16 @@ use std::alloc::{AllocError, Global};
 
 /// Decides what a search looks for, and where it goes.
 ///
-/// The search goes from call to call. A place is the schedule of the calls made so far, and `path` has
-/// their records. At each place that it comes to, the search asks `may_try` before each call and
-/// `admits` after it. It does not go on from a place that continues as one where it was; of that
-/// `push_marks` decides. At the end of a place, after all its continuations, it asks `is_met`, which
-/// may make the aim narrower: for example, to seek only schedules that are better than this one.
+/// The search goes from call to call. A place is the schedule of the calls made so far, and `path`
+/// has their records. At each place, the search asks `may_try` before each call and `admits` after
+/// it. It skips a place that is equivalent to a visited one; `push_marks` gives the aim's part of
+/// the key by which it compares them.
 ///
-/// If the aim is whole, the search comes to every place. If it then finds nothing, the history also has
-/// room for every call.
+/// After all continuations of a place, the search asks `is_met`. This may make the aim narrower:
+/// for example, to seek only schedules that are better than this one.
+///
+/// If the aim is whole, the search covers every place. If it then finds nothing, the history also
+/// has room for every call.
 pub trait Aim {
     /// What the aim is in a setting: which schedules are sought, which places are admitted, which calls
     /// may be tried there, which numbers are marks, and whether the aim is whole.
@@ -25,7 +27,8 @@ pub trait Aim {
     /// What `is_met` makes of the aim.
     ghost becomes: { Self → Setting → Self → Type 0 };
 
-    /// Returns whether the processor's next call may be tried. If not, no sought schedule has it.
+    /// Returns whether the processor's next call may be tried. If not, no sought schedule makes it
+    /// here.
     fn may_try(&self, path: &Path<'_>, schedule: &[Cpu], cpu: u32) -> bool
         requires schedule { schedule.now ≡ schedule_of path.now.news }
         requires admitted { (shows self.now path.now.setting).admits schedule.now }
@@ -43,8 +46,8 @@ pub trait Aim {
         ensures skipped { result ≡ false
             → MayBeSkipped (shows self.now path.now.setting) schedule.now };
 
-    /// Appends the place's marks. Returns whether each number fits 32 bits; if not, `numbers` holds a
-    /// part of them.
+    /// Appends the place's marks. Returns whether each number fits 32 bits; if not, the contents of
+    /// `numbers` are unspecified.
     fn push_marks(
         &self,
         path: &Path<'_>,
@@ -77,10 +80,10 @@ pub trait Aim {
         ensures missed { IfOk result (λ met.
             met ≡ false → (shows self.new path.now.setting).sought schedule.now → ⊥) };
 
-    /// Without a question, the aim stays as it is.
+    /// An aim that was not asked stays as it is.
     ghost stays: { (aim : Self) (g : Setting) → becomes aim g aim };
 
-    /// What two questions make of the aim.
+    /// Two changes of the aim, one after the other, are one change.
     ghost joined: { (aim : Self) (g : Setting) (mid new : Self) → becomes aim g mid → becomes mid g new
         → becomes aim g new };
 

@@ -1,11 +1,11 @@
-//! How many first calls tell the parts of a search apart.
+//! How many first calls decide the part that a schedule belongs to.
 ghost use Rattle.std.specs.Prelude.{◌≡◌, ℕ, ◌*◌, ◌^◌, ◌<◌, ◌≤◌};
 
 /// The least number of schedules of the first calls per part.
 const SCHEDULES_A_PART: u32 = 64;
 
-/// Returns how many first calls should tell the parts apart, so that the parts
-/// have about equal work.
+/// Returns how many first calls should decide a schedule's part, so that the parts have about equal
+/// work.
 ///
 /// This is the smallest number with at least 64 schedules of first calls per part, if no script
 /// ends before them. Returns 0 for fewer than two parts or processors.

@@ -23,8 +23,8 @@ use thiserror::Error;
 pub struct Exploration {
     /// The ends.
     pub ends: Vec<Ending>,
-    /// True if all complete schedules are counted. Otherwise only the first ones are, up to the limit
-    /// or to where the watch ended the search.
+    /// True if all complete schedules are counted. Otherwise only the first ones are, up to the
+    /// limit or to the point at which the watch ended the search.
     pub is_whole: bool,
 }
 
@@ -72,9 +72,9 @@ impl From<CallFault> for ExploreFault {
 /// than `limit`, exactly the first `limit` schedules in that order are counted. The machine is not
 /// changed.
 ///
-/// `watch` is called with the progress, and at each place asked whether the search goes on. Once it
-/// says no, the search stops before the next schedule that it would count. The schedules counted are
-/// then the first ones too, all of them, and there are more.
+/// `watch` gets the progress, and at each place decides whether the search goes on. Once it
+/// declines, the search stops before the next schedule that it would count. The schedules counted
+/// are then also the first ones in that order, and there are more.
 ///
 /// # Errors
 ///
@@ -115,7 +115,7 @@ pub fn explore<W: Watch>(
 /// side, and the counts of their ends add up to those of the whole search.
 ///
 /// If more schedules belong to the part than `limit`, exactly the first `limit` of these are
-/// counted. If `watch` ends the search before, the first ones up to there are.
+/// counted. If `watch` ends the search earlier, the first ones up to that point are counted.
 ///
 /// # Errors
 ///

@@ -16,7 +16,7 @@ use hp_schedules::CallScript;
 use hp_units::Cpu;
 use std::alloc::Global;
 
-/// Schedules with fewer changes than this are searched before all are.
+/// The search tries the schedules with fewer changes than this before it tries all.
 const FEW: u64 = 3;
 
 /// What a search found.
@@ -25,7 +25,7 @@ pub enum Found {
     /// The first schedule that ends as wanted with the fewest changes of processor, as the
     /// processors in the order of their calls.
     Nearest(Vec<Cpu>),
-    /// No schedule ends so.
+    /// No schedule ends as wanted.
     Absent,
 }
 
@@ -35,16 +35,17 @@ pub enum Found {
 /// Of several such schedules, returns the first in the order of `explore`. The machine is not
 /// changed. `watch` is called for each place that the search comes to, and may end it.
 ///
-/// The search has three steps. It tries the schedules with fewer than three changes, by rising number
-/// of changes. If none of these ends as wanted, it tries all, up to the first that does. Then it
-/// tries the schedules with fewer changes than that one. A pass skips a place that continues as one
-/// that it has tried, unless a script undoes steps by their serials.
+/// The search has three steps. It tries the schedules with fewer than three changes, by rising
+/// number of changes. If none of these ends as wanted, it tries all, up to the first that does.
+/// Then it tries the schedules with fewer changes than that one. A pass skips a place that is
+/// equivalent to one that it has tried, unless a script undoes steps by their serials, or works on
+/// an operation other than the latest.
 ///
 /// # Errors
 ///
-/// `HistoryFull` if the search reaches a call for which the layout's history has no room. The first
-/// and the third step reach such a call only before any schedule that ends as wanted with as few
-/// changes, and the second only before any that ends as wanted.
+/// `HistoryFull` if the search reaches a call for which the layout's history has no room. In the
+/// first and the third step, no schedule with fewer changes than lead to that call ends as wanted,
+/// and none before it with as many. In the second step, none before it does.
 ///
 /// `Stopped` if the watch ended the search, `OutOfMemory` if memory allocation fails.
 pub fn find<W: Watch>(
@@ -83,8 +84,8 @@ pub fn find<W: Watch>(
     }
 }
 
-/// Returns the first schedule with the fewest changes, given the first of all that end so. No such
-/// schedule has fewer than `FEW` changes.
+/// Returns the first schedule with the fewest changes among those that end as wanted. `known` is
+/// the first of these, and none of them has fewer than `FEW` changes.
 #[tactic(auto, using(crate::proofs::Levels::known_nearest))]
 fn nearest_to<W: Watch>(
     alloc: Global,
@@ -112,8 +113,8 @@ fn nearest_to<W: Watch>(
     }
 }
 
-/// Returns the first schedule with the fewest changes, if any has fewer than `below`. None has
-/// fewer than `from`.
+/// Returns the first schedule with the fewest changes among those that end as wanted, if it has
+/// fewer than `below`. None has fewer than `from`.
 #[tactic(auto, using(crate::proofs::Levels::nearest_found))]
 fn nearest_below<W: Watch>(
     alloc: Global,

@@ -48,8 +48,8 @@ impl Watch for PartWatch {
 /// `watch` is then called once, with the total. If a part fails, stops at the limit or takes more
 /// than its share, or the merged ends exceed the limit, one thread searches all schedules anew.
 ///
-/// A part may take nearly as long as the whole search if many schedules of different parts continue
-/// alike, because each part explores them for itself.
+/// A part may take nearly as long as the whole search if many places in different parts are
+/// equivalent, because each part explores them for itself.
 ///
 /// # Errors
 ///

@@ -1,19 +1,26 @@
 //! Explores every interleaving of short scripts on a machine: counts how they end, in one thread or
 //! in parts side by side, or finds one that ends as wanted.
 //!
-//! hp_schedules defines scripts, schedules and ends; hp_states decides which places are alike and
-//! keeps their counts. This crate owns the walk over all schedules (`exploring`), the search for the
-//! first schedule that an aim seeks (`searching`, `aim`), which tries a place once (`visited`), and the
-//! merging of parts (`summing`, `jobs`). `finding` searches by rising number of changes of processor, as
-//! in CHESS (Musuvathi and Qadeer, PLDI 2007); each pass is a search within a budget of changes
-//! (`within`). The crate makes its calls on a memory of its own and takes each back, so that the caller's
+//! hp_schedules defines scripts, schedules and ends; hp_states decides which places are equivalent
+//! and stores their counts. This crate owns:
+//! - the walk over all schedules (`exploring`),
+//! - the search for the first schedule that an aim seeks (`searching`, `aim`), which tries a place
+//!   once (`visited`),
+//! - the merging of parts (`summing`, `jobs`).
+//!
+//! `finding` searches by rising number of changes of processor, as in CHESS (Musuvathi and Qadeer,
+//! PLDI 2007). Each pass is a search within a budget of changes (`within`).
+//!
+//! The crate makes its calls on a memory of its own and takes each back, so that the caller's
 //! machine never changes. It knows nothing of scenarios or texts.
 //!
-//! Read specs/Settings, specs/Faults and specs/Walks first, then specs/Aims, specs/Reaching and specs/Sums.
+//! Read specs/Settings, specs/Faults and specs/Walks first, then specs/Aims, specs/Reaching and
+//! specs/Sums.
 #![tactic(auto)]
 
 mod aim;
 mod calls;
+mod causes;
 mod changes;
 mod earlier;
 mod exploring;
@@ -35,6 +42,7 @@ mod within;
 
 pub use aim::Aim;
 pub use calls::calls_for;
+pub use causes::push_all_causes;
 pub use changes::changes_of;
 pub use exploring::{Exploration, ExploreFault, explore, explore_part, room_needed};
 pub use fault::FindFault;

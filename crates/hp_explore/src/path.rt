@@ -96,6 +96,20 @@ impl<'a> Path<'a> {
         here.memory()
     }
 
+    /// Returns the script of each processor, from processor 0 on.
+    pub fn scripts(&self) -> &[CallScript]
+        ensures { result.now ≡ self.now.setting.scripts }
+    {
+        self.scripts
+    }
+
+    /// Returns the number of processors of the machine's layout.
+    pub fn cpus(&self) -> u32
+        ensures { result ≡ self.now.setting.layout.cpus }
+    {
+        self.machine.layout().cpus()
+    }
+
     /// Called for its contract: the new records are those of the schedule of their processors.
     pub fn is_played(&self)
         ensures { plays self.now.setting (schedule_of self.now.news) ≡ Some self.now.news }
@@ -108,7 +122,11 @@ impl<'a> Path<'a> {
         ensures { IfOk result (λ next. next_call self.now.setting cpu self.now.news ≡ next) }
     {
         let cpus = self.machine.layout().cpus();
-        match self.positions.request(alloc, cpus, self.scripts, cpu)? {
+        let news = self.here.records();
+        match self
+            .positions
+            .request(alloc, cpus, self.scripts, news, cpu)?
+        {
             Some(request) => Ok(Some(request.event)),
             None => Ok(None),
         }

@@ -3,7 +3,7 @@ ghost use Rattle.std.specs.Prelude.{◌≡◌, ◌≤◌, IfErr, IfOk, OnOk, dro
 ghost use Rattle.hp_schedules.specs.Cursors.{AreCursors};
 ghost use Rattle.hp_explore.specs.Faults.{FillsAlong, IsCause};
 ghost use Rattle.hp_explore.specs.Settings.{setting};
-ghost use Rattle.hp_explore.specs.Walks.{FillsAt, IsMade, IsPlayed, IsReached, news_in};
+ghost use Rattle.hp_explore.specs.Walks.{FillsAt, IsMade, IsPlayed, IsReached, news_in, news_since};
 ghost use Rattle.hp_explore.specs.declared.exploring.ExploreFault.TheVariants.{HistoryFull};
 
 use crate::exploring::ExploreFault;
@@ -64,7 +64,8 @@ fn make_call(
         → FillsAt (setting start.now scripts.now) played.old cpu) }
 {
     let cpus = start.layout().cpus();
-    match positions.request(alloc, cpus, scripts, cpu.0)? {
+    let news = news_since(start, played);
+    match positions.request(alloc, cpus, scripts, news, cpu.0)? {
         Some(request) => match played.answer(alloc, cpu, &request.event) {
             Ok(_answered) => {
                 let _ = positions.go_on(cpus, scripts, cpu.0, &request, latest(played.history()));
@@ -74,6 +75,14 @@ fn make_call(
         },
         None => Ok(false),
     }
+}
+
+/// Returns the machine's records since `start`.
+fn news_since<'a>(start: &'a Machine, machine: &'a Machine) -> &'a [Record]
+    requires { length start.now.history ≤ length machine.now.history }
+    ensures { result.now ≡ news_since start.now machine.now }
+{
+    records_from(machine.history(), start.history().len())
 }
 
 /// Returns the records from index `place` on.

@@ -18,7 +18,7 @@ use hp_units::Cpu;
 use std::alloc::{AllocError, Global};
 use std::marker::Model;
 
-/// The result of one turn of a search.
+/// The result of one step of a search.
 #[derive(Clone, Copy, PartialEq, Eq, Drop)]
 enum Turn {
     /// The search continues.
@@ -54,13 +54,13 @@ impl<'a> Model for Search<'a> {
     } };
 }
 
-/// Returns the first schedule that the aim seeks. The schedules are in the order of their processors,
-/// the lower one first, and a schedule comes after those that continue it. Script k is that of
-/// processor k. The machine is not changed.
+/// Returns the first schedule that the aim seeks. The schedules are in the order of their
+/// processors, the lower one first, and a schedule comes after those that continue it. Script k is
+/// that of processor k. The machine is not changed.
 ///
-/// The search skips a place that continues as one where it was, unless a script undoes steps by their
-/// serials. Adds the places that it comes to to `places`. `watch` is called for each, and may end the
-/// search.
+/// The search skips a place that is equivalent to a visited one, unless a script undoes steps by
+/// their serials, or works on an operation other than the latest. Adds the number of places that it
+/// comes to to `places`. `watch` is called for each, and may end the search.
 ///
 /// # Errors
 ///
@@ -119,7 +119,7 @@ impl<'a> Search<'a> {
         })
     }
 
-    /// Makes one turn: makes a call, tries the next processor, or goes back.
+    /// Makes one step of the search: makes a call, tries the next processor, or goes back.
     fn turn<A: Aim>(
         &mut self,
         alloc: Global,
@@ -143,9 +143,9 @@ impl<'a> Search<'a> {
         Ok(self.up())
     }
 
-    /// Makes the next processor's call. If the aim has it not tried, or its script is finished, moves
-    /// on to the processor after it. If nothing that continues from the new place has to be tried,
-    /// takes the call back.
+    /// Makes the next processor's call. Moves on to the processor after it if the aim rules the
+    /// call out or the script is finished. Takes the call back if nothing that continues from the
+    /// new place has to be tried.
     fn down<A: Aim>(
         &mut self,
         alloc: Global,
@@ -175,8 +175,8 @@ impl<'a> Search<'a> {
         Ok(turn)
     }
 
-    /// Treats the place just reached: takes the call back if nothing that continues from the place
-    /// has to be tried.
+    /// Decides whether the search goes on from the place just reached. Takes the call back if
+    /// nothing that continues from the place has to be tried.
     fn arrive<A: Aim>(
         &mut self,
         alloc: Global,

@@ -47,7 +47,8 @@ pub(crate) fn advance(
 {
     turns.reserve(1)?;
     let cpus = start.layout().cpus();
-    match positions.request(alloc, cpus, scripts, cpu)? {
+    let news = here.records();
+    match positions.request(alloc, cpus, scripts, news, cpu)? {
         Some(request) => {
             let way = make_turn(alloc, start, scripts, here, cpu, &request.event)?;
             let from = positions.go_on(cpus, scripts, cpu, &request, latest(here.records()));

@@ -2,7 +2,7 @@
 ghost use Rattle.std.specs.Prelude.{◌≡◌, ◌++◌, ◌∷◌, ℕ, List, IfOk, OnOk, [], length, true};
 ghost use Rattle.hp_units.specs.History.{effect_of};
 ghost use Rattle.hp_units.specs.declared.replies.Record.{Record as NewRecord};
-ghost use Rattle.hp_schedules.specs.Alike.{UndoNothing, leaves_steps};
+ghost use Rattle.hp_schedules.specs.Alike.{AreMergeable, leaves_steps};
 ghost use Rattle.hp_schedules.specs.Cursors.{AreCursors};
 ghost use Rattle.hp_schedules.specs.Schedules.{Setting, schedule_of};
 ghost use Rattle.hp_states.specs.Places.{memory_at};
@@ -55,7 +55,7 @@ impl Visited {
     ) -> Result<Visited, AllocError>
         requires { memory.now ≡ memory_at (setting machine.now scripts.now) [] }
         ensures none { IfOk result (λ visited. visited.keys ≡ []) }
-        ensures undo { IfOk result (λ visited. visited.is_on ≡ true → UndoNothing scripts.now) }
+        ensures mergeable { IfOk result (λ visited. visited.is_on ≡ true → AreMergeable scripts.now) }
         ensures way { IfOk result (λ visited. AreFollowed (setting machine.now scripts.now) [] visited) }
     {
         let is_on = keeps_places(scripts);
@@ -155,7 +155,13 @@ impl Visited {
         if !self.stops.push_numbers(&mut self.key)? {
             return Ok(false);
         }
-        if !push_all_steering(path.positions(), processors, &mut self.key)? {
+        if !push_all_steering(
+            path.positions(),
+            path.scripts(),
+            path.records(),
+            processors,
+            &mut self.key,
+        )? {
             return Ok(false);
         }
         if !aim.push_marks(path, schedule, processors, &mut self.key)? {
@@ -174,17 +180,20 @@ impl Visited {
 /// bits.
 fn push_all_steering(
     positions: &Positions,
+    scripts: &[CallScript],
+    news: &[Record],
     processors: u32,
     numbers: &mut Vec<u32>,
 ) -> Result<bool, AllocError>
-    requires { processors ≡ length positions.now.cursors.items }
+    requires scripts { processors ≡ length scripts.now }
+    requires cursors { processors ≡ length positions.now.cursors.items }
     ensures { IfOk result (λ fit. fit ≡ true → (part : List ℕ)
         × (numbers.new.items ≡ numbers.old.items ++ part)
-        × ((g : Setting) (news : List NewRecord) → AreCursors g news positions.now.cursors.items
-        → AreSteered g processors news part)) }
+        × ((g : Setting) → g.scripts ≡ scripts.now → AreCursors g news.now positions.now.cursors.items
+        → AreSteered g processors news.now part)) }
 {
     for cpu in 0..processors {
-        if !positions.push_steering(cpu, numbers)? {
+        if !positions.push_steering(scripts, news, cpu, numbers)? {
             return Ok(false);
         }
     }

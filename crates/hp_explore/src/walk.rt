@@ -1,6 +1,6 @@
 //! The walk over all schedules: depth first, processor 0 first, on an explicit stack.
 ghost use Rattle.std.specs.Prelude.{◌≡◌, ◌∷◌, ◌++◌, [], ◌<◌, ◌≤◌, ◌^◌, ℕ, List, Option, true, false, IfErr, IfOk, IsTrue, OnOk, length, sum_by};
-ghost use Rattle.hp_schedules.specs.Alike.{UndoNothing};
+ghost use Rattle.hp_schedules.specs.Alike.{AreMergeable};
 ghost use Rattle.hp_explore.specs.Frames.{IsComing, IsDone, IsEndedBy, IsHalted, IsSameWalk, IsTurnedTo, IsWalking, frames_of, left, left_before};
 ghost use Rattle.hp_schedules.specs.Notes.{HasRoom};
 ghost use Rattle.hp_explore.specs.Faults.{IsCausePartWithin};
@@ -16,11 +16,11 @@ use crate::exploring::ExploreFault;
 use crate::path::Path;
 use crate::turns::latest;
 use hp_machine::Machine;
-use hp_schedules::{CallScript, Ending, Shard, Tally, is_closed, undo_nothing};
+use hp_schedules::{CallScript, Ending, Shard, Tally, are_mergeable, is_closed};
 use hp_states::{Entry, Level, Memo, Reach, Watch, arrive, leave, note};
 use std::alloc::{AllocError, Global};
 
-/// The result of one turn of a walk.
+/// The result of one step of a walk.
 #[derive(Clone, Copy, Drop)]
 pub(crate) enum Turned {
     /// The walk continues.
@@ -115,7 +115,8 @@ impl<'a> Walk<'a> {
         }
     }
 
-    /// Makes one turn of the walk.
+    /// Makes one step of the walk: tries the next processor of the current place, or leaves the
+    /// place once all have been tried.
     fn step<W: Watch>(&mut self, alloc: Global, watch: &mut W) -> Result<Turned, ExploreFault>
         requires walking { IsWalking self.old (frames_of self.old) }
         requires ended { IsEndedBy (W.has_ended watch.old) self.old }
@@ -204,8 +205,8 @@ impl<'a> Walk<'a> {
         Ok(())
     }
 
-    /// Treats the place just reached: gives it a frame, or goes back at once if its counts are
-    /// known or it belongs to another part.
+    /// Decides how to treat the place just reached: pushes a level for it, or takes the call back
+    /// at once if its counts are known or it belongs to another part.
     fn come_to<W: Watch>(&mut self, alloc: Global, watch: &mut W) -> Result<(), AllocError>
         requires coming { IsComing self.old (frames_of self.old) }
         requires ended { IsEndedBy (W.has_ended watch.old) self.old }
@@ -313,14 +314,14 @@ fn memo_at(alloc: Global, machine: &Machine, scripts: &[CallScript]) -> Result<M
 }
 
 /// Returns whether walked places are worth keeping: there are several scripts, and none of them
-/// undoes steps by their serials.
+/// undoes steps by their serials or works on an operation other than the latest.
 pub(crate) fn keeps_places(scripts: &[CallScript]) -> bool
-    ensures { result ≡ true → UndoNothing scripts.now }
+    ensures { result ≡ true → AreMergeable scripts.now }
 {
     if scripts.len() < 2 {
         return false;
     }
-    undo_nothing(scripts)
+    are_mergeable(scripts)
 }
 
 /// Takes back the latest call, if there is one.

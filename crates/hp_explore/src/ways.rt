@@ -1,4 +1,4 @@
-//! How a turn is taken back.
+//! How a call is taken back.
 ghost use Rattle.std.specs.Prelude.{◌≡◌, ◌∷◌, ◌++◌, [], IfOk, OnErr, OnOk};
 ghost use Rattle.hp_units.specs.declared.replies.Record.{Record as NewRecord};
 ghost use Rattle.hp_steps.specs.Steps.{StepsValue};
@@ -9,17 +9,17 @@ use hp_steps::Steps;
 use std::alloc::{AllocError, Global};
 use std::mem::swap;
 
-/// The way back over one turn.
+/// How to undo one call.
 #[derive(Drop)]
 pub(crate) enum Way {
-    /// Take the step back, down to this mark.
+    /// Undo the step, down to this mark.
     Mark(usize),
-    /// Put these earlier steps back, because the call may go back itself. Boxed, since most turns
-    /// keep none.
+    /// Restore these earlier steps, because the call may itself go back to an earlier state. Boxed,
+    /// since most calls need none.
     Kept(Box<Steps>),
 }
 
-/// A turn that was made: the way back over it, and its processor's position before it.
+/// A call that was made: how to undo it, and its processor's position before it.
 #[derive(Drop)]
 pub(crate) struct Turn {
     pub way: Way,
@@ -43,7 +43,7 @@ impl Way {
         }
     }
 
-    /// Puts the steps back to before the turn. Allocates nothing.
+    /// Restores the steps from before the call. Allocates nothing.
     pub(crate) fn lead_back(self, here: &mut Steps)
         requires { (old : StepsValue) × (r : NewRecord) × IsWayOver self old r here.old }
         ensures { (old : StepsValue) (r : NewRecord) → IsWayOver self old r here.old → here.new ≡ old }

@@ -1,18 +1,20 @@
 //! The aim of one pass of the search for a nearest schedule: an end as wanted, within a budget of changes.
-ghost use Rattle.std.specs.Prelude.{◌≡◌, ◌<◌, ◌^◌, ◌++◌, ℕ, IfErr, IfOk, List, length, option_map, true};
+ghost use Rattle.std.specs.Prelude.{◌≡◌, ◌<◌, ◌^◌, ◌++◌, ℕ, IfErr, IfOk, List, OnOk, length, option_map, true};
+ghost use Rattle.hp_questions.specs.Marks.{AreMarks, asks_no_plans};
 ghost use Rattle.hp_explore.specs.FindFaults.{IsPassCause};
 ghost use Rattle.hp_explore.specs.Reaching.{IsFirstWithin};
 ghost use Rattle.hp_explore.specs.Settings.{setting};
-ghost use Rattle.hp_explore.specs.Withins.{AreSpent};
+ghost use Rattle.hp_explore.specs.Withins.{AreCausedIf, AreSpent};
 ghost use Rattle.hp_explore.specs.declared.fault.FindFault.TheVariants.{Stopped};
 
 use crate::aim::Aim;
+use crate::causes::push_all_causes;
 use crate::changes::{changes_of, exceeds};
 use crate::fault::FindFault;
 use crate::searching::first_sought;
 use crate::{Path, Watch, is_over};
 use hp_machine::Machine;
-use hp_questions::{Wanted, are_met, is_lost, push_marks};
+use hp_questions::{Wanted, are_met, asks_no_plans, is_lost, push_marks};
 use hp_schedules::CallScript;
 use hp_units::Cpu;
 use std::alloc::{AllocError, Global};
@@ -20,6 +22,8 @@ use std::alloc::{AllocError, Global};
 /// The wanted lines, and the most changes of processor, if there is a budget.
 #[derive(Clone, Copy, Drop)]
 struct Within<'a> {
+    /// For the marks of lines about plans.
+    alloc: Global,
     wanted: &'a [Wanted],
     budget: Option<u64>,
 }
@@ -54,10 +58,14 @@ impl<'a> Aim for Within<'a> {
         processors: u32,
         numbers: &mut Vec<u32>,
     ) -> Result<bool, AllocError> {
-        if !push_marks(self.wanted, processors, path.records(), numbers)? {
+        if !push_met(self.alloc, self.wanted, path, processors, numbers)? {
             return Ok(false);
         }
-        push_spent(self.budget, schedule, numbers)
+        if !push_spent(self.budget, schedule, numbers)? {
+            return Ok(false);
+        }
+        push_plan_causes(self.wanted, path, processors, numbers)?;
+        Ok(true)
     }
 
     /// A complete schedule that ends as wanted is met.
@@ -73,7 +81,7 @@ impl<'a> Aim for Within<'a> {
             return Ok(false);
         }
         let outcome = path.outcome(alloc, processors)?;
-        Ok(are_met(self.wanted, &outcome))
+        are_met(alloc, self.wanted, path.cpus(), path.scripts(), &outcome)
     }
 
     ghost stays = { λ aim g. (refl, refl) };
@@ -109,8 +117,55 @@ pub(crate) fn first_within<W: Watch>(
     ensures err { IfErr result (IsPassCause (setting machine.now scripts.now) wanted.now budget) }
     ensures stopped { IfErr result (λ fault. fault ≡ Stopped → W.has_ended watch.new) }
 {
-    let mut aim = Within { wanted, budget };
+    let mut aim = Within {
+        alloc,
+        wanted,
+        budget,
+    };
     first_sought(alloc, machine, scripts, &mut aim, watch, places)
+}
+
+/// Appends what of the wanted lines is met at the place. Returns whether each number fits 32 bits.
+fn push_met(
+    alloc: Global,
+    wanted: &[Wanted],
+    path: &Path<'_>,
+    processors: u32,
+    numbers: &mut Vec<u32>,
+) -> Result<bool, AllocError>
+    requires { processors ≡ length path.now.setting.scripts }
+    ensures { IfOk result (λ fit. fit ≡ true → (part : List ℕ)
+        × (numbers.new.items ≡ numbers.old.items ++ part)
+        × AreMarks path.now.setting.layout.cpus path.now.setting.scripts wanted.now
+        processors path.now.news part) }
+{
+    let scripts = path.scripts();
+    push_marks(
+        alloc,
+        wanted,
+        path.cpus(),
+        scripts,
+        processors,
+        path.records(),
+        numbers,
+    )
+}
+
+/// Appends what the ends of the plans in progress depend on, if a wanted line is about plans.
+fn push_plan_causes(
+    wanted: &[Wanted],
+    path: &Path<'_>,
+    processors: u32,
+    numbers: &mut Vec<u32>,
+) -> Result<(), AllocError>
+    requires { processors ≡ length path.now.setting.scripts }
+    ensures { OnOk result ((part : List ℕ) × (numbers.new.items ≡ numbers.old.items ++ part)
+        × AreCausedIf (asks_no_plans wanted.now) path.now.setting path.now.news part) }
+{
+    if asks_no_plans(wanted) {
+        return Ok(());
+    }
+    push_all_causes(path, processors, numbers)
 }
 
 /// Appends the latest processor and the changes so far, if there is a budget of changes. Returns

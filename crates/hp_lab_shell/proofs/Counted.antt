@@ -3,7 +3,7 @@ use Rattle.std.proofs.Common.{◌≡◌, ◌==◌, ◌-◌, ◌^◌, ℕ, Bool, 
 use Rattle.std.proofs.lemmas.Bool.{eq-eqb, eqb-true}
 use Rattle.hp_questions.specs.Counting.{IsCountTold}
 use Rattle.hp_scenario.specs.Gives.{Fails}
-use Rattle.hp_scenario.specs.Scenario.{ScenarioValue, scenario_in}
+use Rattle.hp_names.specs.Named.{NamedValue, named_in}
 use Rattle.hp_scenario.specs.declared.fault.ScenarioFault.{ScenarioFault}
 use Rattle.hp_scenario.specs.declared.fault.ScenarioFault.TheVariants.{NotJson, BadShape, Layout, BadLine, NotForRun, OutOfMemory}
 use Rattle.hp_scenario.specs.declared.lines.Line.{Line}
@@ -17,7 +17,7 @@ none_asked setup input text all none =
 
 -- or not
 pub some_asked : (setup : ℕ) (input text : List ℕ) → (setup ≡ 2 ^ 64 - 1 → ⊥)
-    → IsCountIn setup (scenario_in input) text → IsCountOf (setup == 2 ^ 64 - 1) setup input text
+    → IsCountIn setup (named_in input) text → IsCountOf (setup == 2 ^ 64 - 1) setup input text
 some_asked setup input text other h = by_test (setup == 2 ^ 64 - 1) refl
   where
     by_test : (b : Bool) → (setup == 2 ^ 64 - 1) ≡ b → IsCountOf b setup input text
@@ -25,25 +25,25 @@ some_asked setup input text other h = by_test (setup == 2 ^ 64 - 1) refl
     by_test false is = h
 
 -- the bytes are a scenario
-pub read_count : (setup cpus : ℕ) (input text : List ℕ) (s : ScenarioValue) (lines : List Line)
-    → scenario_in input ≡ Ok s → cpus ≡ s.layout.cpus → lines ≡ s.lines
-    → IsCountTold cpus setup lines usual_limit text → IsCountIn setup (scenario_in input) text
+pub read_count : (setup cpus : ℕ) (input text : List ℕ) (s : NamedValue) (lines : List Line)
+    → named_in input ≡ Ok s → cpus ≡ s.scenario.layout.cpus → lines ≡ s.scenario.lines
+    → IsCountTold cpus setup lines usual_limit text → IsCountIn setup (named_in input) text
 read_count setup cpus input text s lines read are is h =
-    subst (λ (r : Result ScenarioValue ScenarioFault). IsCountIn setup r text) (sym read)
-    (subst (λ (n : ℕ). IsCountTold n setup s.lines usual_limit text) are
+    subst (λ (r : Result NamedValue ScenarioFault). IsCountIn setup r text) (sym read)
+    (subst (λ (n : ℕ). IsCountTold n setup s.scenario.lines usual_limit text) are
     (subst (λ (ls : List Line). IsCountTold cpus setup ls usual_limit text) is h))
 
 -- or they are none
-pub unread_count : (setup : ℕ) (input text : List ℕ) (fault : ScenarioFault) → Fails fault (scenario_in input)
-    → (fault ≡ OutOfMemory → ⊥) → text ≡ [] → IsCountIn setup (scenario_in input) text
+pub unread_count : (setup : ℕ) (input text : List ℕ) (fault : ScenarioFault) → Fails fault (named_in input)
+    → (fault ≡ OutOfMemory → ⊥) → text ≡ [] → IsCountIn setup (named_in input) text
 unread_count setup input text fault fails some none = by_fault fault fails some
   where
-    unread : (why : ScenarioFault) → scenario_in input ≡ Err why → IsCountIn setup (scenario_in input) text
+    unread : (why : ScenarioFault) → named_in input ≡ Err why → IsCountIn setup (named_in input) text
     unread why read =
-        subst (λ (r : Result ScenarioValue ScenarioFault). IsCountIn setup r text) (sym read) none
+        subst (λ (r : Result NamedValue ScenarioFault). IsCountIn setup r text) (sym read) none
 
-    by_fault : (f : ScenarioFault) → Fails f (scenario_in input) → (f ≡ OutOfMemory → ⊥)
-        → IsCountIn setup (scenario_in input) text
+    by_fault : (f : ScenarioFault) → Fails f (named_in input) → (f ≡ OutOfMemory → ⊥)
+        → IsCountIn setup (named_in input) text
     by_fault NotJson read some = unread NotJson read
     by_fault BadShape read some = unread BadShape read
     by_fault (Layout why) read some = unread (Layout why) read
@@ -53,9 +53,9 @@ unread_count setup input text fault fails some none = by_fault fault fails some
 
 pub counted_none : {T E : Type 0} (bytes : T → List ℕ) (result : Result T E) (setup : ℕ) (input : List ℕ)
     (fault : ScenarioFault)
-    → Fails fault (scenario_in input) → IfOk result (λ text. bytes text ≡ [])
+    → Fails fault (named_in input) → IfOk result (λ text. bytes text ≡ [])
     → OnOk result (fault ≡ OutOfMemory → ⊥)
-    → IfOk result (λ text. IsCountIn setup (scenario_in input) (bytes text))
+    → IfOk result (λ text. IsCountIn setup (named_in input) (bytes text))
 counted_none bytes (Ok text) setup input fault fails none some =
     unread_count setup input (bytes text) fault fails some none
 counted_none bytes (Err e) setup input fault fails none some = tt

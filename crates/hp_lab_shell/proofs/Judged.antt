@@ -4,7 +4,7 @@ use Rattle.std.proofs.lemmas.Bool.{eqb-true}
 use Rattle.hp_check.specs.Checking.{Agrees}
 use Rattle.hp_check.specs.Findings.{is_fault}
 use Rattle.hp_check.specs.declared.finding.Finding.{Finding}
-use Rattle.hp_scenario.specs.Scenario.{ScenarioValue, scenario_in}
+use Rattle.hp_names.specs.Named.{NamedValue, named_in}
 use Rattle.hp_scenario.specs.declared.fault.ScenarioFault.{ScenarioFault}
 use Rattle.hp_lab_shell.specs.Checks.{status_of}
 
@@ -12,14 +12,14 @@ some_faults : (faults : ℕ) (b : Bool) → (faults == 0) ≡ b → 1 ≤ faults
 some_faults faults true e some = absurd (omega (arith, some, eqb-true faults 0 e))
 some_faults faults false e some = refl
 
-judged : (r : Result ScenarioValue ScenarioFault) (found : List Finding) (faults : ℕ) → Agrees r found
+judged : (r : Result NamedValue ScenarioFault) (found : List Finding) (faults : ℕ) → Agrees r found
     → faults ≡ count_by is_fault found → cond {A = ℕ} (faults == 0) 0 1 ≡ status_of r
 judged (Ok s) found faults agrees are = ap (λ (n : ℕ). cond {A = ℕ} (n == 0) 0 1) (are ∙ agrees)
 judged (Err fault) found faults agrees are =
     some_faults faults (faults == 0) refl (omega (arith, agrees.1, are))
 
 -- it is 0 just where reading takes the text
-pub status_is : (input : List ℕ) (found : List Finding) (faults status : ℕ) → Agrees (scenario_in input) found
+pub status_is : (input : List ℕ) (found : List Finding) (faults status : ℕ) → Agrees (named_in input) found
     → faults ≡ count_by is_fault found → status ≡ cond {A = ℕ} (faults == 0) 0 1
-    → status ≡ status_of (scenario_in input)
-status_is input found faults status agrees are is = is ∙ judged (scenario_in input) found faults agrees are
+    → status ≡ status_of (named_in input)
+status_is input found faults status agrees are is = is ∙ judged (named_in input) found faults agrees are

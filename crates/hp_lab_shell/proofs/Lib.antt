@@ -1,3 +1,4 @@
 pub mod Counted
 pub mod Judged
 pub mod Named
+pub mod Plainly

@@ -1,6 +1,6 @@
 -- Whether a scenario has the line that a word names.
 use Rattle.std.proofs.Common.{◌≡◌, ℕ, ◌<◌, true, List, Option, Some, None, refl, subst, sym, ◌∙◌, arith, le-leb}
-use Rattle.hp_scenario.specs.Scenario.{scenario_in}
+use Rattle.hp_names.specs.Named.{named_in}
 use Rattle.hp_lab_shell.specs.Scripts.{count_of}
 use Rattle.hp_search.specs.declared.program_fault.LabProgramFault.{LabProgramFault}
 use Rattle.hp_search.specs.declared.program_fault.LabProgramFault.TheVariants.{Lab, NotOpened, Parts, PastEnd, ReadFailed, Scenario, TooLong, WriteFailed}
@@ -14,11 +14,11 @@ any_has (Some lines) = le-leb 0 lines (omega arith)
 -- where no line is named
 pub none_needed : (word : Word) (input : List ℕ) → last_named word ≡ 0 → HasLines word input
 none_needed word input none =
-    subst (λ (n : ℕ). has_line n (count_of (scenario_in input)) ≡ true) (sym none)
-    (any_has (count_of (scenario_in input)))
+    subst (λ (n : ℕ). has_line n (count_of (named_in input)) ≡ true) (sym none)
+    (any_has (count_of (named_in input)))
 
 pub past_is_fault : (word : Word) (input : List ℕ) (asked : ℕ) (count : Option ℕ) (fault : LabProgramFault)
-    → asked ≡ last_named word → count ≡ count_of (scenario_in input) → IsPast asked count fault
+    → asked ≡ last_named word → count ≡ count_of (named_in input) → IsPast asked count fault
     → IsLineFault word input fault
 past_is_fault word input asked count NotOpened named is h = absurd h
 past_is_fault word input asked count ReadFailed named is h = absurd h

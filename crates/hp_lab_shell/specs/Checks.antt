@@ -1,25 +1,25 @@
 -- What a check writes, and its exit status.
 use Rattle.std.specs.Prelude.{◌≡◌, ℕ, ◌-◌, ◌^◌, ◌==◌, Bool, true, false, List, [], ◌++◌, Result, Ok, Err}
-use Rattle.hp_scenario.specs.Scenario.{ScenarioValue, scenario_in}
+use Rattle.hp_names.specs.Named.{NamedValue, named_in}
 use Rattle.hp_scenario.specs.declared.fault.ScenarioFault.{ScenarioFault}
 use Rattle.hp_questions.specs.Counting.{IsCountTold}
 
--- the most interleavings that are counted if no limit is given
+-- the most interleavings that are counted
 abbrev pub usual_limit : ℕ
-usual_limit = 10000000
+usual_limit = 2 ^ 64 - 1
 
--- how many the scripts after the setup have: nothing is said if the bytes are no scenario, or if all
--- lines are the setup
-abbrev pub IsCountIn : (setup : ℕ) → Result ScenarioValue ScenarioFault → (text : List ℕ) → Type 0
-IsCountIn setup (Ok s) text = IsCountTold s.layout.cpus setup s.lines usual_limit text
+-- the line with how many interleavings the scripts after the setup have; empty if the bytes are no
+-- scenario, or if all lines are the setup
+abbrev pub IsCountIn : (setup : ℕ) → Result NamedValue ScenarioFault → (text : List ℕ) → Type 0
+IsCountIn setup (Ok s) text = IsCountTold s.scenario.layout.cpus setup s.scenario.lines usual_limit text
 IsCountIn setup (Err fault) text = text ≡ []
 
 abbrev pub IsCountOf : (all : Bool) → (setup : ℕ) → (input text : List ℕ) → Type 0
 IsCountOf true setup input text = text ≡ []
-IsCountOf false setup input text = IsCountIn setup (scenario_in input) text
+IsCountOf false setup input text = IsCountIn setup (named_in input) text
 
--- the status is 0 exactly if reading takes the text
-abbrev pub status_of : Result ScenarioValue ScenarioFault → ℕ
+-- the status is 0 if the bytes are a scenario, and otherwise 1
+abbrev pub status_of : Result NamedValue ScenarioFault → ℕ
 status_of (Ok s) = 0
 status_of (Err fault) = 1
 
@@ -29,4 +29,4 @@ pub record IsCheckOf (setup : ℕ) (input text : List ℕ) (status : ℕ) : Type
   pub counted : List ℕ
   pub count : IsCountOf (setup == 2 ^ 64 - 1) setup input counted
   pub is : text ≡ reported ++ counted
-  pub judged : status ≡ status_of (scenario_in input)
+  pub judged : status ≡ status_of (named_in input)

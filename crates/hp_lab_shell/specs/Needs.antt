@@ -1,6 +1,6 @@
--- What a word needs of a scenario, and what is worth a warning.
+-- What a command needs of a scenario, and what is worth a warning.
 use Rattle.std.specs.Prelude.{◌≡◌, ℕ, ◌-◌, ◌^◌, ◌<◌, ◌==◌, Bool, true, List, [], Option, Some, None, Result, nat_le, if◌then◌else◌}
-use Rattle.hp_scenario.specs.Scenario.{ScenarioValue, scenario_in}
+use Rattle.hp_names.specs.Named.{NamedValue, named_in}
 use Rattle.hp_scenario.specs.declared.fault.ScenarioFault.{ScenarioFault}
 use Rattle.hp_questions.specs.declared.unbegun.Unbegun.{Unbegun}
 use Rattle.hp_trace.specs.declared.view.View.{View}
@@ -11,9 +11,9 @@ use Rattle.hp_search.specs.declared.program_fault.LabProgramFault.TheVariants.{L
 use Rattle.hp_lab_shell.specs.declared.words.Word.{Word}
 use Rattle.hp_lab_shell.specs.declared.words.Word.TheVariants.{Check, Explore, Find, Log, Never, Part, Picture, Sum, Told, Trace}
 
--- the lines that work on operation 0 where their processor has begun none, of the scripts that a word
--- searches
-abbrev pub unbegun_of : Word → Result ScenarioValue ScenarioFault → List Unbegun
+-- the lines that work on operation 0 although their processor has begun none, of the scripts that a
+-- command searches
+abbrev pub unbegun_of : Word → Result NamedValue ScenarioFault → List Unbegun
 unbegun_of (Check setup) read = []
 unbegun_of (Explore asked form by jobs) read = unbegun_in asked.setup read
 unbegun_of (Part asked part) read = unbegun_in asked.setup read
@@ -25,15 +25,15 @@ unbegun_of (Picture drawing) read = []
 unbegun_of Log read = []
 unbegun_of (Told form) read = []
 
--- the first line that is shown, where one is asked for by its number
+-- the first line that is shown; 0 if none is asked for by its number
 abbrev pub first_shown : View → ℕ
 first_shown view = if nat_le view.from 1 then 0 else view.from
 
--- the setup of a check, unless it is all of the scenario
+-- the setup of a check; 0 if it is all of the scenario
 abbrev pub setup_named : (setup : ℕ) → ℕ
 setup_named setup = if setup == 2 ^ 64 - 1 then 0 else setup
 
--- the last line, counted from 1, that a scenario needs for a word; 0 where it needs none
+-- the last line, counted from 1, that a command needs of a scenario; 0 if it needs none
 abbrev pub last_named : Word → ℕ
 last_named (Check setup) = setup_named setup
 last_named (Explore asked form by jobs) = asked.setup
@@ -46,26 +46,26 @@ last_named (Picture drawing) = first_shown drawing.view
 last_named Log = 0
 last_named (Told form) = 0
 
--- there is a line of this number, where it is known how many there are
+-- there is a line of this number, if it is known how many there are
 abbrev pub has_line : (asked : ℕ) → (count : Option ℕ) → Bool
 has_line asked None = true
 has_line asked (Some lines) = nat_le asked lines
 
--- the scenario, where the bytes are one, has the line that the word names
+-- if the bytes are a scenario, it has the line that the command names
 abbrev pub HasLines : Word → (input : List ℕ) → Type 0
-HasLines word input = has_line (last_named word) (count_of (scenario_in input)) ≡ true
+HasLines word input = has_line (last_named word) (count_of (named_in input)) ≡ true
 
--- the scenario has only so many lines, and the word names a later one
+-- the scenario has `lines` lines, and the command names a later one
 abbrev pub IsPastEnd : Word → (input : List ℕ) → (asked lines : ℕ) → Type 0
 IsPastEnd word input asked lines =
-    (asked ≡ last_named word) × (count_of (scenario_in input) ≡ Some lines) × (lines < asked)
+    (asked ≡ last_named word) × (count_of (named_in input) ≡ Some lines) × (lines < asked)
 
--- a fault that says so of such a number
+-- the fault reports that the line is past the last of these lines
 abbrev pub IsPast : (asked : ℕ) → (count : Option ℕ) → LabProgramFault → Type 0
 IsPast asked count (PastEnd number lines) = (number ≡ asked) × (count ≡ Some lines) × (lines < asked)
 IsPast asked count fault = ⊥
 
--- the fault of a word for which the scenario is too short; or memory is out
+-- the fault of a command for which the scenario is too short; or memory ran out
 abbrev pub IsLineFault : Word → (input : List ℕ) → LabProgramFault → Type 0
 IsLineFault word input (Lab fault) = fault ≡ OutOfMemory
 IsLineFault word input (PastEnd asked lines) = IsPastEnd word input asked lines

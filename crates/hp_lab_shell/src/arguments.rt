@@ -1,4 +1,4 @@
-//! The arguments of the program's words, and each as clap has it.
+//! The arguments of the program's commands, and how each is passed to clap.
 
 use clap::{Arg, ArgAction, value_parser};
 use std::alloc::{AllocError, Global};
@@ -102,7 +102,7 @@ pub(crate) const SCENARIO_FILE: Argument = Argument {
     against: &[],
 };
 
-/// Returns an argument as clap has it.
+/// Returns an argument in clap's form.
 pub(crate) fn arg_of<'a>(alloc: Global, argument: &Argument) -> Result<Arg<'a>, AllocError> {
     let arg = Arg::new(alloc, argument.name).help(argument.help);
     taking(arg, argument).conflicts_with_all(argument.against)

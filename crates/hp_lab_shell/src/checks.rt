@@ -1,25 +1,27 @@
 //! What is wrong with a scenario, and how many interleavings it has.
 ghost use Rattle.std.specs.Prelude.{◌≡◌, ◌≢◌, ◌-◌, ◌^◌, ◌==◌, [], IfErr, IfOk, OnOk, if◌then◌else◌, string_bytes};
-ghost use Rattle.hp_scenario.specs.Scenario.{scenario_in};
+ghost use Rattle.hp_names.specs.Named.{named_in};
 ghost use Rattle.hp_search.specs.declared.lab_fault.LabFault.TheVariants.{OutOfMemory};
 ghost use Rattle.hp_search.specs.declared.program_fault.LabProgramFault.TheVariants.{Lab};
 ghost use Rattle.hp_lab_shell.specs.Checks.{IsCheckOf, IsCountIn, IsCountOf};
 
 use crate::text_and_status::TextAndStatus;
 use hp_check::{check, fault_count, write_report};
+use hp_names::NamedScenario;
 use hp_questions::interleavings_line;
-use hp_scenario::{Scenario, ScenarioFault};
+use hp_scenario::ScenarioFault;
 use hp_search::LabProgramFault;
 use std::alloc::{AllocError, Global};
 
-/// The most interleavings that are counted if no limit is given.
-const LIMIT: u64 = 10_000_000;
+/// The most interleavings that are counted.
+const LIMIT: u64 = u64::MAX;
 
 /// The number of setup lines that means all of a scenario.
 pub(crate) const ALL: u64 = u64::MAX;
 
 /// Reports what is wrong with a scenario whose first `setup` lines are the setup, and how many
-/// interleavings the scripts after it have. The status is 0 if nothing is wrong but warnings, else 1.
+/// interleavings the scripts after it have. The status is 0 if there is nothing but warnings,
+/// otherwise 1.
 #[tactic(auto, using(crate::proofs::Judged::status_is))]
 pub fn checked(alloc: Global, input: &[u8], setup: u64) -> Result<TextAndStatus, LabProgramFault>
     ensures ok { IfOk result (λ answer. IsCheckOf setup input.now (string_bytes answer.text) answer.status) }
@@ -41,8 +43,8 @@ fn status_of(faults: usize) -> u8
     if faults == 0 { 0 } else { 1 }
 }
 
-/// Returns the line that says how many interleavings the scripts after the setup have. There is none
-/// if all lines are the setup, or if the bytes are no scenario.
+/// Returns the line that reports how many interleavings the scripts after the setup have. There is
+/// none if all lines are the setup, or if the bytes are no scenario.
 #[tactic(auto, using(crate::proofs::Counted::none_asked, crate::proofs::Counted::some_asked))]
 fn count_line(alloc: Global, input: &[u8], setup: u64) -> Result<String, AllocError>
     ensures { IfOk result (λ text. IsCountOf (setup == 2 ^ 64 - 1) setup input.now (string_bytes text)) }
@@ -53,12 +55,13 @@ fn count_line(alloc: Global, input: &[u8], setup: u64) -> Result<String, AllocEr
     count_in(alloc, input, setup)
 }
 
-/// Does the same if not all lines are the setup.
+/// Returns the same line for a scenario in which not all lines are the setup.
 fn count_in(alloc: Global, input: &[u8], setup: u64) -> Result<String, AllocError>
-    ensures { IfOk result (λ text. IsCountIn setup (scenario_in input.now) (string_bytes text)) }
+    ensures { IfOk result (λ text. IsCountIn setup (named_in input.now) (string_bytes text)) }
 {
-    match Scenario::read(alloc, input) {
-        Ok(scenario) => {
+    match NamedScenario::read(alloc, input) {
+        Ok(named) => {
+            let scenario = &named.scenario;
             let cpus = scenario.layout.cpus();
             interleavings_line(alloc, cpus, setup, scenario.lines.as_slice(), LIMIT)
         }

@@ -20,27 +20,27 @@ struct CommandWord {
 const WORDS: [CommandWord; 7] = [
     CommandWord {
         name: "check",
-        about: "Writes what is wrong with a scenario and where; the status is 0 where there are no faults",
+        about: "Finds what is wrong with a scenario, and where; the status is 0 if there are no faults",
         arguments: &CHECK,
     },
     CommandWord {
         name: "explore",
-        about: "Counts every interleaving of the processors' calls, and tells the ends apart",
+        about: "Counts every interleaving of the processors' calls, by how it ends",
         arguments: &EXPLORE,
     },
     CommandWord {
         name: "sum",
-        about: "Adds up the parts that explore --part wrote, and tells the whole as explore does",
+        about: "Adds up the parts that explore --part wrote, and prints the whole as explore does",
         arguments: &SUM,
     },
     CommandWord {
         name: "explain",
-        about: "Finds an order of the calls in which each line is answered as it was in threads, or that there is none",
+        about: "Finds an order of the calls that explains the replies of a run in threads",
         arguments: &EXPLAIN,
     },
     CommandWord {
         name: "trace",
-        about: "Writes what each line answers, with a picture of the memory after each call",
+        about: "Shows the reply to each line, and the memory after each call",
         arguments: &TRACE,
     },
     CommandWord {
@@ -50,7 +50,7 @@ const WORDS: [CommandWord; 7] = [
     },
     CommandWord {
         name: "judge",
-        about: "Judges the log of a memory machine: whether a lawful machine can have written it",
+        about: "Reports whether a lawful machine can have written a log",
         arguments: &JUDGE,
     },
 ];
@@ -70,11 +70,11 @@ fn without_words<'a>(alloc: Global) -> Command<'a> {
         .version("1.0")
         .about("Looks into scenarios of the memory machine")
         .after_help(
-            "Exit status: 0; 1 after a fault, which standard error names, and after a check that \
-             finds faults (warnings alone: 0); 2 for a wrong command line; 3 where --find finds \
-             nothing, where --never finds something, where no order explains answers, where any of \
-             these is ended before it knows, where no end has the number of --scenario, where \
-             explore stops at its limit (but for --scenario), and where a log is unlawful.",
+            "Exit status: 0 in all other cases. 1 after a fault, which standard error names, and after \
+             a check that finds faults, not only warnings. 2 if the command line is wrong. 3 if --find \
+             finds nothing, if --never finds something, if no order explains the replies, or if such \
+             a search is stopped before it knows; if no end has the number of --scenario; if explore \
+             prints only the first interleavings (0 with --scenario); if a log has faults.",
         )
         .subcommand_required(true)
 }

@@ -13,37 +13,37 @@ pub(crate) const EXPLAIN: [Argument; 8] = [
     Argument {
         name: SCENARIO,
         takes: Takes::Number,
-        help: "Writes the order that is found as a scenario; N is 1",
+        help: "Writes the order as a scenario; N must be 1",
         against: &[],
     },
     Argument {
         name: JSON,
         takes: Takes::Nothing,
-        help: "Writes one object of JSON",
+        help: "Writes one JSON object",
         against: &[SCENARIO],
     },
     Argument {
         name: "limit",
         takes: Takes::Number,
-        help: "Reaches at most so many states",
+        help: "Stops after this many states",
         against: &[],
     },
     Argument {
         name: MEMORY,
         takes: Takes::Number,
-        help: "Ends where so many MiB of states are kept (2048)",
+        help: "Stops when the states kept take this many MiB (2048)",
         against: &[],
     },
     Argument {
         name: SECONDS,
         takes: Takes::Number,
-        help: "Ends after so many seconds",
+        help: "Stops after this many seconds",
         against: &[],
     },
     Argument {
         name: PROGRESS,
         takes: Takes::Nothing,
-        help: "Tells on standard error how far the search has come, also where that is no terminal",
+        help: "Shows progress on standard error even if it is no terminal",
         against: &[],
     },
     Argument {
@@ -55,7 +55,7 @@ pub(crate) const EXPLAIN: [Argument; 8] = [
     Argument {
         name: ANSWERS_NAME,
         takes: Takes::File,
-        help: "What its processors were answered, as hotplug run prints it or as JSON, an object a line",
+        help: "The replies, as hotplug run prints them, or one JSON object per line",
         against: &[],
     },
 ];

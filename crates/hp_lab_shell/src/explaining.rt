@@ -1,5 +1,5 @@
-//! The word that explains answers: it looks for an order of the scenario's calls in which each line is
-//! answered so.
+//! The command `explain`: it looks for an order of the scenario's calls that gives each line its
+//! answer.
 ghost use Rattle.std.specs.Prelude.{◌≡◌};
 ghost use Rattle.hp_lab_shell.specs.Statuses.{explain_status};
 
@@ -31,8 +31,8 @@ struct Inputs {
     answers: Vec<u8>,
 }
 
-/// Serves the word, and returns the exit status: 0 if an order explains the answers, 3 if none does
-/// or it is not known, 1 after a fault, 2 for a wrong command line.
+/// Runs the command, and returns the exit status: 0 if an order explains the answers, 3 if none
+/// does or it is not known, 1 after a fault, 2 for a wrong command line.
 pub(crate) fn serve_explain(rt: &HostRuntime, words: &ArgMatches<'_>) -> u8 {
     match names_from(words) {
         Ok(names) => serve_files(rt, words, names),
@@ -43,7 +43,7 @@ pub(crate) fn serve_explain(rt: &HostRuntime, words: &ArgMatches<'_>) -> u8 {
     }
 }
 
-/// Returns the names of the files, or why the words ask for nothing.
+/// Returns the names of the files, or what is wrong with the command line.
 fn names_from<'a>(words: &ArgMatches<'a>) -> Result<FileNames<'a>, &'static str> {
     if words.get_one::<u64>(SCENARIO).unwrap_or(1) != 1 {
         return Err(ONE_FOUND);
@@ -60,8 +60,8 @@ fn names_from<'a>(words: &ArgMatches<'a>) -> Result<FileNames<'a>, &'static str>
     Ok(FileNames { scenario, answers })
 }
 
-/// Serves the word on the files with these names, and returns the exit status. Standard error names a
-/// fault, and the file if it could not be read.
+/// Runs the command on the files with these names, and returns the exit status. Standard error
+/// names a fault, and the file if it could not be read.
 fn serve_files(rt: &HostRuntime, words: &ArgMatches<'_>, names: FileNames<'_>) -> u8 {
     match inputs_of(rt, names) {
         Ok(inputs) => match serve_inputs(rt, words, &inputs) {
@@ -85,7 +85,8 @@ fn inputs_of<'a>(rt: &HostRuntime, names: FileNames<'a>) -> Result<Inputs, Unrea
     Ok(Inputs { scenario, answers })
 }
 
-/// Serves the word on the bytes of the files, and writes to standard output. Returns the exit status.
+/// Runs the command on the bytes of the files, and writes to standard output. Returns the exit
+/// status.
 fn serve_inputs(
     rt: &HostRuntime,
     words: &ArgMatches<'_>,
@@ -127,8 +128,8 @@ fn searched(
     )
 }
 
-/// Writes what the search came to, and returns its exit status. If nobody reads what is written, that
-/// is 1.
+/// Writes the result of the search, and returns its exit status. If the reader of standard output
+/// has gone, the status is 1.
 fn write_told(
     rt: &HostRuntime,
     form: ScheduleForm,
@@ -147,8 +148,8 @@ fn write_told(
     }
 }
 
-/// Returns the exit status of what the search came to. Standard error reports that no scenario is
-/// written where one was asked for.
+/// Returns the exit status for the result of the search. If a scenario was asked for and none is
+/// written, reports that on standard error.
 fn told_status(rt: &HostRuntime, form: ScheduleForm, found: ExplainResult) -> u8
     ensures { result ≡ explain_status found }
 {

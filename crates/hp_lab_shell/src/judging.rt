@@ -1,4 +1,4 @@
-//! The word that judges a log.
+//! The command `judge`.
 
 use crate::arguments::{ALLOW, BLOCK_FRAMES, BLOCKS, FILE, FTRACE, JSON, MOST, SVG};
 use crate::messages::file_name;
@@ -14,11 +14,11 @@ use hp_verdicts::{
 use std::fs;
 use std::io::Read;
 
-/// How many faults are printed where no number is given.
+/// How many faults are printed if no number is given.
 const SHOWN_FAULTS: u64 = 10;
 
-/// Judges the log that is named, or else standard input, and returns the exit status: 0 for a lawful
-/// log, 3 for one with faults, 1 for one that cannot be read.
+/// Judges the log in the named file, or in standard input. Returns the exit status: 0 for a lawful
+/// log, 3 for one with faults, 1 for one that cannot be judged, 2 for a wrong command line.
 pub(crate) fn serve_judge(rt: &HostRuntime, words: &ArgMatches<'_>) -> u8 {
     match options_from(words) {
         Ok(options) => judge_file(rt, words, &options),
@@ -29,7 +29,7 @@ pub(crate) fn serve_judge(rt: &HostRuntime, words: &ArgMatches<'_>) -> u8 {
     }
 }
 
-/// Returns what the words ask for, or why they ask for nothing.
+/// Returns the options on the command line, or what is wrong with them.
 fn options_from(words: &ArgMatches<'_>) -> Result<JudgeOptions, &'static str> {
     let block_frames = words.get_one::<u64>(BLOCK_FRAMES);
     let range = range_from(words)?;
@@ -44,7 +44,7 @@ fn options_from(words: &ArgMatches<'_>) -> Result<JudgeOptions, &'static str> {
     }
 }
 
-/// Returns the memory blocks that the words name.
+/// Returns the memory blocks that the command line names, if it does.
 fn range_from(words: &ArgMatches<'_>) -> Result<Option<BlockRange>, &'static str> {
     let Some(text) = words.get_str(BLOCKS) else {
         return Ok(None);
@@ -68,7 +68,7 @@ fn range_named(text: &str) -> Option<BlockRange> {
     })
 }
 
-/// Returns the kinds of faults that the words allow.
+/// Returns the kinds of faults that the command line allows.
 fn allowed_from(words: &ArgMatches<'_>) -> Result<AllowedKinds, &'static str> {
     let mut allowed = AllowedKinds::none();
     let Some(names) = words.get_strs(ALLOW) else {
@@ -85,7 +85,7 @@ fn allowed_from(words: &ArgMatches<'_>) -> Result<AllowedKinds, &'static str> {
     Ok(allowed)
 }
 
-/// Judges the file that the words name, and returns the exit status.
+/// Judges the file that the command line names, and returns the exit status.
 fn judge_file(rt: &HostRuntime, words: &ArgMatches<'_>, options: &JudgeOptions) -> u8 {
     let name = named_file(words);
     if name == "-" {
@@ -104,7 +104,7 @@ fn judge_file(rt: &HostRuntime, words: &ArgMatches<'_>, options: &JudgeOptions) 
     }
 }
 
-/// Returns the name of the file; `-` where none is named.
+/// Returns the name of the file; `-` if none is named.
 fn named_file<'a>(words: &ArgMatches<'a>) -> &'a str {
     match words.get_strs(FILE) {
         Some(names) => match names.first() {
@@ -115,7 +115,7 @@ fn named_file<'a>(words: &ArgMatches<'a>) -> &'a str {
     }
 }
 
-/// Judges the log that an input has, and writes the report or the picture to standard output.
+/// Judges the log in an input, and writes the report or the picture to standard output.
 fn judge_input<R: Read + Drop>(
     rt: &HostRuntime,
     words: &ArgMatches<'_>,
@@ -172,7 +172,7 @@ fn status_of(rt: &HostRuntime, file: Option<&str>, judged: Result<bool, JudgeFau
     }
 }
 
-/// Says on standard error why a log was not judged.
+/// Prints on standard error why a log was not judged.
 fn say_fault(rt: &HostRuntime, file: Option<&str>, fault: JudgeFault) {
     match fault {
         JudgeFault::Log(LogFault::ReadFailed) => say_of_file(rt, file, "reading failed"),
@@ -184,7 +184,7 @@ fn say_fault(rt: &HostRuntime, file: Option<&str>, fault: JudgeFault) {
     }
 }
 
-/// Says on standard error what failed, with the name of the file.
+/// Prints on standard error what failed, with the name of the file.
 fn say_of_file(rt: &HostRuntime, file: Option<&str>, text: &str) {
     let _ = match escaped_name(rt, file) {
         Some(name) => eprintln!(rt; "hotplug_lab: {name}: {text}"),
@@ -192,7 +192,8 @@ fn say_of_file(rt: &HostRuntime, file: Option<&str>, text: &str) {
     };
 }
 
-/// Returns the name of a file as JSON has it; none where there is no memory for it.
+/// Returns the name of a file, escaped as in JSON, or `None` if there is no name or memory runs
+/// out.
 fn escaped_name(rt: &HostRuntime, file: Option<&str>) -> Option<String> {
     let mut name = String::new(rt.alloc());
     match write_escaped(&mut name, file?, Brackets::Kept) {
@@ -201,7 +202,7 @@ fn escaped_name(rt: &HostRuntime, file: Option<&str>) -> Option<String> {
     }
 }
 
-/// Says on standard error why a machine has no size.
+/// Prints on standard error why a machine has no size.
 fn say_size(rt: &HostRuntime, fault: SizeFault) {
     let text = match fault {
         SizeFault::Missing => "no block_frames, and no --block-frames",
@@ -214,7 +215,7 @@ fn say_size(rt: &HostRuntime, fault: SizeFault) {
     let _ = eprintln!(rt; "hotplug_lab: line 1: {text}");
 }
 
-/// Says on standard error what is wrong with a line.
+/// Prints on standard error what is wrong with a line.
 fn say_line(rt: &HostRuntime, number: u64, fault: LineFault) {
     let text = line_text(fault);
     let _ = eprintln!(rt; "hotplug_lab: line {number}: {text}");

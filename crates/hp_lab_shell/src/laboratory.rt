@@ -1,4 +1,4 @@
-//! The interface of what serves the words of the program.
+//! The interface through which the program runs its commands.
 ghost use Rattle.std.specs.Prelude.{◌<◌, ◌-◌, ◌^◌};
 ghost use Rattle.std.specs.Thread.{IsSync};
 
@@ -10,7 +10,7 @@ use hp_streams::{Sink, Source};
 use std::alloc::Global;
 use std::thread::Threads;
 
-/// The result of a word: the exit status, and what deserves a warning.
+/// The result of a command: the exit status, and what deserves a warning.
 #[derive(Drop)]
 pub struct Served {
     /// The exit status.
@@ -19,10 +19,10 @@ pub struct Served {
     pub unbegun: Vec<Unbegun>,
 }
 
-/// Serves the words of the program.
+/// Runs the commands of the program.
 pub trait Laboratory {
-    /// Serves a word on what the reader gives, some words in threads, and writes its text. `watch`
-    /// gets the progress of a search.
+    /// Runs a command on what the reader gives, some commands in threads, and writes its text.
+    /// `watch` gets the progress of a search.
     fn serve<T: Threads + Sync, R: Source, W: Sink, P: Watch + Drop>(
         &self,
         threads: &T,
@@ -36,7 +36,7 @@ pub trait Laboratory {
         requires reader { R.failures reader.old < 2 ^ 64 - 1 }
         requires writer { W.failures writer.old < 2 ^ 64 - 1 };
 
-    /// Serves a word on a text in memory, in the same way.
+    /// Runs a command on a text in memory, in the same way.
     fn serve_text<T: Threads + Sync, W: Sink, P: Watch + Drop>(
         &self,
         threads: &T,

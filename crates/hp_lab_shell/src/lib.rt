@@ -1,14 +1,13 @@
-//! The program `hotplug_lab` around the words that search: the command line and what its words ask
-//! for, the files that it names, what is shown of a scenario without a search, and what standard
-//! error has of warnings, of faults, and of how far a search has come.
+//! The program `hotplug_lab` around the commands that search. It has the command line, the files
+//! that it names, and what is shown of a scenario without a search. It prints on standard error:
+//! warnings, faults, and how far a search has come.
 //!
-//! A `Laboratory` answers the words. The crate owns the words with their options and help, each
-//! word's defaults and limits, what a word needs of a scenario, and the exit status where nothing
-//! is answered. hp_check, hp_trace and hp_svg make the texts of `check` and `trace`, and
-//! hp_step_logs the lines of a log; it joins them, each with its status. hp_verdicts does all of
-//! `judge` but the command line, and hp_explain all of `explain`. What clap makes of the command
-//! line, and what a file or a stream gives or takes, no contract can say: that is tried on the built
-//! program.
+//! A `Laboratory` runs the commands. The crate owns the commands: their options and help, their
+//! defaults and limits, what each needs of a scenario, and the exit status if no command is run.
+//! hp_check, hp_trace and hp_svg make the texts of `check` and `trace`, and hp_step_logs the lines
+//! of a log; the crate joins them, each with its status. hp_verdicts does all of `judge` but the
+//! command line, and hp_explain all of `explain`. No contract covers how clap reads the command
+//! line, or what a file or a stream gives or takes: that is tested on the built program.
 //!
 //! Read src/command.rt, src/words.rt and src/laboratory.rt first, then specs/Needs and
 //! specs/Checks.
@@ -30,6 +29,7 @@ mod messages;
 mod needs;
 mod output;
 mod pictures;
+mod plain;
 mod progress;
 mod scripts;
 mod search_words;

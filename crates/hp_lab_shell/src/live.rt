@@ -1,21 +1,21 @@
-//! The word that keeps a machine alive, and replies to each line that is typed or sent.
+//! The command `live`: it keeps a machine alive, and replies to each line that is typed or sent.
 
 use crate::arguments::{FILE, JSON};
 use crate::messages::{file_name, say_fault};
 use crate::words::WIDTH;
 use clap::ArgMatches;
 use hp_live::{ObjectTalk, RowTalk};
-use hp_scenario::Scenario;
+use hp_names::NamedScenario;
 use hp_search::LabProgramFault;
 use hp_streams::{Counted, Failed, Source, read_all, write_all};
 use hp_talk::{Talk, TalkEnd, run_talk};
 use std::fs;
 use std::io::{IsTerminal, Write};
 
-/// What is written where a reply is waited for.
+/// The prompt at a terminal.
 const PROMPT: &[u8] = b"> ";
 
-/// Serves the word, and returns the exit status: 0 at the end of the input or at `quit`, 1 after a
+/// Runs the command, and returns the exit status: 0 at the end of the input or at `quit`, 1 after a
 /// fault, 2 for a wrong command line.
 pub(crate) fn serve_live(rt: &HostRuntime, words: &ArgMatches<'_>) -> u8 {
     match scenario_name(words) {
@@ -27,16 +27,15 @@ pub(crate) fn serve_live(rt: &HostRuntime, words: &ArgMatches<'_>) -> u8 {
     }
 }
 
-/// Serves the word on the scenario in a file, and returns the exit status.
+/// Runs the command on the scenario in a file, and returns the exit status.
 fn serve_named(rt: &HostRuntime, words: &ArgMatches<'_>, name: &str) -> u8 {
     match scenario_in(rt, name) {
-        Ok(scenario) => status_of(rt, None, talk_after(rt, words, scenario)),
+        Ok(named) => status_of(rt, None, talk_after(rt, words, named)),
         Err(fault) => status_of(rt, file_name(name), Err(fault)),
     }
 }
 
-/// Returns the exit status of what ended so. Standard error names a fault, and the file that was not
-/// read.
+/// Returns the exit status. Standard error names a fault, and the file if it could not be read.
 fn status_of(rt: &HostRuntime, file: Option<&str>, ended: Result<(), LabProgramFault>) -> u8 {
     match ended {
         Ok(()) => 0,
@@ -47,7 +46,7 @@ fn status_of(rt: &HostRuntime, file: Option<&str>, ended: Result<(), LabProgramF
     }
 }
 
-/// Returns the name of the scenario's file, or why the words ask for nothing.
+/// Returns the name of the scenario's file, or what is wrong with the command line.
 fn scenario_name<'a>(words: &ArgMatches<'a>) -> Result<&'a str, &'static str> {
     if words.get_flag("state") && !words.get_flag(JSON) {
         return Err("--state is for --json alone");
@@ -58,18 +57,18 @@ fn scenario_name<'a>(words: &ArgMatches<'a>) -> Result<&'a str, &'static str> {
     }
 }
 
-/// Runs a scenario's lines, and replies to those that come.
+/// Runs a scenario's lines, and replies to the lines that come after.
 fn talk_after(
     rt: &HostRuntime,
     words: &ArgMatches<'_>,
-    scenario: Scenario,
+    named: NamedScenario,
 ) -> Result<(), LabProgramFault> {
     if words.get_flag(JSON) {
-        let mut talk = ObjectTalk::begin(rt.alloc(), scenario, words.get_flag("state"))?;
+        let mut talk = ObjectTalk::begin(rt.alloc(), named, words.get_flag("state"))?;
         return talk_with(rt, &mut talk);
     }
     let width = words.get_one::<u64>("width").unwrap_or(WIDTH);
-    let mut talk = RowTalk::begin(rt.alloc(), scenario, width, words.get_flag("orders"))?;
+    let mut talk = RowTalk::begin(rt.alloc(), named, width, words.get_flag("orders"))?;
     let mut writer = Counted::new(rt.stdout());
     match write_all(&mut writer, talk.first_row().as_bytes()) {
         Ok(()) => talk_with(rt, &mut talk),
@@ -78,13 +77,13 @@ fn talk_after(
 }
 
 /// Reads the scenario in a file.
-fn scenario_in(rt: &HostRuntime, name: &str) -> Result<Scenario, LabProgramFault> {
+fn scenario_in(rt: &HostRuntime, name: &str) -> Result<NamedScenario, LabProgramFault> {
     let Ok(input) = fs::open(rt, name) else {
         return Err(LabProgramFault::NotOpened);
     };
     let mut reader = Counted::new(input);
     let bytes = read_all(rt.alloc(), &mut reader)?;
-    Ok(Scenario::read(rt.alloc(), bytes.as_slice())?)
+    Ok(NamedScenario::read(rt.alloc(), bytes.as_slice())?)
 }
 
 /// Replies to the lines of standard input.
@@ -103,7 +102,7 @@ fn talk_with<T: Talk>(rt: &HostRuntime, talk: &mut T) -> Result<(), LabProgramFa
     }
 }
 
-/// An input before which a terminal has a prompt.
+/// An input that prints a prompt at a terminal before each read.
 #[derive(Drop)]
 struct Prompted<R, E> {
     input: R,

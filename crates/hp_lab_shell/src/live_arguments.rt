@@ -7,31 +7,31 @@ pub(crate) const LIVE: [Argument; 5] = [
     Argument {
         name: JSON,
         takes: Takes::Nothing,
-        help: "Replies to each line with one object of JSON, for programs",
+        help: "Replies to each line with one JSON object, for programs",
         against: &["orders", "width"],
     },
     Argument {
         name: "state",
         takes: Takes::Nothing,
-        help: "Adds to each object how the state changed; with --json alone",
+        help: "Adds to each object how the state changed; needs --json",
         against: &[],
     },
     Argument {
         name: "width",
         takes: Takes::Number,
-        help: "Folds lines that take more columns, and shows only the memory blocks that changed (200)",
+        help: "Folds longer lines, and then shows only the memory blocks that changed (200 columns)",
         against: &[],
     },
     Argument {
         name: "orders",
         takes: Takes::Nothing,
-        help: "Shows free frames by the orders of their blocks, as (3.....)",
+        help: "Shows free blocks by their orders, as (3.....)",
         against: &[],
     },
     Argument {
         name: FILE,
         takes: Takes::File,
-        help: "A scenario: its layout is booted, and its calls are made first",
+        help: "A scenario: boots its layout, and makes its calls first",
         against: &[],
     },
 ];

@@ -1,23 +1,23 @@
-//! The log of a scenario, as the word `judge` reads it.
+//! The log of a scenario, in the form that the command `judge` reads.
 ghost use Rattle.std.specs.Prelude.{◌≡◌, IfErr, IfOk};
 ghost use Rattle.hp_lab_shell.specs.Faults.{IsUnread};
 ghost use Rattle.hp_lab_shell.specs.Shown.{HasLog};
 
+use crate::plain::plain_scenario;
 use crate::text_and_status::TextAndStatus;
-use hp_scenario::Scenario;
 use hp_search::LabProgramFault;
 use hp_step_logs::{write_event, write_size};
 use hp_trace::{ScenarioLog, trace_log};
 use std::alloc::{AllocError, Global};
 
-/// Returns the log of the run of the scenario that the bytes are. The status is 0.
+/// Returns the log of a run of the scenario in `input`. The status is 0.
 ///
 /// Fails with the scenario's first fault.
 pub fn logged(alloc: Global, input: &[u8]) -> Result<TextAndStatus, LabProgramFault>
     ensures ok { IfOk result (λ answer. HasLog input.now × (answer.status ≡ 0)) }
     ensures err { IfErr result (IsUnread input.now) }
 {
-    let scenario = Scenario::read(alloc, input)?;
+    let scenario = plain_scenario(alloc, input)?;
     let log = trace_log(alloc, &scenario)?;
     let text = log_text(alloc, &log)?;
     Ok(TextAndStatus { text, status: 0 })

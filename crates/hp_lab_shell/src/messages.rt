@@ -1,4 +1,4 @@
-//! What standard error has of faults and warnings.
+//! The faults and warnings that are printed on standard error.
 
 use hp_questions::Unbegun;
 use hp_search::LabProgramFault;
@@ -18,7 +18,8 @@ pub(crate) fn say_unbegun(rt: &HostRuntime, unbegun: &[Unbegun]) {
 /// The forms of the lines that ends have.
 const LINE_FORMS: &str =
     "hotplug_lab: a line is an answer, as `refused NotFree`, one of a processor, \
-     as `0: done` or `cpu 0 answer 2: done`, or a memory block, as `block 1 offline`; `not ` \
+     as `0: done` or `cpu 0 answer 2: done`, the end of a plan, as `plan: cancelled` or \
+     `0: plan: done`, or a memory block, as `block 1 offline`; `not ` \
      before it wants an end without it";
 
 /// Prints on standard error that no end can have this text as a line, and which forms lines have.
@@ -39,8 +40,8 @@ pub(crate) fn file_name(name: &str) -> Option<&str> {
     if name == "-" { None } else { Some(name) }
 }
 
-/// Prints a fault on standard error, with the name of the file if it could not be read. If the input
-/// is no scenario, also prints which command says more.
+/// Prints a fault on standard error, with the name of the file if it could not be read. If the
+/// input is no scenario, also prints which command shows what is wrong.
 pub(crate) fn say_fault(rt: &HostRuntime, file: Option<&str>, fault: LabProgramFault) {
     let _ = match unread_name(rt.alloc(), file, fault) {
         Some(name) => eprintln!(rt; "hotplug_lab: {name}: {fault}"),
@@ -64,7 +65,7 @@ fn unread_name(alloc: Global, file: Option<&str>, fault: LabProgramFault) -> Opt
     }
 }
 
-/// Prints what clap found wrong with the words, or the help, and returns the exit status.
+/// Prints what clap found wrong with the command line, or the help, and returns the exit status.
 pub(crate) fn say_words(rt: &HostRuntime, error: &clap::Error) -> Result<u8, LabProgramFault> {
     let status = error.exit_code() as u8;
     match error.print(rt) {

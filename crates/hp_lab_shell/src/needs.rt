@@ -1,6 +1,6 @@
-//! What a word needs of a scenario, and what is worth a warning.
+//! What a command needs of a scenario, and what is worth a warning.
 ghost use Rattle.std.specs.Prelude.{◌≡◌, IfErr, IfOk, OnOk, true};
-ghost use Rattle.hp_scenario.specs.Scenario.{scenario_in};
+ghost use Rattle.hp_names.specs.Named.{named_in};
 ghost use Rattle.hp_lab_shell.specs.Needs.{HasLines, IsLineFault, IsPast, first_shown, has_line, last_named, setup_named, unbegun_of};
 
 use crate::checks::ALL;
@@ -11,10 +11,10 @@ use hp_search::LabProgramFault;
 use hp_trace::View;
 use std::alloc::{AllocError, Global};
 
-/// Returns the lines of a word's scripts that work on operation 0 although their processor has begun
-/// none.
+/// Returns the lines of a command's scripts that work on operation 0 although their processor has
+/// begun none.
 pub fn unbegun_of(alloc: Global, input: &[u8], word: Word<'_>) -> Result<Vec<Unbegun>, AllocError>
-    ensures { IfOk result (λ found. found.items ≡ unbegun_of word.entry (scenario_in input.now)) }
+    ensures { IfOk result (λ found. found.items ≡ unbegun_of word.entry (named_in input.now)) }
 {
     match word {
         Word::Explore { asked, .. } | Word::Part { asked, .. } => {
@@ -30,7 +30,7 @@ pub fn unbegun_of(alloc: Global, input: &[u8], word: Word<'_>) -> Result<Vec<Unb
     }
 }
 
-/// Checks that the scenario has the line that a word names. Bytes that are no scenario pass.
+/// Checks that the scenario has the line that a command names. Bytes that are no scenario pass.
 #[tactic(auto, using(crate::proofs::Named::none_needed))]
 pub fn look_for_line(alloc: Global, input: &[u8], word: Word<'_>) -> Result<(), LabProgramFault>
     ensures ok { OnOk result (HasLines word.entry input.now) }
@@ -61,7 +61,7 @@ fn look_among(asked: u64, count: Option<u64>) -> Result<(), LabProgramFault>
     }
 }
 
-/// Returns the last line that a word needs, counted from 1; 0 if it needs none.
+/// Returns the last line that a command needs, counted from 1; 0 if it needs none.
 fn last_named(word: Word<'_>) -> u64
     ensures { result ≡ last_named word.entry }
 {
@@ -77,7 +77,7 @@ fn last_named(word: Word<'_>) -> u64
     }
 }
 
-/// Returns the last line of the setup of a check; 0 if that is the whole scenario.
+/// Returns the last setup line that a check needs; 0 if the whole scenario is the setup.
 fn setup_named(setup: u64) -> u64
     ensures { result ≡ setup_named setup }
 {

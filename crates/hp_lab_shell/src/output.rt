@@ -5,8 +5,8 @@ ghost use Rattle.std.specs.Prelude.{◌≡◌};
 use hp_streams::{Failed, Sink};
 use std::io::{ErrorKind, Result as IoResult, Write};
 
-/// A writer that counts its failed calls, and knows whether the last one failed because nobody
-/// reads what is written: `head` has seen enough.
+/// A writer that counts its failed calls, and stores whether the last failure came from a closed
+/// pipe. A pipe is closed if its reader has gone, as `head` does when it has its lines.
 #[derive(Drop)]
 pub(crate) struct Output<W> {
     inner: W,
@@ -26,7 +26,7 @@ impl<W> Output<W> {
         }
     }
 
-    /// Returns whether the last call that failed did so because nobody reads what is written.
+    /// Returns whether the last call that failed did so because the reader had gone.
     pub(crate) fn is_left(&self) -> bool {
         self.is_left
     }

@@ -3,15 +3,15 @@ ghost use Rattle.std.specs.Prelude.{◌≡◌, IfErr, IfOk, string_bytes};
 ghost use Rattle.hp_lab_shell.specs.Faults.{IsUnread};
 ghost use Rattle.hp_lab_shell.specs.Shown.{HasJson, HasRows, HasTrace, IsJsonText};
 
+use crate::plain::plain_scenario;
 use crate::text_and_status::TextAndStatus;
 use crate::words::{Drawing, JsonForm};
-use hp_scenario::Scenario;
 use hp_search::LabProgramFault;
 use hp_svg::{page_of, picture_of};
 use hp_trace::{View, trace, trace_json, trace_rows};
 use std::alloc::{AllocError, Global};
 
-/// Returns the trace of the scenario that the bytes are. The status is 0.
+/// Returns the trace of the scenario in `input`. The status is 0.
 ///
 /// Fails with the scenario's first fault.
 pub fn traced(alloc: Global, input: &[u8], view: View) -> Result<TextAndStatus, LabProgramFault>
@@ -19,12 +19,12 @@ pub fn traced(alloc: Global, input: &[u8], view: View) -> Result<TextAndStatus, 
         (λ answer. HasTrace view input.now (string_bytes answer.text) × (answer.status ≡ 0)) }
     ensures err { IfErr result (IsUnread input.now) }
 {
-    let scenario = Scenario::read(alloc, input)?;
+    let scenario = plain_scenario(alloc, input)?;
     let text = trace(alloc, &scenario, view)?;
     Ok(TextAndStatus { text, status: 0 })
 }
 
-/// Returns the trace of the scenario that the bytes are as JSON. The status is 0.
+/// Returns the trace of the scenario in `input` as JSON. The status is 0.
 ///
 /// Fails with the scenario's first fault.
 pub fn told(alloc: Global, input: &[u8], form: JsonForm) -> Result<TextAndStatus, LabProgramFault>
@@ -32,7 +32,7 @@ pub fn told(alloc: Global, input: &[u8], form: JsonForm) -> Result<TextAndStatus
         (λ answer. HasJson form input.now (string_bytes answer.text) × (answer.status ≡ 0)) }
     ensures err { IfErr result (IsUnread input.now) }
 {
-    let scenario = Scenario::read(alloc, input)?;
+    let scenario = plain_scenario(alloc, input)?;
     let lines = trace_json(alloc, &scenario)?;
     let text = json_text(alloc, lines, form)?;
     Ok(TextAndStatus { text, status: 0 })
@@ -48,8 +48,8 @@ fn json_text(alloc: Global, lines: String, form: JsonForm) -> Result<String, All
     }
 }
 
-/// Draws the rows of that trace as a picture, with all memory blocks in each row and the owners'
-/// names in the legend. The status is 0.
+/// Draws the rows of a trace as a picture, with all memory blocks in each row and the owners' names
+/// in the legend. The status is 0.
 ///
 /// Fails with the scenario's first fault.
 pub fn drawn(
@@ -60,9 +60,9 @@ pub fn drawn(
     ensures ok { IfOk result (λ answer. HasRows drawing.view input.now × (answer.status ≡ 0)) }
     ensures err { IfErr result (IsUnread input.now) }
 {
-    let scenario = Scenario::read(alloc, input)?;
+    let scenario = plain_scenario(alloc, input)?;
     let rows = trace_rows(alloc, &scenario, drawing.view)?;
     let names = &scenario.names;
-    let text = picture_of(alloc, names, drawing.cell, drawing.scale, &rows)?;
+    let text = picture_of(alloc, names, drawing.cell, drawing.scale, rows)?;
     Ok(TextAndStatus { text, status: 0 })
 }

@@ -25,7 +25,8 @@ pub(crate) enum Shown {
     InLines,
 }
 
-/// Returns where progress is shown, if `is_wanted` even where there is no terminal.
+/// Returns where progress is shown. If standard error is no terminal, it is shown only if
+/// `is_wanted`.
 pub(crate) fn shown_on(is_terminal: bool, is_wanted: bool) -> Shown {
     if is_terminal {
         Shown::InPlace
@@ -97,7 +98,7 @@ impl<W: Write + Drop, C: Clock + Drop> Progress<W, C> {
         }
     }
 
-    /// Returns whether a report is due, which is then made.
+    /// Returns whether a report is due. The caller then makes it.
     fn is_due(&mut self) -> bool
         ensures budgets { self.new.budgets ≡ self.old.budgets }
         ensures reached { self.new.reached ≡ self.old.reached }

@@ -1,18 +1,19 @@
-//! What a scenario has before anything is searched.
+//! What is read from a scenario without a search.
 ghost use Rattle.std.specs.Prelude.{◌≡◌, IfOk};
-ghost use Rattle.hp_scenario.specs.Scenario.{scenario_in};
+ghost use Rattle.hp_names.specs.Named.{named_in};
 ghost use Rattle.hp_lab_shell.specs.Scripts.{count_of, unbegun_in};
 
+use hp_names::NamedScenario;
 use hp_questions::{Unbegun, unbegun_lines};
-use hp_scenario::{Scenario, ScenarioFault};
+use hp_scenario::ScenarioFault;
 use std::alloc::{AllocError, Global};
 
 /// Returns the number of lines of the scenario, or `None` if the bytes are no scenario.
 pub(crate) fn line_count(alloc: Global, input: &[u8]) -> Result<Option<u64>, AllocError>
-    ensures { IfOk result (λ count. count ≡ count_of (scenario_in input.now)) }
+    ensures { IfOk result (λ count. count ≡ count_of (named_in input.now)) }
 {
-    match Scenario::read(alloc, input) {
-        Ok(scenario) => Ok(Some(scenario.lines.as_slice().len() as u64)),
+    match NamedScenario::read(alloc, input) {
+        Ok(named) => Ok(Some(named.scenario.lines.as_slice().len() as u64)),
         Err(ScenarioFault::OutOfMemory) => Err(AllocError),
         Err(_fault) => Ok(None),
     }
@@ -25,10 +26,11 @@ pub(crate) fn unbegun_in(
     input: &[u8],
     setup: u64,
 ) -> Result<Vec<Unbegun>, AllocError>
-    ensures { IfOk result (λ found. found.items ≡ unbegun_in setup (scenario_in input.now)) }
+    ensures { IfOk result (λ found. found.items ≡ unbegun_in setup (named_in input.now)) }
 {
-    match Scenario::read(alloc, input) {
-        Ok(scenario) => {
+    match NamedScenario::read(alloc, input) {
+        Ok(named) => {
+            let scenario = &named.scenario;
             let cpus = scenario.layout.cpus();
             unbegun_lines(alloc, cpus, setup, scenario.lines.as_slice())
         }

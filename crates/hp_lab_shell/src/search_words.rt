@@ -9,7 +9,7 @@ use crate::arguments::{
 const AS_SCENARIO: Argument = Argument {
     name: SCENARIO,
     takes: Takes::Number,
-    help: "Writes the interleaving that is told of end N as a scenario; that of a search where N is 1",
+    help: "Writes the interleaving of end N as a scenario; N is 1 with --find or --never",
     against: &[],
 };
 
@@ -17,63 +17,63 @@ const AS_SCENARIO: Argument = Argument {
 const AS_JSON: Argument = Argument {
     name: JSON,
     takes: Takes::Nothing,
-    help: "Writes an object of JSON a line: of each end, or of what a search finds",
+    help: "Writes one JSON object per line: for each end, or for what a search finds",
     against: &[SCENARIO],
 };
 
 /// What the flag does that writes one line per end.
 const SUMMARY_HELP: &str =
-    "Writes a line of each end: its count, its share, how many calls were refused, and its blocks";
+    "Writes one line per end: its count, its share, its refused calls, and its blocks";
 
 /// The arguments of `explore`.
 pub(crate) const EXPLORE: [Argument; 14] = [
     Argument {
         name: "setup",
         takes: Takes::Number,
-        help: "Runs so many lines in order first (0)",
+        help: "Runs this many lines in order first (0)",
         against: &[],
     },
     Argument {
         name: "limit",
         takes: Takes::Number,
-        help: "Counts at most so many interleavings, the first ones (any number); with --find or --never \
-               reaches at most so many states",
+        help: "Counts at most this many interleavings, the first ones (any number); with --find or \
+               --never, reaches at most this many states",
         against: &[],
     },
     Argument {
         name: MEMORY,
         takes: Takes::Number,
-        help: "Ends where so many MiB of states are kept (2048)",
+        help: "Stops when the states kept take this many MiB (2048)",
         against: &[],
     },
     Argument {
         name: SECONDS,
         takes: Takes::Number,
-        help: "Ends after so many seconds",
+        help: "Stops after this many seconds",
         against: &[JOBS],
     },
     Argument {
         name: FIND,
         takes: Takes::Texts,
-        help: "Searches an interleaving whose end has this line, with the fewest changes of processor",
+        help: "Searches for an end with this line, with the fewest changes of processor",
         against: &[],
     },
     Argument {
         name: NEVER,
         takes: Takes::Texts,
-        help: "The same, where none is to end so: the status is turned round",
+        help: "The same, with status 0 if there is no such end, and 3 if there is one",
         against: &[FIND],
     },
     Argument {
         name: PART,
         takes: Takes::Part,
-        help: "Searches the I-th of N parts alone, and writes it for `sum`",
+        help: "Searches only the I-th of N parts, and writes it for `sum`",
         against: &[FIND, NEVER, SCENARIO, JOBS],
     },
     Argument {
         name: JOBS,
         takes: Takes::Number,
-        help: "Searches with so many threads, 1 to 256 (1)",
+        help: "Searches in this many threads, 1 to 256 (1)",
         against: &[FIND, NEVER],
     },
     Argument {
@@ -93,7 +93,7 @@ pub(crate) const EXPLORE: [Argument; 14] = [
     Argument {
         name: PROGRESS,
         takes: Takes::Nothing,
-        help: "Tells on standard error how far a search has come, also where that is no terminal",
+        help: "Shows progress on standard error even if it is no terminal",
         against: &[],
     },
     SCENARIO_FILE,
@@ -112,7 +112,7 @@ pub(crate) const SUM: [Argument; 4] = [
     Argument {
         name: FILE,
         takes: Takes::Files,
-        help: "The files of parts, in any order; standard input where none is named, or -",
+        help: "The files of parts, in any order; standard input if there is none, or if it is -",
         against: &[],
     },
 ];

@@ -68,7 +68,7 @@ fn status_of(rt: &HostRuntime, file: Option<&str>, served: Result<u8, LabProgram
     }
 }
 
-/// Serves a word on the file with this name; `-` names standard input.
+/// Runs a command on the file with this name; `-` names standard input.
 fn serve_file<L: Laboratory, T: Threads + Sync>(
     rt: &HostRuntime,
     lab: &L,
@@ -86,7 +86,7 @@ fn serve_file<L: Laboratory, T: Threads + Sync>(
     }
 }
 
-/// Serves a word on an input, and writes to standard output.
+/// Runs a command on an input, and writes to standard output.
 fn serve_input<L: Laboratory, T: Threads + Sync, R: Read + Drop>(
     rt: &HostRuntime,
     lab: &L,
@@ -109,7 +109,7 @@ fn serve_input<L: Laboratory, T: Threads + Sync, R: Read + Drop>(
     told_status(rt, word, served, writer.is_left())
 }
 
-/// Serves a word on the bytes of several files, and writes to standard output.
+/// Runs a command on the bytes of several files, and writes to standard output.
 fn serve_bytes<L: Laboratory, T: Threads + Sync>(
     rt: &HostRuntime,
     lab: &L,
@@ -124,8 +124,8 @@ fn serve_bytes<L: Laboratory, T: Threads + Sync>(
     told_status(rt, word, served, writer.is_left())
 }
 
-/// Prints warnings on standard error, and returns the exit status. If nobody reads what is written,
-/// that is 1, and nothing is printed.
+/// Prints warnings on standard error, and returns the exit status. If the reader of standard output
+/// has gone, the status is 1, and nothing is printed.
 fn told_status(
     rt: &HostRuntime,
     word: Word<'_>,
@@ -145,8 +145,8 @@ fn told_status(
     }
 }
 
-/// Returns the lines that the parsed words want of an end. Returns `None` if no end can have one of
-/// the texts as a line, and standard error says so.
+/// Returns the lines that the command line wants of an end. If no end can have one of them as a
+/// line, reports that on standard error and returns `None`.
 fn wanted_from(
     rt: &HostRuntime,
     matches: &ArgMatches<'_>,
@@ -176,7 +176,7 @@ fn push_line(alloc: Global, wanted: &mut Vec<Wanted>, text: &str) -> Result<bool
     }
 }
 
-/// Serves the parsed words, and returns the exit status.
+/// Runs the parsed command line, and returns the exit status.
 fn serve_matches<L: Laboratory, T: Threads + Sync>(
     rt: &HostRuntime,
     lab: &L,
@@ -191,7 +191,7 @@ fn serve_matches<L: Laboratory, T: Threads + Sync>(
     }
 }
 
-/// Serves the parsed words on a scenario, and returns the exit status.
+/// Runs the parsed command line on a scenario, and returns the exit status.
 fn serve_scenario<L: Laboratory, T: Threads + Sync>(
     rt: &HostRuntime,
     lab: &L,
@@ -215,7 +215,8 @@ fn serve_scenario<L: Laboratory, T: Threads + Sync>(
     }
 }
 
-/// Parses and serves the words, or prints what they may be, and returns the exit status.
+/// Parses the command line and runs it, and returns the exit status. If it cannot be parsed, prints
+/// why, or the help.
 fn run<L: Laboratory, T: Threads + Sync>(
     rt: &HostRuntime,
     lab: &L,
@@ -232,7 +233,7 @@ fn run<L: Laboratory, T: Threads + Sync>(
     }
 }
 
-/// Reads the words that the program was called with, and serves them.
+/// Reads the command line that the program was called with, and runs it.
 fn run_words<L: Laboratory, T: Threads + Sync>(
     rt: &HostRuntime,
     lab: &L,
@@ -253,9 +254,9 @@ fn run_words<L: Laboratory, T: Threads + Sync>(
     }
 }
 
-/// Runs the program and returns its exit status: 0; 1 after a fault, which standard error names, and
-/// if a check finds one; 2 if the words are wrong; 3 if a search does not find what was asked for, if no
-/// order explains answers, and if a log is unlawful.
+/// Runs the program and returns its exit status: 0; 1 after a fault, which standard error names,
+/// and if a check finds one; 2 for a wrong command line; 3 if a search does not find what was asked
+/// for, if no order explains answers, and if a log is unlawful.
 pub fn run_program<L: Laboratory, T: Threads + Sync>(
     rt: &HostRuntime,
     lab: &L,

@@ -10,7 +10,7 @@ pub(crate) const CHECK: [Argument; 2] = [
     Argument {
         name: "setup",
         takes: Takes::Number,
-        help: "Takes the lines after so many for scripts, as explore does (all are the setup)",
+        help: "Runs this many lines as the setup; later lines are in scripts, as for explore (all)",
         against: &[],
     },
     SCENARIO_FILE,
@@ -33,31 +33,31 @@ pub(crate) const TRACE: [Argument; 12] = [
     Argument {
         name: "every",
         takes: Takes::Number,
-        help: "Shows one line of so many, from the first on (1)",
+        help: "Shows every N-th line, from the first on (1)",
         against: &[],
     },
     Argument {
         name: "width",
         takes: Takes::Number,
-        help: "Folds lines that take more columns, and shows only the memory blocks that changed (200)",
+        help: "Folds longer lines, and then shows only the memory blocks that changed (200 columns)",
         against: &[],
     },
     Argument {
         name: "cell",
         takes: Takes::Number,
-        help: "Makes the cell of a frame so many pixels wide in the picture, 1 to 32 (8)",
+        help: "Sets the width of a frame's cell in the picture, in pixels, 1 to 32 (8)",
         against: &[],
     },
     Argument {
         name: "scale",
         takes: Takes::Number,
-        help: "Scales the picture by so many per cent, 25 to 400 (100)",
+        help: "Scales the picture to this percentage, 25 to 400 (100)",
         against: &[],
     },
     Argument {
         name: "orders",
         takes: Takes::Nothing,
-        help: "Shows free frames by the orders of their blocks, as (3.....)",
+        help: "Shows free blocks by their orders, as (3.....)",
         against: &[],
     },
     Argument {
@@ -69,7 +69,7 @@ pub(crate) const TRACE: [Argument; 12] = [
     Argument {
         name: LOG,
         takes: Takes::Nothing,
-        help: "Writes what happens to frames and memory blocks, as a log that judge reads",
+        help: "Writes what happens to frames and memory blocks, as a log for judge",
         against: &[
             "from", "to", "every", "width", "cell", "scale", "orders", "svg",
         ],
@@ -77,7 +77,7 @@ pub(crate) const TRACE: [Argument; 12] = [
     Argument {
         name: JSON,
         takes: Takes::Nothing,
-        help: "Writes an object of JSON a line, for each row what changed in the memory",
+        help: "Writes one JSON object per row, with what changed in the memory",
         against: &[
             "from", "to", "every", "width", "cell", "scale", "orders", "svg", LOG,
         ],
@@ -85,7 +85,7 @@ pub(crate) const TRACE: [Argument; 12] = [
     Argument {
         name: HTML,
         takes: Takes::Nothing,
-        help: "Writes one page for a browser, in which the trace is stepped through",
+        help: "Writes a page for a browser, to step through the trace",
         against: &[
             "from", "to", "every", "width", "cell", "scale", "orders", "svg", LOG, JSON,
         ],
@@ -98,37 +98,37 @@ pub(crate) const JUDGE: [Argument; 8] = [
     Argument {
         name: FTRACE,
         takes: Takes::Nothing,
-        help: "Reads the text of Linux's ftrace, and not an object of JSON a line",
+        help: "Reads the text of Linux's ftrace instead of JSON lines",
         against: &[],
     },
     Argument {
         name: BLOCK_FRAMES,
         takes: Takes::Number,
-        help: "How many frames a memory block has, a power of two; needed unless the log says it",
+        help: "The number of frames of a memory block, a power of two; needed unless the log has it",
         against: &[],
     },
     Argument {
         name: BLOCKS,
         takes: Takes::Blocks,
-        help: "Judges only the memory blocks from A on, before B",
+        help: "Judges only the memory blocks from A to B - 1",
         against: &[],
     },
     Argument {
         name: ALLOW,
         takes: Takes::Kinds,
-        help: "Counts faults of this kind, as in-use, but takes them for lawful",
+        help: "Counts faults of this kind, such as in-use, as lawful",
         against: &[],
     },
     Argument {
         name: JSON,
         takes: Takes::Nothing,
-        help: "Writes an object of JSON a line",
+        help: "Writes one JSON object per line",
         against: &[],
     },
     Argument {
         name: MOST,
         takes: Takes::Number,
-        help: "Prints at most so many faults (10)",
+        help: "Prints at most this many faults (10)",
         against: &[],
     },
     Argument {
@@ -140,7 +140,7 @@ pub(crate) const JUDGE: [Argument; 8] = [
     Argument {
         name: FILE,
         takes: Takes::File,
-        help: "A log; standard input where none is named, or -",
+        help: "A log; standard input if there is none, or if it is -",
         against: &[],
     },
 ];

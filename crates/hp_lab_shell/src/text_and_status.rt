@@ -1,9 +1,9 @@
-//! What a word of the program comes to.
+//! The result of a command.
 
-/// What a word writes, and the exit status.
+/// The text that a command writes, and the exit status.
 #[derive(Drop)]
 pub struct TextAndStatus {
-    /// What it writes.
+    /// The text.
     pub text: String,
     /// The exit status.
     pub status: u8,

@@ -1,4 +1,4 @@
-//! The words that the program is called with.
+//! The commands of the program, and how they are read from the command line.
 
 use crate::arguments::{
     FILE, FIND, GROUP, HTML, JOBS, JSON, LOG, MEMORY, NEVER, PART, PROGRESS, SCENARIO, SECONDS,
@@ -31,10 +31,10 @@ const MEMORY_MIB: u64 = 2048;
 /// The default width of a trace's rows in columns.
 pub(crate) const WIDTH: u64 = 200;
 
-/// Printed if there is no such subcommand; clap asks for one before.
+/// Printed if there is no such subcommand, which clap reports before.
 const NO_WORD: &str = "there is no such word";
 
-/// Printed if the scenario is asked for of a number that a search does not have.
+/// Printed if `--scenario` names an interleaving past the one that a search finds.
 pub(crate) const ONE_FOUND: &str = "a search tells one interleaving: --scenario 1";
 
 /// The most threads.
@@ -69,7 +69,7 @@ pub enum JsonForm {
     Page,
 }
 
-/// What to do with a scenario.
+/// A command on a scenario.
 #[derive(Clone, Copy)]
 pub enum Word<'a> {
     /// Report what is wrong with it and where. This many lines are the setup; later ones are in
@@ -83,7 +83,7 @@ pub enum Word<'a> {
         by: Option<GroupBy>,
         jobs: u32,
     },
-    /// Search one part of these.
+    /// Search one part of these interleavings.
     Part {
         asked: ExploreOptions,
         part: &'a ShardId,
@@ -127,14 +127,14 @@ pub(crate) struct Request<'m, 'a, 'w> {
     pub budgets: Budgets,
 }
 
-/// Returns the texts of the lines that the parsed words want of an end, if they want any.
+/// Returns the texts of the lines that `--find` or `--never` names, if there is one of these.
 pub(crate) fn texts_from<'m, 'a>(matches: &'m ArgMatches<'a>) -> Option<&'m [&'a str]> {
     let (_name, words) = matches.subcommand()?;
     words.get_strs(FIND).or(words.get_strs(NEVER))
 }
 
-/// Returns whether the parsed words ask a search, which finds one interleaving, for the scenario of
-/// another.
+/// Returns whether `--find` or `--never` is used with a `--scenario` that names another
+/// interleaving than the one found.
 pub(crate) fn is_past_the_found(matches: &ArgMatches<'_>) -> bool {
     let Some((_name, words)) = matches.subcommand() else {
         return false;
@@ -151,7 +151,7 @@ fn part_named(text: &str) -> Option<ShardId> {
     ShardId::new(number64(number)?, number64(of)?)
 }
 
-/// Returns whether a word asked for a scenario, and the exit status says that there is no
+/// Returns whether a command asked for a scenario, but the exit status shows that there is no
 /// interleaving to make it of.
 pub(crate) fn lacks_scenario(word: Word<'_>, status: u8) -> bool {
     match word {
@@ -164,7 +164,7 @@ pub(crate) fn lacks_scenario(word: Word<'_>, status: u8) -> bool {
     }
 }
 
-/// Returns the part that the parsed words ask for, if they name one that exists.
+/// Returns the part that `--part` names, if there is such a part.
 pub(crate) fn part_from(matches: &ArgMatches<'_>) -> Option<ShardId> {
     let (_name, words) = matches.subcommand()?;
     part_named(words.get_str(PART)?)
@@ -178,8 +178,8 @@ fn files_of<'m, 'a>(names: Option<&'m [&'a str]>) -> &'m [&'a str] {
     }
 }
 
-/// Returns the request that the parsed words make, given the lines that they want of an end and the
-/// part that they name; or why no scenario can serve it.
+/// Returns the request on the command line, or why it cannot be served. `wanted` and `part` are the
+/// lines of an end and the part that the command line names.
 pub(crate) fn request_from<'m, 'a, 'w>(
     matches: &'m ArgMatches<'a>,
     wanted: &'w [Wanted],
@@ -229,7 +229,7 @@ pub(crate) fn budgets_of(words: &ArgMatches<'_>, limit: Option<u64>) -> Budgets 
     }
 }
 
-/// Returns what a subcommand asks for with its options, or why it cannot be served.
+/// Returns the command of a subcommand and its options, or why it cannot be run.
 fn word_from<'a>(
     name: &str,
     words: &ArgMatches<'_>,
@@ -245,7 +245,7 @@ fn word_from<'a>(
     }
 }
 
-/// Returns what `explore` asks for: a search, a part, or all.
+/// Returns the command of `explore`: a search, a part, or all.
 fn exploring_word<'a>(
     words: &ArgMatches<'_>,
     wanted: &'a [Wanted],
@@ -277,7 +277,7 @@ fn exploring_word<'a>(
     }
 }
 
-/// Returns the word that explores every interleaving.
+/// Returns the command that explores every interleaving.
 fn whole_word<'a>(asked: ExploreOptions, words: &ArgMatches<'_>) -> Result<Word<'a>, &'static str> {
     let jobs = words.get_one::<u64>(JOBS).unwrap_or(1);
     if jobs == 0 || jobs > MOST_JOBS {
@@ -291,17 +291,18 @@ fn whole_word<'a>(asked: ExploreOptions, words: &ArgMatches<'_>) -> Result<Word<
     })
 }
 
-/// Returns the part of their outcome by which ends are put together, if they are.
+/// Returns the part of the outcome by which ends are put together, if they are.
 fn group_from(words: &ArgMatches<'_>) -> Result<Option<GroupBy>, &'static str> {
     match words.get_str(GROUP) {
         Some("blocks") => Ok(Some(GroupBy::Blocks)),
         Some("answers") => Ok(Some(GroupBy::Answers)),
-        Some(_) => Err("--group may be blocks or answers"),
+        Some("plans") => Ok(Some(GroupBy::Plans)),
+        Some(_) => Err("--group may be blocks, answers or plans"),
         None => Ok(None),
     }
 }
 
-/// Returns what `trace` asks for.
+/// Returns the command of `trace`.
 fn tracing_word<'a>(words: &ArgMatches<'_>) -> Result<Word<'a>, &'static str> {
     if words.get_flag(LOG) {
         return Ok(Word::Log);
@@ -372,7 +373,7 @@ pub(crate) fn schedule_form_from(words: &ArgMatches<'_>) -> ScheduleForm {
     }
 }
 
-/// Returns what a trace shows.
+/// Returns which lines a trace shows, and how.
 fn view_from(words: &ArgMatches<'_>) -> View {
     View {
         from: words.get_one::<u64>("from").unwrap_or(1),

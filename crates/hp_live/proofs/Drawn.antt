@@ -3,11 +3,14 @@ use Rattle.std.proofs.Common.{arith, ◌≡◌, ℕ, ◌+◌, Bool, List, [], �
 use Rattle.std.proofs.lemmas.List.{length-append}
 use Rattle.std.specs.Prelude.{flat_map, map}
 use Rattle.std.specs.List.{AllByRecursion}
+use Rattle.hp_names.specs.Named.{NamedValue}
+use Rattle.hp_names.specs.Plain.{plain_in}
+use Rattle.hp_names.specs.declared.plain.PlainLine.{PlainLine}
 use Rattle.hp_scenario.specs.Names.{Numbered, line_in}
-use Rattle.hp_scenario.specs.Scenario.{ScenarioValue}
 use Rattle.hp_scenario.specs.declared.lines.Line.{Line}
 use Rattle.hp_talk.specs.Talks.{AreReplies}
 use Rattle.hp_trace.specs.Lives.{AreRead, LiveValue, LivesOn, LivesThrough, ShowTheTrace, without_text}
+use Rattle.hp_live.specs.Results.{Typed, typed_in, typed_of}
 use Rattle.hp_live.specs.RowTalks.{DrawsTrace, HasRows, RepliesWhole, RowsBegun, RowsRead, RowsSession, RowsText, RowsWord, Stays, cleared}
 use Rattle.hp_live.specs.declared.live_words.LiveWord.{LiveWord}
 
@@ -53,11 +56,13 @@ quiet s next new reply rest stays later =
     }
 
 -- one that ran a line
-ran : (n : Numbered) (s next new : RowsSession) (line reply rest : List ℕ) → line_in s.names line ≡ Some n
-    → RowsRead (Some n) (cleared s) reply next → Draws next.names next.lines next.trace rest new
+ran : (t : Typed) (s next new : RowsSession) (line reply rest : List ℕ)
+    → line_in s.names line ≡ Some t.numbered
+    → RowsRead (Some t) (cleared s) reply next → Draws next.names next.lines next.trace rest new
     → Draws s.names s.lines s.trace (reply ++ rest) new
-ran n s next new line reply rest is read later =
-    let keeps = read.0 in
+ran t s next new line reply rest is read later =
+    let n = t.numbered in
+    let keeps = read.keeps in
     let more =
     subst (λ (l : List Line). Draws n.names l next.trace rest new) keeps.lines
     (subst (λ (x : List (List ℕ)). Draws x next.lines next.trace rest new) keeps.names later) in
@@ -76,22 +81,30 @@ ran n s next new line reply rest is read later =
         next.trace,
         shown,
         subst (λ (k : ℕ). LivesOn n.names k n.line (without_text s.trace) next.trace)
-            (ap (λ (l : List Line). length l) keeps.lines ∙ count) read.1,
-        ap (λ (l : List ℕ). l ++ shown) read.2,
+            (ap (λ (l : List Line). length l) keeps.lines ∙ count) read.lives,
+        ap (λ (l : List ℕ). l ++ shown) read.is,
         subst (λ (k : ℕ). LivesThrough (k + 1) more.came shown next.trace more.last) count more.lives,
       );
     }
 
-one_read : (n : Option Numbered) (s next new : RowsSession) (line reply rest : List ℕ)
-    → line_in s.names line ≡ n → RowsRead n (cleared s) reply next
+one_read : (n : Option Numbered) (plain : PlainLine) (s next new : RowsSession) (reply rest : List ℕ)
+    → line_in s.names plain.text ≡ n → RowsRead (typed_of plain n) (cleared s) reply next
     → Draws next.names next.lines next.trace rest new → Draws s.names s.lines s.trace (reply ++ rest) new
-one_read None s next new line reply rest is read later = quiet s next new reply rest read later
-one_read (Some n) s next new line reply rest is read later = ran n s next new line reply rest is read later
+one_read None plain s next new reply rest is read later = quiet s next new reply rest read later
+one_read (Some n) plain s next new reply rest is read later =
+    ran (record { numbered = n; naming = plain.naming }) s next new plain.text reply rest is read later
+
+one_line : (s next new : RowsSession) (line reply rest : List ℕ)
+    → RowsRead (typed_in s.names s.bound line) (cleared s) reply next
+    → Draws next.names next.lines next.trace rest new → Draws s.names s.lines s.trace (reply ++ rest) new
+one_line s next new line reply rest read later =
+    let plain = plain_in s.bound line in
+    one_read (line_in s.names plain.text) plain s next new reply rest refl read later
 
 one_word : (w : LiveWord) (s next new : RowsSession) (line reply rest : List ℕ)
     → RowsWord w (cleared s) line reply next → Draws next.names next.lines next.trace rest new
     → Draws s.names s.lines s.trace (reply ++ rest) new
-one_word w s next new line reply rest said later = grind (arith, quiet, one_read)
+one_word w s next new line reply rest said later = grind (arith, quiet, one_line)
 
 one_text : (s next new : RowsSession) (line reply rest : List ℕ) → RowsText (cleared s) line reply next
     → Draws next.names next.lines next.trace rest new → Draws s.names s.lines s.trace (reply ++ rest) new
@@ -115,8 +128,8 @@ all_drawn (line ∷ lines) s new text replied =
     rw replied.4 (one_text s replied.1 new line replied.0 replied.2 replied.3 (all_drawn lines replied.1 new
     replied.2 replied.5))
 
-pub talks_draw : ShowTheTrace → (scenario : ScenarioValue) (width : ℕ) (orders : Bool) (first s : RowsSession)
-    (lines : List (List ℕ)) (text : List ℕ) → RowsBegun scenario width orders first
+pub talks_draw : ShowTheTrace → (scenario : NamedValue) (width : ℕ) (orders : Bool) (first s : RowsSession)
+    (lines : List (List ℕ)) (text : List ℕ) → (begun : RowsBegun scenario width orders first)
     → AreReplies RepliesWhole first lines text s
-    → DrawsTrace scenario width orders first.trace.rows.text text s
+    → DrawsTrace begun.plain.scenario width orders first.trace.rows.text text s
 talks_draw law scenario width orders first s lines text begun replied = grind (arith, all_drawn)

@@ -4,13 +4,13 @@ use Rattle.std.specs.Prelude.{◌⊎◌, flat_map}
 use Rattle.std.specs.List.{AllByRecursion}
 use Rattle.hp_plain.specs.Image.{Pictured}
 use Rattle.hp_machine.specs.Machine.{MachineValue}
-use Rattle.hp_scenario.specs.Names.{line_in}
-use Rattle.hp_scenario.specs.Scenario.{ScenarioValue}
+use Rattle.hp_names.specs.Named.{NamedValue}
 use Rattle.hp_commands.specs.Serial.{WritesLines}
 use Rattle.hp_commands.proofs.Lines.{one_more}
 use Rattle.hp_talk.specs.Talks.{AreReplies}
 use Rattle.hp_trace_json.specs.Changes.{ChangeValue}
 use Rattle.hp_live.specs.Answers.{AnswerValue}
+use Rattle.hp_live.specs.Results.{typed_in}
 use Rattle.hp_live.specs.Sessions.{IsResumed, SessionValue}
 use Rattle.hp_live.specs.Talks.{HasKeys, HasText, IsLostLine, IsObjectOf, ObjectsValue, RepliesObject, RepliesWord, ShowsIf, ShowsObject, StatesValue, TellsIn, TellsLines, lost_object, number_of, object_end}
 use Rattle.hp_live.specs.declared.live_words.LiveWord.{LiveWord}
@@ -66,7 +66,8 @@ one_word word.Line m s new before line reply replied ran =
         refl,
         object_shown number replied.0 s.states new.states new.session.machine reply replied.2,
       ),
-      one_answer (line_in s.session.names line) m s.session new.session replied.0 before ran replied.1,
+      one_answer (typed_in s.session.names s.session.bound line) m s.session new.session replied.0 before ran
+          replied.1,
     )
 
 one_lost : (m : MachineValue) (s new : SessionValue) (before line reply : List ℕ) → reply ≡ lost_object
@@ -104,7 +105,7 @@ all_replies (line ∷ lines) m s new before text replied ran =
           (append_assoc before one.0 (flat_map (λ (p : List ℕ × List ℕ). p.1) more.0)) more.3,
     )
 
-pub talks_tell : (scenario : ScenarioValue) (s new : ObjectsValue) (lines : List (List ℕ)) (text : List ℕ)
+pub talks_tell : (scenario : NamedValue) (s new : ObjectsValue) (lines : List (List ℕ)) (text : List ℕ)
     → (begun : IsResumed scenario s.session) → AreReplies RepliesObject s lines text new
-    → TellsLines scenario begun.text text new.session
+    → TellsLines scenario.scenario begun.text text new.session
 talks_tell scenario s new lines text begun replied = grind (arith, resumed_run, all_replies)

@@ -3,28 +3,32 @@ use Rattle.std.proofs.Common.{arith, ◌≡◌, ℕ, List, [], ◌∷◌, ◌++�
 use Rattle.hp_units.specs.LayoutParts.{LayoutParts}
 use Rattle.hp_machine.specs.Machine.{MachineValue, booted}
 use Rattle.hp_scenario.specs.Names.{Numbered, line_in}
-use Rattle.hp_scenario.specs.Scenario.{ScenarioValue, lines_from, nothing, scenario_in}
+use Rattle.hp_scenario.specs.Scenario.{lines_from, nothing, scenario_in}
+use Rattle.hp_names.specs.Named.{NamedValue}
+use Rattle.hp_names.specs.Plain.{plain_in}
+use Rattle.hp_names.specs.declared.plain.PlainLine.{PlainLine}
 use Rattle.hp_commands.specs.Serial.{WritesLines}
 use Rattle.hp_commands.specs.Served.{IsTextOf}
 use Rattle.hp_commands.proofs.Lines.{one_more}
 use Rattle.hp_commands.proofs.Served.{ran_text}
 use Rattle.hp_text.specs.State.{state_text}
 use Rattle.hp_live.specs.Answers.{AnswerValue}
+use Rattle.hp_live.specs.Results.{Typed, typed_in, typed_of}
 use Rattle.hp_live.specs.Sessions.{AnswersAll, AnswersRead, IsResumed, SessionValue, script_of, started, taken, took}
 
 -- ---- what is written
 
 -- the lines of a scenario
-pub resumed_run : (scenario : ScenarioValue) (s : SessionValue) → (begun : IsResumed scenario s)
-    → WritesLines (booted scenario.layout) s.lines begun.text s.machine
+pub resumed_run : (scenario : NamedValue) (s : SessionValue) → (begun : IsResumed scenario s)
+    → WritesLines (booted scenario.scenario.layout) s.lines begun.text s.machine
 resumed_run scenario s begun = rw begun.lines begun.run
 
 -- the lines so far, and one text more
-pub one_answer : (n : Option Numbered) (m : MachineValue) (s next : SessionValue) (a : AnswerValue)
+pub one_answer : (t : Option Typed) (m : MachineValue) (s next : SessionValue) (a : AnswerValue)
     (before : List ℕ)
-    → WritesLines m s.lines before s.machine → AnswersRead s n a next
+    → WritesLines m s.lines before s.machine → AnswersRead s t a next
     → WritesLines m next.lines (before ++ a.text) next.machine
-one_answer n m s next a before ran answered = grind (arith, append-nil, one_more)
+one_answer t m s next a before ran answered = grind (arith, append-nil, one_more)
 
 -- and all texts
 all_answers : (texts : List (List ℕ)) (m : MachineValue) (s new : SessionValue) (before written : List ℕ)
@@ -38,7 +42,7 @@ all_answers (text ∷ texts) m s new before written ran all =
       append_assoc,
       one_answer,
       (all_answers texts m all.1 new (before ++ all.0.text) all.2
-          (one_answer (line_in s.names text) m s all.1 all.0 before ran all.3) all.5),
+          (one_answer (typed_in s.names s.bound text) m s all.1 all.0 before ran all.3) all.5),
     )
 
 pub answers_write : (l : LayoutParts) (texts : List (List ℕ)) (written : List ℕ) (s : SessionValue)
@@ -48,10 +52,10 @@ answers_write l texts written s all =
     all_answers texts (booted l) (started l) s [] written (refl, refl) all
 
 -- after the lines of a scenario
-pub answers_resume : (scenario : ScenarioValue) (texts : List (List ℕ)) (written : List ℕ)
+pub answers_resume : (scenario : NamedValue) (texts : List (List ℕ)) (written : List ℕ)
     (first s : SessionValue)
     → (begun : IsResumed scenario first) → AnswersAll first texts written s
-    → WritesLines (booted scenario.layout) s.lines (begun.text ++ written) s.machine
+    → WritesLines (booted scenario.scenario.layout) s.lines (begun.text ++ written) s.machine
 answers_resume scenario texts written first s begun all = grind (arith, all_answers, resumed_run)
 
 -- with the state after them it is a text of `hotplug serial`
@@ -67,24 +71,26 @@ answers_serve l texts written s all input read =
 
 -- ---- what is read
 
-one_taken : (n : Option Numbered) (text : List ℕ) (texts : List (List ℕ)) (at : ℕ)
+-- a plain text that is a line
+first_taken : (n : Option Numbered) (plain : PlainLine) (more : List (List ℕ)) (at : ℕ)
     (s next new : SessionValue) (a : AnswerValue)
-    → line_in s.names text ≡ n → AnswersRead s n a next
-    → ((k : ℕ) → lines_from k (script_of next) (taken next.names texts) ≡ Ok (script_of new))
-    → lines_from at (script_of s) (took n s.names text (λ names. taken names texts)) ≡ Ok (script_of new)
+    → line_in s.names plain.text ≡ n → AnswersRead s (typed_of plain n) a next
+    → ((k : ℕ) → lines_from k (script_of next) more ≡ Ok (script_of new))
+    → lines_from at (script_of s) (took (typed_of plain n) plain.text more) ≡ Ok (script_of new)
 unfolding lines_from
-one_taken n text texts at s next new a is answered rest = grind arith
+first_taken n plain more at s next new a is answered rest = grind arith
 
 all_taken : (texts : List (List ℕ)) (at : ℕ) (s new : SessionValue) (written : List ℕ)
-    → AnswersAll s texts written new
-    → lines_from at (script_of s) (taken s.names texts) ≡ Ok (script_of new)
+    → (all : AnswersAll s texts written new)
+    → lines_from at (script_of s) (taken s texts written new all) ≡ Ok (script_of new)
 unfolding AnswersAll lines_from taken
 all_taken [] at s new written all = ap (λ (x : SessionValue). Ok (script_of x)) (sym all.1)
 all_taken (text ∷ texts) at s new written all =
-    one_taken (line_in s.names text) text texts at s all.1 new all.0 refl all.3
-    (λ k. all_taken texts k all.1 new all.2 all.5)
+    let plain = plain_in s.bound text in
+    first_taken (line_in s.names plain.text) plain (taken all.1 texts all.2 new all.5) at s all.1 new all.0
+    refl all.3 (λ k. all_taken texts k all.1 new all.2 all.5)
 
 pub answers_read : (l : LayoutParts) (texts : List (List ℕ)) (written : List ℕ) (s : SessionValue)
-    → AnswersAll (started l) texts written s
-    → lines_from 1 nothing (taken [] texts) ≡ Ok (script_of s)
+    → (all : AnswersAll (started l) texts written s)
+    → lines_from 1 nothing (taken (started l) texts written s all) ≡ Ok (script_of s)
 answers_read l texts written s all = all_taken texts 1 (started l) s written all

@@ -1,6 +1,6 @@
 -- Answers to what a line asks for.
-use Rattle.std.proofs.Common.{arith, ◌≡◌, ℕ, List, [], ◌∷◌, ◌++◌, Option, Some, Result, refl, ap, inl}
-use Rattle.std.specs.Prelude.{length, option_map, IsErr, OnErr}
+use Rattle.std.proofs.Common.{arith, ◌≡◌, ℕ, List, [], ◌∷◌, ◌++◌, Option, Some, None, Result, refl, sym, ap, subst, ◌∙◌, inl, inr}
+use Rattle.std.specs.Prelude.{◌⊎◌, length, option_map, OnErr, OnOk}
 use Rattle.hp_units.specs.declared.events.Event.{Event}
 use Rattle.hp_units.specs.declared.plans.Item.{Item}
 use Rattle.hp_units.specs.declared.replies.OpEnd.{OpEnd}
@@ -14,8 +14,13 @@ use Rattle.hp_scenario.specs.declared.lines.Line.{Line}
 use Rattle.hp_text.specs.Files.{write_fault_line}
 use Rattle.hp_text.specs.Plans.{plan_line}
 use Rattle.hp_commands.specs.Files.{cat_text}
+use Rattle.hp_names.specs.Bindings.{Bound, bound_after}
+use Rattle.hp_names.specs.declared.bindings.Naming.{Naming}
+use Rattle.hp_names.specs.declared.plain.PlainLine.{PlainLine}
 use Rattle.hp_live.specs.Answers.{AnswerValue, Answers, IsDone, IsEventDone, IsPlanTold, did_text}
-use Rattle.hp_live.specs.Sessions.{IsLost}
+use Rattle.hp_live.specs.Results.{IsKnown, Typed, number_asked, typed_by, typed_in, typed_of}
+use Rattle.hp_live.specs.Sessions.{AnswersRead, AnswersText, IsLostTyped, RunsLine, SessionValue}
+use Rattle.hp_live.specs.Talks.{IsLostLine, IsLostText, StatesValue}
 use Rattle.hp_live.specs.declared.answers.Did.{Did}
 use Rattle.hp_live.specs.declared.answers.Did.TheVariants as did
 use Rattle.hp_live.specs.declared.session.Lack.{Lack}
@@ -31,37 +36,127 @@ plan_answered m new cpu turns plan a t = ((t.0, t.1, ap (λ (x : AnswerValue). x
 pub on_err : {T E P : Type 0} (r : Result T E) → P → OnErr r P
 on_err r p = grind arith
 
-pub event_done : (m new : MachineValue) (cpu : ℕ) (event : Event) (d : Did)
-    → IsEventDone m cpu event d new → IsDone m cpu (asks.event event) new
-event_done m new cpu event d done = (did_text d, done.0)
+pub event_done : (m new : MachineValue) (cpu : ℕ) (event : Event) (d said : Did) → said ≡ d
+    → IsEventDone m cpu event d new → IsDone m cpu (asks.event event) said new
+event_done m new cpu event d said same done =
+    subst (λ (x : Did). IsDone m cpu (asks.event event) x new) (sym same) (did_text d, done.0, done.1)
 
-pub plan_done : (m new : MachineValue) (cpu turns : ℕ) (plan : List Item)
-    → (end : OpEnd) × IsPlanRun m cpu turns plan end new → IsDone m cpu (asks.plan plan turns) new
-plan_done m new cpu turns plan ran = (plan_line ran.0, (ran.0, ran.1, refl))
+pub plan_done : (m new : MachineValue) (cpu turns : ℕ) (plan : List Item) (d : Did)
+    → (end : OpEnd) × IsPlanRun m cpu turns plan end new → IsDone m cpu (asks.plan plan turns) d new
+plan_done m new cpu turns plan d ran = (plan_line ran.0, (ran.0, ran.1, refl), tt)
 
-pub not_taken_done : (m : MachineValue) (cpu : ℕ) (fault : ControlFault)
-    → IsDone m cpu (asks.not_taken fault) m
-not_taken_done m cpu fault = (write_fault_line fault, (refl, refl))
+pub not_taken_done : (m : MachineValue) (cpu : ℕ) (fault : ControlFault) (d : Did)
+    → IsDone m cpu (asks.not_taken fault) d m
+not_taken_done m cpu fault d = (write_fault_line fault, (refl, refl), tt)
 
-pub file_done : (m : MachineValue) (cpu : ℕ) (path : List ℕ) → IsDone m cpu (asks.cat path) m
-file_done m cpu path = (cat_text m path, (inl refl, refl))
+pub file_done : (m : MachineValue) (cpu : ℕ) (path : List ℕ) (d : Did) → IsDone m cpu (asks.cat path) d m
+file_done m cpu path d = (cat_text m path, (inl refl, refl), tt)
 
-pub seal_done : (m new : MachineValue) (cpu : ℕ) → new ≡ sealed m → IsDone m cpu asks.seal new
-seal_done m new cpu goes = (did_text (did.Sealed (length m.history)), (refl, goes))
+pub seal_done : (m new : MachineValue) (cpu : ℕ) (d : Did) → new ≡ sealed m → IsDone m cpu asks.seal d new
+seal_done m new cpu d goes = (did_text (did.Sealed (length m.history)), (refl, goes), tt)
+
+-- ---- a line that was answered
+
+-- what was done is what the answer says
+pub answer_done : (m new : MachineValue) (cpu : ℕ) (meaning : asks.Meaning) (a : AnswerValue)
+    → Answers m cpu meaning a new → IsDone m cpu meaning a.did new
+answer_done m new cpu (asks.event event) a answered = (a.text, answered.0, answered.1.1)
+answer_done m new cpu (asks.plan items turns) a answered = (a.text, answered.0, tt)
+answer_done m new cpu (asks.not_taken fault) a answered = (a.text, answered.0, tt)
+answer_done m new cpu (asks.cat path) a answered = (a.text, answered.0, tt)
+answer_done m new cpu asks.seal a answered = (a.text, answered.0, tt)
+
+-- with memory for the answer or without
+pub either_done : {E : Type 0} (r : Result Unit E) (m new : MachineValue) (cpu : ℕ) (meaning : asks.Meaning)
+    (a : AnswerValue)
+    → OnOk r (Answers m cpu meaning a new) → OnErr r (IsDone m cpu meaning a.did new)
+    → IsDone m cpu meaning a.did new
+either_done r m new cpu meaning a ok err = grind (arith, answer_done)
 
 -- ---- a line that was run and is kept, but not answered
 
-on_err_at : {T E P : Type 0} (r : Result T E) → IsErr r → OnErr r P → P
-on_err_at r failed h = grind arith
-
-pub lost_line : {T E : Type 0} (ran : Result T E) (given : Lack) (names after : List (List ℕ))
-    (lines kept : List Line) (m new : MachineValue) (text : List ℕ) (found : Option Line) (line : Line)
-    → given ≡ lack.Answer → IsErr ran → OnErr ran (IsDone m line.cpu (asked_by line.work) new)
+lost_answer : (names after : List (List ℕ)) (lines kept : List Line) (bound noted : Bound)
+    (m new : MachineValue) (plain : PlainLine) (found : Option Line) (line : Line) (d : Did) (number : ℕ)
+    → IsDone m line.cpu (asked_by line.work) d new → number ≡ number_asked (asked_by line.work) d
     → found ≡ Some line
     → option_map {T = Line} {U = Numbered} (λ l. record { names = after; line = l }) found
-    ≡ line_in names text
-    → kept ≡ lines ++ line ∷ []
-    → IsLost given (record { names = names; lines = lines; machine = m }) text
-    (record { names = after; lines = kept; machine = new })
-lost_line ran given names after lines kept m new text found line is failed did at read keeps =
-    grind (arith, on_err_at)
+    ≡ line_in names plain.text
+    → kept ≡ lines ++ line ∷ [] → IsKnown bound plain.naming (length lines) number noted
+    → IsLostTyped lack.Answer (record { names = names; lines = lines; bound = bound; machine = m })
+    (typed_by names plain)
+    (record { names = after; lines = kept; bound = noted; machine = new })
+lost_answer names after lines kept bound noted m new plain found line d number done is at read keeps known =
+    let n : Numbered = record { names = after; line = line } in
+    let t : Typed = record { numbered = n; naming = plain.naming } in
+    let typed : typed_by names plain ≡ Some t =
+    ap (typed_of plain) (sym read ∙ ap (option_map {T = Line} {U = Numbered} (λ l. record {
+      names = after;
+      line = l;
+    })) at) in (
+      t,
+      done.0,
+      typed,
+      record {
+        did = d;
+        done = done;
+        ran = done.1;
+        names = refl;
+        lines = keeps;
+        bound = subst (λ (k : ℕ). IsKnown bound plain.naming (length lines) k noted) is known;
+      },
+    )
+
+pub lost_line : (given : Lack) (names after : List (List ℕ)) (lines kept : List Line) (bound noted : Bound)
+    (m new : MachineValue) (plain : PlainLine) (found : Option Line) (line : Line) (d : Did) (number : ℕ)
+    → given ≡ lack.Answer
+    → IsDone m line.cpu (asked_by line.work) d new → number ≡ number_asked (asked_by line.work) d
+    → found ≡ Some line
+    → option_map {T = Line} {U = Numbered} (λ l. record { names = after; line = l }) found
+    ≡ line_in names plain.text
+    → kept ≡ lines ++ line ∷ [] → IsKnown bound plain.naming (length lines) number noted
+    → IsLostTyped given (record { names = names; lines = lines; bound = bound; machine = m })
+    (typed_by names plain)
+    (record { names = after; lines = kept; bound = noted; machine = new })
+lost_line given names after lines kept bound noted m new plain found line d number same done is at read keeps known =
+    subst (λ (k : Lack). IsLostTyped k (record { names = names; lines = lines; bound = bound; machine = m })
+    (typed_by names plain)
+    (record { names = after; lines = kept; bound = noted; machine = new })) (sym same)
+    (lost_answer names after lines kept bound noted m new plain found line d number done is at read keeps known)
+
+-- ---- a line that was answered, but whose reply was lost
+
+known_after : (old new : Bound) (naming : Option Naming) (line number : ℕ)
+    → new ≡ bound_after old naming line number → IsKnown old naming line number new
+known_after old new None line number is = is
+known_after old new (Some naming) line number is = inl is
+
+answered_run : (typed : Option Typed) (s new : SessionValue) (a : AnswerValue) → AnswersRead s typed a new
+    → (new ≡ s) ⊎ ((t : Typed) × (written : List ℕ) × (typed ≡ Some t) × RunsLine s t written new)
+answered_run None s new a answered = inl answered.1
+answered_run (Some t) s new a answered =
+    let line = t.numbered.line in
+    inr (
+      t,
+      a.text,
+      refl,
+      record {
+        did = a.did;
+        done = answer_done s.machine new.machine line.cpu (asked_by line.work) a answered.0;
+        ran = answered.0.0;
+        names = ap (λ (x : SessionValue). x.names) answered.1;
+        lines = ap (λ (x : SessionValue). x.lines) answered.1;
+        bound =
+            known_after s.bound new.bound t.naming (length s.lines) (number_asked (asked_by line.work) a.did)
+            (ap (λ (x : SessionValue). x.bound) answered.1);
+      },
+    )
+
+pub shown_lost : (s new shown : SessionValue) (states after : StatesValue) (text : List ℕ) (a : AnswerValue)
+    → AnswersText s text a new → shown ≡ new → after ≡ states
+    → IsLostText (record { session = s; states = states }) text
+    (record { session = shown; states = after })
+shown_lost s new shown states after text a answered same stay = (
+  subst (λ (x : SessionValue). IsLostLine s text x) (sym same)
+      (answered_run (typed_in s.names s.bound text) s new a answered),
+  stay,
+)

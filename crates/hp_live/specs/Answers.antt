@@ -26,7 +26,7 @@ pub record AnswerValue : Type 0 where
   pub calls : List Receipt
   pub did : Did
 
--- what a line did, as text; a control file's text is its own
+-- what a line did, as text; the text of a control file is not included
 abbrev pub did_text : Did → List ℕ
 did_text did.NoLine = []
 did_text (did.Event serial reply) = reply_line serial reply
@@ -40,11 +40,11 @@ did_text (did.Sealed count) = sealed_line count
 abbrev pub untold : AnswerValue
 untold = record { text = []; calls = []; did = did.NoLine }
 
--- the same after what a line did is said
+-- an answer after what a line did was added
 abbrev pub said : AnswerValue → Did → AnswerValue
 said a d = record { text = a.text ++ did_text d; calls = a.calls; did = d }
 
--- an answer that says what a line did, and the calls of its plan
+-- an answer with what a line did, and the calls of its plan
 abbrev pub told : Did → List Receipt → AnswerValue
 told d calls = record { text = did_text d; calls = calls; did = d }
 
@@ -75,18 +75,24 @@ IsTold m cpu asks.seal a new = a ≡ told (did.Sealed (length m.history)) []
 abbrev pub Answers : MachineValue → (cpu : ℕ) → asks.Meaning → AnswerValue → (new : MachineValue) → Type 0
 Answers m cpu meaning a new = WritesAsked m cpu meaning a.text new × IsTold m cpu meaning a new
 
+-- this is what a line's event did; of other lines it is not known
+abbrev pub IsDid : MachineValue → (cpu : ℕ) → asks.Meaning → Did → (new : MachineValue) → Type 0
+IsDid m cpu (asks.event event) d new = IsEventTold m cpu event d new
+IsDid m cpu meaning d new = Unit {0}
+
 -- what a line asks for was done, whatever was written
-abbrev pub IsDone : MachineValue → (cpu : ℕ) → asks.Meaning → (new : MachineValue) → Type 0
-IsDone m cpu meaning new = (text : List ℕ) × WritesAsked m cpu meaning text new
+abbrev pub IsDone : MachineValue → (cpu : ℕ) → asks.Meaning → Did → (new : MachineValue) → Type 0
+IsDone m cpu meaning d new =
+    (text : List ℕ) × WritesAsked m cpu meaning text new × IsDid m cpu meaning d new
 
--- ---- on the way
+-- ---- steps of an answer
 
--- an event was called, and this came of it
+-- an event was called; `d` is what this did
 abbrev pub IsEventDone : MachineValue → (cpu : ℕ) → Event → Did → (new : MachineValue) → Type 0
 IsEventDone m cpu event d new =
     WritesEvent m cpu event (did_text d) new × IsEventTold m cpu event d new
 
--- a plan was run to this end, and the receipts of its calls are kept in an answer that says no more
+-- a plan was run to this end, and the answer has the receipts of its calls, and nothing else yet
 abbrev pub IsPlanKept : MachineValue → (cpu turns : ℕ) → List Item → OpEnd → AnswerValue → (new : MachineValue)
     → Type 0
 IsPlanKept m cpu turns items end a new =

@@ -1,4 +1,4 @@
--- A talk in objects, of which a clause sees the session and the states.
+-- A talk in objects; clauses see its session and its states.
 use Rattle.hp_live.specs.Talks.{ObjectsValue}
 use Rattle.hp_live.specs.declared.object_talk.ObjectTalk.{ObjectTalk}
 

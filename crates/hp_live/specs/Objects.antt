@@ -30,7 +30,7 @@ serial_keys serial = key (codes "serial") ∷ number (decimal serial) ∷ []
 abbrev pub reply_keys : Reply → List Token
 reply_keys reply = pair (codes "answer") (reply_text reply)
 
--- what is no line
+-- the keys for a text that is no line
 abbrev pub fault_keys : (hint : List ℕ) → List Token
 fault_keys hint = pair (codes "fault") (codes "no line") ++ pair (codes "hint") hint
 
@@ -48,8 +48,8 @@ TellsCalls (r ∷ rs) ts =
     × (ts ≡ call_object r call ++ rest)
     × TellsCalls rs rest
 
--- the keys for what a line did: of an event its serial and its reply, of a plan its calls, of a seal the
--- number of records, and of what is no line that it is none
+-- the keys for what a line did: the serial and the reply of an event, the calls of a plan, the number
+-- of records of a seal, or that the text is no line
 abbrev pub TellsDid : Did → List Receipt → List Token → Type 0
 TellsDid did.NoLine calls ts = (hint : List ℕ) × (ts ≡ fault_keys hint)
 TellsDid (did.Event serial reply) calls ts = ts ≡ serial_keys serial ++ reply_keys reply

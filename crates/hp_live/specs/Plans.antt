@@ -1,4 +1,4 @@
--- What calls of a port that keeps them make of it.
+-- What calls do to a port that stores their receipts.
 use Rattle.std.specs.Prelude.{◌≡◌, ℕ, Bool, false, List, [], ◌++◌}
 use Rattle.std.proofs.Common.{ap, sym, ◌∙◌, append-nil, append_assoc}
 use Rattle.hp_units.specs.declared.plans.Item.{Item}
@@ -18,11 +18,11 @@ abbrev pub IsRunWith : MachineValue → (cpu turns : ℕ) → List Item → (old
 IsRunWith m cpu turns plan old end kept new =
     (run : IsPlanRun m cpu turns plan end new) × (kept ≡ old ++ run.receipts)
 
--- no call
+-- without a call, nothing changes
 pub keeps_nothing : (calls : List Receipt) (lost : Bool) → Keeps calls lost [] calls lost
 keeps_nothing calls lost = λ none. (none, sym (append-nil calls))
 
--- calls after calls
+-- two sequences of calls, one after the other, append the receipts of both
 pub keeps_joined : (xs ys old mid new : List Receipt) (was between is : Bool)
     → Keeps old was xs mid between → Keeps mid between ys new is → Keeps old was (xs ++ ys) new is
 keeps_joined xs ys old mid new was between is first second = λ none.

@@ -1,7 +1,10 @@
--- What is replied to a line of a talk, in rows.
+-- The reply to a line of a talk, in rows.
 use Rattle.std.specs.Prelude.{◌≡◌, ◌+◌, ◌-◌, ◌^◌, ◌⊎◌, ℕ, Bool, List, [], ◌∷◌, ◌++◌, codes, flat_map, length, Option, Some, None}
 use Rattle.std.specs.List.{AllByRecursion}
-use Rattle.hp_scenario.specs.Names.{Numbered, line_in}
+use Rattle.hp_names.specs.Bindings.{Bound, bound_after}
+use Rattle.hp_names.specs.Named.{NamedValue}
+use Rattle.hp_names.specs.Resolved.{Resolves}
+use Rattle.hp_scenario.specs.Asked.{asked_by}
 use Rattle.hp_scenario.specs.Scenario.{ScenarioValue}
 use Rattle.hp_scenario.specs.declared.lines.Line.{Line}
 use Rattle.hp_text.specs.Scenarios.{scenario_text}
@@ -9,6 +12,7 @@ use Rattle.hp_text.specs.State.{state_text}
 use Rattle.hp_trace.specs.Lives.{IsBegun, LiveValue, LivesOn, without_text}
 use Rattle.hp_trace.specs.Traces.{IsTraceOf}
 use Rattle.hp_trace.specs.declared.view.View.{View}
+use Rattle.hp_live.specs.Results.{IsKnown, Typed, number_left, typed_in}
 use Rattle.hp_live.specs.Talks.{IsUnread, word_of}
 use Rattle.hp_live.specs.declared.live_words.LiveWord.{LiveWord}
 use Rattle.hp_live.specs.declared.live_words.LiveWord.TheVariants as word
@@ -16,10 +20,12 @@ use Rattle.hp_live.specs.declared.live_words.LiveWord.TheVariants as word
 abbrev pub lost_row : List ℕ
 lost_row = codes "fault OutOfMemory\n"
 
--- the names and lines so far, the machine with the rows of the last line, and the last reply
+-- the owners' names and the lines so far, with plain numbers, what names of results are bound to, the
+-- machine with the rows of the last line, and the last reply
 pub record RowsSession : Type 0 where
   pub names : List (List ℕ)
   pub lines : List Line
+  pub bound : Bound
   pub trace : LiveValue
   pub text : List ℕ
 
@@ -28,35 +34,54 @@ abbrev pub later_view : ScenarioValue → (width : ℕ) → (orders : Bool) → 
 later_view s width orders =
     record { from = length s.lines + 1; to = 2 ^ 64 - 1; every = 1; width = width; orders = orders }
 
--- a scenario's lines were run, and no other line
-pub record RowsBegun (s : ScenarioValue) (width : ℕ) (orders : Bool) (new : RowsSession) : Type 0 where
-  pub names : new.names ≡ s.names
-  pub lines : new.lines ≡ s.lines
-  pub begun : IsBegun (later_view s width orders) s new.trace
+-- a scenario's lines were run with plain numbers, and no other line
+pub record RowsBegun (s : NamedValue) (width : ℕ) (orders : Bool) (new : RowsSession) : Type 0 where
+  pub plain : NamedValue
+  pub resolved : Resolves (2 ^ 64 - 1) s plain
+  pub names : new.names ≡ plain.scenario.names
+  pub lines : new.lines ≡ plain.scenario.lines
+  pub bound : new.bound ≡ plain.bound
+  pub begun : IsBegun (later_view plain.scenario width orders) plain.scenario new.trace
 
 -- before a reply: no row and no text
 abbrev pub cleared : RowsSession → RowsSession
-cleared s = record { names = s.names; lines = s.lines; trace = without_text s.trace; text = [] }
+cleared s = record {
+  names = s.names;
+  lines = s.lines;
+  bound = s.bound;
+  trace = without_text s.trace;
+  text = [];
+}
 
 -- nothing was run
 pub record Stays (s new : RowsSession) : Type 0 where
   pub names : new.names ≡ s.names
   pub lines : new.lines ≡ s.lines
+  pub bound : new.bound ≡ s.bound
   pub trace : new.trace ≡ s.trace
 
+-- the number of the result of a line that was run
+abbrev pub number_run : RowsSession → Typed → (new : RowsSession) → ℕ
+number_run s t new = number_left (asked_by t.numbered.line.work) s.trace.machine new.trace.machine
+
 -- a line was kept
-pub record KeepsLine (s : RowsSession) (n : Numbered) (new : RowsSession) : Type 0 where
-  pub names : new.names ≡ n.names
-  pub lines : new.lines ≡ s.lines ++ n.line ∷ []
+pub record KeepsLine (s : RowsSession) (t : Typed) (new : RowsSession) : Type 0 where
+  pub names : new.names ≡ t.numbered.names
+  pub lines : new.lines ≡ s.lines ++ t.numbered.line ∷ []
 
--- no line changes nothing; a line is run and kept, and its rows are the reply
-abbrev pub RowsRead : Option Numbered → RowsSession → (reply : List ℕ) → (new : RowsSession) → Type 0
+-- a line was run and kept, and its rows are the reply
+pub record RowsRun (s : RowsSession) (t : Typed) (reply : List ℕ) (new : RowsSession) : Type 0 where
+  pub keeps : KeepsLine s t new
+  pub lives : LivesOn t.numbered.names (length new.lines) t.numbered.line s.trace new.trace
+  pub is : reply ≡ new.trace.rows.text
+  pub bound : new.bound ≡ bound_after s.bound t.naming (length s.lines) (number_run s t new)
+
+-- a text that is no line changes nothing; a line is run and kept, and its rows are the reply
+abbrev pub RowsRead : Option Typed → RowsSession → (reply : List ℕ) → (new : RowsSession) → Type 0
 RowsRead None s reply new = Stays s new
-RowsRead (Some n) s reply new =
-    KeepsLine s n new × LivesOn n.names (length new.lines) n.line s.trace new.trace
-    × (reply ≡ new.trace.rows.text)
+RowsRead (Some t) s reply new = RowsRun s t reply new
 
--- a word changes nothing
+-- the reply to a text, by what it is; a command word changes nothing
 abbrev pub RowsWord : LiveWord → RowsSession → (text reply : List ℕ) → (new : RowsSession) → Type 0
 RowsWord word.Nothing s text reply new = (reply ≡ []) × Stays s new
 RowsWord word.Help s text reply new = Stays s new
@@ -64,16 +89,21 @@ RowsWord word.State s text reply new =
     (reply ≡ state_text s.trace.machine.layout s.names s.trace.machine.state) × Stays s new
 RowsWord word.Scenario s text reply new =
     (reply ≡ scenario_text s.trace.machine.layout s.names s.lines []) × Stays s new
-RowsWord word.Line s text reply new = RowsRead (line_in s.names text) s reply new
+RowsWord word.Line s text reply new = RowsRead (typed_in s.names s.bound text) s reply new
 
--- a line that is no text, or too long, changes nothing
+-- a line that is not UTF-8, or too long, changes nothing; any other gets the reply to its text
 abbrev pub RowsText : RowsSession → (line reply : List ℕ) → (new : RowsSession) → Type 0
 RowsText s line reply new = (IsUnread line × Stays s new) ⊎ RowsWord (word_of line) s line reply new
 
 -- there was no memory: nothing was run; or the line is kept, of which a part may have been run
+abbrev pub IsLostTyped : RowsSession → Option Typed → (new : RowsSession) → Type 0
+IsLostTyped s typed new =
+    Stays s new
+    ⊎ ((t : Typed) × (typed ≡ Some t) × KeepsLine s t new
+    × IsKnown s.bound t.naming (length s.lines) (number_run s t new) new.bound)
+
 abbrev pub IsLostRow : RowsSession → (line : List ℕ) → (new : RowsSession) → Type 0
-IsLostRow s line new =
-    Stays s new ⊎ ((n : Numbered) × (line_in s.names line ≡ Some n) × KeepsLine s n new)
+IsLostRow s line new = IsLostTyped s (typed_in s.names s.bound line) new
 
 -- a reply for which there was memory
 abbrev pub RepliesWhole : RowsSession → (line reply : List ℕ) → (new : RowsSession) → Type 0

@@ -1,62 +1,88 @@
--- A session, the answer to a text, and what the answers to texts in a row are together.
-use Rattle.std.specs.Prelude.{◌≡◌, ℕ, List, [], ◌∷◌, ◌++◌, Option, Some, None}
+-- A session, the answer to a text, and what a sequence of answers amounts to.
+use Rattle.std.specs.Prelude.{◌≡◌, ℕ, ◌-◌, ◌^◌, List, [], ◌∷◌, ◌++◌, length, Option, Some, None}
 use Rattle.hp_units.specs.LayoutParts.{LayoutParts}
 use Rattle.hp_machine.specs.Machine.{MachineValue, booted}
 use Rattle.hp_scenario.specs.Asked.{asked_by}
-use Rattle.hp_scenario.specs.Names.{Numbered, line_in}
-use Rattle.hp_scenario.specs.Scenario.{ScenarioValue, Script}
+use Rattle.hp_names.specs.Bindings.{Bound, bound_after}
+use Rattle.hp_names.specs.Named.{NamedValue}
+use Rattle.hp_names.specs.Plain.{plain_in}
+use Rattle.hp_names.specs.Resolved.{Resolves}
+use Rattle.hp_scenario.specs.Scenario.{Script}
 use Rattle.hp_scenario.specs.declared.lines.Line.{Line}
 use Rattle.hp_commands.specs.Serial.{WritesLine, WritesLines}
-use Rattle.hp_live.specs.Answers.{AnswerValue, Answers, untold}
+use Rattle.hp_live.specs.Answers.{AnswerValue, Answers, IsDone, untold}
+use Rattle.hp_live.specs.Results.{IsKnown, Typed, number_asked, typed_in}
+use Rattle.hp_live.specs.declared.answers.Did.{Did}
 use Rattle.hp_live.specs.declared.session.Lack.{Lack}
 use Rattle.hp_live.specs.declared.session.Lack.TheVariants as lack
 
--- the owners' names, all lines so far, and the machine after them
+-- the owners' names, all lines so far with plain numbers, what names of results are bound to, and the
+-- machine after the lines
 pub record SessionValue : Type 0 where
   pub names : List (List ℕ)
   pub lines : List Line
+  pub bound : Bound
   pub machine : MachineValue
 
 -- a layout's session at boot
 abbrev pub started : LayoutParts → SessionValue
-started l = record { names = []; lines = []; machine = booted l }
+started l = record { names = []; lines = []; bound = []; machine = booted l }
 
--- a session after one more line, with the machine after it
-abbrev pub with_line : SessionValue → Numbered → MachineValue → SessionValue
-with_line s n machine = record { names = n.names; lines = s.lines ++ n.line ∷ []; machine = machine }
+-- a session after one more line, with the number of its result and the machine after it
+abbrev pub with_line : SessionValue → Typed → (number : ℕ) → MachineValue → SessionValue
+with_line s t number machine = record {
+  names = t.numbered.names;
+  lines = s.lines ++ t.numbered.line ∷ [];
+  bound = bound_after s.bound t.naming (length s.lines) number;
+  machine = machine;
+}
 
 -- a line was run, its text is what `hotplug serial` writes for it, and it is kept
-abbrev pub RunsLine : SessionValue → Numbered → (text : List ℕ) → (new : SessionValue) → Type 0
-RunsLine s n text new =
-    WritesLine s.machine n.line text new.machine × (new ≡ with_line s n new.machine)
+pub record RunsLine (s : SessionValue) (t : Typed) (text : List ℕ) (new : SessionValue) : Type 0 where
+  pub did : Did
+  pub done :
+      IsDone s.machine t.numbered.line.cpu (asked_by t.numbered.line.work) did new.machine
+  pub ran : WritesLine s.machine t.numbered.line text new.machine
+  pub names : new.names ≡ t.numbered.names
+  pub lines : new.lines ≡ s.lines ++ t.numbered.line ∷ []
+  pub bound :
+      IsKnown s.bound t.naming (length s.lines) (number_asked (asked_by t.numbered.line.work) did) new.bound
 
--- a scenario's session after its lines, which were run from boot on
-pub record IsResumed (s : ScenarioValue) (new : SessionValue) : Type 0 where
+-- a scenario's session after its lines, which were run from boot on with plain numbers
+pub record IsResumed (s : NamedValue) (new : SessionValue) : Type 0 where
+  pub plain : NamedValue
+  pub resolved : Resolves (2 ^ 64 - 1) s plain
   pub text : List ℕ
-  pub run : WritesLines (booted s.layout) s.lines text new.machine
-  pub names : new.names ≡ s.names
-  pub lines : new.lines ≡ s.lines
+  pub run : WritesLines (booted s.scenario.layout) plain.scenario.lines text new.machine
+  pub names : new.names ≡ plain.scenario.names
+  pub lines : new.lines ≡ plain.scenario.lines
+  pub bound : new.bound ≡ plain.bound
 
 -- ---- one text
 
--- the answer to what may be a line: no line is answered by nothing, and changes nothing
-abbrev pub AnswersRead : SessionValue → Option Numbered → AnswerValue → (new : SessionValue) → Type 0
+-- the answer to what may be a line; a text that is no line gets an empty answer, and changes nothing
+abbrev pub AnswersRead : SessionValue → Option Typed → AnswerValue → (new : SessionValue) → Type 0
 AnswersRead s None a new = (a ≡ untold) × (new ≡ s)
-AnswersRead s (Some n) a new =
-    Answers s.machine n.line.cpu (asked_by n.line.work) a new.machine × (new ≡ with_line s n new.machine)
+AnswersRead s (Some t) a new =
+    Answers s.machine t.numbered.line.cpu (asked_by t.numbered.line.work) a new.machine
+    × (new ≡ with_line s t (number_asked (asked_by t.numbered.line.work) a.did) new.machine)
 
 -- the answer to a text, and the session after it
 abbrev pub AnswersText : SessionValue → (text : List ℕ) → AnswerValue → (new : SessionValue) → Type 0
-AnswersText s text a new = AnswersRead s (line_in s.names text) a new
+AnswersText s text a new = AnswersRead s (typed_in s.names s.bound text) a new
 
--- the session after a text for which memory ran out: as before; or the text is a line, which was
--- run and is kept
+-- the session after what may be a line, for which memory ran out: as before; or it is a line, which
+-- was run and is kept
+abbrev pub IsLostTyped : Lack → SessionValue → Option Typed → (new : SessionValue) → Type 0
+IsLostTyped lack.Line s typed new = new ≡ s
+IsLostTyped lack.Answer s typed new =
+    (t : Typed) × (written : List ℕ) × (typed ≡ Some t) × RunsLine s t written new
+
+-- the same after a text
 abbrev pub IsLost : Lack → SessionValue → (text : List ℕ) → (new : SessionValue) → Type 0
-IsLost lack.Line s text new = new ≡ s
-IsLost lack.Answer s text new =
-    (n : Numbered) × (written : List ℕ) × (line_in s.names text ≡ Some n) × RunsLine s n written new
+IsLost given s text new = IsLostTyped given s (typed_in s.names s.bound text) new
 
--- ---- texts in a row
+-- ---- one text after another
 
 -- texts were answered one after another, and what was written for them
 unfoldable pub AnswersAll : SessionValue → (texts : List (List ℕ)) → (written : List ℕ) → (new : SessionValue)
@@ -66,15 +92,17 @@ AnswersAll s (text ∷ texts) written new =
     (a : AnswerValue) × (next : SessionValue) × (rest : List ℕ) × AnswersText s text a next
     × (written ≡ a.text ++ rest) × AnswersAll next texts rest new
 
--- the texts that are lines, each after the names of the lines before it
-abbrev pub took : Option Numbered → (names : List (List ℕ)) → (text : List ℕ)
-    → (more : List (List ℕ) → List (List ℕ)) → List (List ℕ)
-took None names text more = more names
-took (Some n) names text more = text ∷ more n.names
+-- the texts that are lines, with plain numbers
+abbrev pub took : Option Typed → (plain : List ℕ) → (more : List (List ℕ)) → List (List ℕ)
+took None plain more = more
+took (Some t) plain more = plain ∷ more
 
-unfoldable pub taken : (names : List (List ℕ)) → (texts : List (List ℕ)) → List (List ℕ)
-taken names [] = []
-taken names (text ∷ texts) = took (line_in names text) names text (λ names. taken names texts)
+unfoldable pub taken : (s : SessionValue) → (texts : List (List ℕ)) → (written : List ℕ)
+    → (new : SessionValue) → AnswersAll s texts written new → List (List ℕ)
+unfolding AnswersAll
+taken s [] written new all = []
+taken s (text ∷ texts) written new all =
+    took (typed_in s.names s.bound text) (plain_in s.bound text).text (taken all.1 texts all.2 new all.5)
 
 -- a session's names and lines, as a scenario's `calls` are read
 abbrev pub script_of : SessionValue → Script

@@ -1,4 +1,4 @@
--- What is replied to a line of a talk, in objects of JSON.
+-- The reply to a line of a talk, in objects of JSON.
 use Rattle.std.specs.Prelude.{◌≡◌, ◌<◌, ◌+◌, ◌⊎◌, ℕ, Bool, true, false, List, [], ◌∷◌, ◌++◌, codes, cond, flat_map, length, Option, Some, None}
 use Rattle.std.specs.List.{AllByRecursion}
 use Rattle.std.specs.Str.{bytes_eq, IsUtf8}
@@ -6,7 +6,6 @@ use Rattle.json.specs.Print.{print}
 use Rattle.json.specs.Token.{Token, begin_object, end_object, key, string}
 use Rattle.hp_plain.specs.Image.{Pictured}
 use Rattle.hp_machine.specs.Machine.{MachineValue, booted}
-use Rattle.hp_scenario.specs.Names.{Numbered, line_in}
 use Rattle.hp_scenario.specs.Scenario.{ScenarioValue}
 use Rattle.hp_scenario.specs.declared.lines.Line.{Line}
 use Rattle.hp_text.specs.Scenarios.{scenario_text}
@@ -17,6 +16,7 @@ use Rattle.hp_trace_json.specs.ChangeObjects.{IsChangeObject, no_change}
 use Rattle.hp_trace_json.specs.Changes.{ChangeValue, IsChange}
 use Rattle.hp_live.specs.Answers.{AnswerValue}
 use Rattle.hp_live.specs.Objects.{WritesObject, fault_keys, object_of}
+use Rattle.hp_live.specs.Results.{Typed, typed_in}
 use Rattle.hp_live.specs.Sessions.{AnswersText, RunsLine, SessionValue}
 use Rattle.hp_live.specs.declared.answers.Did.{Did}
 use Rattle.hp_live.specs.declared.answers.Did.TheVariants as did
@@ -31,7 +31,7 @@ word_of text =
     (cond (bytes_eq text (codes "state")) word.State
     (cond (bytes_eq text (codes "scenario")) word.Scenario word.Line)))
 
--- a line that is no text, or too long
+-- a line that is not UTF-8, or too long
 abbrev pub IsUnread : (line : List ℕ) → Type 0
 IsUnread line = (line_limit < length line) ⊎ (¬ IsUtf8 line)
 
@@ -45,7 +45,7 @@ line_of tokens = print tokens ++ 10 ∷ []
 abbrev pub word_object : (name text : List ℕ) → List ℕ
 word_object name text = line_of (begin_object ∷ key name ∷ string text ∷ end_object ∷ [])
 
--- an object for what is no line
+-- an object for a text that is no line
 abbrev pub fault_tokens : (line : ℕ) → (hint : List ℕ) → List Token
 fault_tokens line hint = object_of line [] (fault_keys hint)
 
@@ -55,7 +55,7 @@ fault_object line hint = line_of (fault_tokens line hint)
 abbrev pub lost_object : List ℕ
 lost_object = codes "{\"fault\":\"OutOfMemory\",\"hint\":\"out of memory: see state\"}\n"
 
--- the number of the line that was answered; of no line, that of the next one
+-- the number of the line that was answered; for a text that is no line, that of the next line
 abbrev pub number_of : Did → (lines : List Line) → ℕ
 number_of did.NoLine lines = length lines + 1
 number_of (did.Event serial reply) lines = length lines
@@ -69,11 +69,12 @@ number_of (did.Sealed count) lines = length lines
 abbrev pub object_end : List ℕ
 object_end = codes "}\n"
 
--- an object that begins so, up to its last bracket, has more keys: these
+-- the reply is the object that begins with `front`, with these further keys
 abbrev pub HasKeys : (front keys reply : List ℕ) → Type 0
 HasKeys front keys reply = reply ≡ front ++ (codes "," ++ (keys ++ codes "\n"))
 
--- it tells a change: it has the keys of the change's own object, or no more keys if nothing changed
+-- the reply reports a change: it has the keys of the change's own object, or no further keys if nothing
+-- changed
 abbrev pub TellsIn : (front : List ℕ) → ChangeValue → (reply : List ℕ) → Type 0
 TellsIn front change reply =
     ((change ≡ no_change) × (reply ≡ front ++ object_end))
@@ -81,7 +82,7 @@ TellsIn front change reply =
 
 -- ---- the states that objects show
 
--- whether they do, and the state that the last of them led to
+-- whether objects show the state, and the state that the last of them led to
 pub record StatesValue : Type 0 where
   pub is_shown : Bool
   pub last : Option Pictured
@@ -89,7 +90,7 @@ pub record StatesValue : Type 0 where
 abbrev pub picture : MachineValue → Pictured
 picture m = record { layout = m.layout; memory = m.state }
 
--- what an object shows of the states, of which this is the last one, and this one is now
+-- what an object shows of the state, given the last state that was shown and the state now
 abbrev pub ShowsIf : (is_shown : Bool) → (last : Option Pictured) → (now : Pictured)
     → (shown : Option Pictured) → (front reply : List ℕ) → Type 0
 ShowsIf false last now shown front reply = (shown ≡ None) × (reply ≡ front ++ object_end)
@@ -117,7 +118,7 @@ pub record ObjectsValue : Type 0 where
   pub session : SessionValue
   pub states : StatesValue
 
--- a line that is no text, or too long, changes nothing
+-- a line that is not UTF-8, or too long, changes nothing
 pub record IsRefused (s : ObjectsValue) (line reply : List ℕ) (new : ObjectsValue) : Type 0 where
   pub cause : IsUnread line
   pub hint : List ℕ
@@ -146,13 +147,13 @@ RepliesText s text reply new = RepliesWord (word_of text) s text reply new
 -- a line was run and is kept
 abbrev pub IsRun : SessionValue → (text : List ℕ) → (new : SessionValue) → Type 0
 IsRun s text new =
-    (n : Numbered) × (written : List ℕ) × (line_in s.names text ≡ Some n) × RunsLine s n written new
+    (t : Typed) × (written : List ℕ) × (typed_in s.names s.bound text ≡ Some t) × RunsLine s t written new
 
 -- there was no memory: nothing was run; or the line was run and is kept
 abbrev pub IsLostLine : SessionValue → (text : List ℕ) → (new : SessionValue) → Type 0
 IsLostLine s text new = (new ≡ s) ⊎ IsRun s text new
 
--- and no state was shown
+-- the same, and no state was shown
 abbrev pub IsLostText : ObjectsValue → (text : List ℕ) → (new : ObjectsValue) → Type 0
 IsLostText s text new = IsLostLine s.session text new.session × (new.states ≡ s.states)
 

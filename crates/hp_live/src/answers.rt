@@ -21,14 +21,14 @@ pub enum Did {
     Plan(OpEnd),
     /// Nothing: the control file of its `echo` does not take the word.
     NotTaken(ControlFault),
-    /// It read a control file, or found out why it is not read.
+    /// It read a control file, or reported why the file cannot be read.
     File,
     /// It sealed this many records.
     Sealed(u64),
 }
 
 /// The answer to a line: what it did, the calls of its plan, and the text that `hotplug serial`
-/// writes for it. One answer can be used for line after line; it keeps its memory.
+/// writes for it. One answer can be used for line after line, so that its buffers are reused.
 #[derive(Drop)]
 pub struct LiveAnswer {
     pub(crate) text: String,
@@ -89,11 +89,11 @@ impl LiveAnswer {
 
     /// Sets what the line did, and writes its text.
     pub(crate) fn say(&mut self, did: Did) -> Result<(), AllocError>
-        ensures { OnOk result (self.new ≡ said self.old did) }
+        ensures ok { OnOk result (self.new ≡ said self.old did) }
+        ensures did { self.new.did ≡ did }
     {
-        write_did(&mut self.text, &did)?;
         self.did = did;
-        Ok(())
+        write_did(&mut self.text, &did)
     }
 }
 

@@ -1,8 +1,9 @@
-//! What answers in a row are together: the contracts of functions that only prove them.
+//! What a sequence of answers amounts to, as contracts of functions that do nothing else.
 ghost use Rattle.std.specs.Prelude.{◌≡◌, ◌++◌, [], Bool, ℕ, List, Ok};
 ghost use Rattle.hp_units.specs.LayoutParts.{LayoutParts};
 ghost use Rattle.hp_machine.specs.Machine.{booted};
-ghost use Rattle.hp_scenario.specs.Scenario.{ScenarioValue, lines_from, nothing, scenario_in};
+ghost use Rattle.hp_scenario.specs.Scenario.{lines_from, nothing, scenario_in};
+ghost use Rattle.hp_names.specs.Named.{NamedValue};
 ghost use Rattle.hp_commands.specs.Serial.{WritesLines};
 ghost use Rattle.hp_commands.specs.Served.{IsTextOf};
 ghost use Rattle.hp_text.specs.State.{state_text};
@@ -13,42 +14,45 @@ ghost use Rattle.hp_live.specs.Talks.{ObjectsValue, RepliesObject, TellsLines};
 
 use hp_trace::live_rows_are_the_trace;
 
-/// What a session has written is what `hotplug serial` writes for its lines. These are the texts that
-/// are lines, read like a scenario's `calls`. With the state of the machine after them, what was
-/// written is a text of `hotplug serial` for a scenario of the layout and these lines, and the only
-/// one if no line ran out of memory.
+/// What a session has written is what `hotplug serial` writes for its lines. Its lines are the
+/// texts that are lines, read like a scenario's `calls`, with plain numbers in place of names for
+/// results. With the state of the machine after them, what was written is a text of `hotplug
+/// serial` for a scenario of the layout and these lines. It is the only such text if no line ran
+/// out of memory.
 pub fn answers_are_what_serial_writes()
     ensures lines { (l : LayoutParts) (texts : List (List ℕ)) (written : List ℕ) (s : SessionValue)
         → AnswersAll (started l) texts written s → WritesLines (booted l) s.lines written s.machine }
     ensures read { (l : LayoutParts) (texts : List (List ℕ)) (written : List ℕ) (s : SessionValue)
-        → AnswersAll (started l) texts written s → lines_from 1 nothing (taken [] texts) ≡ Ok (script_of s) }
+        → (all : AnswersAll (started l) texts written s)
+        → lines_from 1 nothing (taken (started l) texts written s all) ≡ Ok (script_of s) }
     ensures serial { (l : LayoutParts) (texts : List (List ℕ)) (written : List ℕ) (s : SessionValue)
         → AnswersAll (started l) texts written s → (input : List ℕ)
         → scenario_in input ≡ Ok (record { layout = l; names = s.names; lines = s.lines })
         → IsTextOf input (written ++ state_text s.machine.layout s.names s.machine.state) }
-    ensures resumed { (scenario : ScenarioValue) (texts : List (List ℕ)) (written : List ℕ)
+    ensures resumed { (scenario : NamedValue) (texts : List (List ℕ)) (written : List ℕ)
         (first s : SessionValue) → (begun : IsResumed scenario first) → AnswersAll first texts written s
-        → WritesLines (booted scenario.layout) s.lines (begun.text ++ written) s.machine }
+        → WritesLines (booted scenario.scenario.layout) s.lines (begun.text ++ written) s.machine }
 {}
 
-/// Whatever lines came in a talk in objects, the texts in the replies, one after another, are what
-/// `hotplug serial` writes for the lines so far: those of the scenario, and those that came. Words, and
-/// texts that are no lines, have no part in it. A reply that was lost has no text; its line was run all
-/// the same if it is among the lines.
+/// In a talk in objects, the texts in the replies, one after another, are what `hotplug serial`
+/// writes for the lines so far: those of the scenario, and those that came, with plain numbers in
+/// place of names for results. Command words, and texts that are no lines, add nothing. A reply
+/// that was lost has no text, but its line was run if it is among the lines.
 pub fn talks_tell_their_lines()
-    ensures { (scenario : ScenarioValue) (first s : ObjectsValue) (lines : List (List ℕ))
+    ensures { (scenario : NamedValue) (first s : ObjectsValue) (lines : List (List ℕ))
         (text : List ℕ) → (begun : IsResumed scenario first.session)
-        → AreReplies RepliesObject first lines text s → TellsLines scenario begun.text text s.session }
+        → AreReplies RepliesObject first lines text s
+        → TellsLines scenario.scenario begun.text text s.session }
 {}
 
-/// Whatever lines came in a talk in rows, its first row and the rows in the replies, one after another,
-/// are what `hotplug_lab trace` draws of the scenario with the lines so far, from the first that came
-/// on. This is for a talk that had memory for each reply.
+/// In a talk in rows, the first row and the rows in the replies, one after another, are what
+/// `hotplug_lab trace` draws of the scenario with the lines so far, from the first that came on,
+/// all with plain numbers. This is for a talk that had memory for each reply.
 pub fn talks_draw_the_trace()
-    ensures { (scenario : ScenarioValue) (width : ℕ) (orders : Bool) (first s : RowsSession)
-        (lines : List (List ℕ)) (text : List ℕ) → RowsBegun scenario width orders first
+    ensures { (scenario : NamedValue) (width : ℕ) (orders : Bool) (first s : RowsSession)
+        (lines : List (List ℕ)) (text : List ℕ) → (begun : RowsBegun scenario width orders first)
         → AreReplies RepliesWhole first lines text s
-        → DrawsTrace scenario width orders first.trace.rows.text text s }
+        → DrawsTrace begun.plain.scenario width orders first.trace.rows.text text s }
 {
     live_rows_are_the_trace();
 }

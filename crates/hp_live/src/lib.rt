@@ -1,11 +1,11 @@
 //! A live machine: lines answered one at a time, as `hotplug serial` answers a scenario's.
 //!
-//! The crate owns a session and the form of its replies: as text, as an object of JSON, and in rows.
-//! It reads no stream: hp_talk does. What a line is, hp_scenario says; what is written for it,
-//! hp_commands; and how its rows are drawn, hp_trace.
+//! The crate owns a session and the form of its replies: as text, as an object of JSON, and in
+//! rows. It reads no stream: hp_talk does. hp_scenario defines what a line is, hp_commands what is
+//! written for it, and hp_trace how its rows are drawn.
 //!
-//! Read specs/Sessions first: what an answer is, and what answers in a row are together. Then
-//! specs/Talks and specs/RowTalks: what is replied to a line.
+//! Read specs/Sessions first: what an answer is, and what a sequence of answers amounts to. Then
+//! specs/Talks and specs/RowTalks: the reply to a line.
 #![tactic(auto)]
 
 mod answers;
@@ -14,6 +14,7 @@ mod live_words;
 mod object_talk;
 mod objects;
 mod plans;
+mod results;
 mod row_talk;
 mod runs;
 mod session;

@@ -1,6 +1,6 @@
 //! A session that replies in objects of JSON.
 ghost use Rattle.std.specs.Prelude.{◌≡◌, ◌<◌, ◌+◌, ◌++◌, List, ℕ, [], IfOk, None, OnErr, OnOk, codes, length};
-ghost use Rattle.hp_scenario.specs.Seen.{scenario_seen};
+ghost use Rattle.hp_names.specs.Seen.{named_seen};
 ghost use Rattle.hp_text.specs.Scenarios.{scenario_text};
 ghost use Rattle.hp_text.specs.State.{state_text};
 ghost use Rattle.hp_talk.specs.Talks.{RepliesTo, line_limit};
@@ -17,8 +17,8 @@ use crate::session::Session;
 use crate::states::ShownStates;
 use crate::word_objects::{write_fault, write_word};
 use crate::words::help;
-use hp_check::write_expected;
-use hp_scenario::Scenario;
+use hp_check::{name_slip, write_expected};
+use hp_names::NamedScenario;
 use hp_talk::Talk;
 use std::alloc::{AllocError, Global};
 use std::str;
@@ -38,15 +38,15 @@ impl ObjectTalk {
     /// the state differs from that of the answer before it.
     pub fn begin(
         alloc: Global,
-        scenario: Scenario,
+        named: NamedScenario,
         is_state_shown: bool,
     ) -> Result<ObjectTalk, AllocError>
-        ensures session { IfOk result (λ talk. IsResumed (scenario_seen scenario) talk.session) }
+        ensures session { IfOk result (λ talk. IsResumed (named_seen named) talk.session) }
         ensures states { IfOk result
             (λ talk. talk.states ≡ record { is_shown = is_state_shown; last = None }) }
     {
         Ok(ObjectTalk {
-            session: Session::resume(alloc, scenario)?,
+            session: Session::resume(alloc, named)?,
             states: ShownStates::new(is_state_shown),
             answer: LiveAnswer::new(alloc),
             hint: String::new(alloc),
@@ -98,7 +98,7 @@ impl ObjectTalk {
         write_word(out, alloc, "scenario", text.as_str())
     }
 
-    /// Answers what may be a line.
+    /// Replies to a text that may be a line.
     fn reply_to_line(
         &mut self,
         alloc: Global,
@@ -131,7 +131,7 @@ impl ObjectTalk {
         ensures session { self.new.session ≡ self.old.session }
         ensures states { OnErr result (self.new.states ≡ self.old.states) }
     {
-        self.write_hint(text)?;
+        self.write_hint(alloc, text)?;
         let mut object = self.object(alloc)?;
         let session = &self.session;
         let shown = self
@@ -143,14 +143,17 @@ impl ObjectTalk {
     }
 
     /// Writes what was expected of a text that is no line.
-    fn write_hint(&mut self, text: &str) -> Result<(), AllocError>
+    fn write_hint(&mut self, alloc: Global, text: &str) -> Result<(), AllocError>
         ensures session { self.new.session ≡ self.old.session }
         ensures states { self.new.states ≡ self.old.states }
         ensures answer { self.new.answer ≡ self.old.answer }
     {
         self.hint.clear();
         match self.answer.did() {
-            Did::NoLine => write_expected(&mut self.hint, text),
+            Did::NoLine => {
+                let names = name_slip(alloc, text, &self.session.bound)?;
+                write_expected(&mut self.hint, text, &names)
+            }
             _ => Ok(()),
         }
     }
@@ -170,8 +173,8 @@ impl ObjectTalk {
         )
     }
 
-    /// Returns the number of the line that was answered; of what is no line, the number that the
-    /// next line gets.
+    /// Returns the number of the line that was answered. If the text was no line, returns the
+    /// number of the next line.
     fn number(&self) -> u64
         ensures { result ≡ number_of self.now.answer.did self.now.session.lines }
     {
@@ -181,7 +184,7 @@ impl ObjectTalk {
         }
     }
 
-    /// Refuses a line that is no text, or too long.
+    /// Refuses a line that is not UTF-8, or too long.
     fn refuse(&self, alloc: Global, hint: &str, out: &mut Vec<u8>) -> Result<(), AllocError>
         ensures ok { OnOk result (out.new.items
             ≡ out.old.items ++ fault_object (length self.now.session.lines + 1) hint.now) }

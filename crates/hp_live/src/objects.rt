@@ -13,8 +13,8 @@ use std::alloc::{AllocError, Global};
 /// Appends an answer to `out` as one object of JSON and a newline.
 ///
 /// Its keys are `line`, the number; `text`; for an event `serial` and `answer`; for a plan `calls`
-/// and `end`; for a seal `sealed`; and for no line `fault` and `hint`. The buffer is handed through,
-/// so that its memory can be used again.
+/// and `end`; for a seal `sealed`; and for a text that is no line `fault` and `hint`. Takes and
+/// returns the buffer, so that its memory can be reused.
 pub fn write_object(
     alloc: Global,
     out: Vec<u8>,

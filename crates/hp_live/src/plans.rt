@@ -1,4 +1,4 @@
-//! A plan, with each of its calls kept.
+//! Runs a plan and stores the receipts of its calls.
 ghost use Rattle.std.specs.Prelude.{◌≡◌, ◌∷◌, ◌++◌, [], ◌||◌, not, None, OnOk, OnErr, IfOk, false};
 ghost use Rattle.hp_units.specs.declared.replies.OpEnd.{OpEnd};
 ghost use Rattle.hp_history.specs.Course.{receipt_for};
@@ -10,14 +10,14 @@ use hp_ops::{Port, run_plan};
 use hp_units::{CallFault, Cpu, Event, OpEnd, Plan, Receipt, Reply, Serial};
 use std::alloc::{AllocError, Global};
 
-/// A processor of a machine, and the receipts of its calls.
+/// A port that stores the receipts of its calls: a processor of a machine.
 #[derive(Drop)]
 struct KeepingPort<'a> {
     machine: &'a mut UnrecordedMachine,
     cpu: Cpu,
     fault: Option<CallFault>,
     calls: &'a mut Vec<Receipt>,
-    /// Whether there was no memory to keep a receipt.
+    /// Whether a receipt was lost because memory ran out.
     is_lost: bool,
 }
 
@@ -130,7 +130,8 @@ fn push(calls: &mut Vec<Receipt>, receipt: Receipt) -> bool
 }
 
 /// Runs a plan's driver with at most `turns` migrations, appends the receipts of its calls, and
-/// returns how it ended. Without memory to keep a receipt, the plan still runs to its end.
+/// returns how it ended. If there is no memory for a receipt, the plan still runs to its end, and
+/// the result is an error.
 pub(crate) fn drive(
     calls: &mut Vec<Receipt>,
     alloc: Global,

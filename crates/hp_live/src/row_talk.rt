@@ -1,17 +1,21 @@
 //! A machine that replies in rows, as `hotplug_lab trace` draws them.
-ghost use Rattle.std.specs.Prelude.{◌≡◌, ◌<◌, ◌+◌, ◌++◌, List, ℕ, [], ◌∷◌, IfOk, OnErr, OnOk, length, string_bytes, vec_capacity, vec_len};
-ghost use Rattle.hp_scenario.specs.Names.{line_in};
+ghost use Rattle.std.specs.Prelude.{◌≡◌, ◌<◌, ◌+◌, ◌++◌, List, ℕ, [], ◌∷◌, IfOk, OnErr, OnOk, length, string_bytes, true, vec_capacity, vec_len};
+ghost use Rattle.hp_names.specs.Seen.{named_seen};
+ghost use Rattle.hp_scenario.specs.Asked.{asked_by};
 ghost use Rattle.hp_scenario.specs.Seen.{scenario_seen};
 ghost use Rattle.hp_text.specs.Scenarios.{scenario_text};
 ghost use Rattle.hp_text.specs.State.{state_text};
 ghost use Rattle.hp_talk.specs.Talks.{RepliesTo, line_limit};
 ghost use Rattle.hp_trace.specs.Lives.{LivesOn, without_text};
-ghost use Rattle.hp_live.specs.RowTalks.{IsLostRow, RowsBegun, RowsText, RowsRead, RowsWord, Stays, cleared, later_view};
+ghost use Rattle.hp_live.specs.Results.{number_left, typed_by, typed_in};
+ghost use Rattle.hp_live.specs.RowTalks.{IsLostRow, IsLostTyped, RowsBegun, RowsText, RowsRead, RowsWord, Stays, cleared, later_view};
 ghost use Rattle.hp_live.specs.Talks.{word_of};
 
 use crate::live_words::{LiveWord, word_of};
+use crate::results::{Ran, note, number_left};
 use crate::words::help;
-use hp_check::write_expected;
+use hp_check::{name_slip, write_expected};
+use hp_names::{Bindings, NamedScenario, PlainLine, plain_line, resolve_front};
 use hp_scenario::{Line, Scenario, read_line};
 use hp_talk::Talk;
 use hp_text::{write_scenario, write_state};
@@ -28,6 +32,7 @@ use std::str;
 pub struct RowTalk {
     names: IndexSet<Text>,
     lines: Vec<Line>,
+    bound: Bindings,
     trace: LiveTrace,
     /// The reply.
     text: String,
@@ -42,6 +47,7 @@ impl Model for RowTalk {
     ghost view = { λ t. record {
       names = t.names.keys;
       lines = t.lines.items;
+      bound = t.bound;
       trace = t.trace;
       text = string_bytes t.text;
     } };
@@ -51,12 +57,17 @@ impl RowTalk {
     /// Begins after a scenario's lines.
     pub fn begin(
         alloc: Global,
-        scenario: Scenario,
+        named: NamedScenario,
         width: u64,
         orders: bool,
     ) -> Result<RowTalk, AllocError>
-        ensures { IfOk result (RowsBegun (scenario_seen scenario) width orders) }
+        ensures { IfOk result (RowsBegun (named_seen named) width orders) }
     {
+        let NamedScenario {
+            scenario,
+            sources: _,
+            bound,
+        } = resolve_front(alloc, named, u64::MAX)?;
         let view = view_after(&scenario, width, orders);
         let trace = LiveTrace::begin(alloc, &scenario, view)?;
         let Scenario {
@@ -67,6 +78,7 @@ impl RowTalk {
         Ok(RowTalk {
             names,
             lines: lines.into_vec(),
+            bound,
             trace,
             text: String::new(alloc),
         })
@@ -91,7 +103,7 @@ impl RowTalk {
         }
     }
 
-    /// Writes the reply to a text. There is no row and no text before.
+    /// Writes the reply to a text. The reply is empty so far.
     fn write_to_text(&mut self, alloc: Global, text: &str) -> Result<(), AllocError>
         requires { self.old.text ≡ [] }
         ensures ok { OnOk result (RowsWord (word_of text.now) self.old text.now self.new.text self.new) }
@@ -131,24 +143,48 @@ impl RowTalk {
         )
     }
 
-    /// Runs what may be a line, and writes its rows. It is kept, unless there is no memory for it.
+    /// Runs a text if it is a line, and writes its rows. Keeps the line, unless there is no memory
+    /// for it.
     fn write_to_line(&mut self, alloc: Global, text: &str) -> Result<(), AllocError>
         requires { self.old.text ≡ [] }
         ensures ok { OnOk result
-            (RowsRead (line_in self.old.names text.now) self.old self.new.text self.new) }
+            (RowsRead (typed_in self.old.names self.old.bound text.now) self.old self.new.text self.new) }
         ensures err { OnErr result (IsLostRow self.old text.now self.new) }
     {
+        let plain = plain_line(alloc, text, &self.bound)?;
+        self.write_to_plain(alloc, text, plain)
+    }
+
+    /// Runs what may be a line in the same way. Its names for results were taken out of the text.
+    fn write_to_plain(
+        &mut self,
+        alloc: Global,
+        text: &str,
+        plain: PlainLine,
+    ) -> Result<(), AllocError>
+        requires { self.old.text ≡ [] }
+        ensures ok { OnOk result
+            (RowsRead (typed_by self.old.names plain) self.old self.new.text self.new) }
+        ensures err { OnErr result (IsLostTyped self.old (typed_by self.old.names plain) self.new) }
+    {
+        let PlainLine {
+            text: line,
+            source: _,
+            naming,
+        } = plain;
         self.lines.reserve(1)?;
-        match read_line(alloc, &mut self.names, text)? {
+        let place = self.lines.len();
+        match read_line(alloc, &mut self.names, line.as_str())? {
             Some(line) => {
-                run_and_keep(&mut self.lines, &mut self.trace, alloc, &self.names, line)?;
-                self.text.push_str(self.trace.text())
+                let ran = run_and_keep(&mut self.lines, &mut self.trace, alloc, &self.names, line);
+                let is_noted = note(&mut self.bound, naming, place, ran.number);
+                write_rows(&mut self.text, &self.trace, ran.is_answered && is_noted)
             }
-            None => write_no_line(&mut self.text, text),
+            None => write_no_line(&mut self.text, alloc, text, &self.bound),
         }
     }
 
-    /// Begins a reply.
+    /// Empties the reply, and the rows of the line before.
     fn clear(&mut self)
         ensures { self.new ≡ cleared self.old }
     {
@@ -157,29 +193,53 @@ impl RowTalk {
     }
 }
 
-/// Runs a line, draws its rows, and keeps it, for which there is room.
+/// Runs a line, draws its rows, and appends it to `lines`, which has room for it.
 fn run_and_keep(
     lines: &mut Vec<Line>,
     trace: &mut LiveTrace,
     alloc: Global,
     names: &IndexSet<Text>,
     line: Line,
-) -> Result<(), AllocError>
+) -> Ran
     requires { vec_len lines.old < vec_capacity lines.old }
     ensures kept { lines.new.items ≡ lines.old.items ++ line ∷ [] }
-    ensures ok { OnOk result
-        (LivesOn names.now.keys (length lines.new.items) line trace.old trace.new) }
+    ensures ok { result.is_answered ≡ true
+        → LivesOn names.now.keys (length lines.new.items) line trace.old trace.new }
+    ensures number { result.number
+        ≡ number_left (asked_by line.work) trace.old.machine trace.new.machine }
 {
     let number = lines.len() as u64 + 1;
+    let before = trace.machine().history().len();
     let ran = trace.run(alloc, names, number, &line);
+    let result = number_left(&line.work, trace.machine(), before);
     lines.push_reserved(line);
-    ran
+    Ran {
+        number: result,
+        is_answered: ran.is_ok(),
+    }
 }
 
-/// Writes what was expected of a text that is no line.
-fn write_no_line(out: &mut String, text: &str) -> Result<(), AllocError> {
+/// Writes the rows of a line that was run, if there was memory for all of them.
+fn write_rows(out: &mut String, trace: &LiveTrace, are_drawn: bool) -> Result<(), AllocError>
+    ensures drawn { OnOk result (are_drawn ≡ true) }
+    ensures ok { OnOk result (string_bytes out.new ≡ string_bytes out.old ++ trace.now.rows.text) }
+{
+    if !are_drawn {
+        return Err(AllocError);
+    }
+    out.push_str(trace.text())
+}
+
+/// Writes what was expected of a text that is no line, after lines with these names.
+fn write_no_line(
+    out: &mut String,
+    alloc: Global,
+    text: &str,
+    bound: &Bindings,
+) -> Result<(), AllocError> {
+    let names = name_slip(alloc, text, bound)?;
     out.push_str("no line: ")?;
-    write_expected(out, text)?;
+    write_expected(out, text, &names)?;
     out.push_str("\n")
 }
 

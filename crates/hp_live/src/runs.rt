@@ -1,4 +1,4 @@
-//! What a line asks for, done and answered.
+//! Does what a line asks for, and answers it.
 ghost use Rattle.std.specs.Prelude.{◌≡◌, IfOk, OnErr, OnOk};
 ghost use Rattle.hp_scenario.specs.Asked.{asked_by};
 ghost use Rattle.hp_scenario.specs.Seen.{asked_seen};
@@ -17,7 +17,8 @@ use std::alloc::{AllocError, Global};
 
 /// Does what a line asks for, and answers it.
 ///
-/// Out of memory while the answer is made, the line has been run all the same.
+/// If memory runs out while the answer is made, the line has still been run, and the answer has what
+/// its event did.
 #[inline(always)]
 pub(crate) fn answer_line(
     out: &mut LiveAnswer,
@@ -28,7 +29,8 @@ pub(crate) fn answer_line(
     requires { out.old ≡ untold }
     ensures ok { OnOk result
         (Answers machine.old line.now.cpu (asked_by line.now.work) out.new machine.new) }
-    ensures err { OnErr result (IsDone machine.old line.now.cpu (asked_by line.now.work) machine.new) }
+    ensures err { OnErr result
+        (IsDone machine.old line.now.cpu (asked_by line.now.work) out.new.did machine.new) }
 {
     answer_asked(out, alloc, machine, line.cpu, line.work.asked())
 }
@@ -44,7 +46,7 @@ fn answer_asked(
 ) -> Result<(), AllocError>
     requires { out.old ≡ untold }
     ensures ok { OnOk result (Answers machine.old cpu (asked_seen asked.entry) out.new machine.new) }
-    ensures err { OnErr result (IsDone machine.old cpu (asked_seen asked.entry) machine.new) }
+    ensures err { OnErr result (IsDone machine.old cpu (asked_seen asked.entry) out.new.did machine.new) }
 {
     match asked {
         Asked::Event(event) => {

@@ -1,14 +1,17 @@
 //! A session: a machine, and the lines that it has answered.
-ghost use Rattle.std.specs.Prelude.{◌≡◌, ◌<◌, ◌+◌, List, ℕ, [], ◌∷◌, ◌++◌, length, IfErr, IfOk, IsErr, IsOk, OnErr, OnOk, vec_capacity, vec_len};
+ghost use Rattle.std.specs.Prelude.{◌≡◌, ◌≢◌, ◌<◌, ◌+◌, List, ℕ, [], ◌∷◌, ◌++◌, length, IfErr, IfOk, OnOk, false, true, vec_capacity, vec_len};
 ghost use Rattle.hp_scenario.specs.Asked.{asked_by};
 ghost use Rattle.hp_live.specs.Answers.{Answers, IsDone, untold};
-ghost use Rattle.hp_scenario.specs.Seen.{scenario_seen};
+ghost use Rattle.hp_live.specs.Results.{number_asked, typed_by};
+ghost use Rattle.hp_names.specs.Seen.{named_seen};
 ghost use Rattle.hp_commands.specs.Serial.{WritesLines};
-ghost use Rattle.hp_live.specs.Sessions.{AnswersText, IsLost, IsResumed, started};
+ghost use Rattle.hp_live.specs.Sessions.{AnswersRead, AnswersText, IsLost, IsLostTyped, IsResumed, started};
 
 use crate::answers::LiveAnswer;
+use crate::results::{Ran, note, number_asked};
 use crate::runs::answer_line;
 use hp_machine::UnrecordedMachine;
+use hp_names::{Bindings, NamedScenario, PlainLine, plain_line, resolve_front};
 use hp_scenario::{Line, Scenario, read_line};
 use hp_units::{Layout, Text};
 use indexmap::IndexSet;
@@ -24,11 +27,13 @@ pub enum Lack {
     Answer,
 }
 
-/// A machine that answers lines one at a time, all lines so far, and the owners' names in them.
+/// A machine that answers lines one at a time, all lines so far with plain numbers, and the names of
+/// owners and of results in them.
 #[derive(Drop)]
 pub struct Session {
     pub(crate) names: IndexSet<Text>,
     pub(crate) lines: Vec<Line>,
+    pub(crate) bound: Bindings,
     pub(crate) machine: UnrecordedMachine,
 }
 
@@ -37,7 +42,12 @@ impl Model for Session {
 
     ghost Value = { SessionValue };
 
-    ghost view = { λ s. record { names = s.names.keys; lines = s.lines.items; machine = s.machine } };
+    ghost view = { λ s. record {
+      names = s.names.keys;
+      lines = s.lines.items;
+      bound = s.bound;
+      machine = s.machine;
+    } };
 }
 
 impl Session {
@@ -49,14 +59,21 @@ impl Session {
         Ok(Session {
             names: IndexSet::new(alloc),
             lines: Vec::new(alloc),
+            bound: Bindings::new(alloc),
             machine,
         })
     }
 
-    /// Boots the machine of a scenario and runs its lines, which the session keeps.
-    pub fn resume(alloc: Global, scenario: Scenario) -> Result<Session, AllocError>
-        ensures { IfOk result (IsResumed (scenario_seen scenario)) }
+    /// Boots the machine of a scenario and runs its lines, which the session keeps. Later lines may
+    /// work on their results by name.
+    pub fn resume(alloc: Global, named: NamedScenario) -> Result<Session, AllocError>
+        ensures { IfOk result (IsResumed (named_seen named)) }
     {
+        let NamedScenario {
+            scenario,
+            sources: _,
+            bound,
+        } = resolve_front(alloc, named, u64::MAX)?;
         let Scenario {
             layout,
             names,
@@ -67,6 +84,7 @@ impl Session {
         Ok(Session {
             names,
             lines: lines.into_vec(),
+            bound,
             machine,
         })
     }
@@ -85,23 +103,47 @@ impl Session {
         self.lines.len() as u64 + 1
     }
 
-    /// Reads a line, runs it, and answers it in `out` as `hotplug serial` would. The line is kept.
-    /// A text that is no line changes nothing.
+    /// Reads a line, runs it, and answers it in `out` as `hotplug serial` would answer the line with
+    /// plain numbers, which is kept. A text that is no line changes nothing.
     ///
     /// Whether there is memory to keep the line is known before it is run. After an error, `out` has
-    /// no meaning.
+    /// no meaning, and no result may have the name that the line gave its own.
     pub fn answer(&mut self, alloc: Global, text: &str, out: &mut LiveAnswer) -> Result<(), Lack>
         ensures ok { OnOk result (AnswersText self.old text.now out.new self.new) }
         ensures err { IfErr result (λ lack. IsLost lack self.old text.now self.new) }
     {
+        match plain_line(alloc, text, &self.bound) {
+            Ok(plain) => self.answer_plain(alloc, plain, out),
+            Err(AllocError) => Err(Lack::Line),
+        }
+    }
+
+    /// Answers a line in the same way, whose names for results were taken out.
+    fn answer_plain(
+        &mut self,
+        alloc: Global,
+        plain: PlainLine,
+        out: &mut LiveAnswer,
+    ) -> Result<(), Lack>
+        ensures ok { OnOk result (AnswersRead self.old (typed_by self.old.names plain) out.new self.new) }
+        ensures err { IfErr result
+            (λ lack. IsLostTyped lack self.old (typed_by self.old.names plain) self.new) }
+    {
         out.clear();
+        let PlainLine {
+            text,
+            source: _,
+            naming,
+        } = plain;
         let Ok(()) = self.lines.reserve(1) else {
             return Err(Lack::Line);
         };
-        match read_line(alloc, &mut self.names, text) {
+        let place = self.lines.len();
+        match read_line(alloc, &mut self.names, text.as_str()) {
             Ok(Some(line)) => {
                 let ran = run_and_keep(&mut self.lines, &mut self.machine, alloc, line, out);
-                or_lack(ran)
+                let is_noted = note(&mut self.bound, naming, place, ran.number);
+                or_lack(ran.is_answered && is_noted)
             }
             Ok(None) => Ok(()),
             Err(AllocError) => Err(Lack::Line),
@@ -122,32 +164,39 @@ fn run_all(alloc: Global, machine: &mut UnrecordedMachine, lines: &[Line]) -> Re
     Ok(())
 }
 
-/// Runs a line, answers it, and keeps it, for which there is room.
+/// Runs a line, answers it, and appends it to `lines`, which has room for it.
 fn run_and_keep(
     lines: &mut Vec<Line>,
     machine: &mut UnrecordedMachine,
     alloc: Global,
     line: Line,
     out: &mut LiveAnswer,
-) -> Result<(), AllocError>
+) -> Ran
     requires room { vec_len lines.old < vec_capacity lines.old }
     requires empty { out.old ≡ untold }
     ensures kept { lines.new.items ≡ lines.old.items ++ line ∷ [] }
-    ensures ok { OnOk result (Answers machine.old line.cpu (asked_by line.work) out.new machine.new) }
-    ensures err { OnErr result (IsDone machine.old line.cpu (asked_by line.work) machine.new) }
+    ensures number { result.number ≡ number_asked (asked_by line.work) out.new.did }
+    ensures ok { result.is_answered ≡ true
+        → Answers machine.old line.cpu (asked_by line.work) out.new machine.new }
+    ensures done { IsDone machine.old line.cpu (asked_by line.work) out.new.did machine.new }
 {
     let answered = answer_line(out, alloc, machine, &line);
+    let number = number_asked(&line.work, out.did());
     lines.push_reserved(line);
-    answered
+    Ran {
+        number,
+        is_answered: answered.is_ok(),
+    }
 }
 
-/// Returns what there was no memory for, once a line was run.
-fn or_lack(ran: Result<(), AllocError>) -> Result<(), Lack>
-    ensures ok { OnOk result (IsOk ran) }
-    ensures err { IfErr result (λ lack. (lack ≡ Lack.Answer) × IsErr ran) }
+/// Returns `Lack::Answer` if a line was run, but memory ran out for its answer.
+fn or_lack(is_answered: bool) -> Result<(), Lack>
+    ensures ok { OnOk result (is_answered ≡ true) }
+    ensures err { IfErr result (λ lack. lack ≡ Lack.Answer) }
 {
-    match ran {
-        Ok(()) => Ok(()),
-        Err(AllocError) => Err(Lack::Answer),
+    if is_answered {
+        Ok(())
+    } else {
+        Err(Lack::Answer)
     }
 }

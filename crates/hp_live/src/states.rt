@@ -28,7 +28,7 @@ impl Model for ShownStates {
 }
 
 impl ShownStates {
-    /// Makes the states before the first object.
+    /// Creates the value before the first object.
     pub(crate) fn new(is_shown: bool) -> ShownStates
         ensures { result ≡ record { is_shown = is_shown; last = None } }
     {
@@ -38,8 +38,9 @@ impl ShownStates {
         }
     }
 
-    /// Adds to an object and its newline how the machine's state differs from the last one, if
-    /// states are shown. The first state is whole. Returns the state that the object leads to.
+    /// If states are shown, adds to an object how the machine's state differs from the last one.
+    /// The first state is shown whole. `object` ends with a newline. Returns the state that the
+    /// object leads to.
     pub(crate) fn show(
         &self,
         alloc: Global,
@@ -59,7 +60,7 @@ impl ShownStates {
         Ok(Some(now))
     }
 
-    /// Adds to an object and its newline how a state differs from the last one.
+    /// Adds to an object, which a newline follows, how a state differs from the last one.
     fn show_image(
         &self,
         alloc: Global,
@@ -76,7 +77,7 @@ impl ShownStates {
         join_objects(object, shown.as_slice())
     }
 
-    /// Notes the state that an object led to which was written.
+    /// Stores the state that an object led to, once the object was written.
     pub(crate) fn keep(&mut self, shown: Option<Image>)
         ensures { self.new ≡ kept_states self.old shown }
     {
@@ -86,7 +87,7 @@ impl ShownStates {
     }
 }
 
-/// Adds the keys of a change's object to another one, which a newline follows.
+/// Adds the keys of a change's object to another object, which a newline follows.
 fn join_objects(object: &mut Vec<u8>, more: &[u8]) -> Result<(), AllocError>
     ensures { OnOk result ((front : List ℕ) (change : ChangeValue)
         → object.old.items ≡ front ++ object_end → IsChangeObject change more.now

@@ -28,6 +28,7 @@ C plan TURNS ITEM ..
 C echo TEXT PATH
 C cat PATH
 C seal
+A begin and a kalloc may end in ` as NAME`. Then $NAME is the OP or the FRAME of a later line of C.
 ";
 
 impl Session {

@@ -6,4 +6,5 @@ pub mod Marks
 pub mod Names
 pub mod Pictures
 pub mod Places
+pub mod Rounds
 pub mod Rows

@@ -1,4 +1,4 @@
--- What each turn of a walk over a state makes of the places of frames.
+-- What each step of a walk over a state does to the places of frames.
 use Rattle.std.specs.Prelude.{ℕ, zero, suc, ◌≡◌, ◌+◌, ◌*◌, ◌^◌, ◌==◌, List, Option, Some, None, option_map, slice_get, if◌then◌else◌}
 use Rattle.hp_units.specs.Arithmetic.{block_of, pageblock_of, pageblock_size}
 use Rattle.hp_units.specs.FreeAreas.{is_on}
@@ -9,11 +9,11 @@ use Rattle.hp_units.specs.Pages.{frame_at, holds}
 use Rattle.hp_map.specs.declared.places.Place.{Place}
 use Rattle.hp_map.specs.declared.places.Place.TheVariants.{Absent, Offline, Free, Isolated, Kernel, Cached, Page}
 
--- what becomes of the place of a frame
+-- a change of places: the new place of a frame, given its number and its old place
 abbrev pub Mark : Type 0
 Mark = ℕ → Place → Place
 
--- each place became what the mark makes of it
+-- the mark was applied to each place
 abbrev pub AreMarked : Mark → (old new : List Place) → Type 0
 AreMarked mark old new = (frame : ℕ) → slice_get new frame ≡ option_map (mark frame) (slice_get old frame)
 

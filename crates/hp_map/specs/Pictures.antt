@@ -21,7 +21,7 @@ pub record ArePictures (l : LayoutParts) (s : Memory) (places : List Place) (cou
   pub all : length blocks ≡ count
   pub each : (block : ℕ) → IfSome (slice_get blocks block) (IsBlockPicture l s places block)
 
--- of each memory block, with the place of each frame
+-- a picture of each memory block of the layout, drawn by the place of each frame
 pub record IsPicture (l : LayoutParts) (s : Memory) (blocks : List BlockValue) : Type 0 where
   pub places : List Place
   pub placed : ArePlacesOf l s places

@@ -1,5 +1,5 @@
 //! A memory block as it is drawn.
-ghost use Rattle.std.specs.Prelude.{◌≡◌};
+ghost use Rattle.std.specs.Prelude.{◌≡◌, ◌↔◌, IsTrue};
 ghost use Rattle.hp_map.specs.BlockPictures.{block_with, is_same};
 
 use crate::counts::{write_counts, write_order_counts};
@@ -27,10 +27,12 @@ pub struct KernelBlock {
     pub order: u32,
 }
 
-/// A memory block as it is drawn: a head such as `2:M>off`; its cells, a character for each of its
-/// frames with a bar between pageblocks, such as `a1|::`; the same with each free block by its
-/// order, such as `a1|{}`, if that was asked for; its free blocks and the kernel's; and a letter for
-/// each of its frames, by the mobility of its pageblock, such as `MM|UU`.
+/// A memory block as it is drawn:
+/// - a head such as `2:M>off`,
+/// - its cells, a character per frame with a bar between pageblocks, such as `a1|::`,
+/// - the cells with each free block drawn by its order, such as `a1|{}`, if orders are shown,
+/// - its free blocks and the kernel's,
+/// - a letter per frame for the mobility of its pageblock, such as `MM|UU`.
 #[derive(Drop)]
 pub struct BlockPicture {
     head: Text,
@@ -85,7 +87,7 @@ impl BlockPicture {
         self.cells.as_str()
     }
 
-    /// Returns its cells with each free block by its order, empty unless that was asked for.
+    /// Returns its cells with each free block drawn by its order; empty if orders are not shown.
     pub fn ordered(&self) -> &str
         ensures { result.now ≡ self.now.ordered }
     {
@@ -114,11 +116,25 @@ impl BlockPicture {
         self.kinds.as_str()
     }
 
-    /// Returns whether two memory blocks are the same text, by orders and without.
+    /// Returns whether both are drawn by the same text, with orders and without.
     pub fn is_same(&self, other: &BlockPicture) -> bool
         ensures { result ≡ is_same self.now other.now }
     {
         self.head == other.head && self.cells == other.cells && self.ordered == other.ordered
+    }
+
+    /// Returns whether two memory blocks are equal in all parts.
+    #[tactic(auto, using(crate::proofs::BlocksCompared::equal_parts))]
+    fn is_equal(&self, other: &BlockPicture) -> bool
+        ensures { IsTrue result ↔ (self.now ≡ other.now) }
+    {
+        if !is_text(self.head(), other.head()) || !is_text(self.cells(), other.cells()) {
+            return false;
+        }
+        if !is_text(self.ordered(), other.ordered()) || !is_text(self.kinds(), other.kinds()) {
+            return false;
+        }
+        are_free(self.free(), other.free()) && are_kernel(self.kernel(), other.kernel())
     }
 
     /// Writes the memory block, such as `2:M>off[a1|::]`, or `2:M>off[a1|{}]` by orders.
@@ -132,8 +148,8 @@ impl BlockPicture {
         write!(out, "{head}[{cells}]")
     }
 
-    /// Writes the memory block with the number of its frames by their characters, such as
-    /// `2:M>off[4: :*2 1*1 a*1]`, and by orders with that of its free blocks too, such as
+    /// Writes the memory block with counts in place of cells: its frames per character, such as
+    /// `2:M>off[4: :*2 1*1 a*1]`. With orders, also writes its free blocks per order, such as
     /// `2:M>off[4: :*2 1*1 a*1 {1}*1]`.
     pub fn write_counted(&self, out: &mut String, shows_orders: bool) -> Result<(), AllocError> {
         out.push_str(self.head())?;
@@ -144,4 +160,42 @@ impl BlockPicture {
         }
         out.push_str("]")
     }
+}
+
+/// Returns whether memory blocks are equal to others, one by one, in all parts.
+pub(crate) fn are_equal(some: &[BlockPicture], others: &[BlockPicture]) -> bool
+    ensures { IsTrue result ↔ (some.now ≡ others.now) }
+{
+    let mut left = others;
+    for block in some {
+        let [other, rest @ ..] = left else {
+            return false;
+        };
+        if !block.is_equal(other) {
+            return false;
+        }
+        left = rest;
+    }
+    left.is_empty()
+}
+
+/// Returns whether two texts are equal.
+pub(crate) fn is_text(some: &str, other: &str) -> bool
+    ensures { IsTrue result ↔ (some.now ≡ other.now) }
+{
+    some == other
+}
+
+/// Returns whether free blocks are equal, one by one.
+fn are_free(some: &[FreeBlock], others: &[FreeBlock]) -> bool
+    ensures { IsTrue result ↔ (some.now ≡ others.now) }
+{
+    *some == *others
+}
+
+/// Returns whether the kernel's blocks are equal, one by one.
+fn are_kernel(some: &[KernelBlock], others: &[KernelBlock]) -> bool
+    ensures { IsTrue result ↔ (some.now ≡ others.now) }
+{
+    *some == *others
 }

@@ -5,12 +5,12 @@ ghost use Rattle.hp_map.specs.Counts.{frames_in};
 use crate::block_picture::FreeBlock;
 use std::alloc::AllocError;
 
-/// Every character of cells that is a frame: `.` and `:` for a free and for an isolated one, `-`
-/// and a space for one in a memory block that is offline or absent, `K` for the kernel's, a digit
-/// for one on a processor's list, and a letter for a page.
+/// Every character that a frame can have in cells. `.` is a free frame, and `:` one that is free
+/// and isolated. `-` and a space are frames of an offline and an absent memory block. `K` is a
+/// frame of the kernel, a digit one on a processor's list, and a letter one that holds a page.
 pub const MARKS: &str = ".:- K0123456789abcdefghijklmnopqrstuvwxyz";
 
-/// Returns the number of frames in cells: of all characters but the bars between pageblocks.
+/// Returns the number of frames in cells: all characters except the bars between pageblocks.
 pub fn frames_in(cells: &str) -> usize
     ensures { result ≡ frames_in cells.now }
 {

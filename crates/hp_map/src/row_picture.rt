@@ -1,8 +1,8 @@
 //! A row of memory blocks with texts.
-ghost use Rattle.std.specs.Prelude.{◌≡◌};
+ghost use Rattle.std.specs.Prelude.{◌≡◌, ◌↔◌, IsTrue, None};
 ghost use Rattle.hp_map.specs.Rows.{row_with};
 
-use crate::block_picture::BlockPicture;
+use crate::block_picture::{BlockPicture, are_equal, is_text};
 use hp_numbers::{Frame, Text};
 use std::marker::Model;
 
@@ -15,8 +15,8 @@ pub struct Move {
     pub to: Frame,
 }
 
-/// A row: what was asked, what was answered, which page moved by it, and the memory blocks after
-/// it, by rising number. A line of text alone has no answer, no move and no memory blocks.
+/// A row: what was asked, the answer, the page that moved, and the memory blocks after it, by
+/// rising number. A row of text alone has no answer, no move and no memory blocks.
 #[derive(Drop)]
 pub struct RowPicture {
     asked: Text,
@@ -77,5 +77,16 @@ impl RowPicture {
         ensures { result.now ≡ self.now.blocks }
     {
         self.blocks.as_slice()
+    }
+
+    /// Returns whether the row has these texts and memory blocks, and no page moved.
+    #[tactic(auto, using(crate::proofs::BlocksCompared::equal_rows))]
+    pub(crate) fn is_unmoved(&self, asked: &str, answer: &str, blocks: &[BlockPicture]) -> bool
+        ensures { IsTrue result ↔ (self.now ≡ row_with asked.now answer.now None blocks.now) }
+    {
+        if !is_text(self.asked(), asked) || !is_text(self.answer(), answer) {
+            return false;
+        }
+        self.moved.is_none() && are_equal(self.blocks(), blocks)
     }
 }

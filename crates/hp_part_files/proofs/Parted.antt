@@ -1,5 +1,5 @@
 -- From what the search of a part says to what its text promises.
-use Rattle.std.proofs.Common.{◌≡◌, ℕ, ◌<◌, ◌≤◌, ◌*◌, ◌^◌, Bool, List, length, Option, Some, None, Result, Err, drop, take, refl, subst, ap, inl, inr}
+use Rattle.std.proofs.Common.{◌≡◌, ℕ, ◌<◌, ◌≤◌, ◌*◌, ◌^◌, Bool, List, length, Option, Some, None, Result, Err, refl, subst, ap, inl, inr}
 use Rattle.std.specs.Prelude.{◌⊎◌}
 use Rattle.std.specs.Str.{IsUtf8}
 use Rattle.hp_explore.specs.Settings.{setting}
@@ -12,17 +12,15 @@ use Rattle.hp_schedules.specs.Ends.{AreCounted}
 use Rattle.hp_schedules.specs.Orders.{HasMoreThan}
 use Rattle.hp_explore.specs.Fronts.{AreFirstInPart, IfFirst, IfWhole, counted}
 use Rattle.hp_schedules.specs.Schedules.{Setting}
-use Rattle.hp_units.specs.LayoutParts.{LayoutParts}
 use Rattle.hp_explore.specs.Faults.{FillsPart, IsCause, IsCausePartWithin}
 use Rattle.hp_search.specs.Ends.{IsMore}
 use Rattle.hp_search.specs.Faults.{IsFaultOf, IsFaultWith, IsFull}
-use Rattle.hp_search.specs.Holding.{HoldsAfter, InScenario, IsStoppedAfter}
+use Rattle.hp_names.specs.Named.{named_in, named_of}
+use Rattle.hp_search.specs.Holding.{HoldsAfter, InScenario}
 use Rattle.hp_search.specs.declared.lab_fault.LabFault.{LabFault}
-use Rattle.hp_scenario.specs.declared.lines.Line.{Line}
 use Rattle.hp_search.specs.declared.lab_fault.LabFault.TheVariants as lab
 use Rattle.hp_schedules.specs.Parts.{EndsInPart, IsCompleteInPart, PartValue}
 use Rattle.hp_scenario.specs.Gives.{◌>>=◌}
-use Rattle.hp_scenario.specs.Scenario.{scenario_in, scenario_of}
 use Rattle.hp_scenario.specs.declared.fault.ScenarioFault.{ScenarioFault}
 use Rattle.hp_scenario.specs.declared.fault.ScenarioFault.TheVariants.{NotJson}
 use Rattle.hp_scenario.proofs.Json.{json_refused}
@@ -56,22 +54,23 @@ pub loosely : (n : NumberValue) (input : List ℕ) (setup limit : ℕ) (ended : 
     (found : Bool)
     → IsPartOf n input setup limit ended text found → IsPartOf n input setup limit (Unit {0}) text found
 loosely n input setup limit ended text found h =
-    let on = h.after.holds in
+    let on = h.holds.holds in
     record {
-      scenario = h.scenario;
+      named = h.named;
       read = h.read;
-      fit = h.fit;
-      after = record {
-        start = h.after.start;
-        scripts = h.after.scripts;
-        begun = h.after.begun;
+      plain = h.plain;
+      resolved = h.resolved;
+      holds = record {
+        start = h.holds.start;
+        scripts = h.holds.scripts;
+        begun = h.holds.begun;
         holds = record {
           calls = on.calls;
           ends = on.ends;
           more = on.more;
           by = on.by;
           are =
-              part_loosely (setting h.after.start h.after.scripts) (part_by n on.calls) limit ended on.ends
+              part_loosely (setting h.holds.start h.holds.scripts) (part_by n on.calls) limit ended on.ends
               on.more on.are;
           ordered = on.ordered;
           within = on.within;
@@ -98,24 +97,26 @@ pub part_cause : (n : NumberValue) (limit : ℕ) (g : Setting) (calls : ℕ) (fa
 part_cause n limit g calls explore.HistoryFull by cause = (calls, by, cause)
 part_cause n limit g calls explore.OutOfMemory by cause = tt
 
-refused : (input : List ℕ) → (IsUtf8 input → ⊥) → scenario_in input ≡ Err NotJson
-unfolding scenario_in
+refused : (input : List ℕ) → (IsUtf8 input → ⊥) → named_in input ≡ Err NotJson
+unfolding named_in
 refused input none =
-    ap (λ (r : Result Data ScenarioFault). r >>= scenario_of)
+    ap (λ (r : Result Data ScenarioFault). r >>= named_of)
     (json_refused input (λ text. absurd (none text)))
 
-after_weaker : (P Q : Setting → Type 0) (l : LayoutParts) (before after : List Line)
-    → ((g : Setting) → P g → Q g) → HoldsAfter P l before after → HoldsAfter Q l before after
-after_weaker P Q l before after f h =
-    record { start = h.start; scripts = h.scripts; begun = h.begun; holds = f _ h.holds }
-
 stopped_weaker : (P Q : Setting → Type 0) (input : List ℕ) (setup : ℕ) → ((g : Setting) → P g → Q g)
-    → InScenario input (IsStoppedAfter P setup) → InScenario input (IsStoppedAfter Q setup)
-stopped_weaker P Q input setup f h = (
-  h.0,
-  h.1,
-  (h.2.0, after_weaker P Q h.0.layout (take setup h.0.lines) (drop setup h.0.lines) f h.2.1),
-)
+    → InScenario input setup (HoldsAfter P setup) → InScenario input setup (HoldsAfter Q setup)
+stopped_weaker P Q input setup f h = record {
+  named = h.named;
+  read = h.read;
+  plain = h.plain;
+  resolved = h.resolved;
+  holds = record {
+    start = h.holds.start;
+    scripts = h.holds.scripts;
+    begun = h.holds.begun;
+    holds = f _ h.holds.holds;
+  };
+}
 
 -- what fills the history in a part's search fills it in that of all
 pub part_fault : (n : NumberValue) (input : List ℕ) (setup limit : ℕ) (fault : LabFault)

@@ -49,8 +49,8 @@ abbrev pub IsOtherHead : SearchValue → (text : List ℕ) → Type 0
 IsOtherHead s text =
     (number : ℕ) × (ends : ℕ) × IsLine text (Head number ends) × (IsOwnHead s text number ends → ⊥)
 
--- the head of a part of the search, but the part before it does not have as many ends as its own
--- head says
+-- the head of a part of the search, but the part before it has another number of ends than its own head
+-- names
 abbrev pub IsAfterOther : SearchValue → GatheringValue → (text : List ℕ) → (before : ℕ) → Type 0
 IsAfterOther s v text before =
     IsLastOther v before × (number : ℕ) × (ends : ℕ) × IsOwnHead s text number ends
@@ -131,14 +131,14 @@ IsUnended input names g s fault =
     × (fault ≡ part.NotPart (line_number input place)) × HasNoNewline input place
     × IsGathering names g s (take place input) v
 
--- the last part does not have as many ends as its head says
+-- the last part has another number of ends than its head names
 abbrev pub IsLastCut : (input : List ℕ) → (names : List (List ℕ)) → Setting → SearchValue → PartFault
     → Type 0
 IsLastCut input names g s fault =
     (number : ℕ) × (v : GatheringValue) × (fault ≡ part.OtherCount number) × IsGathering names g s input v
     × IsLastOther v number
 
--- the counts of all parts add up to 2^64 or more
+-- the counts of all parts add up to 2^64 or more; or memory ran out
 abbrev pub IsTooMany : List (List Ending) → PartFault → Type 0
 IsTooMany lists part.TooMany = 2 ^ 64 ≤ counted_by lists
 IsTooMany lists (part.Lab fault) = fault ≡ OutOfMemory

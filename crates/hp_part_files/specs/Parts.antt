@@ -11,7 +11,7 @@ use Rattle.hp_schedules.specs.Schedules.{Setting}
 use Rattle.hp_explore.specs.declared.exploring.ExploreFault.{ExploreFault}
 use Rattle.hp_explore.specs.declared.exploring.ExploreFault.TheVariants as explore
 use Rattle.hp_search.specs.Ends.{IsMore}
-use Rattle.hp_search.specs.Holding.{HoldsIn, InScenario, IsStoppedAfter}
+use Rattle.hp_search.specs.Holding.{HoldsAfter, HoldsIn, InScenario}
 use Rattle.hp_search.specs.declared.lab_fault.LabFault.{LabFault}
 use Rattle.hp_search.specs.declared.lab_fault.LabFault.TheVariants.{HistoryFull}
 use Rattle.hp_explore.specs.Fronts.{AreFirstInPart, counted}
@@ -85,5 +85,5 @@ IsPartOf n input setup limit ended text found =
 -- if the history is full, a schedule of the part fills it, within the limit
 abbrev pub IsFullPart : NumberValue → (input : List ℕ) → (setup limit : ℕ) → LabFault → Type 0
 IsFullPart n input setup limit (HistoryFull needed) =
-    InScenario input (IsStoppedAfter (FillsPartOf n limit) setup)
+    InScenario input setup (HoldsAfter (FillsPartOf n limit) setup)
 IsFullPart n input setup limit fault = Unit {0}

@@ -25,9 +25,8 @@ pub record IsSum (lists : List (List Ending)) (ends : List Ending) : Type 0 wher
   pub apart : AreApart ends
   pub total : sum_by (λ e. e.count) ends ≡ counted_by lists
 
--- the input is, byte for byte, what the search writes for its parts, each there once, and each end
--- has the outcome of its own schedule, which is complete and the part's; the text has the sum of
--- their ends
+-- the input is, byte for byte, what the search writes for its parts, each there once. Each end has the
+-- outcome of its own schedule, which is complete and the part's. The text has the sum of the ends
 pub record IsSumOn (form : EndsForm) (input : List ℕ) (s : SearchValue) (text : List ℕ) (found : Bool)
     (names : List (List ℕ)) (before : List Line) (g : Setting) : Type 0 where
   pub parts : List PartEndsValue

@@ -15,13 +15,13 @@ use std::alloc::Global;
 
 /// Searches one part of all interleavings of the scenario in `input`, as `explore_text` searches
 /// all of them. The text is JSON, one object per line: the head, which names the search and the
-/// part; then each end that an interleaving of the part leads to, as `explore_text` writes it as an
-/// object, with the processors of the first one's calls. A part without interleavings has only its
-/// head.
+/// part; then each end that an interleaving of the part leads to. An end is written as
+/// `explore_text` writes it as an object, with the processors of the first interleaving's calls. A
+/// part without interleavings has only its head.
 ///
 /// If the part has more interleavings than `limit`, its ends are those of the first `limit`, a last
-/// object reports that, and nothing is found. So it is if `watch` ends the search, with the ends of
-/// the first ones up to there.
+/// object reports that, and nothing is found. The same holds if `watch` ends the search: the ends
+/// are then those of the first ones up to that point.
 ///
 /// While the search runs, `watch` gets its progress, and may end it.
 ///

@@ -1,5 +1,5 @@
 -- Lists of lines, one more after another.
-use Rattle.std.proofs.Common.{◌≡◌, ℕ, ◌+◌, ◌<◌, List, [], ◌∷◌, ◌++◌, length, get_or, take, Some, None, refl, slice_get, sym, ap, subst, ◌∙◌, arith}
+use Rattle.std.proofs.Common.{◌≡◌, ℕ, ◌+◌, ◌<◌, List, [], ◌∷◌, ◌++◌, length, get_or, take, Option, Some, None, refl, slice_get, sym, ap, subst, ◌∙◌, arith}
 use borrow.Author.Count.{below_more}
 use Rattle.std.proofs.lemmas.List.{take_more}
 use Rattle.std.proofs.lemmas.List.FromFn.{map-range_with_len_more}
@@ -43,14 +43,13 @@ lines_more xs i line m mid next before so_far after lt ran is_at sealed one =
 
 -- one more script
 pub scripts_more : (all : List (List step.Step)) (script : List step.Step) (begins : List Begin)
-    (lines : List Line)
-    (cpu : ℕ)
-    → all ≡ scripts_of cpu begins lines → script ≡ script_of begins lines cpu
-    → all ++ script ∷ [] ≡ scripts_of (cpu + 1) begins lines
-scripts_more all script begins lines cpu so_far is =
+    (lines : List Line) (sources : List (Option ℕ)) (cpu : ℕ)
+    → all ≡ scripts_of cpu begins lines sources → script ≡ script_of begins lines sources cpu
+    → all ++ script ∷ [] ≡ scripts_of (cpu + 1) begins lines sources
+scripts_more all script begins lines sources cpu so_far is =
     ap (λ (xs : List (List step.Step)). xs ++ script ∷ []) so_far
-    ∙ (ap (λ (x : List step.Step). scripts_of cpu begins lines ++ x ∷ []) is
-    ∙ sym (map-range_with_len_more (script_of begins lines) 0 cpu cpu (omega arith)))
+    ∙ (ap (λ (x : List step.Step). scripts_of cpu begins lines sources ++ x ∷ []) is
+    ∙ sym (map-range_with_len_more (script_of begins lines sources) 0 cpu cpu (omega arith)))
 
 -- one more line can stand in a script
 pub fit_more : (cpus : ℕ) (lines : List Line) (i : ℕ) (line : Line)

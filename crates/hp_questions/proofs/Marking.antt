@@ -13,24 +13,18 @@ use Rattle.hp_units.specs.declared.replies.Record.{Record}
 use Rattle.hp_units.specs.declared.replies.Reply.{Reply}
 use Rattle.hp_units.specs.declared.rows.Row.{Row}
 use Rattle.hp_schedules.specs.Outcomes.{ended_rows_below, outcome, replies_below, replies_to, told}
+use Rattle.hp_schedules.specs.declared.scripts.Step.{Step}
 use Rattle.hp_schedules.proofs.Compared.{replies_own, replies_past}
-use Rattle.hp_questions.specs.Marks.{AreMarks, HasLineSoFar, IsLost, IsMissed, IsRuledOut, line_of}
-use Rattle.hp_questions.specs.Wanted.{HasAnswer, HasAnswerAt, HasLine, HasReply, IsAsWanted, IsMetBy, Meets}
+use Rattle.hp_questions.specs.Marks.{AreMarks, HasLineSoFar, HasReplySoFar, IsLost, IsMissed, IsRuledOut, PlansGoOn, asks_no_plans, leaves_plans, line_of}
+use Rattle.hp_questions.specs.Wanted.{HasAnswer, HasAnswerAt, HasLine, HasReply, IsMetBy, Meets}
+use Rattle.hp_questions.specs.Patterns.{IsAsWanted}
 use Rattle.hp_questions.specs.declared.wanted.EndLine.{EndLine}
-use Rattle.hp_questions.specs.declared.wanted.EndLine.TheVariants.{Answer, AnswerAt, Block}
+use Rattle.hp_questions.specs.declared.wanted.EndLine.TheVariants.{Answer, AnswerAt, Plan, Block}
 use Rattle.hp_questions.specs.declared.wanted.Pattern.{Pattern}
 use Rattle.hp_questions.specs.declared.wanted.Wanted.{Wanted}
 use Rattle.hp_questions.specs.declared.wanted.Wanted.TheVariants.{Has, Lacks}
-
--- ---- places in lists
-
-pub get_right : {A : Type 0} (xs ys : List A) (k : ℕ) → length xs ≤ k
-    → slice_get (xs ++ ys) k ≡ slice_get ys (k - length xs)
-get_right [] ys k past = let same : k ≡ k - 0 = omega arith in ap (slice_get ys) same
-get_right (x ∷ xs) ys zero past = absurd (omega (arith, past))
-get_right (x ∷ xs) ys (suc k) past =
-    let same : k - length xs ≡ suc k - suc (length xs) = omega arith in
-    get_right xs ys k (omega (arith, past)) ∙ ap (slice_get ys) same
+use Rattle.hp_questions.proofs.Places.{get_right, not_all}
+use Rattle.hp_questions.proofs.PlansKept.{plans_carried}
 
 -- ---- replies
 
@@ -273,68 +267,94 @@ at_carried p n h k more cpu earlier as_many so_far has =
 -- ---- lines
 
 -- what the replies so far have, each end that goes on from them has
-line_kept : (n : ℕ) (h more : List Record) (l : LayoutParts) (s : Memory) (line : EndLine)
-    → HasLineSoFar n h line → HasLine (outcome n (h ++ more) l s) line
-line_kept n h more l s (Answer cpu reply) has = answer_left reply n h more cpu has
-line_kept n h more l s (AnswerAt cpu earlier reply) has = at_left reply n h more cpu earlier has
-line_kept n h more l s (Block block row) has = absurd has
+line_kept : (cpus : ℕ) (scripts : List (List Step)) (n : ℕ) (h more : List Record) (l : LayoutParts)
+    (s : Memory) (line : EndLine)
+    → HasReplySoFar n h line → HasLine cpus scripts (outcome n (h ++ more) l s) line
+line_kept cpus scripts n h more l s (Answer cpu reply) has = answer_left reply n h more cpu has
+line_kept cpus scripts n h more l s (AnswerAt cpu earlier reply) has = at_left reply n h more cpu earlier has
+line_kept cpus scripts n h more l s (Plan cpu end) has = absurd has
+line_kept cpus scripts n h more l s (Block block row) has = absurd has
 
 -- with the same marks, lines of one end are lines of the other
-line_carried : (n : ℕ) (h k more : List Record) (l : LayoutParts) (s t : Memory) (line : EndLine)
+line_carried : (cpus : ℕ) (scripts : List (List Step)) (n : ℕ) (h k more : List Record) (l : LayoutParts)
+    (s t : Memory) (line : EndLine)
     → ((cpu : ℕ) → cpu < n → length (replies_to cpu h) ≡ length (replies_to cpu k))
-    → (HasLineSoFar n h line → HasLineSoFar n k line)
+    → (leaves_plans line ≡ false → PlansGoOn cpus scripts n h k more)
+    → (HasLineSoFar cpus scripts n h line → HasLineSoFar cpus scripts n k line)
     → ended_rows_below l.blocks s ≡ ended_rows_below l.blocks t
-    → HasLine (outcome n (h ++ more) l s) line → HasLine (outcome n (k ++ more) l t) line
-line_carried n h k more l s t (Answer cpu reply) as_many so_far rows has =
+    → HasLine cpus scripts (outcome n (h ++ more) l s) line
+    → HasLine cpus scripts (outcome n (k ++ more) l t) line
+line_carried cpus scripts n h k more l s t (Answer cpu reply) as_many on so_far rows has =
     elim (answer_cases reply n h more cpu has) [
       | inl x ↦ answer_left reply n k more cpu (so_far x)
       | inr x ↦ answer_right reply n k more cpu x
     ]
-line_carried n h k more l s t (AnswerAt cpu earlier reply) as_many so_far rows has =
+line_carried cpus scripts n h k more l s t (AnswerAt cpu earlier reply) as_many on so_far rows has =
     at_carried reply n h k more cpu earlier (as_many cpu) so_far has
-line_carried n h k more l s t (Block block row) as_many so_far rows has =
+line_carried cpus scripts n h k more l s t (Plan cpu end) as_many on so_far rows has =
+    plans_carried end cpus scripts n h k more cpu (on refl) so_far has
+line_carried cpus scripts n h k more l s t (Block block row) as_many on so_far rows has =
     ap (λ (xs : List Row). slice_get xs block) (sym rows) ∙ has
 
 -- ---- the same marks
 
-same_calls : (wanted : List Wanted) (n : ℕ) (h k : List Record) (marks : List ℕ) → AreMarks wanted n h marks
-    → AreMarks wanted n k marks → (cpu : ℕ) → cpu < n
-    → length (replies_to cpu h) ≡ length (replies_to cpu k)
-same_calls wanted n h k marks a b cpu within =
+same_calls : (cpus : ℕ) (scripts : List (List Step)) (wanted : List Wanted) (n : ℕ) (h k : List Record)
+    (marks : List ℕ)
+    → AreMarks cpus scripts wanted n h marks → AreMarks cpus scripts wanted n k marks
+    → (cpu : ℕ) → cpu < n → length (replies_to cpu h) ≡ length (replies_to cpu k)
+same_calls cpus scripts wanted n h k marks a b cpu within =
     same_Some (length (replies_to cpu h)) (length (replies_to cpu k))
     (sym (a.calls cpu within) ∙ b.calls cpu within)
 
-same_met : (wanted : List Wanted) (n : ℕ) (h k : List Record) (marks : List ℕ) → AreMarks wanted n h marks
-    → AreMarks wanted n k marks → (i : ℕ) (one : Wanted) → slice_get wanted i ≡ Some one
-    → HasLineSoFar n h (line_of one) → HasLineSoFar n k (line_of one)
-same_met wanted n h k marks a b i one here has =
+same_met : (cpus : ℕ) (scripts : List (List Step)) (wanted : List Wanted) (n : ℕ) (h k : List Record)
+    (marks : List ℕ)
+    → AreMarks cpus scripts wanted n h marks → AreMarks cpus scripts wanted n k marks
+    → (i : ℕ) (one : Wanted) → slice_get wanted i ≡ Some one
+    → HasLineSoFar cpus scripts n h (line_of one) → HasLineSoFar cpus scripts n k (line_of one)
+same_met cpus scripts wanted n h k marks a b i one here has =
     let x = a.met i one here in
     let y = b.met i one here in
     y.2.0 (same_Some y.0 x.0 (sym y.1 ∙ x.1) ∙ x.2.1 has)
 
+-- further plans end alike, seen from the other
+gone_on : (cpus : ℕ) (scripts : List (List Step)) (n : ℕ) (h k more : List Record)
+    → PlansGoOn cpus scripts n h k more → PlansGoOn cpus scripts n k h more
+gone_on cpus scripts n h k more on cpu within = let later = on cpu within in (later.0, later.2, later.1)
+
 -- equal marks and equal further records: ends that meet the same
-pub marks_meet : (wanted : List Wanted) (n : ℕ) (h k more : List Record) (marks : List ℕ) (l : LayoutParts)
-    (s t : Memory)
-    → AreMarks wanted n h marks → AreMarks wanted n k marks
+pub marks_meet : (cpus : ℕ) (scripts : List (List Step)) (wanted : List Wanted) (n : ℕ)
+    (h k more : List Record) (marks : List ℕ) (l : LayoutParts) (s t : Memory)
+    → AreMarks cpus scripts wanted n h marks → AreMarks cpus scripts wanted n k marks
+    → (asks_no_plans wanted ≡ false → PlansGoOn cpus scripts n h k more)
     → ended_rows_below l.blocks s ≡ ended_rows_below l.blocks t
-    → Meets wanted (outcome n (h ++ more) l s) → Meets wanted (outcome n (k ++ more) l t)
-marks_meet wanted n h k more marks l s t a b rows meets i one here = by_kind one here (meets i one here)
+    → Meets cpus scripts wanted (outcome n (h ++ more) l s)
+    → Meets cpus scripts wanted (outcome n (k ++ more) l t)
+marks_meet cpus scripts wanted n h k more marks l s t a b on rows meets i one here =
+    by_kind one here (meets i one here)
   where
-    by_kind : (one : Wanted) → slice_get wanted i ≡ Some one → IsMetBy (outcome n (h ++ more) l s) one
-        → IsMetBy (outcome n (k ++ more) l t) one
+    if_about : (one : Wanted) → slice_get wanted i ≡ Some one → leaves_plans (line_of one) ≡ false
+        → PlansGoOn cpus scripts n h k more
+    if_about one at about = on (not_all (λ (w : Wanted). leaves_plans (line_of w)) wanted i one at about)
+
+    by_kind : (one : Wanted) → slice_get wanted i ≡ Some one
+        → IsMetBy cpus scripts (outcome n (h ++ more) l s) one
+        → IsMetBy cpus scripts (outcome n (k ++ more) l t) one
     by_kind (Has line) at has =
-        line_carried n h k more l s t line (same_calls wanted n h k marks a b)
-        (same_met wanted n h k marks a b i (Has line) at) rows has
+        line_carried cpus scripts n h k more l s t line (same_calls cpus scripts wanted n h k marks a b)
+        (if_about (Has line) at) (same_met cpus scripts wanted n h k marks a b i (Has line) at) rows has
     by_kind (Lacks line) at lacks =
-        λ has. lacks (line_carried n k h more l t s line (same_calls wanted n k h marks b a)
-        (same_met wanted n k h marks b a i (Lacks line) at) (sym rows) has)
+        λ has. lacks (line_carried cpus scripts n k h more l t s line
+        (same_calls cpus scripts wanted n k h marks b a)
+        (λ about. gone_on cpus scripts n h k more (if_about (Lacks line) at about))
+        (same_met cpus scripts wanted n k h marks b a i (Lacks line) at) (sym rows) has)
 
 -- ---- no end can meet them
 
-missed : (n : ℕ) (h more : List Record) (l : LayoutParts) (s : Memory) (line : EndLine) → IsMissed h line
-    → HasLine (outcome n (h ++ more) l s) line → ⊥
-missed n h more l s (Answer cpu reply) none has = none
-missed n h more l s (AnswerAt cpu earlier reply) other has =
+missed : (cpus : ℕ) (scripts : List (List Step)) (n : ℕ) (h more : List Record) (l : LayoutParts)
+    (s : Memory) (line : EndLine)
+    → IsMissed h line → HasLine cpus scripts (outcome n (h ++ more) l s) line → ⊥
+missed cpus scripts n h more l s (Answer cpu reply) none has = none
+missed cpus scripts n h more l s (AnswerAt cpu earlier reply) other has =
     other.2 (subst (IsAsWanted reply) (same_Some has.2.0 other.0 (sym has.2.1 ∙ at)) has.2.2)
   where
     at : slice_get has.0 earlier ≡ Some other.0
@@ -343,10 +363,13 @@ missed n h more l s (AnswerAt cpu earlier reply) other has =
         ((below_is n (h ++ more) cpu has.0 has.1).1 ∙ replies_append cpu h more)
         ∙ (get_left (replies_to cpu h) (replies_to cpu more) earlier
         (slice_get_within (replies_to cpu h) earlier other.0 other.1) ∙ other.1)
-missed n h more l s (Block block row) none has = none
+missed cpus scripts n h more l s (Plan cpu end) none has = none
+missed cpus scripts n h more l s (Block block row) none has = none
 
 pub lost : (wanted : List Wanted) (n : ℕ) (h : List Record) (k : ℕ) (one : Wanted)
-    → slice_get wanted k ≡ Some one → IsRuledOut n h one → IsLost wanted n h
-lost wanted n h k (Has line) here out more l s meets = missed n h more l s line out (meets k (Has line) here)
-lost wanted n h k (Lacks line) here out more l s meets =
-    meets k (Lacks line) here (line_kept n h more l s line out)
+    → slice_get wanted k ≡ Some one → IsRuledOut n h one
+    → (cpus : ℕ) (scripts : List (List Step)) → IsLost cpus scripts wanted n h
+lost wanted n h k (Has line) here out cpus scripts more l s meets =
+    missed cpus scripts n h more l s line out (meets k (Has line) here)
+lost wanted n h k (Lacks line) here out cpus scripts more l s meets =
+    meets k (Lacks line) here (line_kept cpus scripts n h more l s line out)

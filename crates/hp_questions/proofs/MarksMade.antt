@@ -11,11 +11,14 @@ use Rattle.hp_laws.proofs.Lists.{get_end, get_left}
 use Rattle.hp_units.specs.declared.replies.Record.{Record}
 use Rattle.hp_units.specs.declared.replies.Reply.{Reply}
 use Rattle.hp_schedules.specs.Outcomes.{replies_below, replies_to, told}
+use Rattle.hp_schedules.specs.declared.scripts.Step.{Step}
 use Rattle.hp_questions.specs.Marks.{AreMarks, AreMet, HasLineSoFar, line_of}
-use Rattle.hp_questions.specs.Wanted.{HasAnswerAt, IsAsWanted}
+use Rattle.hp_questions.specs.Wanted.{HasAnswerAt}
+use Rattle.hp_questions.specs.Patterns.{IsAsWanted}
 use Rattle.hp_questions.specs.declared.wanted.Pattern.{Pattern}
 use Rattle.hp_questions.specs.declared.wanted.Wanted.{Wanted}
-use Rattle.hp_questions.proofs.Marking.{below_at, below_is, get_right}
+use Rattle.hp_questions.proofs.Marking.{below_at, below_is}
+use Rattle.hp_questions.proofs.Places.{get_right}
 
 -- ---- tests
 
@@ -61,13 +64,13 @@ one_or_none P true n is same = ((λ one. same.0 refl, λ p. is), inr is)
 one_or_none P false n is same =
     ((λ one. absurd (omega (arith, is, one)), λ p. absurd (let no = same.1 p in cc)), inl is)
 
-pub met_more : (wanted : List Wanted) (processors : ℕ) (news : List Record) (i : ℕ) (one : Wanted)
-    (told : Bool) (n : ℕ) (old mid new : List ℕ)
+pub met_more : (cpus : ℕ) (scripts : List (List Step)) (wanted : List Wanted) (processors : ℕ)
+    (news : List Record) (i : ℕ) (one : Wanted) (told : Bool) (n : ℕ) (old mid new : List ℕ)
     → slice_get wanted i ≡ Some one
-    → (met : List ℕ) × (mid ≡ old ++ met) × AreMet wanted processors news i met → new ≡ mid ++ n ∷ []
-    → n ≡ bool_byte told → (IsTrue told ↔ HasLineSoFar processors news (line_of one))
-    → (met : List ℕ) × (new ≡ old ++ met) × AreMet wanted processors news (i + 1) met
-met_more wanted processors news i one told n old mid new here so_far is n_is same = (
+    → (met : List ℕ) × (mid ≡ old ++ met) × AreMet cpus scripts wanted processors news i met → new ≡ mid ++ n ∷ []
+    → n ≡ bool_byte told → (IsTrue told ↔ HasLineSoFar cpus scripts processors news (line_of one))
+    → (met : List ℕ) × (new ≡ old ++ met) × AreMet cpus scripts wanted processors news (i + 1) met
+met_more cpus scripts wanted processors news i one told n old mid new here so_far is n_is same = (
   so_far.0 ++ n ∷ [],
   is ∙ (ap (λ (xs : List ℕ). xs ++ n ∷ []) so_far.1 ∙ append_assoc old so_far.0 (n ∷ [])),
   (
@@ -76,12 +79,12 @@ met_more wanted processors news i one told n old mid new here so_far is n_is sam
   ),
 )
   where
-    last : ((n ≡ 1) ↔ HasLineSoFar processors news (line_of one)) × ((n ≡ 0) ⊎ (n ≡ 1))
-    last = one_or_none (HasLineSoFar processors news (line_of one)) told n n_is same
+    last : ((n ≡ 1) ↔ HasLineSoFar cpus scripts processors news (line_of one)) × ((n ≡ 0) ⊎ (n ≡ 1))
+    last = one_or_none (HasLineSoFar cpus scripts processors news (line_of one)) told n n_is same
 
     by_place : (k : ℕ) (other : Wanted) → slice_get wanted k ≡ Some other → (k < i) ⊎ (i ≤ k) → k < i + 1
         → (m : ℕ) × (slice_get (so_far.0 ++ n ∷ []) k ≡ Some m)
-        × ((m ≡ 1) ↔ HasLineSoFar processors news (line_of other)) × ((m ≡ 0) ⊎ (m ≡ 1))
+        × ((m ≡ 1) ↔ HasLineSoFar cpus scripts processors news (line_of other)) × ((m ≡ 0) ⊎ (m ≡ 1))
     by_place k other at (inl below) less =
         let x = so_far.2.1 k other below at in
         (x.0, get_left so_far.0 (n ∷ []) k (slice_get_within so_far.0 k x.0 x.1) ∙ x.1, x.2, x.3)
@@ -92,16 +95,17 @@ met_more wanted processors news i one told n old mid new here so_far is n_is sam
         same_Some one other (sym here ∙ (ap (slice_get wanted) index ∙ at)) in (
           n,
           ap (slice_get (so_far.0 ++ n ∷ [])) (sym place) ∙ get_end so_far.0 n,
-          subst (λ (w : Wanted). (n ≡ 1) ↔ HasLineSoFar processors news (line_of w)) same_line last.0,
+          subst (λ (w : Wanted). (n ≡ 1) ↔ HasLineSoFar cpus scripts processors news (line_of w)) same_line last.0,
           last.1,
         )
 
 -- a list that is appended to another one
-pub marks_made : (wanted : List Wanted) (n : ℕ) (news : List Record) (old mid new met : List ℕ)
+pub marks_made : (cpus : ℕ) (scripts : List (List Step)) (wanted : List Wanted) (n : ℕ)
+    (news : List Record) (old mid new met : List ℕ)
     → mid ≡ old ++ map (λ cpu. length (replies_to cpu news)) (range_with_len 0 n) → new ≡ mid ++ met
-    → AreMet wanted n news (length wanted) met
-    → (marks : List ℕ) × (new ≡ old ++ marks) × AreMarks wanted n news marks
-marks_made wanted n news old mid new met calls_are is are = (
+    → AreMet cpus scripts wanted n news (length wanted) met
+    → (marks : List ℕ) × (new ≡ old ++ marks) × AreMarks cpus scripts wanted n news marks
+marks_made cpus scripts wanted n news old mid new met calls_are is are = (
   calls ++ met,
   is ∙ (ap (λ (xs : List ℕ). xs ++ met) calls_are ∙ append_assoc old calls met),
   record {

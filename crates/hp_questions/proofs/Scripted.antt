@@ -1,5 +1,6 @@
--- How many interleavings scripts have does not depend on the operations that were begun before them.
-use Rattle.std.proofs.Common.{◌≡◌, ℕ, ◌≤◌, ◌^◌, ◌==◌, Bool, true, false, if◌then◌else◌, List, [], ◌∷◌, ◌++◌, drop, length, map, Option, Some, None, refl, ap, sym, subst, ◌∙◌}
+-- How many interleavings scripts have does not depend on the operations that were begun before them, nor
+-- on which of their lines work on the results of others.
+use Rattle.std.proofs.Common.{◌≡◌, ℕ, ◌+◌, ◌≤◌, ◌^◌, ◌==◌, Bool, true, false, if◌then◌else◌, List, [], ◌∷◌, ◌++◌, drop, length, map, Option, Some, None, refl, ap, sym, subst, ◌∙◌}
 use Rattle.std.specs.Prelude.{◌&&◌, ◌||◌}
 use Rattle.std.specs.List.{list_all, range_with_len}
 use Rattle.std.specs.Option.{option_map_or}
@@ -10,6 +11,7 @@ use Rattle.hp_schedules.specs.Interleavings.{IsKnown, holds_no_plan, is_one_call
 use Rattle.hp_schedules.specs.Multinomials.{IsMultinomial, sum}
 use Rattle.hp_schedules.specs.declared.multinomials.HowMany.{HowMany}
 use Rattle.hp_schedules.specs.declared.multinomials.HowMany.TheVariants.{Exactly, MoreThanLimit, Unknown}
+use Rattle.hp_schedules.specs.declared.scripts.OwnWork.{OwnWork}
 use Rattle.hp_schedules.specs.declared.scripts.Step.{Step}
 use Rattle.hp_schedules.specs.declared.scripts.Step.TheVariants.{Ask}
 use Rattle.hp_schedules.specs.declared.scripts.StepWork as own
@@ -18,7 +20,8 @@ use Rattle.hp_scenario.specs.declared.lines.Line.{Line}
 use Rattle.hp_questions.specs.Begins.{last_begun, line_begins}
 use Rattle.hp_questions.specs.Checks.{AreFit, IsUnfit}
 use Rattle.hp_questions.specs.Counting.{AreKnownAs, AreScripts, IsKnownAfter}
-use Rattle.hp_questions.specs.Scripts.{called, explored, line_for, own_step, own_work, script_of, scripts_of, steps_in, steps_of}
+use Rattle.hp_questions.specs.Results.{named_at}
+use Rattle.hp_questions.specs.Scripts.{called, explored, named_or_called, own_step, own_work, script_of, scripts_of, step_for, steps_in, steps_of}
 use Rattle.hp_questions.specs.declared.begins.Begin.{Begin}
 use Rattle.hp_questions.specs.declared.start_fault.StartFault.{StartFault}
 use Rattle.hp_questions.specs.declared.start_fault.StartFault.TheVariants.{NotForScript, OutOfMemory}
@@ -40,48 +43,56 @@ called_one op begun e = by_work (own_work e)
     by_work None = refl
     by_work (Some w) = own_one op begun w
 
-called_alike : (op other : ℕ) (begun : Bool) (e : Event)
-    → is_one_call (called op begun e) ≡ is_one_call (called other begun e)
-called_alike op other begun e = called_one op begun e ∙ sym (called_one other begun e)
+step_one : (op : ℕ) (begun : Bool) (named : Option OwnWork) (e : Event)
+    → is_one_call (named_or_called op begun named e) ≡ true
+step_one op begun None e = called_one op begun e
+step_one op begun (Some w) e = refl
 
-explored_alike : (op other : ℕ) (begun : Bool) (m : asks.Meaning)
-    → shape (steps_of (explored op begun m)) ≡ shape (steps_of (explored other begun m))
-explored_alike op other begun (asks.event e) = ap (λ (b : Bool). b ∷ []) (called_alike op other begun e)
-explored_alike op other begun (asks.plan items turns) = refl
-explored_alike op other begun (asks.not_taken fault) = refl
-explored_alike op other begun (asks.cat path) = refl
-explored_alike op other begun asks.seal = refl
+explored_alike : (op other : ℕ) (begun : Bool) (named also : Option OwnWork) (m : asks.Meaning)
+    → shape (steps_of (explored op begun named m)) ≡ shape (steps_of (explored other begun also m))
+explored_alike op other begun named also (asks.event e) =
+    ap (λ (b : Bool). b ∷ []) (step_one op begun named e ∙ sym (step_one other begun also e))
+explored_alike op other begun named also (asks.plan items turns) = refl
+explored_alike op other begun named also (asks.not_taken fault) = refl
+explored_alike op other begun named also (asks.cat path) = refl
+explored_alike op other begun named also asks.seal = refl
 
-line_alike : (op other : ℕ) (begun : Bool) (m : asks.Meaning) (own : Bool)
-    → shape (if own then steps_of (explored op begun m) else [])
-    ≡ shape (if own then steps_of (explored other begun m) else [])
-line_alike op other begun m true = explored_alike op other begun m
-line_alike op other begun m false = refl
+line_alike : (op other : ℕ) (begun : Bool) (named also : Option OwnWork) (m : asks.Meaning) (own : Bool)
+    → shape (steps_of (if own then explored op begun named m else None))
+    ≡ shape (steps_of (if own then explored other begun also m else None))
+line_alike op other begun named also m true = explored_alike op other begun named also m
+line_alike op other begun named also m false = refl
 
 -- ---- all lines
 
-steps_alike : (cpu op other : ℕ) (begun : Bool) (lines : List Line)
-    → shape (steps_in cpu op begun lines) ≡ shape (steps_in cpu other begun lines)
-steps_alike cpu op other begun [] = refl
-steps_alike cpu op other begun (line ∷ lines) =
-    map-append is_one_call (line_for cpu op begun line) (steps_in cpu op (later line) lines)
-    ∙ (ap (λ (bs : List Bool). bs ++ shape (steps_in cpu op (later line) lines))
-    (line_alike op other begun (asks.asked_by line.work) (line.cpu == cpu))
-    ∙ (ap (λ (bs : List Bool). shape (line_for cpu other begun line) ++ bs)
-    (steps_alike cpu op other (later line) lines)
-    ∙ sym (map-append is_one_call (line_for cpu other begun line) (steps_in cpu other (later line) lines))))
-  where
-    later : Line → Bool
-    later line = begun || line_begins cpu line
+steps_alike : (cpu op other : ℕ) (begun : Bool) (lines : List Line) (sources others : List (Option ℕ))
+    (place : ℕ) (left : List Line)
+    → shape (steps_in cpu op begun lines sources place left)
+    ≡ shape (steps_in cpu other begun lines others place left)
+steps_alike cpu op other begun lines sources others place [] = refl
+steps_alike cpu op other begun lines sources others place (line ∷ left) =
+    let named : Option OwnWork = named_at cpu lines sources place (asks.asked_by line.work) in
+    let also : Option OwnWork = named_at cpu lines others place (asks.asked_by line.work) in
+    let later : Bool = begun || line_begins cpu line in
+    let first : List Step = steps_in cpu op later lines sources (place + 1) left in
+    let second : List Step = steps_in cpu other later lines others (place + 1) left in
+    map-append is_one_call (steps_of (step_for cpu op begun named line)) first
+    ∙ (ap (λ (bs : List Bool). bs ++ shape first)
+    (line_alike op other begun named also (asks.asked_by line.work) (line.cpu == cpu))
+    ∙ (ap (λ (bs : List Bool). shape (steps_of (step_for cpu other begun also line)) ++ bs)
+    (steps_alike cpu op other later lines sources others (place + 1) left)
+    ∙ sym (map-append is_one_call (steps_of (step_for cpu other begun also line)) second)))
 
-scripts_alike : (begins others : List Begin) (lines : List Line) (cpus : List ℕ)
-    → map shape (map (script_of begins lines) cpus) ≡ map shape (map (script_of others lines) cpus)
-scripts_alike begins others lines [] = refl
-scripts_alike begins others lines (cpu ∷ cpus) =
-    ap (λ (s : List Bool). s ∷ map shape (map (script_of begins lines) cpus))
-    (steps_alike cpu (last_begun cpu begins) (last_begun cpu others) false lines)
-    ∙ ap (λ (ss : List (List Bool)). shape (script_of others lines cpu) ∷ ss)
-    (scripts_alike begins others lines cpus)
+scripts_alike : (begins others : List Begin) (lines : List Line) (sources also : List (Option ℕ))
+    (cpus : List ℕ)
+    → map shape (map (script_of begins lines sources) cpus)
+    ≡ map shape (map (script_of others lines also) cpus)
+scripts_alike begins others lines sources also [] = refl
+scripts_alike begins others lines sources also (cpu ∷ cpus) =
+    ap (λ (s : List Bool). s ∷ map shape (map (script_of begins lines sources) cpus))
+    (steps_alike cpu (last_begun cpu begins) (last_begun cpu others) false lines sources also 0 lines)
+    ∙ ap (λ (ss : List (List Bool)). shape (script_of others lines also cpu) ∷ ss)
+    (scripts_alike begins others lines sources also cpus)
 
 -- ---- what is known by them
 
@@ -115,18 +126,21 @@ known_alike scripts others limit MoreThanLimit lengths calls h =
 known_alike scripts others limit Unknown lengths calls h =
     λ one. subst (λ (ns : List ℕ). 2 ^ 64 ≤ sum ns) lengths (h (calls ∙ one))
 
--- of the scripts of lines after any operations
-pub known_after_any : (cpus : ℕ) (begins others : List Begin) (lines : List Line) (limit : ℕ)
-    (known : HowMany)
-    → IsKnown (scripts_of cpus begins lines) limit known → IsKnown (scripts_of cpus others lines) limit known
-known_after_any cpus begins others lines limit known h =
-    let same = scripts_alike begins others lines (range_with_len 0 cpus) in
-    known_alike (scripts_of cpus begins lines) (scripts_of cpus others lines) limit known
-    (lengths_by (scripts_of cpus begins lines)
-    ∙ (ap (map (λ (bs : List Bool). length bs)) same ∙ sym (lengths_by (scripts_of cpus others lines))))
-    (calls_by (scripts_of cpus begins lines)
+-- of the scripts of lines after any operations, with any sources
+pub known_after_any : (cpus : ℕ) (begins others : List Begin) (lines : List Line)
+    (sources also : List (Option ℕ)) (limit : ℕ) (known : HowMany)
+    → IsKnown (scripts_of cpus begins lines sources) limit known
+    → IsKnown (scripts_of cpus others lines also) limit known
+known_after_any cpus begins others lines sources also limit known h =
+    let first : List (List Step) = scripts_of cpus begins lines sources in
+    let second : List (List Step) = scripts_of cpus others lines also in
+    let same = scripts_alike begins others lines sources also (range_with_len 0 cpus) in
+    known_alike first second limit known
+    (lengths_by first
+    ∙ (ap (map (λ (bs : List Bool). length bs)) same ∙ sym (lengths_by second)))
+    (calls_by first
     ∙ (ap (list_all (λ (bs : List Bool). list_all (λ (b : Bool). b) bs)) same
-    ∙ sym (calls_by (scripts_of cpus others lines)))) h
+    ∙ sym (calls_by second))) h
 
 -- ---- a line that cannot stand in a script
 

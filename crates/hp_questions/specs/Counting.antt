@@ -14,9 +14,12 @@ use Rattle.hp_questions.specs.declared.begins.Begin.{Begin}
 abbrev pub AreScripts : (cpus setup : ℕ) → List Line → Type 0
 AreScripts cpus setup lines = AreFit cpus (drop setup lines) (length (drop setup lines))
 
--- the number of interleavings of these lines is `known`, whatever operations were begun before them
+-- the number of interleavings of these lines is `known`, whatever operations were begun before them, and
+-- whichever lines work on the results of others
 abbrev pub AreKnownAs : (cpus : ℕ) → List Line → (limit : ℕ) → HowMany → Type 0
-AreKnownAs cpus lines limit known = (begins : List Begin) → IsKnown (scripts_of cpus begins lines) limit known
+AreKnownAs cpus lines limit known =
+    (begins : List Begin) (sources : List (Option ℕ))
+    → IsKnown (scripts_of cpus begins lines sources) limit known
 
 -- the same for the lines after the first `setup`; `None` if one of them may not be in a script
 abbrev pub IsKnownAfter : (cpus setup : ℕ) → List Line → (limit : ℕ) → Option HowMany → Type 0
@@ -27,8 +30,7 @@ IsKnownAfter cpus setup lines limit (Some known) =
 -- the line that reports the number
 abbrev pub known_text : (limit : ℕ) → HowMany → List ℕ
 known_text limit (Exactly count) = codes "interleavings: " ++ decimal count ++ newline
-known_text limit MoreThanLimit =
-    codes "interleavings: more than " ++ decimal limit ++ codes ": explore counts more with --limit N\n"
+known_text limit MoreThanLimit = codes "interleavings: more than " ++ decimal limit ++ newline
 known_text limit Unknown = codes "interleavings: not known: the calls of a plan are counted only by explore\n"
 
 abbrev pub told_text : (limit : ℕ) → Option HowMany → List ℕ

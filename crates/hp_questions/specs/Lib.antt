@@ -3,6 +3,9 @@ pub mod Checks
 pub mod Counting
 pub mod Limits
 pub mod Marks
+pub mod Patterns
+pub mod PlanLines
+pub mod Results
 pub mod Scripts
 pub mod Setup
 pub mod Starts

@@ -1,13 +1,15 @@
 -- Wanted lines that name something outside the layout.
-use Rattle.std.specs.Prelude.{ℕ, ◌≡◌, ◌+◌, ◌<◌, ◌≤◌, ◌⊎◌, List, Some, None, slice_get}
+use Rattle.std.specs.Prelude.{ℕ, ◌≡◌, ◌+◌, ◌<◌, ◌≤◌, ◌⊎◌, List, Option, Some, None, slice_get}
 use Rattle.hp_units.specs.Arithmetic.{frame_count}
 use Rattle.hp_units.specs.LayoutParts.{LayoutParts}
 use Rattle.hp_units.specs.declared.replies.Refusal.{Refusal}
 use Rattle.hp_units.specs.declared.replies.Refusal.TheVariants.{Twice, Busy, NotOnline, NotOffline, Unmovable, NotFree, NotAbsent}
 use Rattle.hp_units.specs.declared.replies.Reply.{Reply}
 use Rattle.hp_units.specs.declared.replies.Reply.TheVariants.{Frame, Moved, Refused}
+use Rattle.hp_questions.specs.declared.plan_lines.EndPattern.{EndPattern}
+use Rattle.hp_questions.specs.declared.plan_lines.EndPattern.TheVariants.{Refused as RefusedAs, CancelledAs}
 use Rattle.hp_questions.specs.declared.wanted.EndLine.{EndLine}
-use Rattle.hp_questions.specs.declared.wanted.EndLine.TheVariants.{Answer, AnswerAt, Block}
+use Rattle.hp_questions.specs.declared.wanted.EndLine.TheVariants.{Answer, AnswerAt, Plan, Block}
 use Rattle.hp_questions.specs.declared.wanted.Pattern.{Pattern}
 use Rattle.hp_questions.specs.declared.wanted.Pattern.TheVariants.{Exactly, AnyOf}
 use Rattle.hp_questions.specs.declared.wanted.Wanted.{Wanted}
@@ -39,11 +41,22 @@ IsPatternPast l (AnyOf refusal) = ⊥
 abbrev pub IsAnswerPast : LayoutParts → (cpu : ℕ) → Pattern → Type 0
 IsAnswerPast l cpu reply = (l.cpus ≤ cpu) ⊎ IsPatternPast l reply
 
+-- the end of a plan does; the end of a plan of this processor, or of any, does
+abbrev pub IsEndPast : LayoutParts → EndPattern → Type 0
+IsEndPast l (RefusedAs refusal) = IsPatternPast l refusal
+IsEndPast l (CancelledAs (Some refusal) restored) = IsPatternPast l refusal
+IsEndPast l end = ⊥
+
+abbrev pub IsPlanPast : LayoutParts → (cpu : Option ℕ) → EndPattern → Type 0
+IsPlanPast l None end = IsEndPast l end
+IsPlanPast l (Some cpu) end = (l.cpus ≤ cpu) ⊎ IsEndPast l end
+
 -- the line does, or names a memory block outside the layout
 abbrev pub IsLinePast : LayoutParts → EndLine → Type 0
 IsLinePast l (Answer None reply) = IsPatternPast l reply
 IsLinePast l (Answer (Some cpu) reply) = IsAnswerPast l cpu reply
 IsLinePast l (AnswerAt cpu earlier reply) = IsAnswerPast l cpu reply
+IsLinePast l (Plan cpu end) = IsPlanPast l cpu end
 IsLinePast l (Block block row) = l.blocks ≤ block
 
 -- a line that an end is to have or to lack does

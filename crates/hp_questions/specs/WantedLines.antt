@@ -1,5 +1,5 @@
 -- The text of a wanted line.
-use Rattle.std.specs.Prelude.{ℕ, ◌-◌, ◌==◌, List, [], ◌∷◌, codes, drop, nat_eq, Option, Some, None, if◌then◌else◌, option_map}
+use Rattle.std.specs.Prelude.{ℕ, ◌-◌, ◌==◌, true, false, List, [], ◌∷◌, codes, drop, nat_eq, Option, Some, None, if◌then◌else◌, option_map}
 use Rattle.std.specs.List.{slice_split, starts_with}
 use Rattle.std.specs.Str.{bytes_eq}
 use Rattle.hp_numbers.specs.NumberWords.{number_of}
@@ -13,8 +13,10 @@ use Rattle.hp_units.specs.declared.rows.State.TheVariants.{Offline, Online, Goin
 use Rattle.hp_units.specs.declared.rows.Zone.{Zone}
 use Rattle.hp_scenario.specs.Lines.{◌>>=◌, only_number, zone_of}
 use Rattle.hp_scenario.specs.Words.{words_of}
+use Rattle.hp_questions.specs.declared.plan_lines.EndPattern.{EndPattern}
+use Rattle.hp_questions.specs.declared.plan_lines.EndPattern.TheVariants.{Done as DoneSo, Undone as UndoneSo, Refused as RefusedAs, Cancelled, CancelledAs}
 use Rattle.hp_questions.specs.declared.wanted.EndLine.{EndLine}
-use Rattle.hp_questions.specs.declared.wanted.EndLine.TheVariants.{Answer, AnswerAt, Block}
+use Rattle.hp_questions.specs.declared.wanted.EndLine.TheVariants.{Answer, AnswerAt, Plan, Block}
 use Rattle.hp_questions.specs.declared.wanted.Pattern.{Pattern}
 use Rattle.hp_questions.specs.declared.wanted.Pattern.TheVariants.{Exactly, AnyOf}
 use Rattle.hp_questions.specs.declared.wanted.Wanted.{Wanted}
@@ -102,6 +104,50 @@ reply_of word args =
     else (if bytes_eq word (codes "refused") then refusal_of args
     else None))))))))
 
+-- ---- ends of plans
+
+-- an end without arguments
+unfoldable pub bare_end : EndPattern → List (List ℕ) → Option EndPattern
+bare_end end [] = Some end
+bare_end end _ = None
+
+-- the last refusal by its name alone; a dash if there is none
+unfoldable pub cause_of : (why : List ℕ) → Option (Option Pattern)
+cause_of why =
+    if bytes_eq why (codes "-") then Some None else option_map (λ r. Some r) (refusal_of (why ∷ []))
+
+-- what the Cancel did
+unfoldable pub cancelled_as : Option Pattern → (what : List ℕ) → Option EndPattern
+cancelled_as why what =
+    if bytes_eq what (codes "restored") then Some (CancelledAs why true)
+    else (if bytes_eq what (codes "released") then Some (CancelledAs why false) else None)
+
+-- a plan that was cancelled, for any reason; or with the last refusal, and what the Cancel did
+unfoldable pub cancelled_end : List (List ℕ) → Option EndPattern
+cancelled_end [] = Some Cancelled
+cancelled_end (why ∷ what ∷ []) = do
+  cause ← cause_of why
+  cancelled_as cause what
+cancelled_end (name ∷ number ∷ what ∷ []) = do
+  refusal ← refusal_of (name ∷ number ∷ [])
+  cancelled_as (Some refusal) what
+cancelled_end _ = None
+
+-- the end of a plan from its first word and the other words. One that was left is none: a full history
+-- ends the search
+unfoldable pub end_of : List ℕ → List (List ℕ) → Option EndPattern
+end_of word args =
+    if bytes_eq word (codes "done") then bare_end DoneSo args
+    else (if bytes_eq word (codes "undone") then bare_end UndoneSo args
+    else (if bytes_eq word (codes "refused") then option_map (λ r. RefusedAs r) (refusal_of args)
+    else (if bytes_eq word (codes "cancelled") then cancelled_end args
+    else None)))
+
+-- the end after the space that follows a colon
+unfoldable pub said_end : List (List ℕ) → Option EndPattern
+said_end ([] ∷ word ∷ args) = end_of word args
+said_end _ = None
+
 -- ---- memory blocks
 
 -- a block's row, without a claim
@@ -177,10 +223,29 @@ answer_of who said = do
   reply ← said_reply said
   answer_by who reply
 
+-- the end of a plan of this processor, or of any
+unfoldable pub plan_line : (cpu : Option ℕ) → (said : List (List ℕ)) → Option EndLine
+plan_line cpu said = option_map (λ end. Plan cpu end) (said_end said)
+
+-- the processor, `plan` and its end, between colons
+unfoldable pub own_plan : (who mark said : List ℕ) → Option EndLine
+own_plan who mark said =
+    if bytes_eq mark (codes " plan") then (do
+      cpu ← number_of 32 who
+      plan_line (Some cpu) (words_of said))
+    else None
+
+-- `plan` and the end of one, or a processor and its reply
+unfoldable pub said_by : (who said : List ℕ) → Option EndLine
+said_by who said =
+    if bytes_eq who (codes "plan") then plan_line None (words_of said)
+    else answer_of (words_of who) (words_of said)
+
 -- a line from the parts between its colons
 unfoldable pub line_in : List (List ℕ) → Option EndLine
 line_in (line ∷ []) = line_of (words_of line)
-line_in (who ∷ said ∷ []) = answer_of (words_of who) (words_of said)
+line_in (who ∷ said ∷ []) = said_by who said
+line_in (who ∷ mark ∷ said ∷ []) = own_plan who mark said
 line_in _ = None
 
 unfoldable pub end_line : List ℕ → Option EndLine

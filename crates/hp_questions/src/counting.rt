@@ -54,7 +54,7 @@ fn known_of(alloc: Global, cpus: u32, lines: &[Line], limit: u64) -> Result<HowM
     ensures { IfOk result (AreKnownAs cpus lines.now limit) }
 {
     let begins = Vec::new(alloc);
-    let scripts = scripts_of(alloc, cpus, &begins, lines)?;
+    let scripts = scripts_of(alloc, cpus, &begins, lines, &[])?;
     interleavings_of(alloc, &scripts, limit)
 }
 
@@ -83,10 +83,7 @@ fn write_known(out: &mut String, known: HowMany, limit: u64) -> Result<(), Alloc
 {
     match known {
         HowMany::Exactly(count) => writeln!(out, "interleavings: {count}"),
-        HowMany::MoreThanLimit => writeln!(
-            out,
-            "interleavings: more than {limit}: explore counts more with --limit N"
-        ),
+        HowMany::MoreThanLimit => writeln!(out, "interleavings: more than {limit}"),
         HowMany::Unknown => writeln!(
             out,
             "interleavings: not known: the calls of a plan are counted only by explore"

@@ -1,16 +1,19 @@
-//! What a search is asked: where it starts, with the scripts of a scenario's lines, and the lines
-//! that an end must have.
+//! What a search starts from, and what it looks for: the machine after a scenario's setup, the
+//! scripts of its later lines, and the lines that an end must have.
 //!
 //! The first lines of a scenario are its setup, run in order on one machine as `hotplug serial`
-//! does; each later line goes to the script of its processor. The crate owns which lines may be in
-//! a script, what step each becomes, and which operation the number 0 names. It parses the lines that
-//! an end is to have or to lack (a reply to a processor, or what became of a memory block, as an end
-//! is printed), matches them, and checks them against a layout. Before an end it says what of them is
-//! met so far, and whether they can still be met. It searches nothing: hp_explore does, and hp_search
-//! writes what it finds.
+//! does. Each later line goes to the script of its processor. The crate owns which lines may be in
+//! a script, what step each becomes, which operation the number 0 names, and which steps work on the
+//! results of earlier lines.
 //!
-//! Read specs/Scripts first, then specs/Setup, specs/Begins and specs/Starts; of wanted lines
-//! specs/Wanted, then specs/Marks, specs/Limits and specs/WantedLines.
+//! It also parses, matches and checks the lines that an end is to have or to lack. Such a line is a
+//! reply to a processor, or the state of a memory block, as an end is printed. Before the end of a
+//! schedule, the crate returns which of these lines are met so far, and whether the others can
+//! still be met. It searches nothing: hp_explore does, and hp_search writes what it finds.
+//!
+//! Read specs/Scripts first, then specs/Results, specs/Setup, specs/Begins and specs/Starts; of wanted lines
+//! specs/Patterns, specs/PlanLines and specs/Wanted, then specs/Marks, specs/Limits and
+//! specs/WantedLines.
 #![tactic(auto)]
 
 mod begins;
@@ -18,6 +21,9 @@ mod checks;
 mod counting;
 mod limits;
 mod marks;
+mod plan_lines;
+mod plan_words;
+mod results;
 mod scripts;
 mod setup;
 mod start_fault;
@@ -28,7 +34,8 @@ mod wanted_lines;
 
 pub use counting::interleavings_line;
 pub use limits::first_past;
-pub use marks::{is_lost, push_marks};
+pub use marks::{asks_no_plans, is_lost, push_marks};
+pub use plan_lines::EndPattern;
 pub use start_fault::StartFault;
 pub use starts::{Start, front_of, start_of};
 pub use unbegun::{Unbegun, unbegun_lines};

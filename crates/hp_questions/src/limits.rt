@@ -1,7 +1,8 @@
 //! Wanted lines that name something outside the layout.
 ghost use Rattle.std.specs.Prelude.{◌↔◌, IfNone, IfSome, IsTrue};
-ghost use Rattle.hp_questions.specs.Limits.{AreWithin, IsAnswerPast, IsFirstPast, IsLinePast, IsPast, IsPatternPast, IsRefusalPast, IsReplyPast};
+ghost use Rattle.hp_questions.specs.Limits.{AreWithin, IsAnswerPast, IsEndPast, IsFirstPast, IsLinePast, IsPast, IsPatternPast, IsPlanPast, IsRefusalPast, IsReplyPast};
 
+use crate::plan_lines::EndPattern;
 use crate::wanted::{EndLine, Pattern, Wanted};
 use hp_units::{Cpu, Layout, Refusal, Reply};
 
@@ -47,6 +48,7 @@ impl EndLine {
                 earlier: _,
                 reply,
             } => is_answer_past(*cpu, reply, layout),
+            EndLine::Plan { cpu, end } => is_plan_past(cpu, end, layout),
             EndLine::Block { block, row: _ } => block.0 >= layout.blocks(),
         }
     }
@@ -57,6 +59,32 @@ fn is_answer_past(cpu: Cpu, reply: &Pattern, layout: &Layout) -> bool
     ensures { IsTrue result ↔ IsAnswerPast layout.now cpu reply.now }
 {
     cpu.0 >= layout.cpus() || reply.is_past(layout)
+}
+
+/// Returns whether the end of a plan names something outside the layout, or the processor does.
+fn is_plan_past(cpu: &Option<Cpu>, end: &EndPattern, layout: &Layout) -> bool
+    ensures { IsTrue result ↔ IsPlanPast layout.now cpu.now end.now }
+{
+    match cpu {
+        Some(cpu) => cpu.0 >= layout.cpus() || end.is_past(layout),
+        None => end.is_past(layout),
+    }
+}
+
+impl EndPattern {
+    /// Returns whether it names something outside the layout.
+    fn is_past(&self, layout: &Layout) -> bool
+        ensures { IsTrue result ↔ IsEndPast layout.now self.now }
+    {
+        match self {
+            EndPattern::Refused(refusal) => refusal.is_past(layout),
+            EndPattern::CancelledAs {
+                why: Some(refusal),
+                restored: _,
+            } => refusal.is_past(layout),
+            _ => false,
+        }
+    }
 }
 
 impl Pattern {

@@ -1,41 +1,61 @@
 //! What of the wanted lines is met before a schedule is complete.
-ghost use Rattle.std.specs.Prelude.{◌≡◌, ◌↔◌, ◌++◌, ℕ, List, IfOk, IsTrue, None, OnOk, length, map, slice_get, true};
+ghost use Rattle.std.specs.Prelude.{◌≡◌, ◌↔◌, ◌<◌, ◌^◌, ◌++◌, ℕ, List, IfOk, IsTrue, None, OnOk, length, map, slice_get, true};
 ghost use Rattle.std.specs.List.{range_with_len};
+ghost use Rattle.hp_schedules.specs.declared.scripts.Step.{Step};
 ghost use Rattle.hp_schedules.specs.Outcomes.{replies_below, replies_to, told};
-ghost use Rattle.hp_questions.specs.Marks.{AreMarks, AreMet, HasLineSoFar, IsLost, IsMissed, IsRuledOut, line_of};
+ghost use Rattle.hp_questions.specs.Marks.{AreMarks, AreMet, HasLineSoFar, HasReplySoFar, IsLost, IsMissed, IsRuledOut, asks_no_plans, leaves_plans, line_of};
 ghost use Rattle.hp_questions.specs.Wanted.{HasAnswer, HasAnswerAt, HasReply};
 
 use crate::wanted::{EndLine, Pattern, Wanted};
+use hp_schedules::{CallScript, all_answers};
 use hp_units::{Cpu, Record, Reply, Serial};
-use std::alloc::AllocError;
+use std::alloc::{AllocError, Global};
 
 /// Appends what of the wanted lines the records have met: for each processor how many replies it
-/// got, and for each wanted line whether some reply has it. Returns whether each number fits 32
-/// bits. If not, `numbers` holds a part of them.
+/// got, and for each wanted line whether some reply has it, or some plan ended so. Returns whether
+/// each number fits 32 bits. If not, `numbers` holds a part of them.
 ///
 /// From two places with the same marks, equal further calls with equal replies lead to ends that
-/// meet the same wanted lines, provided that the rows at the end are equal.
+/// meet the same wanted lines, provided that the rows at the end are equal, and that further plans
+/// end alike. Allocates only for `numbers` and for lines about plans.
 pub fn push_marks(
+    alloc: Global,
     wanted: &[Wanted],
+    cpus: u32,
+    scripts: &[CallScript],
     processors: u32,
     records: &[Record],
     numbers: &mut Vec<u32>,
 ) -> Result<bool, AllocError>
+    requires { length scripts.now < 2 ^ 32 }
     ensures { IfOk result (λ fit. fit ≡ true → (marks : List ℕ)
         × (numbers.new.items ≡ numbers.old.items ++ marks)
-        × AreMarks wanted.now processors records.now marks) }
+        × AreMarks cpus scripts.now wanted.now processors records.now marks) }
 {
     if !push_calls(processors, records, numbers)? {
         return Ok(false);
     }
-    push_met(wanted, processors, records, numbers)?;
+    push_met(alloc, wanted, cpus, scripts, processors, records, numbers)?;
     Ok(true)
+}
+
+/// Returns whether no wanted line is about plans.
+pub fn asks_no_plans(wanted: &[Wanted]) -> bool
+    ensures { result ≡ asks_no_plans wanted.now }
+{
+    for one in wanted {
+        if !leaves_plans(line_of(one)) {
+            return false;
+        }
+    }
+    true
 }
 
 /// Returns whether no end can meet the wanted lines any more: a reply that is wanted at its place
 /// was another one, or a line that is to be lacked is there.
 pub fn is_lost(wanted: &[Wanted], processors: u32, records: &[Record]) -> bool
-    ensures { IsTrue result → IsLost wanted.now processors records.now }
+    ensures { IsTrue result → (cpus : ℕ) (scripts : List (List Step))
+        → IsLost cpus scripts wanted.now processors records.now }
 {
     for index in 0..wanted.len() {
         if is_ruled_out(&wanted[index], processors, records) {
@@ -65,16 +85,21 @@ fn push_calls(
 
 /// Appends 1 for each wanted line that the replies so far have, and 0 for each other.
 fn push_met(
+    alloc: Global,
     wanted: &[Wanted],
+    cpus: u32,
+    scripts: &[CallScript],
     processors: u32,
     records: &[Record],
     numbers: &mut Vec<u32>,
 ) -> Result<(), AllocError>
+    requires { length scripts.now < 2 ^ 32 }
     ensures { OnOk result ((met : List ℕ) × (numbers.new.items ≡ numbers.old.items ++ met)
-        × AreMet wanted.now processors records.now (length wanted.now) met) }
+        × AreMet cpus scripts.now wanted.now processors records.now (length wanted.now) met) }
 {
     for index in 0..wanted.len() {
-        let is_met = has_line_so_far(line_of(&wanted[index]), processors, records);
+        let line = line_of(&wanted[index]);
+        let is_met = has_line_so_far(alloc, line, cpus, scripts, processors, records)?;
         numbers.push(u32::from(is_met))?;
     }
     Ok(())
@@ -95,7 +120,7 @@ fn is_ruled_out(one: &Wanted, processors: u32, records: &[Record]) -> bool
 {
     match one {
         Wanted::Has(line) => is_missed(line, records),
-        Wanted::Lacks(line) => has_line_so_far(line, processors, records),
+        Wanted::Lacks(line) => has_reply_so_far(line, processors, records),
     }
 }
 
@@ -116,9 +141,38 @@ fn is_missed(line: &EndLine, records: &[Record]) -> bool
     }
 }
 
-/// Returns whether the replies so far have the line.
-fn has_line_so_far(line: &EndLine, processors: u32, records: &[Record]) -> bool
-    ensures { IsTrue result ↔ HasLineSoFar processors records.now line.now }
+/// Returns whether the line is not about plans.
+fn leaves_plans(line: &EndLine) -> bool
+    ensures { result ≡ leaves_plans line.now }
+{
+    !matches!(line, EndLine::Plan { .. })
+}
+
+/// Returns whether the replies so far have the line, or a plan that is over ended so.
+fn has_line_so_far(
+    alloc: Global,
+    line: &EndLine,
+    cpus: u32,
+    scripts: &[CallScript],
+    processors: u32,
+    records: &[Record],
+) -> Result<bool, AllocError>
+    requires { length scripts.now < 2 ^ 32 }
+    ensures { IfOk result (λ has.
+        IsTrue has ↔ HasLineSoFar cpus scripts.now processors records.now line.now) }
+{
+    match line {
+        EndLine::Plan { cpu, end } => {
+            let all = all_answers(alloc, processors, records)?;
+            end.is_end_of(alloc, cpus, scripts, all.as_slice(), *cpu)
+        }
+        _ => Ok(has_reply_so_far(line, processors, records)),
+    }
+}
+
+/// Returns whether a reply so far is as the line names it.
+fn has_reply_so_far(line: &EndLine, processors: u32, records: &[Record]) -> bool
+    ensures { IsTrue result ↔ HasReplySoFar processors records.now line.now }
 {
     match line {
         EndLine::Answer { cpu, reply } => is_answered(reply, *cpu, processors, records),
@@ -127,6 +181,7 @@ fn has_line_so_far(line: &EndLine, processors: u32, records: &[Record]) -> bool
             earlier,
             reply,
         } => is_answered_at(reply, *cpu, *earlier, processors, records),
+        EndLine::Plan { .. } => false,
         EndLine::Block { .. } => false,
     }
 }

@@ -5,6 +5,7 @@ ghost use Rattle.hp_questions.specs.Starts.{HasNoStart, HasStart, IsStart};
 
 use crate::begins::note_begins;
 use crate::checks::check_lines;
+use crate::results::sources_after;
 use crate::scripts::scripts_of;
 use crate::setup::run_lines;
 use crate::start_fault::StartFault;
@@ -36,11 +37,22 @@ impl Drop for Start {
 /// and puts each later line into the script of its processor. In a script, operation 0 is the one
 /// that the processor began last.
 ///
+/// `sources` has an entry for each line, from line 0; an empty slice means none. `Some(i)` at a line
+/// means that its first argument is the result of line `i`: the operation that this line began, or
+/// the frame that it got, in whichever order the calls are made. An entry counts if both lines are
+/// after the setup, line `i` is the earlier one, of the same processor, and has such a result;
+/// others are as if they were not there.
+///
 /// Errors: `NotForScript` with the first line after the setup that may not be in a script;
 /// `OutOfMemory`, which may come in place of any other result.
-pub fn start_of(alloc: Global, scenario: &Scenario, setup: u64) -> Result<Start, StartFault>
-    ensures ok { IfOk result
-        (λ start. HasStart (scenario_seen scenario.now) setup start.machine start.scripts.items) }
+pub fn start_of(
+    alloc: Global,
+    scenario: &Scenario,
+    sources: &[Option<usize>],
+    setup: u64,
+) -> Result<Start, StartFault>
+    ensures ok { IfOk result (λ start. HasStart (scenario_seen scenario.now) sources.now setup
+        start.machine start.scripts.items) }
     ensures few { IfOk result (λ start. length start.scripts.items < 2 ^ 32) }
     ensures err { IfErr result (HasNoStart (scenario_seen scenario.now) setup) }
 {
@@ -49,25 +61,28 @@ pub fn start_of(alloc: Global, scenario: &Scenario, setup: u64) -> Result<Start,
     let before = front_of(lines, setup);
     let after = rest_of(lines, setup);
     check_lines(cpus, before.len() as u64, after)?;
-    Ok(start_after(alloc, &scenario.layout, before, after)?)
+    let sources = sources_after(alloc, sources, setup)?;
+    Ok(start_after(alloc, &scenario.layout, before, after, &sources)?)
 }
 
-/// Runs `before` on a machine just booted, and returns it with the scripts of `after`.
+/// Runs `before` on a machine just booted, and returns it with the scripts of `after`. `sources`
+/// has the place among `after` of the line whose result a line works on.
 fn start_after(
     alloc: Global,
     layout: &Layout,
     before: &[Line],
     after: &[Line],
+    sources: &[Option<usize>],
 ) -> Result<Start, AllocError>
-    ensures is { IfOk result
-        (λ start. IsStart layout.now before.now after.now start.machine start.scripts.items) }
+    ensures is { IfOk result (λ start. IsStart layout.now before.now after.now sources.now
+        start.machine start.scripts.items) }
     ensures few { IfOk result (λ start. length start.scripts.items < 2 ^ 32) }
 {
     let mut machine = Machine::boot(alloc, layout)?;
     let mut begins = Vec::new(alloc);
     run_lines(alloc, &mut machine, &mut begins, before)?;
     note_begins(&mut begins, machine.history())?;
-    let scripts = scripts_of(alloc, layout.cpus(), &begins, after)?;
+    let scripts = scripts_of(alloc, layout.cpus(), &begins, after, sources)?;
     Ok(Start { machine, scripts })
 }
 
@@ -82,13 +97,13 @@ pub fn front_of(lines: &[Line], count: u64) -> &[Line]
     }
 }
 
-/// Returns the lines after the first `count`.
-pub(crate) fn rest_of(lines: &[Line], count: u64) -> &[Line]
-    ensures { result.now ≡ drop count lines.now }
+/// Returns the items after the first `count`.
+pub(crate) fn rest_of<T>(items: &[T], count: u64) -> &[T]
+    ensures { result.now ≡ drop count items.now }
 {
-    if count < lines.len() as u64 {
-        &lines[count as usize..]
+    if count < items.len() as u64 {
+        &items[count as usize..]
     } else {
-        &lines[lines.len()..]
+        &items[items.len()..]
     }
 }

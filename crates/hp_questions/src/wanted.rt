@@ -1,9 +1,12 @@
 //! What is wanted of an end, and which ends are so.
-ghost use Rattle.std.specs.Prelude.{◌≡◌, ◌↔◌, IsTrue, None, Some, slice_get};
-ghost use Rattle.hp_questions.specs.Wanted.{HasAnswer, HasAnswerAt, HasLine, HasReply, HasReplyAt, IsAsWanted, IsKindOf, IsMetBy, Meets, kind_of};
+ghost use Rattle.std.specs.Prelude.{◌≡◌, ◌↔◌, ◌<◌, ◌^◌, IfOk, IsTrue, None, Some, length, slice_get};
+ghost use Rattle.hp_questions.specs.Patterns.{IsAsWanted, IsKindOf, kind_of};
+ghost use Rattle.hp_questions.specs.Wanted.{HasAnswer, HasAnswerAt, HasLine, HasReply, HasReplyAt, IsMetBy, Meets};
 
-use hp_schedules::{Outcome, Replies};
+use crate::plan_lines::EndPattern;
+use hp_schedules::{CallScript, Outcome, Replies};
 use hp_units::{Block, Cpu, Frame, Refusal, Reply, Row};
+use std::alloc::{AllocError, Global};
 
 /// A pattern for a reply.
 #[derive(Clone, Copy, PartialEq, Eq, Drop)]
@@ -27,6 +30,11 @@ pub enum EndLine {
         cpu: Cpu,
         earlier: u64,
         reply: Pattern,
+    },
+    /// A plan of this processor ended so; a plan of any processor did, if `cpu` is `None`.
+    Plan {
+        cpu: Option<Cpu>,
+        end: EndPattern,
     },
     /// The memory block has this row at the end. Rows never name an operation here.
     Block {
@@ -116,43 +124,70 @@ impl Pattern {
 
 impl EndLine {
     /// Returns whether the end has the line.
-    fn is_in(&self, outcome: &Outcome) -> bool
-        ensures { IsTrue result ↔ HasLine outcome.now self.now }
+    fn is_in(
+        &self,
+        alloc: Global,
+        cpus: u32,
+        scripts: &[CallScript],
+        outcome: &Outcome,
+    ) -> Result<bool, AllocError>
+        requires { length scripts.now < 2 ^ 32 }
+        ensures { IfOk result (λ is. IsTrue is ↔ HasLine cpus scripts.now outcome.now self.now) }
     {
         match self {
-            EndLine::Answer { cpu, reply } => reply.is_answered(outcome.replies(), *cpu),
+            EndLine::Answer { cpu, reply } => Ok(reply.is_answered(outcome.replies(), *cpu)),
             EndLine::AnswerAt {
                 cpu,
                 earlier,
                 reply,
-            } => reply.is_answered_at(outcome.replies(), *cpu, *earlier),
-            EndLine::Block { block, row } => has_row(outcome.blocks(), *block, row),
+            } => Ok(reply.is_answered_at(outcome.replies(), *cpu, *earlier)),
+            EndLine::Plan { cpu, end } => {
+                end.is_end_of(alloc, cpus, scripts, outcome.replies(), *cpu)
+            }
+            EndLine::Block { block, row } => Ok(has_row(outcome.blocks(), *block, row)),
         }
     }
 }
 
 impl Wanted {
     /// Returns whether the end is as wanted.
-    fn is_met_by(&self, outcome: &Outcome) -> bool
-        ensures { IsTrue result ↔ IsMetBy outcome.now self.now }
+    fn is_met_by(
+        &self,
+        alloc: Global,
+        cpus: u32,
+        scripts: &[CallScript],
+        outcome: &Outcome,
+    ) -> Result<bool, AllocError>
+        requires { length scripts.now < 2 ^ 32 }
+        ensures { IfOk result (λ is. IsTrue is ↔ IsMetBy cpus scripts.now outcome.now self.now) }
     {
         match self {
-            Wanted::Has(line) => line.is_in(outcome),
-            Wanted::Lacks(line) => !line.is_in(outcome),
+            Wanted::Has(line) => line.is_in(alloc, cpus, scripts, outcome),
+            Wanted::Lacks(line) => Ok(!line.is_in(alloc, cpus, scripts, outcome)?),
         }
     }
 }
 
-/// Returns whether the end has all wanted lines, and none that it should lack.
-pub fn are_met(wanted: &[Wanted], outcome: &Outcome) -> bool
-    ensures { IsTrue result ↔ Meets wanted.now outcome.now }
+/// Returns whether the end of these scripts has all wanted lines, and none that it should lack.
+/// `cpus` is the number of processors of the layout.
+///
+/// Allocates only for lines about plans.
+pub fn are_met(
+    alloc: Global,
+    wanted: &[Wanted],
+    cpus: u32,
+    scripts: &[CallScript],
+    outcome: &Outcome,
+) -> Result<bool, AllocError>
+    requires { length scripts.now < 2 ^ 32 }
+    ensures { IfOk result (λ met. IsTrue met ↔ Meets cpus scripts.now wanted.now outcome.now) }
 {
     for index in 0..wanted.len() {
-        if !wanted[index].is_met_by(outcome) {
-            return false;
+        if !wanted[index].is_met_by(alloc, cpus, scripts, outcome)? {
+            return Ok(false);
         }
     }
-    true
+    Ok(true)
 }
 
 /// Returns whether this is the memory block's row.

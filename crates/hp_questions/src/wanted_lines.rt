@@ -6,6 +6,7 @@ ghost use Rattle.hp_questions.specs.declared.wanted.Wanted.TheVariants.{Has, Lac
 ghost use Rattle.hp_scenario.specs.Words.{words_of};
 ghost use Rattle.hp_questions.specs.WantedLines as says;
 
+use crate::plan_words::{own_plan_line, plan_line};
 use crate::wanted::{EndLine, Pattern, Wanted};
 use hp_scenario::{only32, only64, zone_from};
 use hp_units::{
@@ -16,9 +17,11 @@ use std::alloc::{AllocError, Global};
 /// Parses a line as `explore` prints it, or returns `None` if no end can have the text as a line.
 ///
 /// A line is a reply to any processor, such as `refused NotFree 3`; a reply to one processor, such
-/// as `0: done`; the n-th reply to one processor, such as `cpu 0 answer 2: done`; or a memory
-/// block, such as `block 1 offline`. A refusal without its frame or block, such as `refused
-/// NotFree`, matches every refusal of its kind. After `not `, an end without the line is wanted.
+/// as `0: done`; the n-th reply to one processor, such as `cpu 0 answer 2: done`; the end of a plan
+/// of any processor, such as `plan: cancelled NoFrame restored`, or of one, such as `0: plan: done`;
+/// or a memory block, such as `block 1 offline`. A refusal without its frame or block, such as
+/// `refused NotFree`, matches every refusal of its kind, and `plan: cancelled` every cancelled plan.
+/// After `not `, an end without the line is wanted.
 pub fn wanted_line(alloc: Global, text: &str) -> Result<Option<Wanted>, AllocError>
     ensures { IfOk result (λ line. line ≡ says.wanted_line text.now) }
 {
@@ -67,7 +70,7 @@ fn split_parts<'a>(parts: &mut Vec<&'a str>, text: &'a str) -> Result<(), AllocE
 }
 
 /// Splits the text at its spaces into `words`.
-fn split_words<'a>(words: &mut Vec<&'a str>, text: &'a str) -> Result<(), AllocError>
+pub(crate) fn split_words<'a>(words: &mut Vec<&'a str>, text: &'a str) -> Result<(), AllocError>
     ensures { OnOk result (map (λ w. w.now) words.new.items ≡ words_of text.now) }
 {
     words.clear();
@@ -81,8 +84,20 @@ fn line_in(alloc: Global, parts: &[&str]) -> Result<Option<EndLine>, AllocError>
 {
     match parts {
         [line] => lone_line(alloc, line),
-        [who, said] => answer_line(alloc, who, said),
+        [who, said] => said_line(alloc, who, said),
+        [who, mark, said] => own_plan_line(alloc, who, mark, said),
         _ => Ok(None),
+    }
+}
+
+/// Parses a line with one colon: the end of any processor's plan, or a reply to one processor.
+#[tactic(auto, unfolding(crate::specs::WantedLines::said_by))]
+fn said_line(alloc: Global, who: &str, said: &str) -> Result<Option<EndLine>, AllocError>
+    ensures { IfOk result (λ line. line ≡ says.said_by who.now said.now) }
+{
+    match who {
+        "plan" => plan_line(alloc, None, said),
+        _ => answer_line(alloc, who, said),
     }
 }
 

@@ -5,61 +5,62 @@ use Rattle.std.proofs.lemmas.List.{append_assoc}
 use Rattle.std.proofs.lemmas.Option.{none-some, same_Some}
 use Rattle.hp_units.specs.declared.events.Event.{Event}
 use Rattle.hp_units.specs.declared.replies.Receipt.{Receipt}
-use Rattle.hp_schedules.specs.Scripts.{after_line, after_lines, line_next, next_in}
+use Rattle.hp_schedules.specs.Scripts.{Known, after_line, after_lines, line_next, next_in, nothing_known}
 use Rattle.hp_schedules.specs.declared.scripts.Step.{Step}
 use Rattle.hp_schedules.specs.declared.scripts.Step.TheVariants.{Ask, Own, Carry}
 use Rattle.hp_schedules.proofs.Lines.{goes_on, goes_on_all, over_now}
 
 -- ---- one line
 
--- what is left does not depend on the number of the operation
-pub any_operation : (cpus op : ℕ) (line : Step) (earlier later : List Receipt)
-    → after_line cpus op line earlier later ≡ after_line cpus 0 line earlier later
-any_operation cpus op (Own work) (x ∷ earlier) later =
-    over_now cpus op (Own work) (x ∷ earlier) later refl
-    ∙ sym (over_now cpus 0 (Own work) (x ∷ earlier) later refl)
-any_operation cpus op (Own work) [] [] = refl
-any_operation cpus op (Own work) [] (r ∷ rs) =
-    over_now cpus op (Own work) (r ∷ []) rs refl ∙ sym (over_now cpus 0 (Own work) (r ∷ []) rs refl)
-any_operation cpus op (Ask event) earlier [] = refl
-any_operation cpus op (Ask event) earlier (r ∷ rs) =
+-- what is left does not depend on the result that the line works on
+pub any_known : (cpus : ℕ) (known : Known) (line : Step) (earlier later : List Receipt)
+    → after_line cpus known line earlier later ≡ after_line cpus nothing_known line earlier later
+any_known cpus known (Own work) (x ∷ earlier) later =
+    over_now cpus known (Own work) (x ∷ earlier) later refl
+    ∙ sym (over_now cpus nothing_known (Own work) (x ∷ earlier) later refl)
+any_known cpus known (Own work) [] [] = refl
+any_known cpus known (Own work) [] (r ∷ rs) =
+    over_now cpus known (Own work) (r ∷ []) rs refl
+    ∙ sym (over_now cpus nothing_known (Own work) (r ∷ []) rs refl)
+any_known cpus known (Ask event) earlier [] = refl
+any_known cpus known (Ask event) earlier (r ∷ rs) =
     ap (λ (rest : Option (List Receipt)).
-    option_map_or (λ e. rest) (line_next cpus 0 (Ask event) earlier) (Some (r ∷ rs)))
-    (any_operation cpus op (Ask event) (earlier ++ r ∷ []) rs)
-any_operation cpus op (Carry plan turns) earlier [] = refl
-any_operation cpus op (Carry plan turns) earlier (r ∷ rs) =
+    option_map_or (λ e. rest) (line_next cpus nothing_known (Ask event) earlier) (Some (r ∷ rs)))
+    (any_known cpus known (Ask event) (earlier ++ r ∷ []) rs)
+any_known cpus known (Carry plan turns) earlier [] = refl
+any_known cpus known (Carry plan turns) earlier (r ∷ rs) =
     ap (λ (rest : Option (List Receipt)).
-    option_map_or (λ e. rest) (line_next cpus 0 (Carry plan turns) earlier) (Some (r ∷ rs)))
-    (any_operation cpus op (Carry plan turns) (earlier ++ r ∷ []) rs)
+    option_map_or (λ e. rest) (line_next cpus nothing_known (Carry plan turns) earlier) (Some (r ∷ rs)))
+    (any_known cpus known (Carry plan turns) (earlier ++ r ∷ []) rs)
 
 -- what is left of more receipts
-pub after_more : (cpus op : ℕ) (line : Step) (earlier later more rest : List Receipt)
-    → after_line cpus op line earlier later ≡ Some rest
-    → after_line cpus op line earlier (later ++ more) ≡ Some (rest ++ more)
-after_more cpus op line earlier [] more rest is = by_next (line_next cpus op line earlier) refl
+pub after_more : (cpus : ℕ) (known : Known) (line : Step) (earlier later more rest : List Receipt)
+    → after_line cpus known line earlier later ≡ Some rest
+    → after_line cpus known line earlier (later ++ more) ≡ Some (rest ++ more)
+after_more cpus known line earlier [] more rest is = by_next (line_next cpus known line earlier) refl
   where
-    by_next : (o : Option Event) → line_next cpus op line earlier ≡ o
-        → after_line cpus op line earlier more ≡ Some (rest ++ more)
+    by_next : (o : Option Event) → line_next cpus known line earlier ≡ o
+        → after_line cpus known line earlier more ≡ Some (rest ++ more)
     by_next None none =
-        over_now cpus op line earlier more none
+        over_now cpus known line earlier more none
         ∙ ap (λ (xs : List Receipt). Some (xs ++ more))
-        (same_Some [] rest (sym (over_now cpus op line earlier [] none) ∙ is))
-    by_next (Some e) some = absurd (none-some rest (sym (goes_on_all cpus op line earlier e some) ∙ is))
-after_more cpus op line earlier (r ∷ rs) more rest is =
-    by_next (line_next cpus op line earlier) refl
-    (λ on. after_more cpus op line (earlier ++ r ∷ []) rs more rest on)
+        (same_Some [] rest (sym (over_now cpus known line earlier [] none) ∙ is))
+    by_next (Some e) some = absurd (none-some rest (sym (goes_on_all cpus known line earlier e some) ∙ is))
+after_more cpus known line earlier (r ∷ rs) more rest is =
+    by_next (line_next cpus known line earlier) refl
+    (λ on. after_more cpus known line (earlier ++ r ∷ []) rs more rest on)
   where
-    by_next : (o : Option Event) → line_next cpus op line earlier ≡ o
-        → (after_line cpus op line (earlier ++ r ∷ []) rs ≡ Some rest
-        → after_line cpus op line (earlier ++ r ∷ []) (rs ++ more) ≡ Some (rest ++ more))
-        → after_line cpus op line earlier (r ∷ (rs ++ more)) ≡ Some (rest ++ more)
+    by_next : (o : Option Event) → line_next cpus known line earlier ≡ o
+        → (after_line cpus known line (earlier ++ r ∷ []) rs ≡ Some rest
+        → after_line cpus known line (earlier ++ r ∷ []) (rs ++ more) ≡ Some (rest ++ more))
+        → after_line cpus known line earlier (r ∷ (rs ++ more)) ≡ Some (rest ++ more)
     by_next None none later =
-        over_now cpus op line earlier (r ∷ (rs ++ more)) none
+        over_now cpus known line earlier (r ∷ (rs ++ more)) none
         ∙ ap (λ (xs : List Receipt). Some (xs ++ more))
-        (same_Some (r ∷ rs) rest (sym (over_now cpus op line earlier (r ∷ rs) none) ∙ is))
+        (same_Some (r ∷ rs) rest (sym (over_now cpus known line earlier (r ∷ rs) none) ∙ is))
     by_next (Some e) some later =
-        goes_on cpus op line earlier r (rs ++ more) e some
-        ∙ later (sym (goes_on cpus op line earlier r rs e some) ∙ is)
+        goes_on cpus known line earlier r (rs ++ more) e some
+        ∙ later (sym (goes_on cpus known line earlier r rs e some) ∙ is)
 
 -- what is taken, and left
 pub record Parts (taken : List Receipt → Option (List Receipt)) (receipts rest : List Receipt) : Type 0 where
@@ -67,90 +68,91 @@ pub record Parts (taken : List Receipt → Option (List Receipt)) (receipts rest
   pub whole : receipts ≡ own ++ rest
   pub over : taken own ≡ Some []
 
-pub after_parts : (cpus op : ℕ) (line : Step) (earlier later rest : List Receipt)
-    → after_line cpus op line earlier later ≡ Some rest
-    → Parts (after_line cpus op line earlier) later rest
-after_parts cpus op line earlier [] rest is = by_next (line_next cpus op line earlier) refl
+pub after_parts : (cpus : ℕ) (known : Known) (line : Step) (earlier later rest : List Receipt)
+    → after_line cpus known line earlier later ≡ Some rest
+    → Parts (after_line cpus known line earlier) later rest
+after_parts cpus known line earlier [] rest is = by_next (line_next cpus known line earlier) refl
   where
-    by_next : (o : Option Event) → line_next cpus op line earlier ≡ o
-        → Parts (after_line cpus op line earlier) [] rest
+    by_next : (o : Option Event) → line_next cpus known line earlier ≡ o
+        → Parts (after_line cpus known line earlier) [] rest
     by_next None none = record {
       own = [];
-      whole = same_Some [] rest (sym (over_now cpus op line earlier [] none) ∙ is);
-      over = over_now cpus op line earlier [] none;
+      whole = same_Some [] rest (sym (over_now cpus known line earlier [] none) ∙ is);
+      over = over_now cpus known line earlier [] none;
     }
-    by_next (Some e) some = absurd (none-some rest (sym (goes_on_all cpus op line earlier e some) ∙ is))
-after_parts cpus op line earlier (r ∷ rs) rest is =
-    by_next (line_next cpus op line earlier) refl
-    (λ on. after_parts cpus op line (earlier ++ r ∷ []) rs rest on)
+    by_next (Some e) some = absurd (none-some rest (sym (goes_on_all cpus known line earlier e some) ∙ is))
+after_parts cpus known line earlier (r ∷ rs) rest is =
+    by_next (line_next cpus known line earlier) refl
+    (λ on. after_parts cpus known line (earlier ++ r ∷ []) rs rest on)
   where
-    by_next : (o : Option Event) → line_next cpus op line earlier ≡ o
-        → (after_line cpus op line (earlier ++ r ∷ []) rs ≡ Some rest
-        → Parts (after_line cpus op line (earlier ++ r ∷ [])) rs rest)
-        → Parts (after_line cpus op line earlier) (r ∷ rs) rest
+    by_next : (o : Option Event) → line_next cpus known line earlier ≡ o
+        → (after_line cpus known line (earlier ++ r ∷ []) rs ≡ Some rest
+        → Parts (after_line cpus known line (earlier ++ r ∷ [])) rs rest)
+        → Parts (after_line cpus known line earlier) (r ∷ rs) rest
     by_next None none later = record {
       own = [];
-      whole = same_Some (r ∷ rs) rest (sym (over_now cpus op line earlier (r ∷ rs) none) ∙ is);
-      over = over_now cpus op line earlier [] none;
+      whole = same_Some (r ∷ rs) rest (sym (over_now cpus known line earlier (r ∷ rs) none) ∙ is);
+      over = over_now cpus known line earlier [] none;
     }
     by_next (Some e) some later =
-        let parts = later (sym (goes_on cpus op line earlier r rs e some) ∙ is) in
+        let parts = later (sym (goes_on cpus known line earlier r rs e some) ∙ is) in
         record {
           own = r ∷ parts.own;
           whole = ap (λ (xs : List Receipt). r ∷ xs) parts.whole;
-          over = goes_on cpus op line earlier r parts.own e some ∙ parts.over;
+          over = goes_on cpus known line earlier r parts.own e some ∙ parts.over;
         }
 
 -- ---- several lines
 
 -- the first one is finished, and the others are
-pub record FirstThen (cpus op : ℕ) (line : Step) (lines : List Step)
+pub record FirstThen (cpus : ℕ) (known : Known) (line : Step) (lines : List Step)
     (receipts rest : List Receipt) : Type 0 where
   pub left : List Receipt
-  pub first : after_line cpus op line [] receipts ≡ Some left
-  pub others : after_lines cpus op lines left ≡ Some rest
+  pub first : after_line cpus known line [] receipts ≡ Some left
+  pub others : after_lines cpus known lines left ≡ Some rest
 
-pub first_then : (cpus op : ℕ) (line : Step) (lines : List Step) (receipts rest : List Receipt)
-    → after_lines cpus op (line ∷ lines) receipts ≡ Some rest
-    → FirstThen cpus op line lines receipts rest
-first_then cpus op line lines receipts rest is = by_first (after_line cpus op line [] receipts) refl
+pub first_then : (cpus : ℕ) (known : Known) (line : Step) (lines : List Step) (receipts rest : List Receipt)
+    → after_lines cpus known (line ∷ lines) receipts ≡ Some rest
+    → FirstThen cpus known line lines receipts rest
+first_then cpus known line lines receipts rest is = by_first (after_line cpus known line [] receipts) refl
   where
-    by_first : (o : Option (List Receipt)) → after_line cpus op line [] receipts ≡ o
-        → FirstThen cpus op line lines receipts rest
+    by_first : (o : Option (List Receipt)) → after_line cpus known line [] receipts ≡ o
+        → FirstThen cpus known line lines receipts rest
     by_first None none =
         absurd (none-some rest
-        (sym (ap (option_and_then (λ (xs : List Receipt). after_lines cpus op lines xs)) none) ∙ is))
+        (sym (ap (option_and_then (λ (xs : List Receipt). after_lines cpus known lines xs)) none) ∙ is))
     by_first (Some left) some = record {
       left = left;
       first = some;
-      others = sym (ap (option_and_then (λ (xs : List Receipt). after_lines cpus op lines xs)) some) ∙ is;
+      others = sym (ap (option_and_then (λ (xs : List Receipt). after_lines cpus known lines xs)) some) ∙ is;
     }
 
-pub then_all : (cpus op : ℕ) (line : Step) (lines : List Step) (receipts left rest : List Receipt)
-    → after_line cpus op line [] receipts ≡ Some left → after_lines cpus op lines left ≡ Some rest
-    → after_lines cpus op (line ∷ lines) receipts ≡ Some rest
-then_all cpus op line lines receipts left rest first others =
-    ap (option_and_then (λ (xs : List Receipt). after_lines cpus op lines xs)) first ∙ others
+pub then_all : (cpus : ℕ) (known : Known) (line : Step) (lines : List Step)
+    (receipts left rest : List Receipt)
+    → after_line cpus known line [] receipts ≡ Some left → after_lines cpus known lines left ≡ Some rest
+    → after_lines cpus known (line ∷ lines) receipts ≡ Some rest
+then_all cpus known line lines receipts left rest first others =
+    ap (option_and_then (λ (xs : List Receipt). after_lines cpus known lines xs)) first ∙ others
 
-pub lines_more : (cpus op : ℕ) (lines : List Step) (receipts more rest : List Receipt)
-    → after_lines cpus op lines receipts ≡ Some rest
-    → after_lines cpus op lines (receipts ++ more) ≡ Some (rest ++ more)
-lines_more cpus op [] receipts more rest is =
+pub lines_more : (cpus : ℕ) (known : Known) (lines : List Step) (receipts more rest : List Receipt)
+    → after_lines cpus known lines receipts ≡ Some rest
+    → after_lines cpus known lines (receipts ++ more) ≡ Some (rest ++ more)
+lines_more cpus known [] receipts more rest is =
     ap (λ (xs : List Receipt). Some (xs ++ more)) (same_Some receipts rest is)
-lines_more cpus op (line ∷ lines) receipts more rest is =
-    let parts = first_then cpus op line lines receipts rest is in
-    then_all cpus op line lines (receipts ++ more) (parts.left ++ more) (rest ++ more)
-    (after_more cpus op line [] receipts more parts.left parts.first)
-    (lines_more cpus op lines parts.left more rest parts.others)
+lines_more cpus known (line ∷ lines) receipts more rest is =
+    let parts = first_then cpus known line lines receipts rest is in
+    then_all cpus known line lines (receipts ++ more) (parts.left ++ more) (rest ++ more)
+    (after_more cpus known line [] receipts more parts.left parts.first)
+    (lines_more cpus known lines parts.left more rest parts.others)
 
-pub lines_parts : (cpus op : ℕ) (lines : List Step) (receipts rest : List Receipt)
-    → after_lines cpus op lines receipts ≡ Some rest → Parts (after_lines cpus op lines) receipts rest
-lines_parts cpus op [] receipts rest is =
+pub lines_parts : (cpus : ℕ) (known : Known) (lines : List Step) (receipts rest : List Receipt)
+    → after_lines cpus known lines receipts ≡ Some rest → Parts (after_lines cpus known lines) receipts rest
+lines_parts cpus known [] receipts rest is =
     record { own = []; whole = same_Some receipts rest is; over = refl }
-lines_parts cpus op (line ∷ lines) receipts rest is =
-    let parts = first_then cpus op line lines receipts rest is in
-    let first = after_parts cpus op line [] receipts parts.left parts.first in
-    let others = lines_parts cpus op lines parts.left rest parts.others in
+lines_parts cpus known (line ∷ lines) receipts rest is =
+    let parts = first_then cpus known line lines receipts rest is in
+    let first = after_parts cpus known line [] receipts parts.left parts.first in
+    let others = lines_parts cpus known lines parts.left rest parts.others in
     record {
       own = first.own ++ others.own;
       whole =
@@ -158,45 +160,46 @@ lines_parts cpus op (line ∷ lines) receipts rest is =
           ∙ (ap (λ (xs : List Receipt). first.own ++ xs) others.whole
           ∙ sym (append_assoc first.own others.own rest));
       over =
-          then_all cpus op line lines (first.own ++ others.own) others.own []
-          (after_more cpus op line [] first.own others.own [] first.over) others.over;
+          then_all cpus known line lines (first.own ++ others.own) others.own []
+          (after_more cpus known line [] first.own others.own [] first.over) others.over;
     }
 
 -- lines, and further ones
-pub lines_then : (cpus op : ℕ) (lines others : List Step) (receipts rest : List Receipt)
-    → after_lines cpus op lines receipts ≡ Some rest
-    → after_lines cpus op (lines ++ others) receipts ≡ after_lines cpus op others rest
-lines_then cpus op [] others receipts rest is =
-    ap (after_lines cpus op others) (same_Some receipts rest is)
-lines_then cpus op (line ∷ lines) others receipts rest is =
-    let parts = first_then cpus op line lines receipts rest is in
-    ap (option_and_then (λ (xs : List Receipt). after_lines cpus op (lines ++ others) xs)) parts.first
-    ∙ lines_then cpus op lines others parts.left rest parts.others
+pub lines_then : (cpus : ℕ) (known : Known) (lines others : List Step) (receipts rest : List Receipt)
+    → after_lines cpus known lines receipts ≡ Some rest
+    → after_lines cpus known (lines ++ others) receipts ≡ after_lines cpus known others rest
+lines_then cpus known [] others receipts rest is =
+    ap (after_lines cpus known others) (same_Some receipts rest is)
+lines_then cpus known (line ∷ lines) others receipts rest is =
+    let parts = first_then cpus known line lines receipts rest is in
+    ap (option_and_then (λ (xs : List Receipt). after_lines cpus known (lines ++ others) xs)) parts.first
+    ∙ lines_then cpus known lines others parts.left rest parts.others
 
 -- the first lines of such lines
-pub record Before (cpus op : ℕ) (lines others : List Step) (receipts rest : List Receipt) : Type 0 where
+pub record Before (cpus : ℕ) (known : Known) (lines others : List Step)
+    (receipts rest : List Receipt) : Type 0 where
   pub left : List Receipt
-  pub before : after_lines cpus op lines receipts ≡ Some left
-  pub then : after_lines cpus op others left ≡ Some rest
+  pub before : after_lines cpus known lines receipts ≡ Some left
+  pub then : after_lines cpus known others left ≡ Some rest
 
-pub lines_before : (cpus op : ℕ) (lines others : List Step) (receipts rest : List Receipt)
-    → after_lines cpus op (lines ++ others) receipts ≡ Some rest
-    → Before cpus op lines others receipts rest
-lines_before cpus op [] others receipts rest is = record { left = receipts; before = refl; then = is }
-lines_before cpus op (line ∷ lines) others receipts rest is =
-    let parts = first_then cpus op line (lines ++ others) receipts rest is in
-    let later = lines_before cpus op lines others parts.left rest parts.others in
+pub lines_before : (cpus : ℕ) (known : Known) (lines others : List Step) (receipts rest : List Receipt)
+    → after_lines cpus known (lines ++ others) receipts ≡ Some rest
+    → Before cpus known lines others receipts rest
+lines_before cpus known [] others receipts rest is = record { left = receipts; before = refl; then = is }
+lines_before cpus known (line ∷ lines) others receipts rest is =
+    let parts = first_then cpus known line (lines ++ others) receipts rest is in
+    let later = lines_before cpus known lines others parts.left rest parts.others in
     record {
       left = later.left;
-      before = then_all cpus op line lines receipts parts.left later.left parts.first later.before;
+      before = then_all cpus known line lines receipts parts.left later.left parts.first later.before;
       then = later.then;
     }
 
 -- after all lines a script calls nothing
-pub all_over : (cpus op : ℕ) (lines : List Step) (receipts rest : List Receipt)
-    → after_lines cpus op lines receipts ≡ Some rest → next_in cpus op lines receipts ≡ None
-all_over cpus op [] receipts rest is = refl
-all_over cpus op (line ∷ lines) receipts rest is =
-    let parts = first_then cpus op line lines receipts rest is in
-    ap (λ (o : Option (List Receipt)). option_map_or (λ left. next_in cpus op lines left) o
-    (line_next cpus op line receipts)) parts.first ∙ all_over cpus op lines parts.left rest parts.others
+pub all_over : (cpus : ℕ) (known : Known) (lines : List Step) (receipts rest : List Receipt)
+    → after_lines cpus known lines receipts ≡ Some rest → next_in cpus known lines receipts ≡ None
+all_over cpus known [] receipts rest is = refl
+all_over cpus known (line ∷ lines) receipts rest is =
+    let parts = first_then cpus known line lines receipts rest is in
+    ap (λ (o : Option (List Receipt)). option_map_or (λ left. next_in cpus known lines left) o
+    (line_next cpus known line receipts)) parts.first ∙ all_over cpus known lines parts.left rest parts.others

@@ -1,6 +1,6 @@
 -- Schedules whose records are alike continue alike, and end alike.
-use Rattle.std.proofs.Common.{◌≡◌, ℕ, zero, suc, ◌+◌, ◌<◌, ◌≤◌, List, ◌∷◌, ◌++◌, length, map, filter, eqb, Option, Some, refl, ap, sym, ◌∙◌, arith}
-use Rattle.std.specs.Prelude.{fold}
+use Rattle.std.proofs.Common.{◌≡◌, ℕ, zero, suc, ◌+◌, ◌<◌, ◌≤◌, true, List, ◌∷◌, ◌++◌, length, map, filter, eqb, Option, Some, refl, ap, sym, ◌∙◌, arith}
+use Rattle.std.specs.Prelude.{flat_map, fold}
 use Rattle.std.specs.List.{range_with_len}
 use Rattle.std.proofs.lemmas.List.{map-append}
 use Rattle.std.proofs.lemmas.List.Elements.{filter-append}
@@ -12,51 +12,64 @@ use Rattle.hp_units.specs.Receipts.{receipt_of, receipts_of}
 use Rattle.hp_units.specs.declared.replies.Receipt.{Receipt}
 use Rattle.hp_units.specs.declared.replies.Record.{Record}
 use Rattle.hp_units.specs.declared.replies.Reply.{Reply}
-use Rattle.hp_schedules.specs.Alike.{AreAlike, UndoNothing, exchanges, unnumbered}
+use Rattle.hp_schedules.specs.Alike.{AreAlike, AreMergeable, exchanges, is_mergeable, unnumbered}
 use Rattle.hp_schedules.specs.Continuing.{ContinueAlike}
+use Rattle.hp_schedules.specs.Cursors.{frames_named}
 use Rattle.hp_schedules.specs.Outcomes.{OutcomeValue, ended_rows_below, replies_below, replies_to, told}
 use Rattle.hp_schedules.specs.Schedules.{EndsWith, Setting, next_call, outcome_after, play_one, plays}
-use Rattle.hp_schedules.specs.Scripts.{next_in}
+use Rattle.hp_schedules.specs.Scripts.{frames_of, known_of, next_in, next_of, own_operation}
 use Rattle.hp_schedules.specs.declared.scripts.Step.{Step}
 pub use Rattle.hp_schedules.proofs.Continuing.{call_leaves, event_kept}
 use Rattle.hp_schedules.proofs.Continuing.{GoesOnAs, goes_on_as, plays_from}
 use Rattle.hp_schedules.proofs.Continuing as continuing
 use Rattle.hp_schedules.proofs.Plays.{from_news, plays_on}
+use Rattle.hp_schedules.proofs.Agreeing.{frames_plain, next_agree, results_agree, script_mergeable}
 use Rattle.hp_schedules.proofs.Unnumbered.{next_plain}
 
 -- ---- alike records continue alike
 
-pub continue_alike : (g : Setting) (h k : List Record) → AreAlike g h k → ContinueAlike g h k
-continue_alike g h k alike = record {
+pub continue_alike : (g : Setting) (h k : List Record) → AreMergeable g.scripts → AreAlike g h k
+    → ContinueAlike g h k
+continue_alike g h k all alike = record {
   calls = alike.calls;
   begun = alike.begun;
   ahead =
-      λ cpu lines here op later. ahead g.layout.cpus op lines (receipts_of cpu h) (receipts_of cpu k) later
-      (alike.exchanged cpu (slice_get_within g.scripts cpu lines here));
+      λ cpu lines here later. let within = slice_get_within g.scripts cpu lines here in
+      ahead g.layout.cpus lines (receipts_of cpu h) (receipts_of cpu k) later
+      (script_mergeable g.scripts cpu lines all here) (alike.begun cpu within)
+      (alike.exchanged cpu within);
   nets = alike.nets;
 }
   where
-    ahead : (cpus op : ℕ) (lines : List Step) (xs ys later : List Receipt)
-        → map unnumbered xs ≡ map unnumbered ys
-        → next_in cpus op lines (xs ++ later) ≡ next_in cpus op lines (ys ++ later)
-    ahead cpus op lines xs ys later same =
-        sym (next_plain cpus op lines (xs ++ later))
-        ∙ (ap (next_in cpus op lines) (map-append unnumbered xs later
+    frames : (xs ys : List Receipt) → map unnumbered xs ≡ map unnumbered ys → frames_of xs ≡ frames_of ys
+    frames xs ys same = sym (frames_plain xs) ∙ (ap frames_of same ∙ frames_plain ys)
+
+    ahead : (cpus : ℕ) (lines : List Step) (xs ys later : List Receipt) → is_mergeable lines ≡ true
+        → own_operation xs ≡ own_operation ys → map unnumbered xs ≡ map unnumbered ys
+        → next_of cpus lines (xs ++ later) ≡ next_of cpus lines (ys ++ later)
+    ahead cpus lines xs ys later merges op same =
+        sym (next_plain cpus (known_of (xs ++ later)) lines (xs ++ later))
+        ∙ (ap (next_in cpus (known_of (xs ++ later)) lines) (map-append unnumbered xs later
         ∙ (ap (λ (zs : List Receipt). zs ++ map unnumbered later) same
-        ∙ sym (map-append unnumbered ys later))) ∙ next_plain cpus op lines (ys ++ later))
+        ∙ sym (map-append unnumbered ys later)))
+        ∙ (next_plain cpus (known_of (xs ++ later)) lines (ys ++ later)
+        ∙ next_agree cpus (known_of (xs ++ later)) (known_of (ys ++ later)) lines (ys ++ later)
+        (results_agree xs ys later lines merges op
+        (ap (λ (fs : List ℕ). flat_map (frames_named fs) lines) (frames xs ys same)))))
 
 pub all_calls : (g : Setting) (h k : List Record) → AreAlike g h k
     → length (g.start ++ h) ≡ length (g.start ++ k)
 all_calls g h k alike = continuing.all_calls g h k alike.calls
 
-pub call_same : (g : Setting) (h k : List Record) (cpu : ℕ) → AreAlike g h k
+pub call_same : (g : Setting) (h k : List Record) (cpu : ℕ) → AreMergeable g.scripts → AreAlike g h k
     → next_call g cpu h ≡ next_call g cpu k
-call_same g h k cpu alike = continuing.call_same g h k cpu (continue_alike g h k alike)
+call_same g h k cpu all alike = continuing.call_same g h k cpu (continue_alike g h k all alike)
 
 -- ---- the same continuations
 
 -- a processor's exchanges with further records
-exchanged_on : (cpu : ℕ) (h more : List Record) → exchanges cpu (h ++ more) ≡ exchanges cpu h ++ exchanges cpu more
+exchanged_on : (cpu : ℕ) (h more : List Record)
+    → exchanges cpu (h ++ more) ≡ exchanges cpu h ++ exchanges cpu more
 exchanged_on cpu h more =
     ap (map unnumbered) (ap (map receipt_of) (filter-append (λ (r : Record). eqb r.cpu cpu) h more)
     ∙ map-append receipt_of (filter (λ (r : Record). eqb r.cpu cpu) h)
@@ -68,7 +81,7 @@ pub record PlaysAlike (g : Setting) (k : List Record) (rest : List ℕ) (end : L
   pub played : from_news g k rest ≡ Some other
   pub alike : AreAlike g end other
 
-pub played_alike : (g : Setting) (rest : List ℕ) (h k end : List Record) → UndoNothing g.scripts
+pub played_alike : (g : Setting) (rest : List ℕ) (h k end : List Record) → AreMergeable g.scripts
     → AreAlike g h k
     → from_news g h rest ≡ Some end → PlaysAlike g k rest end
 played_alike g rest h k end all alike is = record {
@@ -87,7 +100,7 @@ played_alike g rest h k end all alike is = record {
 }
   where
     on : GoesOnAs g rest h k end
-    on = goes_on_as g rest h k end all (continue_alike g h k alike) is
+    on = goes_on_as g rest h k end all (continue_alike g h k all alike) is
 
 -- ---- the same outcome
 
@@ -124,13 +137,13 @@ outcome_same g h k alike =
 
 -- one schedule's complete continuation is the other's, with the same outcome
 pub ends_alike : (g : Setting) (p q rest : List ℕ) (h k : List Record) (x : OutcomeValue)
-    → UndoNothing g.scripts → plays g p ≡ Some h → plays g q ≡ Some k → AreAlike g h k
+    → AreMergeable g.scripts → plays g p ≡ Some h → plays g q ≡ Some k → AreAlike g h k
     → EndsWith g (p ++ rest) x → EndsWith g (q ++ rest) x
 ends_alike g p q rest h k x all first second alike ends = record {
   news = on.other;
   played =
       plays_on g q rest ∙ (ap (λ (o : Option (List Record)). fold (play_one g) o rest) second ∙ on.played);
-  over = λ cpu. sym (call_same g ends.news on.other cpu on.alike) ∙ ends.over cpu;
+  over = λ cpu. sym (call_same g ends.news on.other cpu all on.alike) ∙ ends.over cpu;
   ends = sym (outcome_same g ends.news on.other on.alike) ∙ ends.ends;
 }
   where

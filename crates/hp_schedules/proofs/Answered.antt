@@ -12,7 +12,7 @@ use Rattle.hp_units.specs.declared.replies.Receipt.{Receipt}
 use Rattle.hp_schedules.specs.Cursors.{IsCursor, IsInFirst, IsSettled, carried, carries, is_carrying}
 use Rattle.hp_schedules.specs.Interleavings.{is_one_call}
 use Rattle.hp_schedules.specs.LineAnswers.{IsAnswered, answer_of, answers_in, without}
-use Rattle.hp_schedules.specs.Scripts.{after_line, after_lines, line_next, next_of, own_operation}
+use Rattle.hp_schedules.specs.Scripts.{after_line, after_lines, known_of, line_next, next_of, nothing_known}
 use Rattle.hp_schedules.specs.declared.cursors.Cursor.{Cursor}
 use Rattle.hp_schedules.specs.declared.line_answers.LineAnswer.{LineAnswer}
 use Rattle.hp_schedules.specs.declared.line_answers.LineAnswer.TheVariants.{Reply as Replied, Plan as Carried}
@@ -30,15 +30,15 @@ use Rattle.hp_schedules.proofs.UpTo.{before, before_many, here_at, past_end, up_
 
 -- the last receipt is the last one that is left
 split_last : (cpus : ℕ) (lines : List Step) (receipts front : List Receipt) (r last : Receipt)
-    → after_lines cpus 0 lines (receipts ++ r ∷ []) ≡ Some (front ++ last ∷ [])
-    → (after_lines cpus 0 lines receipts ≡ Some front) × (r ≡ last)
+    → after_lines cpus nothing_known lines (receipts ++ r ∷ []) ≡ Some (front ++ last ∷ [])
+    → (after_lines cpus nothing_known lines receipts ≡ Some front) × (r ≡ last)
 split_last cpus lines receipts front r last is =
-    let parts = lines_parts cpus 0 lines (receipts ++ r ∷ []) (front ++ last ∷ []) is in
+    let parts = lines_parts cpus nothing_known lines (receipts ++ r ∷ []) (front ++ last ∷ []) is in
     let same =
     same_from_push receipts (parts.own ++ front) r last
     (parts.whole ∙ sym (append_assoc parts.own front (last ∷ []))) in (
-      ap (after_lines cpus 0 lines) same.0
-          ∙ lines_more cpus 0 lines parts.own front [] parts.over,
+      ap (after_lines cpus nothing_known lines) same.0
+          ∙ lines_more cpus nothing_known lines parts.own front [] parts.over,
       same.1,
     )
 
@@ -91,33 +91,37 @@ carried_answered cpus lines receipts r c is carrying = by_line (slice_get lines 
     unfinished : (line : Step) (front : List Receipt) (last : Receipt) → is.own ≡ front ++ last ∷ []
         → IsInFirst cpus (line ∷ drop (c.line + 1) lines) is.own c.driver
         → answers_in cpus (line ∷ drop (c.line + 1) lines) front ≡ []
-    unfinished line front last own_is at = by_rest (after_line cpus 0 line [] front) refl
+    unfinished line front last own_is at = by_rest (after_line cpus nothing_known line [] front) refl
       where
-        whole : after_line cpus 0 line [] (front ++ last ∷ [])
-            ≡ after_line cpus 0 line (front ++ last ∷ []) []
+        whole : after_line cpus nothing_known line [] (front ++ last ∷ [])
+            ≡ after_line cpus nothing_known line (front ++ last ∷ []) []
         whole =
-            ap (after_line cpus 0 line []) (sym own_is ∙ sym (append-nil is.own))
-            ∙ (at.1 0 [] ∙ ap (λ (xs : List Receipt). after_line cpus 0 line xs []) own_is)
+            ap (after_line cpus nothing_known line []) (sym own_is ∙ sym (append-nil is.own))
+            ∙ (at.1 nothing_known []
+            ∙ ap (λ (xs : List Receipt). after_line cpus nothing_known line xs []) own_is)
 
-        ends : (rest : List Receipt) → after_line cpus 0 line (front ++ last ∷ []) [] ≡ Some rest → rest ≡ []
+        ends : (rest : List Receipt) → after_line cpus nothing_known line (front ++ last ∷ []) [] ≡ Some rest
+            → rest ≡ []
         ends rest some = by_next _ refl
           where
-            by_next : (o : Option Event) → line_next cpus 0 line (front ++ last ∷ []) ≡ o → rest ≡ []
+            by_next : (o : Option Event) → line_next cpus nothing_known line (front ++ last ∷ []) ≡ o
+                → rest ≡ []
             by_next None none =
-                same_Some rest [] (sym some ∙ over_now cpus 0 line (front ++ last ∷ []) [] none)
+                same_Some rest [] (sym some ∙ over_now cpus nothing_known line (front ++ last ∷ []) [] none)
             by_next (Some e) next =
-                absurd (none-some rest (sym (goes_on_all cpus 0 line (front ++ last ∷ []) e next) ∙ some))
+                absurd (none-some rest (sym (goes_on_all cpus nothing_known line (front ++ last ∷ []) e next)
+                ∙ some))
 
         longer : (rest : List Receipt) → rest ++ last ∷ [] ≡ [] → ⊥
         longer [] same = cc
         longer (x ∷ xs) same = cc
 
-        by_rest : (o : Option (List Receipt)) → after_line cpus 0 line [] front ≡ o
+        by_rest : (o : Option (List Receipt)) → after_line cpus nothing_known line [] front ≡ o
             → answers_in cpus (line ∷ drop (c.line + 1) lines) front ≡ []
         by_rest None none = first_on cpus line (drop (c.line + 1) lines) front none
         by_rest (Some rest) some =
             absurd (longer rest (ends (rest ++ last ∷ [])
-            (sym whole ∙ after_more cpus 0 line [] front (last ∷ []) rest some)))
+            (sym whole ∙ after_more cpus nothing_known line [] front (last ∷ []) rest some)))
 
     by_step : (line : Step) → slice_get lines c.line ≡ Some line → carries c line ≡ true
         → IsPush is.own → IsAnswered (answers_in cpus lines receipts) (carried c)
@@ -125,7 +129,7 @@ carried_answered cpus lines receipts r c is carrying = by_line (slice_get lines 
     by_step line here on push =
         let split =
         split_last cpus (take c.line lines) receipts push.front r push.last
-        (is.passed 0 ∙ ap Some push.list_is) in
+        (is.passed nothing_known ∙ ap Some push.list_is) in
         finish line (answers_in cpus lines receipts) (answers_in cpus lines (receipts ++ r ∷ []))
         (answers_in cpus (take c.line lines) receipts) on
         (up_to cpus lines (receipts ++ r ∷ []) c (Some line) here is
@@ -175,18 +179,18 @@ nothing_left : (cpus : ℕ) (lines : List Step) (receipts : List Receipt) (r : R
 nothing_left cpus lines receipts r c e is off asked = by_line (slice_get lines c.line) refl
   where
     by_own : (own : List Receipt) → (own ≡ []) ⊎ IsPush own
-        → after_lines cpus (own_operation receipts) lines (receipts ++ r ∷ []) ≡ Some own → own ≡ []
+        → after_lines cpus (known_of receipts) lines (receipts ++ r ∷ []) ≡ Some own → own ≡ []
     by_own own (inl none) passed = none
     by_own own (inr push) passed =
         let parts =
-        lines_parts cpus (own_operation receipts) lines (receipts ++ r ∷ []) (push.front ++ push.last ∷ [])
+        lines_parts cpus (known_of receipts) lines (receipts ++ r ∷ []) (push.front ++ push.last ∷ [])
         (passed ∙ ap Some push.list_is) in
         let same =
         same_from_push receipts (parts.own ++ push.front) r push.last
         (parts.whole ∙ sym (append_assoc parts.own push.front (push.last ∷ []))) in
-        absurd (none-some e (sym (all_over cpus (own_operation receipts) lines receipts push.front
-        (ap (after_lines cpus (own_operation receipts) lines) same.0
-        ∙ lines_more cpus (own_operation receipts) lines parts.own push.front [] parts.over)) ∙ asked))
+        absurd (none-some e (sym (all_over cpus (known_of receipts) lines receipts push.front
+        (ap (after_lines cpus (known_of receipts) lines) same.0
+        ∙ lines_more cpus (known_of receipts) lines parts.own push.front [] parts.over)) ∙ asked))
 
     at_line : (line : Step) → IsInFirst cpus (line ∷ drop (c.line + 1) lines) is.own c.driver
         → carries c line ≡ false → is.own ≡ []
@@ -197,9 +201,9 @@ nothing_left cpus lines receipts r c e is off asked = by_line (slice_get lines c
     by_line : (o : Option Step) → slice_get lines c.line ≡ o → is.own ≡ []
     by_line None here =
         by_own is.own (push_cases is.own)
-        (ap (λ (ls : List Step). after_lines cpus (own_operation receipts) ls (receipts ++ r ∷ []))
+        (ap (λ (ls : List Step). after_lines cpus (known_of receipts) ls (receipts ++ r ∷ []))
         (sym (take_all c.line lines (past_end lines c.line here)))
-        ∙ is.passed (own_operation receipts))
+        ∙ is.passed (known_of receipts))
     by_line (Some line) here =
         at_line line (at_first cpus lines (receipts ++ r ∷ []) c line is here)
         (sym (ap (λ (o : Option Step). option_map_or (carries c) o false) here) ∙ off)
@@ -207,29 +211,31 @@ nothing_left cpus lines receipts r c e is off asked = by_line (slice_get lines c
 -- a line of one call that all receipts finish took the last of them
 took_last : (cpus : ℕ) (lines : List Step) (receipts : List Receipt) (r : Receipt) (k : ℕ) (line : Step)
     → slice_get lines k ≡ Some line → is_one_call line ≡ true
-    → after_lines cpus 0 (take (k + 1) lines) (receipts ++ r ∷ []) ≡ Some []
-    → after_lines cpus 0 (take k lines) receipts ≡ Some []
+    → after_lines cpus nothing_known (take (k + 1) lines) (receipts ++ r ∷ []) ≡ Some []
+    → after_lines cpus nothing_known (take k lines) receipts ≡ Some []
 took_last cpus lines receipts r k line here one passed = by_left split.left split.before over
   where
-    split : Before cpus 0 (take k lines) (line ∷ []) (receipts ++ r ∷ []) []
+    split : Before cpus nothing_known (take k lines) (line ∷ []) (receipts ++ r ∷ []) []
     split =
-        lines_before cpus 0 (take k lines) (line ∷ []) (receipts ++ r ∷ []) []
-        (ap (λ (ls : List Step). after_lines cpus 0 ls (receipts ++ r ∷ []))
+        lines_before cpus nothing_known (take k lines) (line ∷ []) (receipts ++ r ∷ []) []
+        (ap (λ (ls : List Step). after_lines cpus nothing_known ls (receipts ++ r ∷ []))
         (sym (take_one lines k line here))
         ∙ passed)
 
-    over : after_line cpus 0 line [] split.left ≡ Some []
+    over : after_line cpus nothing_known line [] split.left ≡ Some []
     over =
-        let parts = first_then cpus 0 line [] split.left [] split.then in
+        let parts = first_then cpus nothing_known line [] split.left [] split.then in
         parts.first ∙ parts.others
 
-    by_left : (left : List Receipt) → after_lines cpus 0 (take k lines) (receipts ++ r ∷ []) ≡ Some left
-        → after_line cpus 0 line [] left ≡ Some [] → after_lines cpus 0 (take k lines) receipts ≡ Some []
+    by_left : (left : List Receipt) → after_lines cpus nothing_known (take k lines) (receipts ++ r ∷ [])
+        ≡ Some left
+        → after_line cpus nothing_known line [] left ≡ Some []
+        → after_lines cpus nothing_known (take k lines) receipts ≡ Some []
     by_left [] before ends =
-        let first = asks_once cpus 0 line one in
-        absurd (none-some [] (sym (goes_on_all cpus 0 line [] first.0 first.1) ∙ ends))
+        let first = asks_once cpus nothing_known line one in
+        absurd (none-some [] (sym (goes_on_all cpus nothing_known line [] first.0 first.1) ∙ ends))
     by_left (x ∷ xs) before ends =
-        let alone : xs ≡ [] = same_Some xs [] (sym (finished_once cpus 0 line x xs one) ∙ ends) in
+        let alone : xs ≡ [] = same_Some xs [] (sym (finished_once cpus nothing_known line x xs one) ∙ ends) in
         (split_last cpus (take k lines) receipts [] r x
         (before ∙ ap (λ (ys : List Receipt). Some (x ∷ ys)) alone)).0
 
@@ -240,15 +246,15 @@ pub once_answered : (cpus : ℕ) (lines : List Step) (receipts : List Receipt) (
     → Once c.line (answers_in cpus lines receipts) r (answers_in cpus lines (receipts ++ r ∷ []))
 once_answered cpus lines receipts r c e settles is off asked = by_place c.line refl
   where
-    passed : after_lines cpus 0 (take c.line lines) (receipts ++ r ∷ []) ≡ Some []
-    passed = is.passed 0 ∙ ap Some (nothing_left cpus lines receipts r c e is off asked)
+    passed : after_lines cpus nothing_known (take c.line lines) (receipts ++ r ∷ []) ≡ Some []
+    passed = is.passed nothing_known ∙ ap Some (nothing_left cpus lines receipts r c e is off asked)
 
     some : (xs : List Receipt) → xs ++ r ∷ [] ≡ [] → ⊥
     some [] same = cc
     some (x ∷ xs) same = cc
 
     at : (k : ℕ) (line : Step) → c.line ≡ k + 1 → slice_get lines k ≡ Some line → is_one_call line ≡ true
-        → after_lines cpus 0 (take k lines) receipts ≡ Some []
+        → after_lines cpus nothing_known (take k lines) receipts ≡ Some []
         → Once c.line (answers_in cpus lines receipts) r (answers_in cpus lines (receipts ++ r ∷ []))
     at k line place here one before = record {
       place = k;
@@ -258,7 +264,7 @@ once_answered cpus lines receipts r c e settles is off asked = by_place c.line r
       more = new ∙ ap (λ (xs : List (Option LineAnswer)). xs ++ Some (Replied r.reply) ∷ []) (sym old);
     }
       where
-        parts : (rs left : List Receipt) → after_lines cpus 0 (take k lines) rs ≡ Some left
+        parts : (rs left : List Receipt) → after_lines cpus nothing_known (take k lines) rs ≡ Some left
             → answers_in cpus lines rs
             ≡ answers_in cpus (take k lines) rs ++ answers_in cpus (line ∷ drop (k + 1) lines) left
         parts rs left passes =
@@ -281,7 +287,8 @@ once_answered cpus lines receipts r c e settles is off asked = by_place c.line r
 
         one_more : answers_in cpus (line ∷ drop (k + 1) lines) (r ∷ []) ≡ Some (Replied r.reply) ∷ []
         one_more =
-            first_over cpus line (drop (k + 1) lines) (r ∷ []) [] (finished_once cpus 0 line r [] one)
+            first_over cpus line (drop (k + 1) lines) (r ∷ []) []
+            (finished_once cpus nothing_known line r [] one)
             ∙ (ap (λ (xs : List (Option LineAnswer)). answer_of line (without (r ∷ []) []) ∷ xs)
             (none_begun cpus (drop (k + 1) lines))
             ∙ ap (λ (a : Option LineAnswer). a ∷ [])
@@ -290,7 +297,8 @@ once_answered cpus lines receipts r c e settles is off asked = by_place c.line r
         new : answers_in cpus lines (receipts ++ r ∷ [])
             ≡ answers_in cpus (take k lines) receipts ++ Some (Replied r.reply) ∷ []
         new =
-            parts (receipts ++ r ∷ []) (r ∷ []) (lines_more cpus 0 (take k lines) receipts (r ∷ []) [] before)
+            parts (receipts ++ r ∷ []) (r ∷ []) (lines_more cpus nothing_known (take k lines) receipts
+            (r ∷ []) [] before)
             ∙ (ap (λ (xs : List (Option LineAnswer)).
             xs ++ answers_in cpus (line ∷ drop (k + 1) lines) (r ∷ []))
             (answers_kept cpus (take k lines) receipts (r ∷ []) [] before)
@@ -300,11 +308,13 @@ once_answered cpus lines receipts r c e settles is off asked = by_place c.line r
         → Once c.line (answers_in cpus lines receipts) r (answers_in cpus lines (receipts ++ r ∷ []))
     by_place zero first =
         absurd (some receipts (same_Some (receipts ++ r ∷ []) []
-        (ap (λ (n : ℕ). after_lines cpus 0 (take n lines) (receipts ++ r ∷ [])) (sym first) ∙ passed)))
+        (ap (λ (n : ℕ). after_lines cpus nothing_known (take n lines) (receipts ++ r ∷ [])) (sym first)
+        ∙ passed)))
     by_place (suc k) next =
         let place : c.line ≡ k + 1 = omega (arith, next) in
         let line = get_some lines k (omega (arith, place, is.within)) in
         let one = settles off k line.0 place line.1 in
         at k line.0 place line.1 one
         (took_last cpus lines receipts r k line.0 line.1 one
-        (ap (λ (n : ℕ). after_lines cpus 0 (take n lines) (receipts ++ r ∷ [])) (sym place) ∙ passed))
+        (ap (λ (n : ℕ). after_lines cpus nothing_known (take n lines) (receipts ++ r ∷ [])) (sym place)
+        ∙ passed))

@@ -18,10 +18,10 @@ use Rattle.hp_units.specs.declared.replies.Receipt.{Receipt}
 use Rattle.hp_units.specs.declared.replies.Record.{Record}
 use Rattle.hp_units.specs.declared.replies.Refusal.{Refusal}
 use Rattle.hp_schedules.specs.Causes.{AnswerAlike, IsCaused, cause_at, cause_in}
-use Rattle.hp_schedules.specs.Cursors.{IsCursor, IsInFirst, IsSteered, steering_of}
+use Rattle.hp_schedules.specs.Cursors.{IsCursor, IsInFirst, IsSteered, frames_ahead, steering_of}
 use Rattle.hp_schedules.specs.LineAnswers.{answer_of, answers_at, answers_in, without}
 use Rattle.hp_schedules.specs.Schedules.{Setting}
-use Rattle.hp_schedules.specs.Scripts.{after_line, after_lines}
+use Rattle.hp_schedules.specs.Scripts.{after_line, after_lines, nothing_known}
 use Rattle.hp_schedules.specs.declared.cursors.Cursor.{Cursor}
 use Rattle.hp_schedules.specs.declared.line_answers.LineAnswer.{LineAnswer}
 use Rattle.hp_schedules.specs.declared.line_answers.LineAnswer.TheVariants.{Plan as Carried}
@@ -33,6 +33,7 @@ use Rattle.hp_schedules.proofs.Begun.{IsPush, asks_none, asks_some, push_cases}
 use Rattle.hp_schedules.proofs.CausesAt.{cause_from, cause_of_script, cause_on, same_cause}
 use Rattle.hp_schedules.proofs.LineAnswers.{answers_kept, answers_past, first_more, first_on, first_over, none_begun, receipts_later, without_is}
 use Rattle.hp_schedules.proofs.Lines.{goes_on_all, over_now}
+use Rattle.hp_schedules.proofs.Agreeing.{same_starts}
 use Rattle.hp_schedules.proofs.Steering.{GoAlike, key_in, rest_alike}
 use Rattle.hp_schedules.proofs.UpTo.{before_many}
 
@@ -66,7 +67,7 @@ from_none cpus lines xs ys later x_is y_is = record {
 
 -- after a plan
 from_over : (cpus : ℕ) (line : Step) (lines : List Step) (xs ys later : List Receipt)
-    → after_line cpus 0 line [] xs ≡ Some [] → after_line cpus 0 line [] ys ≡ Some []
+    → after_line cpus nothing_known line [] xs ≡ Some [] → after_line cpus nothing_known line [] ys ≡ Some []
     → Later cpus (line ∷ lines) xs ys later
 from_over cpus line lines xs ys later x_over y_over = record {
   many = ap length (one xs x_over) ∙ sym (ap length (one ys y_over));
@@ -75,14 +76,14 @@ from_over cpus line lines xs ys later x_over y_over = record {
   second = more ys y_over;
 }
   where
-    one : (zs : List Receipt) → after_line cpus 0 line [] zs ≡ Some []
+    one : (zs : List Receipt) → after_line cpus nothing_known line [] zs ≡ Some []
         → answers_in cpus (line ∷ lines) zs ≡ answer_of line (without zs []) ∷ []
     one zs over =
         first_over cpus line lines zs [] over
         ∙ ap (λ (all : List (Option LineAnswer)). answer_of line (without zs []) ∷ all)
         (none_begun cpus lines)
 
-    more : (zs : List Receipt) → after_line cpus 0 line [] zs ≡ Some []
+    more : (zs : List Receipt) → after_line cpus nothing_known line [] zs ≡ Some []
         → answers_in cpus (line ∷ lines) (zs ++ later)
         ≡ answers_in cpus (line ∷ lines) zs ++ answers_in cpus lines later
     more zs over =
@@ -125,17 +126,20 @@ end_alike xs ys own push same = by_last xs ∙ (ends ∙ sym (by_last ys))
 
 -- the answers after further receipts of a plan that is in progress
 in_plan : (cpus turns : ℕ) (plan : List Item) (lines : List Step) (xs ys later : List Receipt)
-    → after_line cpus 0 (Carry plan turns) [] (xs ++ later) ≡ after_line cpus 0 (Carry plan turns) xs later
-    → after_line cpus 0 (Carry plan turns) [] (ys ++ later) ≡ after_line cpus 0 (Carry plan turns) ys later
-    → after_line cpus 0 (Carry plan turns) xs [] ≡ None
+    → after_line cpus nothing_known (Carry plan turns) [] (xs ++ later)
+    ≡ after_line cpus nothing_known (Carry plan turns) xs later
+    → after_line cpus nothing_known (Carry plan turns) [] (ys ++ later)
+    ≡ after_line cpus nothing_known (Carry plan turns) ys later
+    → after_line cpus nothing_known (Carry plan turns) xs [] ≡ None
     → GoAlike cpus turns plan xs ys → cause_of xs ≡ cause_of ys
     → answers_in cpus (Carry plan turns ∷ lines) (xs ++ later)
     ≡ answers_in cpus (Carry plan turns ∷ lines) (ys ++ later)
 in_plan cpus turns plan lines xs ys later x_in y_in going alike same =
-    by_rest (after_line cpus 0 (Carry plan turns) xs later) refl
+    by_rest (after_line cpus nothing_known (Carry plan turns) xs later) refl
   where
-    alike_rest : after_line cpus 0 (Carry plan turns) xs later ≡ after_line cpus 0 (Carry plan turns) ys later
-    alike_rest = rest_alike cpus 0 turns plan xs ys later alike
+    alike_rest : after_line cpus nothing_known (Carry plan turns) xs later
+        ≡ after_line cpus nothing_known (Carry plan turns) ys later
+    alike_rest = rest_alike cpus nothing_known turns plan xs ys later alike
 
     taken : (zs own rest : List Receipt) → later ≡ own ++ rest → without (zs ++ later) rest ≡ zs ++ own
     taken zs own rest whole =
@@ -143,21 +147,21 @@ in_plan cpus turns plan lines xs ys later x_in y_in going alike same =
         (ap (λ (rs : List Receipt). zs ++ rs) whole ∙ sym (append_assoc zs own rest))
         ∙ without_is (zs ++ own) rest
 
-    some_taken : (own : List Receipt) → after_line cpus 0 (Carry plan turns) xs own ≡ Some []
+    some_taken : (own : List Receipt) → after_line cpus nothing_known (Carry plan turns) xs own ≡ Some []
         → (own ≡ []) ⊎ IsPush own → IsPush own
     some_taken own over (inl none) =
         absurd (none-some [] (sym going
-        ∙ (ap (after_line cpus 0 (Carry plan turns) xs) (sym none) ∙ over)))
+        ∙ (ap (after_line cpus nothing_known (Carry plan turns) xs) (sym none) ∙ over)))
     some_taken own over (inr push) = push
 
-    by_rest : (o : Option (List Receipt)) → after_line cpus 0 (Carry plan turns) xs later ≡ o
+    by_rest : (o : Option (List Receipt)) → after_line cpus nothing_known (Carry plan turns) xs later ≡ o
         → answers_in cpus (Carry plan turns ∷ lines) (xs ++ later)
         ≡ answers_in cpus (Carry plan turns ∷ lines) (ys ++ later)
     by_rest None none =
         first_on cpus (Carry plan turns) lines (xs ++ later) (x_in ∙ none)
         ∙ sym (first_on cpus (Carry plan turns) lines (ys ++ later) (y_in ∙ (sym alike_rest ∙ none)))
     by_rest (Some rest) some =
-        let parts = after_parts cpus 0 (Carry plan turns) xs later rest some in
+        let parts = after_parts cpus nothing_known (Carry plan turns) xs later rest some in
         let ends : end_of (without (xs ++ later) rest) ≡ end_of (without (ys ++ later) rest) =
         ap end_of (taken xs parts.own rest parts.whole)
         ∙ (end_alike xs ys parts.own (some_taken parts.own parts.over (push_cases parts.own)) same
@@ -179,8 +183,8 @@ from_on cpus turns plan lines xs ys later d e key x_at y_at same on = record {
       all ++ answers_in cpus (Carry plan turns ∷ lines) (xs ++ later))
       (sym (none_yet xs x_on));
   second =
-      sym (in_plan cpus turns plan lines xs ys later (x_at.1 0 later) (y_at.1 0 later)
-      (goes_on_all cpus 0 (Carry plan turns) xs next.0 x_next)
+      sym (in_plan cpus turns plan lines xs ys later (x_at.1 nothing_known later) (y_at.1 nothing_known later)
+      (goes_on_all cpus nothing_known (Carry plan turns) xs next.0 x_next)
       (record {
         next = x_next ∙ sym y_next;
         left = sym x_at.0.left ∙ (same_left d e key ∙ y_at.0.left);
@@ -200,17 +204,17 @@ from_on cpus turns plan lines xs ys later d e key x_at y_at same on = record {
     y_next : next_event cpus turns plan ys ≡ Some next.0
     y_next = sym (y_at.0.next plan) ∙ (sym (same_event d e plan key) ∙ next.1)
 
-    x_on : after_line cpus 0 (Carry plan turns) [] xs ≡ None
+    x_on : after_line cpus nothing_known (Carry plan turns) [] xs ≡ None
     x_on =
-        ap (after_line cpus 0 (Carry plan turns) []) (sym (append-nil xs))
-        ∙ (x_at.1 0 [] ∙ goes_on_all cpus 0 (Carry plan turns) xs next.0 x_next)
+        ap (after_line cpus nothing_known (Carry plan turns) []) (sym (append-nil xs))
+        ∙ (x_at.1 nothing_known [] ∙ goes_on_all cpus nothing_known (Carry plan turns) xs next.0 x_next)
 
-    y_on : after_line cpus 0 (Carry plan turns) [] ys ≡ None
+    y_on : after_line cpus nothing_known (Carry plan turns) [] ys ≡ None
     y_on =
-        ap (after_line cpus 0 (Carry plan turns) []) (sym (append-nil ys))
-        ∙ (y_at.1 0 [] ∙ goes_on_all cpus 0 (Carry plan turns) ys next.0 y_next)
+        ap (after_line cpus nothing_known (Carry plan turns) []) (sym (append-nil ys))
+        ∙ (y_at.1 nothing_known [] ∙ goes_on_all cpus nothing_known (Carry plan turns) ys next.0 y_next)
 
-    none_yet : (zs : List Receipt) → after_line cpus 0 (Carry plan turns) [] zs ≡ None
+    none_yet : (zs : List Receipt) → after_line cpus nothing_known (Carry plan turns) [] zs ≡ None
         → answers_in cpus (Carry plan turns ∷ lines) zs ≡ []
     none_yet zs none = first_on cpus (Carry plan turns) lines zs none
 
@@ -229,10 +233,11 @@ later_alike cpus (Carry plan turns ∷ lines) xs ys later d e key x_at y_at same
     by_end (is_over d.stage) refl
   where
     over : (zs : List Receipt) (f : Driver) → IsInFirst cpus (Carry plan turns ∷ lines) zs f
-        → event_in plan f.stage ≡ None → after_line cpus 0 (Carry plan turns) [] zs ≡ Some []
+        → event_in plan f.stage ≡ None → after_line cpus nothing_known (Carry plan turns) [] zs ≡ Some []
     over zs f at none =
-        ap (after_line cpus 0 (Carry plan turns) []) (sym (append-nil zs))
-        ∙ (at.1 0 [] ∙ over_now cpus 0 (Carry plan turns) zs [] (sym (at.0.next plan) ∙ none))
+        ap (after_line cpus nothing_known (Carry plan turns) []) (sym (append-nil zs))
+        ∙ (at.1 nothing_known [] ∙ over_now cpus nothing_known (Carry plan turns) zs []
+        (sym (at.0.next plan) ∙ none))
 
     by_end : (b : Bool) → is_over d.stage ≡ b → Later cpus (Carry plan turns ∷ lines) xs ys later
     by_end true ended =
@@ -249,21 +254,22 @@ script_alike : (cpus : ℕ) (lines : List Step) (h k later : List Receipt) (a b 
     → cause_in cpus lines h ≡ cause_in cpus lines k → Later cpus lines h k later
 script_alike cpus lines h k later a b first second same causes = record {
   many =
-      ap length (whole h a.line first.own (first.passed 0))
+      ap length (whole h a.line first.own (first.passed nothing_known))
       ∙ (length-append (front h) (answers_in cpus (drop a.line lines) first.own)
       ∙ (omega (arith, a_many, b_many, on.many)
       ∙ sym (ap length (whole k a.line second.own second_passed)
       ∙ length-append (front k) (answers_in cpus (drop a.line lines) second.own))));
   added = on.added;
-  first = joined h first.own (first.passed 0) on.first;
+  first = joined h first.own (first.passed nothing_known) on.first;
   second = joined k second.own second_passed on.second;
 }
   where
     line : a.line ≡ b.line
     line = ap (λ (numbers : List ℕ). get_or numbers 0 0) same
 
-    second_passed : after_lines cpus 0 (take a.line lines) k ≡ Some second.own
-    second_passed = ap (λ (n : ℕ). after_lines cpus 0 (take n lines) k) line ∙ second.passed 0
+    second_passed : after_lines cpus nothing_known (take a.line lines) k ≡ Some second.own
+    second_passed = ap (λ (n : ℕ). after_lines cpus nothing_known (take n lines) k) line
+        ∙ second.passed nothing_known
 
     front : List Receipt → List (Option LineAnswer)
     front rs = answers_in cpus (take a.line lines) rs
@@ -277,18 +283,20 @@ script_alike cpus lines h k later a b first second same causes = record {
         ∙ (causes ∙ (cause_from cpus lines k b second
         ∙ ap (λ (n : ℕ). cause_in cpus (drop n lines) second.own) (sym line))))
 
-    whole : (rs : List Receipt) (n : ℕ) (own : List Receipt) → after_lines cpus 0 (take n lines) rs ≡ Some own
+    whole : (rs : List Receipt) (n : ℕ) (own : List Receipt)
+        → after_lines cpus nothing_known (take n lines) rs ≡ Some own
         → answers_in cpus lines rs ≡ answers_in cpus (take n lines) rs ++ answers_in cpus (drop n lines) own
     whole rs n own passed =
         ap (λ (ls : List Step). answers_in cpus ls rs) (sym (take-append-drop n lines))
         ∙ answers_past cpus (take n lines) (drop n lines) rs own passed
 
-    joined : (rs own : List Receipt) → after_lines cpus 0 (take a.line lines) rs ≡ Some own
+    joined : (rs own : List Receipt) → after_lines cpus nothing_known (take a.line lines) rs ≡ Some own
         → answers_in cpus (drop a.line lines) (own ++ later)
         ≡ answers_in cpus (drop a.line lines) own ++ on.added
         → answers_in cpus lines (rs ++ later) ≡ answers_in cpus lines rs ++ on.added
     joined rs own passed is =
-        whole (rs ++ later) a.line (own ++ later) (lines_more cpus 0 (take a.line lines) rs later own passed)
+        whole (rs ++ later) a.line (own ++ later) (lines_more cpus nothing_known
+        (take a.line lines) rs later own passed)
         ∙ (ap (λ (all : List (Option LineAnswer)). all ++ answers_in cpus (drop a.line lines) (own ++ later))
         (answers_kept cpus (take a.line lines) rs later own passed)
         ∙ (ap (λ (all : List (Option LineAnswer)). front rs ++ all) is
@@ -296,7 +304,7 @@ script_alike cpus lines h k later a b first second same causes = record {
         ∙ ap (λ (all : List (Option LineAnswer)). all ++ on.added) (sym (whole rs a.line own passed)))))
 
     a_many : length (front h) ≡ a.line
-    a_many = before_many cpus lines h a.line first.own first.within (first.passed 0)
+    a_many = before_many cpus lines h a.line first.own first.within (first.passed nothing_known)
 
     b_many : length (front k) ≡ a.line
     b_many =
@@ -332,7 +340,9 @@ answer_alike g cpu h k more steering causes first second one other = by_script (
         let b = second lines here in
         let on =
         script_alike g.layout.cpus lines (receipts_of cpu h) (receipts_of cpu k) (receipts_of cpu more) a.0
-        b.0 a.1 b.1 (sym a.2 ∙ b.2)
+        b.0 a.1 b.1
+        (same_starts (steering_of a.0) (frames_ahead a.0 lines (receipts_of cpu h)) (steering_of b.0)
+        (frames_ahead b.0 lines (receipts_of cpu k)) refl (sym a.2 ∙ b.2)).0
         (sym (cause_of_script g cpu h lines here) ∙ (cause ∙ cause_of_script g cpu k lines here)) in
         record {
           many =

@@ -13,7 +13,7 @@ use Rattle.hp_units.specs.declared.replies.Refusal.TheVariants.{NoOwner, NoPage,
 use Rattle.hp_schedules.specs.Causes.{IsCaused, cause_at, cause_in, cause_in_line, cause_numbers, met_at}
 use Rattle.hp_schedules.specs.Cursors.{AreCursors, IsCursor, IsInFirst}
 use Rattle.hp_schedules.specs.Schedules.{Setting}
-use Rattle.hp_schedules.specs.Scripts.{after_line, after_lines}
+use Rattle.hp_schedules.specs.Scripts.{after_line, after_lines, nothing_known}
 use Rattle.hp_schedules.specs.declared.cursors.Cursor.{Cursor}
 use Rattle.hp_schedules.specs.declared.scripts.Step.{Step}
 use Rattle.hp_schedules.specs.declared.scripts.Step.TheVariants.{Ask, Own, Carry}
@@ -103,14 +103,14 @@ extended (Err fault) old new piece numbers is same = tt
 -- ---- the first line
 
 pub cause_over : (cpus : ℕ) (line : Step) (lines : List Step) (receipts rest : List Receipt)
-    → after_line cpus 0 line [] receipts ≡ Some rest
+    → after_line cpus nothing_known line [] receipts ≡ Some rest
     → cause_in cpus (line ∷ lines) receipts ≡ cause_in cpus lines rest
 cause_over cpus line lines receipts rest is =
     ap (λ (o : Option (List Receipt)). option_map_or (λ left. cause_in cpus lines left) o
     (cause_in_line line receipts)) is
 
 pub cause_on : (cpus : ℕ) (line : Step) (lines : List Step) (receipts : List Receipt)
-    → after_line cpus 0 line [] receipts ≡ None
+    → after_line cpus nothing_known line [] receipts ≡ None
     → cause_in cpus (line ∷ lines) receipts ≡ cause_in_line line receipts
 cause_on cpus line lines receipts is =
     ap (λ (o : Option (List Receipt)). option_map_or (λ left. cause_in cpus lines left) o
@@ -126,14 +126,14 @@ none_met cpus (Carry plan turns ∷ lines) = refl
 
 -- the lines before it do not matter
 pub cause_past : (cpus : ℕ) (lines others : List Step) (receipts rest : List Receipt)
-    → after_lines cpus 0 lines receipts ≡ Some rest
+    → after_lines cpus nothing_known lines receipts ≡ Some rest
     → cause_in cpus (lines ++ others) receipts ≡ cause_in cpus others rest
 cause_past cpus [] others receipts rest is = ap (cause_in cpus others) (same_rest is)
   where
     same_rest : Some receipts ≡ Some rest → receipts ≡ rest
     same_rest same = cc
 cause_past cpus (line ∷ lines) others receipts rest is =
-    let parts = first_then cpus 0 line lines receipts rest is in
+    let parts = first_then cpus nothing_known line lines receipts rest is in
     cause_over cpus line (lines ++ others) receipts parts.left parts.first
     ∙ cause_past cpus lines others parts.left rest parts.others
 
@@ -142,7 +142,7 @@ pub cause_from : (cpus : ℕ) (lines : List Step) (receipts : List Receipt) (c :
     → cause_in cpus lines receipts ≡ cause_in cpus (drop c.line lines) is.own
 cause_from cpus lines receipts c is =
     ap (λ (ls : List Step). cause_in cpus ls receipts) (sym (take-append-drop c.line lines))
-    ∙ cause_past cpus (take c.line lines) (drop c.line lines) receipts is.own (is.passed 0)
+    ∙ cause_past cpus (take c.line lines) (drop c.line lines) receipts is.own (is.passed nothing_known)
 
 -- what its own line met
 met_in : (cpus : ℕ) (line : Step) (lines : List Step) (own : List Receipt) (c : Cursor)
@@ -157,13 +157,15 @@ met_in cpus (Carry plan turns) lines own c at = by_end (is_over c.driver.stage) 
         → cause_in cpus (Carry plan turns ∷ lines) own ≡ cond b None c.driver.why
     by_end true over =
         cause_over cpus (Carry plan turns) lines own []
-        (own_over cpus 0 (Carry plan turns) lines own c at (asks_none c.driver.stage plan over))
+        (own_over cpus nothing_known [] (Carry plan turns) lines own c at
+        (asks_none c.driver.stage plan over))
         ∙ none_met cpus lines
     by_end false on =
         let next = asks_some c.driver.stage plan on in
         cause_on cpus (Carry plan turns) lines own
-        (ap (after_line cpus 0 (Carry plan turns) []) (sym (append-nil own))
-        ∙ (at.1 0 [] ∙ goes_on_all cpus 0 (Carry plan turns) own next.0 (sym (at.0.next plan) ∙ next.1)))
+        (ap (after_line cpus nothing_known (Carry plan turns) []) (sym (append-nil own))
+        ∙ (at.1 nothing_known [] ∙ goes_on_all cpus nothing_known (Carry plan turns) own next.0
+        (sym (at.0.next plan) ∙ next.1)))
         ∙ sym at.0.why
 
 pub cause_past_end : (cpus : ℕ) (lines : List Step) (receipts : List Receipt) (c : Cursor)

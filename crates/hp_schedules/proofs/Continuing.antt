@@ -1,11 +1,9 @@
 -- After two beginnings that continue alike each continuation is played call for call.
-use Rattle.std.proofs.Common.{◌≡◌, ℕ, zero, suc, ◌+◌, ◌<◌, Bool, true, false, cond, eqb, List, [], ◌∷◌, ◌++◌, length, map, Option, Some, None, slice_get, refl, ap, sym, subst, ◌∙◌, arith}
+use Rattle.std.proofs.Common.{◌≡◌, ℕ, ◌+◌, Bool, true, false, cond, eqb, List, [], ◌∷◌, ◌++◌, length, map, Option, Some, None, slice_get, refl, ap, sym, subst, ◌∙◌, arith}
 use Rattle.std.specs.Prelude.{fold, option_and_then}
-use Rattle.std.specs.List.{list_all}
-use Rattle.std.proofs.lemmas.Bool.{and_parts}
 use Rattle.std.proofs.lemmas.List.{append-nil, append_assoc, length-append, length_push}
 use Rattle.std.proofs.lemmas.List.Sums.{fold_push}
-use Rattle.std.proofs.lemmas.Option.{none-some, same_Some, slice_get_within}
+use Rattle.std.proofs.lemmas.Option.{none-some, same_Some}
 use Rattle.hp_units.specs.History.{Effect, Looks, Undoes, Cancels, Acts, cancel_reply, effect_of, effect_reply, net_of, net_with, reply_of, run, value_of}
 use Rattle.hp_units.specs.Marks.{sole_at, tag_of}
 use Rattle.hp_units.specs.Memory.{Memory}
@@ -16,13 +14,14 @@ use Rattle.hp_units.specs.declared.replies.Receipt.{Receipt}
 use Rattle.hp_units.specs.declared.replies.Record.{Record}
 use Rattle.hp_units.specs.declared.replies.Reply.{Reply}
 use Rattle.hp_laws.proofs.Net.{net-push}
-use Rattle.hp_schedules.specs.Alike.{AreJoined, UndoNothing, leaves_lines, leaves_steps}
+use Rattle.hp_schedules.specs.Alike.{AreJoined, AreMergeable, leaves_steps}
 use Rattle.hp_schedules.specs.Continuing.{ContinueAlike, ContinuesAs}
 use Rattle.hp_schedules.specs.Schedules.{Setting, next_call, play_one, plays, record_of_call}
-use Rattle.hp_schedules.specs.Scripts.{later_operation, next_in, next_of, own_operation}
+use Rattle.hp_schedules.specs.Scripts.{known_of, later_operation, next_of, own_operation}
 use Rattle.hp_schedules.specs.declared.scripts.Step.{Step}
 use Rattle.hp_schedules.proofs.Opened.{cancelled_same, joined_more}
 use Rattle.hp_schedules.proofs.Plays.{from_news, plays_on, plays_one, recorded, stays_none}
+use Rattle.hp_schedules.proofs.Agreeing.{script_mergeable}
 use Rattle.hp_schedules.proofs.Steps.{receipts_push}
 use Rattle.hp_schedules.proofs.Unnumbered.{lines_leave}
 
@@ -98,14 +97,14 @@ begun_more cpu h k r same = by_owner (eqb r.cpu cpu) refl
         ap own_operation (receipts_push cpu h r false is ∙ append-nil (receipts_of cpu h))
         ∙ (same ∙ sym (ap own_operation (receipts_push cpu k r false is ∙ append-nil (receipts_of cpu k))))
 
-ahead_more : (cpus op cpu : ℕ) (lines : List Step) (h k : List Record) (r : Record) (later : List Receipt)
-    → ((more : List Receipt) → next_in cpus op lines (receipts_of cpu h ++ more)
-    ≡ next_in cpus op lines (receipts_of cpu k ++ more))
-    → next_in cpus op lines (receipts_of cpu (h ++ r ∷ []) ++ later)
-    ≡ next_in cpus op lines (receipts_of cpu (k ++ r ∷ []) ++ later)
-ahead_more cpus op cpu lines h k r later same =
-    ap (next_in cpus op lines) (longer h)
-    ∙ (same (one ++ later) ∙ sym (ap (next_in cpus op lines) (longer k)))
+ahead_more : (cpus cpu : ℕ) (lines : List Step) (h k : List Record) (r : Record) (later : List Receipt)
+    → ((more : List Receipt) → next_of cpus lines (receipts_of cpu h ++ more)
+    ≡ next_of cpus lines (receipts_of cpu k ++ more))
+    → next_of cpus lines (receipts_of cpu (h ++ r ∷ []) ++ later)
+    ≡ next_of cpus lines (receipts_of cpu (k ++ r ∷ []) ++ later)
+ahead_more cpus cpu lines h k r later same =
+    ap (next_of cpus lines) (longer h)
+    ∙ (same (one ++ later) ∙ sym (ap (next_of cpus lines) (longer k)))
   where
     one : List Receipt
     one = cond (eqb r.cpu cpu) (receipt_of r ∷ []) []
@@ -121,8 +120,7 @@ continue_more g h k r leaves alike = record {
   calls = length_push h r ∙ (ap (λ (n : ℕ). n + 1) alike.calls ∙ sym (length_push k r));
   begun = λ cpu within. begun_more cpu h k r (alike.begun cpu within);
   ahead =
-      λ cpu lines here op later. ahead_more g.layout.cpus op cpu lines h k r later
-      (alike.ahead cpu lines here op);
+      λ cpu lines here later. ahead_more g.layout.cpus cpu lines h k r later (alike.ahead cpu lines here);
   nets =
       subst (λ (net : List Record). AreJoined g.layout g.base net (net_of (g.start ++ (k ++ r ∷ []))))
       (sym (net_is h))
@@ -147,25 +145,12 @@ call_same g h k cpu alike = by_script (slice_get g.scripts cpu) refl
         ≡ option_and_then (λ lines. next_of g.layout.cpus lines (receipts_of cpu k)) o
     by_script None here = refl
     by_script (Some lines) here =
-        let within : cpu < length g.scripts = slice_get_within g.scripts cpu lines here in
-        ap (λ (op : ℕ). next_in g.layout.cpus op lines (receipts_of cpu h)) (alike.begun cpu within)
-        ∙ (ap (next_in g.layout.cpus (own_operation (receipts_of cpu k)) lines)
-        (sym (append-nil (receipts_of cpu h)))
-        ∙ (alike.ahead cpu lines here (own_operation (receipts_of cpu k)) []
-        ∙ ap (next_in g.layout.cpus (own_operation (receipts_of cpu k)) lines)
-        (append-nil (receipts_of cpu k))))
+        ap (next_of g.layout.cpus lines) (sym (append-nil (receipts_of cpu h)))
+        ∙ (alike.ahead cpu lines here []
+        ∙ ap (next_of g.layout.cpus lines) (append-nil (receipts_of cpu k)))
 
 -- which undo nothing by serials
-script_leaves : (scripts : List (List Step)) (cpu : ℕ) (lines : List Step) → UndoNothing scripts
-    → slice_get scripts cpu ≡ Some lines → list_all leaves_lines lines ≡ true
-script_leaves [] cpu lines all here = absurd cc
-script_leaves (first ∷ scripts) zero lines all here =
-    subst (λ (ls : List Step). list_all leaves_lines ls ≡ true) (same_Some first lines here)
-    (and_parts _ _ all).0
-script_leaves (first ∷ scripts) (suc cpu) lines all here =
-    script_leaves scripts cpu lines (and_parts _ _ all).1 here
-
-pub call_leaves : (g : Setting) (h : List Record) (cpu : ℕ) (e : Event) → UndoNothing g.scripts
+pub call_leaves : (g : Setting) (h : List Record) (cpu : ℕ) (e : Event) → AreMergeable g.scripts
     → next_call g cpu h ≡ Some e → leaves_steps (effect_of e) ≡ true
 unfolding next_call
 call_leaves g h cpu e all is = by_script (slice_get g.scripts cpu) refl is
@@ -175,8 +160,8 @@ call_leaves g h cpu e all is = by_script (slice_get g.scripts cpu) refl is
         → leaves_steps (effect_of e) ≡ true
     by_script None here asked = absurd cc
     by_script (Some lines) here asked =
-        lines_leave g.layout.cpus (own_operation (receipts_of cpu h)) lines (receipts_of cpu h) e
-        (script_leaves g.scripts cpu lines all here) asked
+        lines_leave g.layout.cpus (known_of (receipts_of cpu h)) lines (receipts_of cpu h) e
+        (script_mergeable g.scripts cpu lines all here) asked
 
 -- ---- the same continuations
 
@@ -187,7 +172,7 @@ pub record GoesOnAs (g : Setting) (rest : List ℕ) (h k end : List Record) : Ty
   pub played : from_news g k rest ≡ Some (k ++ more)
   pub alike : ContinueAlike g end (k ++ more)
 
-pub goes_on_as : (g : Setting) (rest : List ℕ) (h k end : List Record) → UndoNothing g.scripts
+pub goes_on_as : (g : Setting) (rest : List ℕ) (h k end : List Record) → AreMergeable g.scripts
     → ContinueAlike g h k → from_news g h rest ≡ Some end → GoesOnAs g rest h k end
 goes_on_as g [] h k end all alike is = record {
   more = [];
@@ -240,7 +225,7 @@ pub plays_from : (g : Setting) (p rest : List ℕ) (h end : List Record) → pla
 plays_from g p rest h end first whole =
     sym (plays_on g p rest ∙ ap (λ (o : Option (List Record)). fold (play_one g) o rest) first) ∙ whole
 
-pub continues_as : (g : Setting) (p q rest : List ℕ) (h k end : List Record) → UndoNothing g.scripts
+pub continues_as : (g : Setting) (p q rest : List ℕ) (h k end : List Record) → AreMergeable g.scripts
     → plays g p ≡ Some h → plays g q ≡ Some k → ContinueAlike g h k → plays g (p ++ rest) ≡ Some end
     → ContinuesAs g q rest h k end
 unfolding value_of

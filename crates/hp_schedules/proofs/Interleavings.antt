@@ -15,7 +15,7 @@ use Rattle.hp_schedules.specs.Interleavings.{AreOneCalls, IsCallCount, IsInterle
 use Rattle.hp_schedules.specs.Multinomials.{IsMultinomial, sum, turns_of}
 use Rattle.hp_schedules.specs.Orders.{HasCount}
 use Rattle.hp_schedules.specs.Schedules.{IsComplete, Setting, outcome_after, next_call, play_one, plays, record_of_call}
-use Rattle.hp_schedules.specs.Scripts.{next_in, next_of, own_operation}
+use Rattle.hp_schedules.specs.Scripts.{Known, known_of, next_in, next_of}
 use Rattle.hp_schedules.proofs.Coefficients.{only_one}
 use Rattle.hp_schedules.proofs.Counting.{same_count}
 use Rattle.hp_schedules.proofs.Interleaved.{HasTurns, interleaved, turns_cons}
@@ -39,24 +39,26 @@ one_script (first ∷ scripts) (suc cpu) lines all here =
     one_script scripts cpu lines (and_parts _ _ all).1 here
 
 -- lines ask for something where there are fewer receipts than lines
-asks : (cpus op : ℕ) (lines : List Step) (rs : List Receipt) → AllOne lines → length rs < length lines
-    → (e : Event) × (next_in cpus op lines rs ≡ Some e)
-asks cpus op [] rs all less = absurd (omega arith)
-asks cpus op (line ∷ lines) [] all less =
-    let first = asks_once cpus op line (and_parts _ _ all).0 in
-    (first.0, stays cpus op line lines (and_parts _ _ all).0 ∙ first.1)
-asks cpus op (line ∷ lines) (r ∷ rs) all less =
-    let later = asks cpus op lines rs (and_parts _ _ all).1 (omega arith) in
-    (later.0, skips cpus op line lines r rs (and_parts _ _ all).0 ∙ later.1)
+asks : (cpus : ℕ) (known : Known) (lines : List Step) (rs : List Receipt) → AllOne lines
+    → length rs < length lines
+    → (e : Event) × (next_in cpus known lines rs ≡ Some e)
+asks cpus known [] rs all less = absurd (omega arith)
+asks cpus known (line ∷ lines) [] all less =
+    let first = asks_once cpus known line (and_parts _ _ all).0 in
+    (first.0, stays cpus known line lines (and_parts _ _ all).0 ∙ first.1)
+asks cpus known (line ∷ lines) (r ∷ rs) all less =
+    let later = asks cpus known lines rs (and_parts _ _ all).1 (omega arith) in
+    (later.0, skips cpus known line lines r rs (and_parts _ _ all).0 ∙ later.1)
 
 -- and for nothing where there are as many
-asks_none : (cpus op : ℕ) (lines : List Step) (rs : List Receipt) → AllOne lines → length lines ≤ length rs
-    → next_in cpus op lines rs ≡ None
-asks_none cpus op [] rs all le = refl
-asks_none cpus op (line ∷ lines) [] all le = absurd (omega arith)
-asks_none cpus op (line ∷ lines) (r ∷ rs) all le =
-    skips cpus op line lines r rs (and_parts _ _ all).0
-    ∙ asks_none cpus op lines rs (and_parts _ _ all).1 (omega arith)
+asks_none : (cpus : ℕ) (known : Known) (lines : List Step) (rs : List Receipt) → AllOne lines
+    → length lines ≤ length rs
+    → next_in cpus known lines rs ≡ None
+asks_none cpus known [] rs all le = refl
+asks_none cpus known (line ∷ lines) [] all le = absurd (omega arith)
+asks_none cpus known (line ∷ lines) (r ∷ rs) all le =
+    skips cpus known line lines r rs (and_parts _ _ all).0
+    ∙ asks_none cpus known lines rs (and_parts _ _ all).1 (omega arith)
 
 -- ---- scripts
 
@@ -77,7 +79,7 @@ call_asks g cpu news all less = by_script (slice_get g.scripts cpu) refl less
     by_script None is h = absurd (omega arith)
     by_script (Some lines) is h =
         let e =
-        asks g.layout.cpus (own_operation (receipts_of cpu news)) lines (receipts_of cpu news)
+        asks g.layout.cpus (known_of (receipts_of cpu news)) lines (receipts_of cpu news)
         (one_script g.scripts cpu lines all is) h in (
           e.0,
           ap (option_and_then (λ (ls : List Step). next_of g.layout.cpus ls (receipts_of cpu news))) is
@@ -97,7 +99,7 @@ call_none g cpu news all le = by_script (slice_get g.scripts cpu) refl le
         ap (option_and_then (λ (ls : List Step). next_of g.layout.cpus ls (receipts_of cpu news))) is
     by_script (Some lines) is h =
         ap (option_and_then (λ (ls : List Step). next_of g.layout.cpus ls (receipts_of cpu news))) is
-        ∙ asks_none g.layout.cpus (own_operation (receipts_of cpu news)) lines (receipts_of cpu news)
+        ∙ asks_none g.layout.cpus (known_of (receipts_of cpu news)) lines (receipts_of cpu news)
         (one_script g.scripts cpu lines all is) h
 
 -- a processor's call is one more of its own

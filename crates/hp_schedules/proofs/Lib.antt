@@ -1,4 +1,5 @@
 pub mod AfterLines
+pub mod Agreeing
 pub mod Alike
 pub mod Answered
 pub mod AnswersAt
@@ -21,6 +22,7 @@ pub mod Interleavings
 pub mod Known
 pub mod LineAnswers
 pub mod Lines
+pub mod Nths
 pub mod Numberings
 pub mod OneCalls
 pub mod Opened

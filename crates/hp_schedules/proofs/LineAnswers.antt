@@ -10,7 +10,7 @@ use Rattle.hp_units.specs.declared.replies.Receipt.{Receipt}
 use Rattle.hp_units.specs.declared.replies.Record.{Record}
 use Rattle.hp_schedules.specs.LineAnswers.{Grow, answer_of, answers_at, answers_in, without}
 use Rattle.hp_schedules.specs.Schedules.{Setting}
-use Rattle.hp_schedules.specs.Scripts.{after_line, after_lines}
+use Rattle.hp_schedules.specs.Scripts.{after_line, after_lines, nothing_known}
 use Rattle.hp_schedules.specs.declared.line_answers.LineAnswer.{LineAnswer}
 use Rattle.hp_schedules.specs.declared.scripts.Step.{Step}
 use Rattle.hp_schedules.specs.declared.scripts.Step.TheVariants.{Ask, Own, Carry}
@@ -29,7 +29,7 @@ without_is own rest =
     whole = omega (arith, length-append own rest)
 
 pub first_over : (cpus : ℕ) (line : Step) (lines : List Step) (receipts rest : List Receipt)
-    → after_line cpus 0 line [] receipts ≡ Some rest
+    → after_line cpus nothing_known line [] receipts ≡ Some rest
     → answers_in cpus (line ∷ lines) receipts
     ≡ answer_of line (without receipts rest) ∷ answers_in cpus lines rest
 first_over cpus line lines receipts rest is =
@@ -37,24 +37,24 @@ first_over cpus line lines receipts rest is =
     option_map_or (λ left. answer_of line (without receipts left) ∷ answers_in cpus lines left) o []) is
 
 pub first_on : (cpus : ℕ) (line : Step) (lines : List Step) (receipts : List Receipt)
-    → after_line cpus 0 line [] receipts ≡ None → answers_in cpus (line ∷ lines) receipts ≡ []
+    → after_line cpus nothing_known line [] receipts ≡ None → answers_in cpus (line ∷ lines) receipts ≡ []
 first_on cpus line lines receipts is =
     ap (λ (o : Option (List Receipt)).
     option_map_or (λ left. answer_of line (without receipts left) ∷ answers_in cpus lines left) o []) is
 
 -- more receipts do not change its answer
 pub first_more : (cpus : ℕ) (line : Step) (lines : List Step) (receipts more rest : List Receipt)
-    → after_line cpus 0 line [] receipts ≡ Some rest
+    → after_line cpus nothing_known line [] receipts ≡ Some rest
     → answers_in cpus (line ∷ lines) (receipts ++ more)
     ≡ answer_of line (without receipts rest) ∷ answers_in cpus lines (rest ++ more)
 first_more cpus line lines receipts more rest is =
     first_over cpus line lines (receipts ++ more) (rest ++ more)
-    (after_more cpus 0 line [] receipts more rest is)
+    (after_more cpus nothing_known line [] receipts more rest is)
     ∙ ap (λ (own : List Receipt). answer_of line own ∷ answers_in cpus lines (rest ++ more)) same
   where
     same : without (receipts ++ more) (rest ++ more) ≡ without receipts rest
     same =
-        let parts = after_parts cpus 0 line [] receipts rest is in
+        let parts = after_parts cpus nothing_known line [] receipts rest is in
         ap (λ (xs : List Receipt). without (xs ++ more) (rest ++ more)) parts.whole
         ∙ (ap (λ (xs : List Receipt). without xs (rest ++ more)) (append_assoc parts.own rest more)
         ∙ (without_is parts.own (rest ++ more)
@@ -71,7 +71,7 @@ none_begun cpus (Own work ∷ lines) = refl
 none_begun cpus (Carry plan turns ∷ lines) = refl
 
 pub answers_past : (cpus : ℕ) (lines others : List Step) (receipts rest : List Receipt)
-    → after_lines cpus 0 lines receipts ≡ Some rest
+    → after_lines cpus nothing_known lines receipts ≡ Some rest
     → answers_in cpus (lines ++ others) receipts
     ≡ answers_in cpus lines receipts ++ answers_in cpus others rest
 answers_past cpus [] others receipts rest is = ap (answers_in cpus others) (same_rest is)
@@ -79,7 +79,7 @@ answers_past cpus [] others receipts rest is = ap (answers_in cpus others) (same
     same_rest : Some receipts ≡ Some rest → receipts ≡ rest
     same_rest same = cc
 answers_past cpus (line ∷ lines) others receipts rest is =
-    let parts = first_then cpus 0 line lines receipts rest is in
+    let parts = first_then cpus nothing_known line lines receipts rest is in
     first_over cpus line (lines ++ others) receipts parts.left parts.first
     ∙ (ap (λ (xs : List (Option LineAnswer)). answer_of line (without receipts parts.left) ∷ xs)
     (answers_past cpus lines others parts.left rest parts.others)
@@ -88,20 +88,21 @@ answers_past cpus (line ∷ lines) others receipts rest is =
 
 -- each has an answer, which stays
 pub answers_many : (cpus : ℕ) (lines : List Step) (receipts rest : List Receipt)
-    → after_lines cpus 0 lines receipts ≡ Some rest → length (answers_in cpus lines receipts) ≡ length lines
+    → after_lines cpus nothing_known lines receipts ≡ Some rest
+    → length (answers_in cpus lines receipts) ≡ length lines
 answers_many cpus [] receipts rest is = refl
 answers_many cpus (line ∷ lines) receipts rest is =
-    let parts = first_then cpus 0 line lines receipts rest is in
+    let parts = first_then cpus nothing_known line lines receipts rest is in
     let first = ap length (first_over cpus line lines receipts parts.left parts.first) in
     let others = answers_many cpus lines parts.left rest parts.others in
     omega (arith, first, others)
 
 pub answers_kept : (cpus : ℕ) (lines : List Step) (receipts more rest : List Receipt)
-    → after_lines cpus 0 lines receipts ≡ Some rest
+    → after_lines cpus nothing_known lines receipts ≡ Some rest
     → answers_in cpus lines (receipts ++ more) ≡ answers_in cpus lines receipts
 answers_kept cpus [] receipts more rest is = refl
 answers_kept cpus (line ∷ lines) receipts more rest is =
-    let parts = first_then cpus 0 line lines receipts rest is in
+    let parts = first_then cpus nothing_known line lines receipts rest is in
     first_more cpus line lines receipts more parts.left parts.first
     ∙ (ap (λ (xs : List (Option LineAnswer)). answer_of line (without receipts parts.left) ∷ xs)
     (answers_kept cpus lines parts.left more rest parts.others)
@@ -113,9 +114,9 @@ pub answers_grow : (cpus : ℕ) (lines : List Step) (receipts more : List Receip
     → Grow (answers_in cpus lines receipts) (answers_in cpus lines (receipts ++ more))
 answers_grow cpus [] receipts more = ([], refl)
 answers_grow cpus (line ∷ lines) receipts more =
-    by_first (after_line cpus 0 line [] receipts) refl (λ rest. answers_grow cpus lines rest more)
+    by_first (after_line cpus nothing_known line [] receipts) refl (λ rest. answers_grow cpus lines rest more)
   where
-    by_first : (o : Option (List Receipt)) → after_line cpus 0 line [] receipts ≡ o
+    by_first : (o : Option (List Receipt)) → after_line cpus nothing_known line [] receipts ≡ o
         → ((rest : List Receipt) → Grow (answers_in cpus lines rest) (answers_in cpus lines (rest ++ more)))
         → Grow (answers_in cpus (line ∷ lines) receipts) (answers_in cpus (line ∷ lines) (receipts ++ more))
     by_first None none others = (

@@ -6,41 +6,42 @@ use Rattle.hp_units.specs.declared.replies.Receipt.{Receipt}
 use Rattle.hp_schedules.specs.declared.scripts.Step.{Step}
 use Rattle.hp_schedules.specs.declared.scripts.Step.TheVariants.{Ask, Own, Carry}
 use Rattle.hp_schedules.specs.Interleavings.{is_one_call}
-use Rattle.hp_schedules.specs.Scripts.{after_line, line_next, next_in}
+use Rattle.hp_schedules.specs.Scripts.{Known, after_line, line_next, next_in}
 use Rattle.hp_schedules.proofs.Lines.{over_now}
 
 -- a line of one call asks for it, and is over after its receipt
-pub asks_once : (cpus op : ℕ) (line : Step) → is_one_call line ≡ true
-    → (e : Event) × (line_next cpus op line [] ≡ Some e)
-asks_once cpus op (Ask event) one = (event, refl)
-asks_once cpus op (Own work) one = (_, refl)
-asks_once cpus op (Carry plan turns) one = absurd cc
+pub asks_once : (cpus : ℕ) (known : Known) (line : Step) → is_one_call line ≡ true
+    → (e : Event) × (line_next cpus known line [] ≡ Some e)
+asks_once cpus known (Ask event) one = (event, refl)
+asks_once cpus known (Own work) one = (_, refl)
+asks_once cpus known (Carry plan turns) one = absurd cc
 
-over_once : (cpus op : ℕ) (line : Step) (r : Receipt) → is_one_call line ≡ true
-    → line_next cpus op line (r ∷ []) ≡ None
-over_once cpus op (Ask event) r one = refl
-over_once cpus op (Own work) r one = refl
-over_once cpus op (Carry plan turns) r one = absurd cc
+over_once : (cpus : ℕ) (known : Known) (line : Step) (r : Receipt) → is_one_call line ≡ true
+    → line_next cpus known line (r ∷ []) ≡ None
+over_once cpus known (Ask event) r one = refl
+over_once cpus known (Own work) r one = refl
+over_once cpus known (Carry plan turns) r one = absurd cc
 
 -- so it is the first of several after no receipts, and over after the first receipt
-pub stays : (cpus op : ℕ) (line : Step) (lines : List Step) → is_one_call line ≡ true
-    → next_in cpus op (line ∷ lines) [] ≡ line_next cpus op line []
-stays cpus op line lines one =
-    let first = asks_once cpus op line one in
-    let on : after_line cpus op line [] [] ≡ None =
+pub stays : (cpus : ℕ) (known : Known) (line : Step) (lines : List Step) → is_one_call line ≡ true
+    → next_in cpus known (line ∷ lines) [] ≡ line_next cpus known line []
+stays cpus known line lines one =
+    let first = asks_once cpus known line one in
+    let on : after_line cpus known line [] [] ≡ None =
     ap (λ (o : Option Event). option_map_or (λ event. None) o (Some [])) first.1 in
     ap (λ (o : Option (List Receipt)).
-    option_map_or (λ rest. next_in cpus op lines rest) o (line_next cpus op line [])) on
+    option_map_or (λ rest. next_in cpus known lines rest) o (line_next cpus known line [])) on
 
-pub finished_once : (cpus op : ℕ) (line : Step) (r : Receipt) (rs : List Receipt)
-    → is_one_call line ≡ true → after_line cpus op line [] (r ∷ rs) ≡ Some rs
-finished_once cpus op line r rs one =
-    ap (λ (o : Option Event). option_map_or (λ event. after_line cpus op line (r ∷ []) rs) o (Some (r ∷ rs)))
-    (asks_once cpus op line one).1 ∙ over_now cpus op line (r ∷ []) rs (over_once cpus op line r one)
+pub finished_once : (cpus : ℕ) (known : Known) (line : Step) (r : Receipt) (rs : List Receipt)
+    → is_one_call line ≡ true → after_line cpus known line [] (r ∷ rs) ≡ Some rs
+finished_once cpus known line r rs one =
+    ap (λ (o : Option Event). option_map_or (λ event. after_line cpus known line (r ∷ []) rs) o
+    (Some (r ∷ rs)))
+    (asks_once cpus known line one).1 ∙ over_now cpus known line (r ∷ []) rs (over_once cpus known line r one)
 
-pub skips : (cpus op : ℕ) (line : Step) (lines : List Step) (r : Receipt) (rs : List Receipt)
-    → is_one_call line ≡ true → next_in cpus op (line ∷ lines) (r ∷ rs) ≡ next_in cpus op lines rs
-skips cpus op line lines r rs one =
+pub skips : (cpus : ℕ) (known : Known) (line : Step) (lines : List Step) (r : Receipt) (rs : List Receipt)
+    → is_one_call line ≡ true → next_in cpus known (line ∷ lines) (r ∷ rs) ≡ next_in cpus known lines rs
+skips cpus known line lines r rs one =
     ap (λ (o : Option (List Receipt)).
-    option_map_or (λ rest. next_in cpus op lines rest) o (line_next cpus op line (r ∷ rs)))
-    (finished_once cpus op line r rs one)
+    option_map_or (λ rest. next_in cpus known lines rest) o (line_next cpus known line (r ∷ rs)))
+    (finished_once cpus known line r rs one)

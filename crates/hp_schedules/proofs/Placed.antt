@@ -9,7 +9,7 @@ use Rattle.hp_units.specs.Receipts.{receipt_of, receipts_of}
 use Rattle.hp_units.specs.declared.events.Event.{Event}
 use Rattle.hp_units.specs.declared.replies.Receipt.{Receipt}
 use Rattle.hp_units.specs.declared.replies.Record.{Record}
-use Rattle.hp_schedules.specs.Cursors.{AreCursors, IsCalledFor, IsCursor, IsRequested, IsSettled, asks_at, cursor_at}
+use Rattle.hp_schedules.specs.Cursors.{AreCursors, IsCalledFor, IsCursor, IsRequested, IsSettled, IsSteered, asks_at, cursor_at, frames_ahead, steering_of}
 use Rattle.hp_schedules.specs.Schedules.{Setting, next_call}
 use Rattle.hp_schedules.specs.Scripts.{own_operation, next_of}
 use Rattle.hp_schedules.specs.declared.cursors.Cursor.{Cursor}
@@ -88,7 +88,7 @@ called_for g news cpu lines (Some q) here some = (
   asked_is g news g.layout.cpus cpu lines (Some q.event) refl here (sym some.0),
   λ ls there. let same : lines ≡ ls = same_Some lines ls (sym here ∙ there) in (
     subst (λ (l : List Step). IsCursor g.layout.cpus l (receipts_of cpu news) q.from) same some.1,
-    subst (λ (l : List Step). asks_at q.from l ≡ Some q.event) same some.2,
+    subst (λ (l : List Step). asks_at (receipts_of cpu news) q.from l ≡ Some q.event) same some.2,
   ),
 )
 
@@ -97,14 +97,14 @@ pub requested_at : (g : Setting) (news : List Record) (cpus cpu : ℕ) (scripts 
     (lines shown : List Step) (cursors : List Cursor) (cursor : Cursor) (q : Option NextCall)
     → g.scripts ≡ scripts → g.layout.cpus ≡ cpus → slice_get scripts cpu ≡ Some lines → shown ≡ lines
     → slice_get cursors cpu ≡ Some cursor → AreCursors g news cursors
-    → ((receipts : List Receipt) → IsCursor cpus shown receipts cursor → IsRequested cpus shown receipts q)
+    → (IsCursor cpus shown (receipts_of cpu news) cursor → IsRequested cpus shown (receipts_of cpu news) q)
     → IsCalledFor g cpu news q
 requested_at g news cpus cpu scripts lines shown cursors cursor q scripts_is cpus_is here same there all
     asks =
     called_for g news cpu lines q within
     (subst (λ (n : ℕ). IsRequested n lines (receipts_of cpu news) q) (sym cpus_is)
     (subst (λ (ls : List Step). IsRequested cpus ls (receipts_of cpu news) q) same
-    (asks (receipts_of cpu news) (subst (λ (ls : List Step). IsCursor cpus ls (receipts_of cpu news) cursor)
+    (asks (subst (λ (ls : List Step). IsCursor cpus ls (receipts_of cpu news) cursor)
     (sym same) (subst (λ (n : ℕ). IsCursor n lines (receipts_of cpu news) cursor) cpus_is
     (all.each cpu lines cursor within there))))))
   where
@@ -188,7 +188,8 @@ pub went_on : (g : Setting) (news : List Record) (r : Record) (cpus cpu : ℕ) (
     (lines shown : List Step) (old new : List Cursor) (later : Cursor) (request : NextCall)
     → g.scripts ≡ scripts → g.layout.cpus ≡ cpus → r.cpu ≡ cpu → slice_get scripts cpu ≡ Some lines
     → shown ≡ lines → ((receipts : List Receipt) (event : Event) → IsCursor cpus shown receipts request.from
-    → asks_at request.from shown ≡ Some event → IsCursor cpus shown (receipts ++ receipt_of r ∷ []) later
+    → asks_at receipts request.from shown ≡ Some event
+    → IsCursor cpus shown (receipts ++ receipt_of r ∷ []) later
     × IsSettled shown later)
     → new ≡ set old cpu later → AreCursors g news old → IsCalledFor g cpu news (Some request)
     → AreCursors g (news ++ r ∷ []) new
@@ -214,7 +215,8 @@ went_on g news r cpus cpu scripts lines shown old new later request scripts_is c
         (subst (λ (ls : List Step). IsCursor cpus ls (receipts_of cpu news) request.from) (sym same)
         (subst (λ (n : ℕ). IsCursor n lines (receipts_of cpu news) request.from) cpus_is
         (called.1 lines within).0))
-        (subst (λ (ls : List Step). asks_at request.from ls ≡ Some request.event) (sym same)
+        (subst (λ (ls : List Step). asks_at (receipts_of cpu news) request.from ls
+        ≡ Some request.event) (sym same)
         (called.1 lines within).1)
 
 -- ---- the operation that a processor began last
@@ -226,3 +228,20 @@ operation_at g news cursors cursor cpu here all =
     let less = slice_get_within cursors cpu cursor here in
     let lines = get_some g.scripts cpu (omega (arith, less, all.many)) in
     (all.each cpu lines.0 cursor lines.1 here).begun
+
+-- ---- the numbers of a processor's cursor
+
+pub steered_at : (g : Setting) (news : List Record) (cpu : ℕ) (scripts : List (List Step))
+    (lines shown : List Step) (cursors : List Cursor) (cursor : Cursor)
+    → g.scripts ≡ scripts → slice_get scripts cpu ≡ Some lines → shown ≡ lines
+    → slice_get cursors cpu ≡ Some cursor → AreCursors g news cursors
+    → IsSteered g cpu news (steering_of cursor ++ frames_ahead cursor shown (receipts_of cpu news))
+steered_at g news cpu scripts lines shown cursors cursor scripts_is here same there all ls script =
+    let read : shown ≡ ls =
+    same
+    ∙ same_Some lines ls
+    (sym (ap (λ (xs : List (List Step)). slice_get xs cpu) scripts_is ∙ here) ∙ script) in (
+      cursor,
+      all.each cpu ls cursor script there,
+      ap (λ (xs : List Step). steering_of cursor ++ frames_ahead cursor xs (receipts_of cpu news)) read,
+    )

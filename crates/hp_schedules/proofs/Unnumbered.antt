@@ -1,5 +1,6 @@
--- What a script asks for does not depend on its receipts' numbers, but for that of its last Begin.
-use Rattle.std.proofs.Common.{◌≡◌, ℕ, ◌+◌, Bool, true, false, cond, ltb, List, [], ◌∷◌, ◌++◌, map, Option, Some, None, refl, ap, sym, subst, ◌∙◌}
+-- What lines ask for does not depend on their receipts' serials, but for the results that they work
+-- on.
+use Rattle.std.proofs.Common.{◌≡◌, ℕ, ◌+◌, Bool, true, false, cond, get_or, ltb, List, [], ◌∷◌, ◌++◌, map, Option, Some, None, refl, ap, sym, subst, ◌∙◌}
 use Rattle.std.specs.Prelude.{option_map}
 use Rattle.std.specs.List.{last_or, list_all}
 use Rattle.std.specs.Option.{option_map_or}
@@ -15,8 +16,10 @@ use Rattle.hp_units.specs.declared.replies.Receipt.{Receipt}
 use Rattle.hp_units.specs.declared.replies.Refusal.TheVariants.{NoFrame, NothingToMove, NotFree}
 use Rattle.hp_units.specs.declared.replies.Reply.{Reply}
 use Rattle.hp_units.specs.declared.replies.Reply.TheVariants.{Done, Moved, Opened, Refused}
-use Rattle.hp_schedules.specs.Alike.{leaves_lines, leaves_steps, unnumbered}
-use Rattle.hp_schedules.specs.Scripts.{after_line, line_next, next_in, once, work_of}
+use Rattle.hp_schedules.specs.Alike.{is_mergeable_line, leaves_steps, unnumbered}
+use Rattle.hp_schedules.specs.Scripts.{Known, after_line, line_next, next_in, once, step_work_of, work_of}
+use Rattle.hp_schedules.specs.declared.scripts.OwnWork.{OwnWork}
+use Rattle.hp_schedules.specs.declared.scripts.OwnWork.TheVariants.{Latest, Nth, Free}
 use Rattle.hp_schedules.specs.declared.scripts.Step.{Step}
 use Rattle.hp_schedules.specs.declared.scripts.Step.TheVariants.{Ask, Own, Carry}
 use Rattle.hp_schedules.specs.declared.scripts.StepWork.{StepWork}
@@ -77,7 +80,8 @@ driver_same cpus turns plan rs =
         (Some (Begin plan)) ≡ option_map_or (λ r. next_after cpus turns rs r.event r.reply) o
         (Some (Begin plan))
     by_last None = refl
-    by_last (Some r) = after_same cpus turns (plain rs) rs (ap (λ (n : ℕ). ltb n turns) (tried_same rs)) r.event r.reply
+    by_last (Some r) = after_same cpus turns (plain rs) rs
+        (ap (λ (n : ℕ). ltb n turns) (tried_same rs)) r.event r.reply
 
 -- ---- lines
 
@@ -85,57 +89,59 @@ once_same : (e : Event) (rs : List Receipt) → once e (plain rs) ≡ once e rs
 once_same e [] = refl
 once_same e (r ∷ rs) = refl
 
-line_same : (cpus op : ℕ) (line : Step) (rs : List Receipt)
-    → line_next cpus op line (plain rs) ≡ line_next cpus op line rs
-line_same cpus op (Ask event) rs = once_same event rs
-line_same cpus op (Own work) rs = once_same (work_of op work) rs
-line_same cpus op (Carry plan turns) rs = driver_same cpus turns plan rs
+line_same : (cpus : ℕ) (known : Known) (line : Step) (rs : List Receipt)
+    → line_next cpus known line (plain rs) ≡ line_next cpus known line rs
+line_same cpus known (Ask event) rs = once_same event rs
+line_same cpus known (Own work) rs = once_same (work_of known work) rs
+line_same cpus known (Carry plan turns) rs = driver_same cpus turns plan rs
 
 -- what a line leaves of the receipts
-rest_same : (cpus op : ℕ) (line : Step) (earlier later : List Receipt)
-    → after_line cpus op line (plain earlier) (plain later)
-    ≡ option_map plain (after_line cpus op line earlier later)
-rest_same cpus op line earlier [] =
-    ap (λ (o : Option Event). option_map_or (λ event. None) o (Some [])) (line_same cpus op line earlier)
-    ∙ by_next (line_next cpus op line earlier)
+rest_same : (cpus : ℕ) (known : Known) (line : Step) (earlier later : List Receipt)
+    → after_line cpus known line (plain earlier) (plain later)
+    ≡ option_map plain (after_line cpus known line earlier later)
+rest_same cpus known line earlier [] =
+    ap (λ (o : Option Event). option_map_or (λ event. None) o (Some [])) (line_same cpus known line earlier)
+    ∙ by_next (line_next cpus known line earlier)
   where
     by_next : (o : Option Event)
         → option_map_or (λ event. None) o (Some [])
         ≡ option_map plain (option_map_or (λ event. None) o (Some []))
     by_next None = refl
     by_next (Some e) = refl
-rest_same cpus op line earlier (r ∷ rs) =
+rest_same cpus known line earlier (r ∷ rs) =
     ap (λ (o : Option Event). option_map_or
-    (λ event. after_line cpus op line (plain earlier ++ unnumbered r ∷ []) (plain rs)) o
-    (Some (plain (r ∷ rs)))) (line_same cpus op line earlier)
-    ∙ by_next (line_next cpus op line earlier) (ap
-    (λ (xs : List Receipt). after_line cpus op line xs (plain rs))
-    (sym (map-append unnumbered earlier (r ∷ []))) ∙ rest_same cpus op line (earlier ++ r ∷ []) rs)
+    (λ event. after_line cpus known line (plain earlier ++ unnumbered r ∷ []) (plain rs)) o
+    (Some (plain (r ∷ rs)))) (line_same cpus known line earlier)
+    ∙ by_next (line_next cpus known line earlier) (ap
+    (λ (xs : List Receipt). after_line cpus known line xs (plain rs))
+    (sym (map-append unnumbered earlier (r ∷ []))) ∙ rest_same cpus known line (earlier ++ r ∷ []) rs)
   where
     by_next : (o : Option Event)
-        → after_line cpus op line (plain earlier ++ unnumbered r ∷ []) (plain rs)
-        ≡ option_map plain (after_line cpus op line (earlier ++ r ∷ []) rs)
-        → option_map_or (λ event. after_line cpus op line (plain earlier ++ unnumbered r ∷ []) (plain rs)) o
+        → after_line cpus known line (plain earlier ++ unnumbered r ∷ []) (plain rs)
+        ≡ option_map plain (after_line cpus known line (earlier ++ r ∷ []) rs)
+        → option_map_or (λ event. after_line cpus known line (plain earlier ++ unnumbered r ∷ [])
+        (plain rs)) o
         (Some (plain (r ∷ rs))) ≡ option_map plain
-        (option_map_or (λ event. after_line cpus op line (earlier ++ r ∷ []) rs) o (Some (r ∷ rs)))
+        (option_map_or (λ event. after_line cpus known line (earlier ++ r ∷ []) rs) o (Some (r ∷ rs)))
     by_next None longer = refl
     by_next (Some e) longer = longer
 
 -- what lines ask for
-pub next_plain : (cpus op : ℕ) (lines : List Step) (rs : List Receipt)
-    → next_in cpus op lines (map unnumbered rs) ≡ next_in cpus op lines rs
-next_plain cpus op [] rs = refl
-next_plain cpus op (line ∷ lines) rs =
-    ap (λ (o : Option (List Receipt)). option_map_or (λ rest. next_in cpus op lines rest) o
-    (line_next cpus op line (plain rs))) (rest_same cpus op line [] rs)
-    ∙ (ap (λ (o : Option Event). option_map_or (λ rest. next_in cpus op lines rest)
-    (option_map plain (after_line cpus op line [] rs)) o) (line_same cpus op line rs)
-    ∙ by_rest (after_line cpus op line [] rs) (λ rest. next_plain cpus op lines rest))
+pub next_plain : (cpus : ℕ) (known : Known) (lines : List Step) (rs : List Receipt)
+    → next_in cpus known lines (map unnumbered rs) ≡ next_in cpus known lines rs
+next_plain cpus known [] rs = refl
+next_plain cpus known (line ∷ lines) rs =
+    ap (λ (o : Option (List Receipt)). option_map_or (λ rest. next_in cpus known lines rest) o
+    (line_next cpus known line (plain rs))) (rest_same cpus known line [] rs)
+    ∙ (ap (λ (o : Option Event). option_map_or (λ rest. next_in cpus known lines rest)
+    (option_map plain (after_line cpus known line [] rs)) o) (line_same cpus known line rs)
+    ∙ by_rest (after_line cpus known line [] rs) (λ rest. next_plain cpus known lines rest))
   where
     by_rest : (o : Option (List Receipt))
-        → ((rest : List Receipt) → next_in cpus op lines (plain rest) ≡ next_in cpus op lines rest)
-        → option_map_or (λ rest. next_in cpus op lines rest) (option_map plain o) (line_next cpus op line rs)
-        ≡ option_map_or (λ rest. next_in cpus op lines rest) o (line_next cpus op line rs)
+        → ((rest : List Receipt) → next_in cpus known lines (plain rest) ≡ next_in cpus known lines rest)
+        → option_map_or (λ rest. next_in cpus known lines rest) (option_map plain o)
+        (line_next cpus known line rs)
+        ≡ option_map_or (λ rest. next_in cpus known lines rest) o (line_next cpus known line rs)
     by_rest None same = refl
     by_rest (Some rest) same = same rest
 
@@ -168,38 +174,43 @@ after_leaves cpus turns rs (Migrate op) (Refused NothingToMove) = refl
 after_leaves cpus turns rs (Commit op) (Refused (NotFree frame)) = drain_leaves cpus turns op 0 rs
 after_leaves cpus turns rs e reply = tt
 
-work_leaves : (op : ℕ) (work : StepWork) → leaves_steps (effect_of (work_of op work)) ≡ true
-work_leaves op (work.DrainFor cpu) = refl
-work_leaves op work.Migrate = refl
-work_leaves op work.Commit = refl
-work_leaves op work.Cancel = refl
+step_leaves : (op : ℕ) (work : StepWork) → leaves_steps (effect_of (step_work_of op work)) ≡ true
+step_leaves op (work.DrainFor cpu) = refl
+step_leaves op work.Migrate = refl
+step_leaves op work.Commit = refl
+step_leaves op work.Cancel = refl
+
+work_leaves : (known : Known) (work : OwnWork) → leaves_steps (effect_of (work_of known work)) ≡ true
+work_leaves known (Latest work) = step_leaves known.op work
+work_leaves known (Nth nth work) = step_leaves (get_or known.begun nth 0) work
+work_leaves known (Free nth) = refl
 
 once_leaves : (e : Event) (rs : List Receipt) → leaves_steps (effect_of e) ≡ true → Leaves (once e rs)
 once_leaves e [] leaves = leaves
 once_leaves e (r ∷ rs) leaves = tt
 
-line_leaves : (cpus op : ℕ) (line : Step) (rs : List Receipt) → leaves_lines line ≡ true
-    → Leaves (line_next cpus op line rs)
-line_leaves cpus op (Ask event) rs leaves = once_leaves event rs leaves
-line_leaves cpus op (Own work) rs leaves = once_leaves (work_of op work) rs (work_leaves op work)
-line_leaves cpus op (Carry plan turns) rs leaves = by_last (last_or None rs)
+line_leaves : (cpus : ℕ) (known : Known) (line : Step) (rs : List Receipt) → is_mergeable_line line ≡ true
+    → Leaves (line_next cpus known line rs)
+line_leaves cpus known (Ask event) rs leaves = once_leaves event rs leaves
+line_leaves cpus known (Own work) rs leaves = once_leaves (work_of known work) rs (work_leaves known work)
+line_leaves cpus known (Carry plan turns) rs leaves = by_last (last_or None rs)
   where
     by_last : (o : Option Receipt)
         → Leaves (option_map_or (λ r. next_after cpus turns rs r.event r.reply) o (Some (Begin plan)))
     by_last None = refl
     by_last (Some r) = after_leaves cpus turns rs r.event r.reply
 
-pub lines_leave : (cpus op : ℕ) (lines : List Step) (rs : List Receipt) (e : Event)
-    → list_all leaves_lines lines ≡ true → next_in cpus op lines rs ≡ Some e
+pub lines_leave : (cpus : ℕ) (known : Known) (lines : List Step) (rs : List Receipt) (e : Event)
+    → list_all is_mergeable_line lines ≡ true → next_in cpus known lines rs ≡ Some e
     → leaves_steps (effect_of e) ≡ true
-lines_leave cpus op [] rs e all is = absurd cc
-lines_leave cpus op (line ∷ lines) rs e all is =
-    by_rest (after_line cpus op line [] rs) is
-    (λ rest. lines_leave cpus op lines rest e (and_parts _ _ all).1)
+lines_leave cpus known [] rs e all is = absurd cc
+lines_leave cpus known (line ∷ lines) rs e all is =
+    by_rest (after_line cpus known line [] rs) is
+    (λ rest. lines_leave cpus known lines rest e (and_parts _ _ all).1)
   where
     by_rest : (o : Option (List Receipt))
-        → option_map_or (λ rest. next_in cpus op lines rest) o (line_next cpus op line rs) ≡ Some e
-        → ((rest : List Receipt) → next_in cpus op lines rest ≡ Some e → leaves_steps (effect_of e) ≡ true)
+        → option_map_or (λ rest. next_in cpus known lines rest) o (line_next cpus known line rs) ≡ Some e
+        → ((rest : List Receipt) → next_in cpus known lines rest ≡ Some e → leaves_steps (effect_of e) ≡ true)
         → leaves_steps (effect_of e) ≡ true
-    by_rest None h later = subst Leaves h (line_leaves cpus op line rs (and_parts _ _ all).0)
+    by_rest None h later = subst Leaves h (line_leaves cpus known line rs (and_parts _ _ all).0)
     by_rest (Some rest) h later = later rest h

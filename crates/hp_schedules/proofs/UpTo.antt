@@ -12,7 +12,7 @@ use Rattle.hp_units.specs.declared.replies.Receipt.{Receipt}
 use Rattle.hp_schedules.specs.Cursors.{IsCursor, IsInFirst, IsSettled, carries, cursor_at, has_carried, is_carrying}
 use Rattle.hp_schedules.specs.Interleavings.{is_one_call}
 use Rattle.hp_schedules.specs.LineAnswers.{answers_in, without}
-use Rattle.hp_schedules.specs.Scripts.{after_line, after_lines}
+use Rattle.hp_schedules.specs.Scripts.{after_line, after_lines, nothing_known}
 use Rattle.hp_schedules.specs.declared.cursors.Cursor.{Cursor}
 use Rattle.hp_schedules.specs.declared.line_answers.LineAnswer.{LineAnswer}
 use Rattle.hp_schedules.specs.declared.line_answers.LineAnswer.TheVariants.{Plan as Carried}
@@ -77,7 +77,8 @@ by_own cpus (Carry plan turns) lines own c at = by_end (is_over c.driver.stage) 
         ≡ cond b (option_map Carried (end_in c.driver.stage) ∷ []) []
     by_end true over =
         first_over cpus (Carry plan turns) lines own []
-        (own_over cpus 0 (Carry plan turns) lines own c at (asks_none c.driver.stage plan over))
+        (own_over cpus nothing_known [] (Carry plan turns) lines own c at
+        (asks_none c.driver.stage plan over))
         ∙ (ap (λ (xs : List (Option LineAnswer)). option_map Carried (end_of (without own [])) ∷ xs)
         (none_begun cpus lines)
         ∙ ap (λ (end : Option OpEnd). option_map Carried end ∷ [])
@@ -86,8 +87,9 @@ by_own cpus (Carry plan turns) lines own c at = by_end (is_over c.driver.stage) 
     by_end false on =
         let next = asks_some c.driver.stage plan on in
         first_on cpus (Carry plan turns) lines own
-        (ap (after_line cpus 0 (Carry plan turns) []) (sym (append-nil own))
-        ∙ (at.1 0 [] ∙ goes_on_all cpus 0 (Carry plan turns) own next.0 (sym (at.0.next plan) ∙ next.1)))
+        (ap (after_line cpus nothing_known (Carry plan turns) []) (sym (append-nil own))
+        ∙ (at.1 nothing_known [] ∙ goes_on_all cpus nothing_known (Carry plan turns) own next.0
+        (sym (at.0.next plan) ∙ next.1)))
 
 pub past_end : (lines : List Step) (k : ℕ) → slice_get lines k ≡ None → length lines ≤ k
 past_end [] k none = omega arith
@@ -103,7 +105,7 @@ pub up_to : (cpus : ℕ) (lines : List Step) (receipts : List Receipt) (c : Curs
     → answers_in cpus lines receipts ≡ before cpus lines receipts c ++ here_at c o
 up_to cpus lines receipts c o here is =
     ap (λ (ls : List Step). answers_in cpus ls receipts) (sym (take-append-drop c.line lines))
-    ∙ (answers_past cpus (take c.line lines) (drop c.line lines) receipts is.own (is.passed 0)
+    ∙ (answers_past cpus (take c.line lines) (drop c.line lines) receipts is.own (is.passed nothing_known)
     ∙ ap (λ (xs : List (Option LineAnswer)). before cpus lines receipts c ++ xs) (by_line o here))
   where
     by_line : (o : Option Step) → slice_get lines c.line ≡ o
@@ -116,7 +118,7 @@ up_to cpus lines receipts c o here is =
         ∙ by_own cpus line (drop (c.line + 1) lines) is.own c (at_first cpus lines receipts c line is some)
 
 pub before_many : (cpus : ℕ) (lines : List Step) (receipts : List Receipt) (k : ℕ) (own : List Receipt)
-    → k ≤ length lines → after_lines cpus 0 (take k lines) receipts ≡ Some own
+    → k ≤ length lines → after_lines cpus nothing_known (take k lines) receipts ≡ Some own
     → length (answers_in cpus (take k lines) receipts) ≡ k
 before_many cpus lines receipts k own within passed =
     answers_many cpus (take k lines) receipts own passed ∙ length-take-le k lines within
@@ -129,7 +131,7 @@ many_finished cpus lines receipts c o here is =
     ap length (up_to cpus lines receipts c o here is)
     ∙ (length-append (before cpus lines receipts c) (here_at c o)
     ∙ ap (λ (n : ℕ). n + length (here_at c o))
-    (before_many cpus lines receipts c.line is.own is.within (is.passed 0)))
+    (before_many cpus lines receipts c.line is.own is.within (is.passed nothing_known)))
 
 pub finished_past : (cpus : ℕ) (lines : List Step) (receipts : List Receipt) (c : Cursor)
     → slice_get lines c.line ≡ None → IsCursor cpus lines receipts c

@@ -13,6 +13,7 @@ use Rattle.hp_units.specs.declared.replies.Record.{Record}
 use Rattle.hp_schedules.specs.Openings.{AreOpen, Opening}
 use Rattle.hp_schedules.specs.Schedules.{Setting}
 use Rattle.hp_schedules.specs.Scripts.{own_operation}
+use Rattle.hp_schedules.specs.declared.scripts.OwnWork.TheVariants.{Latest, Nth, Free}
 use Rattle.hp_schedules.specs.declared.scripts.Step.{Step}
 use Rattle.hp_schedules.specs.declared.scripts.Step.TheVariants.{Ask, Own, Carry}
 
@@ -23,17 +24,20 @@ leaves_steps (Undoes serial) = false
 leaves_steps (Cancels op) = true
 leaves_steps Acts = true
 
--- no line of the scripts undoes steps by their serials
-abbrev pub leaves_lines : Step → Bool
-leaves_lines (Ask event) = leaves_steps (effect_of event)
-leaves_lines (Own work) = true
-leaves_lines (Carry plan turns) = true
+-- no line of the scripts undoes steps by their serials, or works on an operation other than the one
+-- that its processor began last. Then schedules that lead to the same place may be merged
+abbrev pub is_mergeable_line : Step → Bool
+is_mergeable_line (Ask event) = leaves_steps (effect_of event)
+is_mergeable_line (Own (Latest work)) = true
+is_mergeable_line (Own (Nth nth work)) = false
+is_mergeable_line (Own (Free nth)) = true
+is_mergeable_line (Carry plan turns) = true
 
-abbrev pub leaves_script : List Step → Bool
-leaves_script lines = list_all leaves_lines lines
+abbrev pub is_mergeable : List Step → Bool
+is_mergeable lines = list_all is_mergeable_line lines
 
-abbrev pub UndoNothing : List (List Step) → Type 0
-UndoNothing scripts = list_all leaves_script scripts ≡ true
+abbrev pub AreMergeable : List (List Step) → Type 0
+AreMergeable scripts = list_all is_mergeable scripts ≡ true
 
 -- a receipt without its serial, and the list of these for one processor
 abbrev pub unnumbered : Receipt → Receipt

@@ -11,23 +11,24 @@ use Rattle.hp_units.specs.declared.replies.Refusal.TheVariants.{NoOwner, NoPage,
 use Rattle.hp_schedules.specs.Interleavings.{is_one_call}
 use Rattle.hp_schedules.specs.LineAnswers.{answers_at}
 use Rattle.hp_schedules.specs.Schedules.{Setting}
-use Rattle.hp_schedules.specs.Scripts.{after_line}
+use Rattle.hp_schedules.specs.Scripts.{after_line, nothing_known}
 use Rattle.hp_schedules.specs.declared.cursors.Cursor.{Cursor}
 use Rattle.hp_schedules.specs.declared.line_answers.LineAnswer.{LineAnswer}
 use Rattle.hp_schedules.specs.declared.scripts.Step.{Step}
 use Rattle.hp_schedules.specs.declared.scripts.Step.TheVariants.{Carry}
 
--- the last refusal of a migration or a commit in a line with these receipts of its own
+-- the last refusal of a migration or a commit in a line that carries a plan, given the line's own
+-- receipts
 abbrev pub cause_in_line : Step → List Receipt → Option Refusal
 cause_in_line (Carry plan turns) own = cause_of own
 cause_in_line line own = None
 
--- the same in the first of the lines that is not finished, after the receipts since the first of them
+-- the same for the first unfinished one of these lines; the receipts are those since the first line
 -- began
 abbrev pub cause_in : (cpus : ℕ) → List Step → List Receipt → Option Refusal
 cause_in cpus [] receipts = None
 cause_in cpus (line ∷ lines) receipts =
-    option_map_or (λ rest. cause_in cpus lines rest) (after_line cpus 0 line [] receipts)
+    option_map_or (λ rest. cause_in cpus lines rest) (after_line cpus nothing_known line [] receipts)
     (cause_in_line line receipts)
 
 -- the last refusal that a processor's plan in progress met after the new records; None without a plan
@@ -37,7 +38,7 @@ cause_at g cpu news =
     option_map_or (λ lines. cause_in g.layout.cpus lines (receipts_of cpu news)) (slice_get g.scripts cpu)
     None
 
--- the same by a cursor at this line
+-- the same, as a cursor at this line stores it
 abbrev pub met_at : Cursor → Step → Option Refusal
 met_at c line = cond (is_one_call line) None (cond (is_over c.driver.stage) None c.driver.why)
 

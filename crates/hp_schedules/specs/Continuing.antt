@@ -1,5 +1,5 @@
--- Schedules after which everything continues alike, though processors may have been replied to
--- otherwise.
+-- Schedules after which everything continues alike, though the processors may have got different
+-- replies.
 use Rattle.std.specs.Prelude.{◌≡◌, ℕ, ◌<◌, List, ◌++◌, Some, length, slice_get}
 use Rattle.hp_units.specs.History.{net_of, value_of}
 use Rattle.hp_units.specs.Receipts.{receipts_of}
@@ -7,7 +7,7 @@ use Rattle.hp_units.specs.declared.replies.Receipt.{Receipt}
 use Rattle.hp_units.specs.declared.replies.Record.{Record}
 use Rattle.hp_schedules.specs.Alike.{AreJoined}
 use Rattle.hp_schedules.specs.Schedules.{Setting, next_call, plays}
-use Rattle.hp_schedules.specs.Scripts.{next_in, own_operation}
+use Rattle.hp_schedules.specs.Scripts.{next_of, own_operation}
 use Rattle.hp_schedules.specs.declared.scripts.Step.{Step}
 
 -- equally many records; each processor began its last operation with the same number, and will call
@@ -16,13 +16,13 @@ pub record ContinueAlike (g : Setting) (h k : List Record) : Type 0 where
   pub calls : length h ≡ length k
   pub begun : (cpu : ℕ) → cpu < length g.scripts
       → own_operation (receipts_of cpu h) ≡ own_operation (receipts_of cpu k)
-  pub ahead : (cpu : ℕ) (lines : List Step) → slice_get g.scripts cpu ≡ Some lines → (op : ℕ)
-      (later : List Receipt) → next_in g.layout.cpus op lines (receipts_of cpu h ++ later)
-      ≡ next_in g.layout.cpus op lines (receipts_of cpu k ++ later)
+  pub ahead : (cpu : ℕ) (lines : List Step) → slice_get g.scripts cpu ≡ Some lines
+      → (later : List Receipt) → next_of g.layout.cpus lines (receipts_of cpu h ++ later)
+      ≡ next_of g.layout.cpus lines (receipts_of cpu k ++ later)
   pub nets : AreJoined g.layout g.base (net_of (g.start ++ h)) (net_of (g.start ++ k))
 
--- the same calls continue from both, record for record: where the one schedule goes on to `end`, the
--- other goes on by the same records, to the same state, where each processor calls the same
+-- the same calls continue from both, record for record. If one schedule goes on to `end`, the other
+-- goes on by the same records, to the same state, and there each processor calls the same
 pub record ContinuesAs (g : Setting) (q rest : List ℕ) (h k end : List Record) : Type 0 where
   pub more : List Record
   pub end_is : end ≡ h ++ more

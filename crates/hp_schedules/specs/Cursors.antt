@@ -1,5 +1,5 @@
 -- Positions of processors in their scripts.
-use Rattle.std.specs.Prelude.{◌≡◌, ℕ, ◌+◌, ◌≤◌, Bool, true, false, cond, List, [], ◌∷◌, ◌++◌, Option, Some, None, length, take, drop, slice_get, option_and_then, option_map}
+use Rattle.std.specs.Prelude.{◌≡◌, ℕ, ◌+◌, ◌≤◌, Bool, true, false, cond, List, [], ◌∷◌, ◌++◌, Option, Some, None, length, take, drop, flat_map, get_or, slice_get, option_and_then, option_map}
 use Rattle.hp_ops.specs.Stages.{IsAfter, end_in, event_in, has_begun, is_over, key_of}
 use Rattle.hp_ops.specs.declared.stages.Driver.{Driver}
 use Rattle.hp_ops.specs.declared.stages.Stage.TheVariants.{Begin as Begins}
@@ -10,22 +10,24 @@ use Rattle.hp_units.specs.declared.replies.Receipt.{Receipt}
 use Rattle.hp_units.specs.declared.replies.Record.{Record}
 use Rattle.hp_schedules.specs.Interleavings.{is_one_call}
 use Rattle.hp_schedules.specs.Schedules.{Setting, next_call}
-use Rattle.hp_schedules.specs.Scripts.{after_line, after_lines, next_in, next_of, own_operation, work_of}
+use Rattle.hp_schedules.specs.Scripts.{Known, after_line, after_lines, frames_of, known_with, next_in, next_of, no_frame, own_operation, work_of}
 use Rattle.hp_schedules.specs.declared.cursors.Cursor.{Cursor}
 use Rattle.hp_schedules.specs.declared.cursors.NextCall.{NextCall}
 use Rattle.hp_schedules.specs.declared.line_answers.FinishedLine.{FinishedLine}
 use Rattle.hp_schedules.specs.declared.line_answers.LineAnswer.TheVariants.{Plan as Carried}
+use Rattle.hp_schedules.specs.declared.scripts.OwnWork.TheVariants.{Latest, Nth, Free}
 use Rattle.hp_schedules.specs.declared.scripts.Step.{Step}
 use Rattle.hp_schedules.specs.declared.scripts.Step.TheVariants.{Ask, Own, Carry}
 
--- the event that a line, and that the cursor's own line, calls next; None if it is finished
-abbrev pub asks : Cursor → Step → Option Event
-asks c (Ask event) = Some event
-asks c (Own work) = Some (work_of c.op work)
-asks c (Carry plan turns) = event_in plan c.driver.stage
+-- the event that a line, and that the cursor's own line, calls next after its processor's receipts;
+-- None if it is finished
+abbrev pub asks : List Receipt → Cursor → Step → Option Event
+asks receipts c (Ask event) = Some event
+asks receipts c (Own work) = Some (work_of (known_with c.op receipts) work)
+asks receipts c (Carry plan turns) = event_in plan c.driver.stage
 
-abbrev pub asks_at : Cursor → List Step → Option Event
-asks_at c lines = option_and_then (asks c) (slice_get lines c.line)
+abbrev pub asks_at : List Receipt → Cursor → List Step → Option Event
+asks_at receipts c lines = option_and_then (asks receipts c) (slice_get lines c.line)
 
 -- a line's receipts so far, and the driver of its plan after them
 abbrev pub IsIn : (cpus : ℕ) → Step → List Receipt → Driver → Type 0
@@ -37,19 +39,20 @@ IsIn cpus (Carry plan turns) own d = IsAfter cpus turns own d
 abbrev pub IsInFirst : (cpus : ℕ) → List Step → List Receipt → Driver → Type 0
 IsInFirst cpus [] own d = Unit {0}
 IsInFirst cpus (line ∷ lines) own d =
-    IsIn cpus line own d × ((op : ℕ) (later : List Receipt)
-    → after_line cpus op line [] (own ++ later) ≡ after_line cpus op line own later)
+    IsIn cpus line own d × ((known : Known) (later : List Receipt)
+    → after_line cpus known line [] (own ++ later) ≡ after_line cpus known line own later)
 
 -- a cursor is where a script is after its processor's receipts: the lines before it are finished, and
 -- the lines from there on call what the script calls after these and any later receipts
 pub record IsCursor (cpus : ℕ) (lines : List Step) (receipts : List Receipt) (c : Cursor) : Type 0 where
   pub own : List Receipt
   pub begun : c.op ≡ own_operation receipts
-  pub ahead : (op : ℕ) (later : List Receipt)
-      → next_in cpus op lines (receipts ++ later) ≡ next_in cpus op (drop c.line lines) (own ++ later)
+  pub ahead : (known : Known) (later : List Receipt)
+      → next_in cpus known lines (receipts ++ later)
+      ≡ next_in cpus known (drop c.line lines) (own ++ later)
   pub here : IsInFirst cpus (drop c.line lines) own c.driver
   pub within : c.line ≤ length lines
-  pub passed : (op : ℕ) → after_lines cpus op (take c.line lines) receipts ≡ Some own
+  pub passed : (known : Known) → after_lines cpus known (take c.line lines) receipts ≡ Some own
 
 -- the driver of a plan before its first call, that of a line at its beginning, and a cursor there
 abbrev pub driver_before : (cpus turns : ℕ) → Driver
@@ -68,16 +71,16 @@ cursor_at cpus lines line op = record {
 }
 
 -- what the cursor's own line calls next
-abbrev pub IsAsked : Cursor → List Step → Option NextCall → Type 0
-IsAsked c lines None = asks_at c lines ≡ None
-IsAsked c lines (Some q) = (asks_at c lines ≡ Some q.event) × (q.from ≡ c)
+abbrev pub IsAsked : List Receipt → Cursor → List Step → Option NextCall → Type 0
+IsAsked receipts c lines None = asks_at receipts c lines ≡ None
+IsAsked receipts c lines (Some q) = (asks_at receipts c lines ≡ Some q.event) × (q.from ≡ c)
 
 -- what a script calls after its receipts, with the position of the line that calls it
 abbrev pub IsRequested : (cpus : ℕ) → List Step → List Receipt → Option NextCall → Type 0
 IsRequested cpus lines receipts None = next_of cpus lines receipts ≡ None
 IsRequested cpus lines receipts (Some q) =
     (next_of cpus lines receipts ≡ Some q.event) × IsCursor cpus lines receipts q.from
-    × (asks_at q.from lines ≡ Some q.event)
+    × (asks_at receipts q.from lines ≡ Some q.event)
 
 -- the cursor is in the middle of a plan or at its end: the plan's driver has taken a reply
 abbrev pub carries : Cursor → Step → Bool
@@ -120,15 +123,29 @@ abbrev pub steering_of : Cursor → List ℕ
 steering_of c =
     c.line ∷ c.op ∷ (key_of c.driver).left ∷ (key_of c.driver).stage ∷ (key_of c.driver).op ∷ []
 
+-- for each line from there on that frees the frame of an earlier call: how many such calls the
+-- processor has made, and the frame, if that call was among them
+abbrev pub frames_named : (frames : List ℕ) → Step → List ℕ
+frames_named frames (Ask event) = []
+frames_named frames (Own (Latest work)) = []
+frames_named frames (Own (Nth nth work)) = []
+frames_named frames (Own (Free nth)) = length frames ∷ get_or frames nth no_frame ∷ []
+frames_named frames (Carry plan turns) = []
+
+abbrev pub frames_ahead : Cursor → List Step → List Receipt → List ℕ
+frames_ahead c lines receipts = flat_map (frames_named (frames_of receipts)) (drop c.line lines)
+
 -- these are a processor's numbers after the new records
 abbrev pub IsSteered : Setting → (cpu : ℕ) → List Record → List ℕ → Type 0
 IsSteered g cpu news numbers =
     (lines : List Step) → slice_get g.scripts cpu ≡ Some lines
-    → (c : Cursor) × IsCursor g.layout.cpus lines (receipts_of cpu news) c × (numbers ≡ steering_of c)
+    → (c : Cursor) × IsCursor g.layout.cpus lines (receipts_of cpu news) c
+    × (numbers ≡ steering_of c ++ frames_ahead c lines (receipts_of cpu news))
 
 -- what a processor's script calls after the new records, with the position of the line
 abbrev pub IsCalledFor : Setting → (cpu : ℕ) → List Record → Option NextCall → Type 0
 IsCalledFor g cpu news None = next_call g cpu news ≡ None
 IsCalledFor g cpu news (Some q) =
     (next_call g cpu news ≡ Some q.event) × ((lines : List Step) → slice_get g.scripts cpu ≡ Some lines
-    → IsCursor g.layout.cpus lines (receipts_of cpu news) q.from × (asks_at q.from lines ≡ Some q.event))
+    → IsCursor g.layout.cpus lines (receipts_of cpu news) q.from
+    × (asks_at (receipts_of cpu news) q.from lines ≡ Some q.event))

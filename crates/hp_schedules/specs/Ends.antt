@@ -1,4 +1,4 @@
--- What a list of ends says about a set of schedules.
+-- What a list of ends states about a set of schedules.
 use Rattle.std.specs.Prelude.{◌≡◌, ℕ, ◌<◌, List, Some, slice_get, sum_by}
 use Rattle.hp_schedules.specs.declared.tally.Ending.{Ending}
 use Rattle.hp_schedules.specs.Orders.{HasCount, IsBefore, IsFirst}

@@ -1,4 +1,4 @@
--- What the finished lines of a script were answered.
+-- The answers to the finished lines of a script.
 use Rattle.std.specs.Prelude.{◌≡◌, ℕ, ◌-◌, List, [], ◌∷◌, ◌++◌, Option, Some, None, length, take, slice_get, option_map}
 use Rattle.std.specs.Option.{option_map_or}
 use Rattle.hp_units.specs.Driver.{end_of}
@@ -6,7 +6,7 @@ use Rattle.hp_units.specs.Receipts.{receipts_of}
 use Rattle.hp_units.specs.declared.replies.Receipt.{Receipt}
 use Rattle.hp_units.specs.declared.replies.Record.{Record}
 use Rattle.hp_schedules.specs.Schedules.{Setting}
-use Rattle.hp_schedules.specs.Scripts.{after_line}
+use Rattle.hp_schedules.specs.Scripts.{after_line, nothing_known}
 use Rattle.hp_schedules.specs.declared.line_answers.FinishedLine.{FinishedLine}
 use Rattle.hp_schedules.specs.declared.line_answers.LineAnswer.{LineAnswer}
 use Rattle.hp_schedules.specs.declared.line_answers.LineAnswer.TheVariants.{Reply as Replied, Plan as Carried}
@@ -19,17 +19,17 @@ abbrev pub answer_of : Step → List Receipt → Option LineAnswer
 answer_of (Carry plan turns) own = option_map Carried (end_of own)
 answer_of line own = option_map (λ r. Replied r.reply) (slice_get own 0)
 
--- receipts without those that are left of them
+-- the receipts before `rest`, the last ones of them
 abbrev pub without : (receipts rest : List Receipt) → List Receipt
 without receipts rest = take (length receipts - length rest) receipts
 
--- the answers to the finished ones of the lines, in order, after the receipts since the first of them
--- began. Whether a line is finished does not depend on the number of the operation that it works on
+-- the answers to the finished ones of these lines, in order; the receipts are those since the first
+-- line began. Whether a line is finished does not depend on the numbers that it works on
 abbrev pub answers_in : (cpus : ℕ) → List Step → List Receipt → List (Option LineAnswer)
 answers_in cpus [] receipts = []
 answers_in cpus (line ∷ lines) receipts =
     option_map_or (λ rest. answer_of line (without receipts rest) ∷ answers_in cpus lines rest)
-    (after_line cpus 0 line [] receipts) []
+    (after_line cpus nothing_known line [] receipts) []
 
 -- the answers to a processor's finished lines after the new records; none without a script
 unfoldable pub answers_at : Setting → (cpu : ℕ) → List Record → List (Option LineAnswer)

@@ -1,4 +1,4 @@
--- The operations that a Cancel can take back whole.
+-- The operations that a Cancel can undo completely.
 use Rattle.std.specs.Prelude.{◌≡◌, ℕ, ◌==◌, if◌then◌else◌, List, [], ◌∷◌, Some, None, map, take}
 use Rattle.hp_units.specs.History.{is_refused, run}
 use Rattle.hp_units.specs.LayoutParts.{LayoutParts}
@@ -22,8 +22,8 @@ Opening = OpeningWith Memory
 abbrev pub NumberedOpening : Type 0
 NumberedOpening = OpeningWith ℕ
 
--- the operations that a Cancel can take back whole, latest first. Only the first is sole. Its
--- Cancel leads back to the state before its Begin, where the rest of the list is such a list again
+-- the operations that a Cancel can undo completely, latest first. Only the first is sole. Its Cancel
+-- leads back to the state before its Begin, and there the rest of the list is such a list again
 abbrev pub AreOpen : LayoutParts → Memory → (net : List Record) → List Opening → Type 0
 AreOpen l base net [] = (op : ℕ) → sole_at op (map tag_of net) ≡ None
 AreOpen l base net (o ∷ os) =

@@ -18,11 +18,11 @@ abbrev pub told : Reply → Reply
 told (Opened op) = Opened 0
 told reply = reply
 
--- the replies to a processor, in the order of its calls
+-- the replies to a processor, in the order of its calls, with 0 for the number of an opened operation
 abbrev pub replies_to : (cpu : ℕ) → List Record → List Reply
 replies_to cpu news = map (λ r. told r.reply) (filter (λ r. r.cpu == cpu) news)
 
--- those to each processor below a number
+-- the same for each processor below a number
 abbrev pub replies_below : (processors : ℕ) → List Record → List (List Reply)
 replies_below processors news = map (λ cpu. replies_to cpu news) (range_with_len 0 processors)
 

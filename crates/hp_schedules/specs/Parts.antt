@@ -1,10 +1,10 @@
--- Parts of all schedules, told apart by their first calls.
+-- Parts of all schedules; a schedule's first calls decide its part.
 use Rattle.std.specs.Prelude.{◌≡◌, ℕ, ◌+◌, ◌*◌, ◌%◌, ◌<◌, ◌⊎◌, List, fold, length, take}
 use Rattle.hp_schedules.specs.Orders.{Extends}
 use Rattle.hp_schedules.specs.Outcomes.{OutcomeValue}
 use Rattle.hp_schedules.specs.Schedules.{EndsWith, Setting}
 
--- one of `of` parts, its index from 0 on, told apart by the first `calls` calls
+-- one of `of` parts, with its index from 0 on; the first `calls` calls decide a schedule's part
 pub record PartValue : Type 0 where
   pub index : ℕ
   pub of : ℕ
@@ -26,7 +26,7 @@ EndsInPart g part s x = EndsWith g s x × IsOfPart (length g.scripts) part s
 abbrev pub IsCompleteInPart : Setting → PartValue → List ℕ → Type 0
 IsCompleteInPart g part s = (x : OutcomeValue) × EndsInPart g part s x
 
--- the part's search continues from where the schedule leads
+-- the part's search comes to the place of this schedule
 abbrev pub ComesTo : (processors : ℕ) → PartValue → List ℕ → Type 0
 ComesTo processors part s = (length s < part.calls) ⊎ IsOfPart processors part s
 

@@ -1,11 +1,15 @@
 -- What a script calls after its processor's receipts.
-use Rattle.std.specs.Prelude.{ℕ, if◌then◌else◌, List, [], ◌∷◌, ◌++◌, Option, Some, None, fold}
+use Rattle.std.specs.Prelude.{ℕ, Bool, true, false, if◌then◌else◌, List, [], ◌∷◌, ◌++◌, Option, Some, None, filter, fold, get_or, map}
 use Rattle.std.specs.Option.{option_and_then, option_map_or}
 use Rattle.hp_units.specs.Driver.{next_event}
 use Rattle.hp_units.specs.Marks.{is_opening, mark_of}
 use Rattle.hp_units.specs.declared.events.Event.{Event}
-use Rattle.hp_units.specs.declared.events.Event.TheVariants.{DrainFor as DrainsFor, Migrate as Migrates, Commit as Commits, Cancel as Cancels}
+use Rattle.hp_units.specs.declared.events.Event.TheVariants.{KernelAlloc, KernelFree, DrainFor as DrainsFor, Migrate as Migrates, Commit as Commits, Cancel as Cancels}
 use Rattle.hp_units.specs.declared.replies.Receipt.{Receipt}
+use Rattle.hp_units.specs.declared.replies.Reply.{Reply}
+use Rattle.hp_units.specs.declared.replies.Reply.TheVariants.{Frame}
+use Rattle.hp_schedules.specs.declared.scripts.OwnWork.{OwnWork}
+use Rattle.hp_schedules.specs.declared.scripts.OwnWork.TheVariants.{Latest, Nth, Free}
 use Rattle.hp_schedules.specs.declared.scripts.Step.{Step}
 use Rattle.hp_schedules.specs.declared.scripts.Step.TheVariants.{Ask, Own, Carry}
 use Rattle.hp_schedules.specs.declared.scripts.StepWork.{StepWork}
@@ -18,12 +22,53 @@ later_operation op r = if is_opening (mark_of r.event) then r.serial else op
 abbrev pub own_operation : List Receipt → ℕ
 own_operation receipts = fold later_operation 0 receipts
 
--- the event of work on an operation
-abbrev pub work_of : (op : ℕ) → StepWork → Event
-work_of op (DrainFor cpu) = DrainsFor op cpu
-work_of op Migrate = Migrates op
-work_of op Commit = Commits op
-work_of op Cancel = Cancels op
+-- the operations that a processor began, refused or not, in order
+abbrev pub operations_of : List Receipt → List ℕ
+operations_of receipts = map (λ r. r.serial) (filter (λ r. is_opening (mark_of r.event)) receipts)
+
+-- the frames that a processor took for the kernel, in order. A refusal gives a frame of no layout
+abbrev pub takes_frame : Event → Bool
+takes_frame (KernelAlloc order) = true
+takes_frame event = false
+
+abbrev pub no_frame : ℕ
+no_frame = 4294967295
+
+abbrev pub frame_in : Reply → ℕ
+frame_in (Frame frame) = frame
+frame_in reply = no_frame
+
+abbrev pub frames_of : List Receipt → List ℕ
+frames_of receipts = map (λ r. frame_in r.reply) (filter (λ r. takes_frame r.event) receipts)
+
+-- the results of a processor's calls that its lines may work on
+pub record Known : Type 0 where
+  pub op : ℕ
+  pub begun : List ℕ
+  pub frames : List ℕ
+
+abbrev pub known_with : (op : ℕ) → List Receipt → Known
+known_with op receipts =
+    record { op = op; begun = operations_of receipts; frames = frames_of receipts }
+
+abbrev pub known_of : List Receipt → Known
+known_of receipts = known_with (own_operation receipts) receipts
+
+abbrev pub nothing_known : Known
+nothing_known = record { op = 0; begun = []; frames = [] }
+
+-- the event of work on an operation, and that of a line's work on a result. If there is none of this
+-- number, it is operation 0 or the frame of no layout
+abbrev pub step_work_of : (op : ℕ) → StepWork → Event
+step_work_of op (DrainFor cpu) = DrainsFor op cpu
+step_work_of op Migrate = Migrates op
+step_work_of op Commit = Commits op
+step_work_of op Cancel = Cancels op
+
+abbrev pub work_of : Known → OwnWork → Event
+work_of known (Latest work) = step_work_of known.op work
+work_of known (Nth nth work) = step_work_of (get_or known.begun nth 0) work
+work_of known (Free nth) = KernelFree (get_or known.frames nth no_frame)
 
 -- an event that is called once
 abbrev pub once : Event → List Receipt → Option Event
@@ -32,31 +77,32 @@ once event (r ∷ rs) = None
 
 -- the next event of a line after its own receipts; None if it is finished. A plan's line is a
 -- driver's run
-abbrev pub line_next : (cpus op : ℕ) → Step → List Receipt → Option Event
-line_next cpus op (Ask event) receipts = once event receipts
-line_next cpus op (Own work) receipts = once (work_of op work) receipts
-line_next cpus op (Carry plan turns) receipts = next_event cpus turns plan receipts
+abbrev pub line_next : (cpus : ℕ) → Known → Step → List Receipt → Option Event
+line_next cpus known (Ask event) receipts = once event receipts
+line_next cpus known (Own work) receipts = once (work_of known work) receipts
+line_next cpus known (Carry plan turns) receipts = next_event cpus turns plan receipts
 
 -- the receipts that are left after a line is finished; None if it needs all of them and goes on
-abbrev pub after_line : (cpus op : ℕ) → Step → (earlier later : List Receipt) → Option (List Receipt)
-after_line cpus op line earlier [] = option_map_or (λ event. None) (line_next cpus op line earlier) (Some [])
-after_line cpus op line earlier (r ∷ rs) =
-    option_map_or (λ event. after_line cpus op line (earlier ++ r ∷ []) rs) (line_next cpus op line earlier)
-    (Some (r ∷ rs))
+abbrev pub after_line : (cpus : ℕ) → Known → Step → (earlier later : List Receipt) → Option (List Receipt)
+after_line cpus known line earlier [] =
+    option_map_or (λ event. None) (line_next cpus known line earlier) (Some [])
+after_line cpus known line earlier (r ∷ rs) =
+    option_map_or (λ event. after_line cpus known line (earlier ++ r ∷ []) rs)
+    (line_next cpus known line earlier) (Some (r ∷ rs))
 
 -- the same of several lines, one after another
-abbrev pub after_lines : (cpus op : ℕ) → List Step → List Receipt → Option (List Receipt)
-after_lines cpus op [] receipts = Some receipts
-after_lines cpus op (line ∷ lines) receipts =
-    option_and_then (λ rest. after_lines cpus op lines rest) (after_line cpus op line [] receipts)
+abbrev pub after_lines : (cpus : ℕ) → Known → List Step → List Receipt → Option (List Receipt)
+after_lines cpus known [] receipts = Some receipts
+after_lines cpus known (line ∷ lines) receipts =
+    option_and_then (λ rest. after_lines cpus known lines rest) (after_line cpus known line [] receipts)
 
 -- the next event of the lines, after the receipts since the first of them began
-abbrev pub next_in : (cpus op : ℕ) → List Step → List Receipt → Option Event
-next_in cpus op [] receipts = None
-next_in cpus op (line ∷ lines) receipts =
-    option_map_or (λ rest. next_in cpus op lines rest) (after_line cpus op line [] receipts)
-    (line_next cpus op line receipts)
+abbrev pub next_in : (cpus : ℕ) → Known → List Step → List Receipt → Option Event
+next_in cpus known [] receipts = None
+next_in cpus known (line ∷ lines) receipts =
+    option_map_or (λ rest. next_in cpus known lines rest) (after_line cpus known line [] receipts)
+    (line_next cpus known line receipts)
 
 -- the next event of a script after its processor's receipts
 abbrev pub next_of : (cpus : ℕ) → List Step → List Receipt → Option Event
-next_of cpus lines receipts = next_in cpus (own_operation receipts) lines receipts
+next_of cpus lines receipts = next_in cpus (known_of receipts) lines receipts

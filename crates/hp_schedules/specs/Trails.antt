@@ -1,4 +1,4 @@
--- The trail of what was added to the ends, and the counts that it tells.
+-- The trail of what was added to the ends, and the counts that it gives.
 use Rattle.std.specs.Prelude.{◌≡◌, ℕ, ◌+◌, ◌≤◌, List, Some, drop, length, slice_get, sum_by, take}
 use Rattle.hp_schedules.specs.Notes.{TallyValue}
 use Rattle.hp_schedules.specs.Shares.{AreAtEnds, AreSince}
@@ -23,11 +23,11 @@ pub record IsGathered (start : ℕ) (old new : List Share) : Type 0 where
 abbrev pub IsShareOf : List Share → (end : ℕ) → (place : ℕ) → Type 0
 IsShareOf shares end place = (s : Share) × (slice_get shares place ≡ Some s) × (s.end ≡ end)
 
--- what the shares below `end` and those from `at` on give
+-- what the shares before index `end` and those from index `at` on give together
 abbrev pub left_over : (Share → ℕ) → (end at : ℕ) → List Share → ℕ
 left_over f end at shares = sum_by f (take end shares) + sum_by f (drop at shares)
 
--- the share at index `at` is one of the sums now, which end at `later`
+-- the share at index `at` is one of the sums now, which end before index `later`
 pub record IsSummedUp (start end at : ℕ) (old : List Share) (later : ℕ) (new : List Share) : Type 0 where
   pub long : length new ≡ length old
   pub before : take start new ≡ take start old
@@ -42,7 +42,7 @@ pub record IsSummedUp (start end at : ℕ) (old : List Share) (later : ℕ) (new
 abbrev pub WereCounted : TallyValue → (start : ℕ) → (earlier : List ℕ) → Type 0
 WereCounted t start earlier = AreSince earlier t.ends (drop start t.trail)
 
--- the counts when the trail was `start` long, and when it was shorter, are told as before
+-- the trail still gives the counts of the time when it was `start` long, or shorter
 pub record KeepsBefore (start : ℕ) (old new : TallyValue) : Type 0 where
   pub longer : start ≤ length new.trail
   pub told : (s : ℕ) (earlier : List ℕ) → s ≤ start → length earlier ≤ length old.ends

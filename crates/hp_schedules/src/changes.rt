@@ -1,10 +1,10 @@
-//! How a call changes the list of operations that a Cancel can take back whole.
+//! How a call changes the list of operations that a Cancel can undo completely.
 ghost use Rattle.std.specs.Prelude.{◌≡◌};
 ghost use Rattle.hp_schedules.specs.Openings.{change_of};
 
 use hp_units::{Event, Record, Reply, Serial};
 
-/// How a call changes the list of operations that a Cancel can take back whole.
+/// How a call changes the list of operations that a Cancel can undo completely.
 #[derive(Clone, Copy, Drop)]
 pub enum Change {
     /// Leaves the list as it is: the call was refused, or only reads.

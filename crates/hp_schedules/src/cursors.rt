@@ -1,18 +1,19 @@
 //! A processor's position in its script.
-ghost use Rattle.std.specs.Prelude.{◌≡◌, ◌++◌, ◌∷◌, ℕ, [], IfOk, List, Some, length, slice_get};
+ghost use Rattle.std.specs.Prelude.{◌≡◌, ◌++◌, ◌∷◌, ℕ, true, [], IfOk, List, Some, length, slice_get};
 ghost use Rattle.std.specs.Option.{option_map_or};
-ghost use Rattle.hp_units.specs.Receipts.{receipt_of};
+ghost use Rattle.hp_units.specs.Receipts.{receipt_of, receipts_of};
 ghost use Rattle.hp_units.specs.declared.events.Event.{Event as AnyEvent};
 ghost use Rattle.hp_units.specs.declared.replies.Receipt.{Receipt};
 ghost use Rattle.hp_schedules.specs.Causes.{cause_in, met_at};
-ghost use Rattle.hp_schedules.specs.Cursors.{IsAsked, IsCursor, IsRequested, IsSettled, asks, asks_at, carried, cursor_at, driver_before, first_driver, has_carried, is_carrying, steering_of};
+ghost use Rattle.hp_schedules.specs.Cursors.{IsAsked, IsCursor, IsRequested, IsSettled, asks, asks_at, carried, cursor_at, driver_before, first_driver, frames_ahead, frames_named, has_carried, is_carrying, steering_of};
 ghost use Rattle.hp_schedules.specs.LineAnswers.{IsAnswered, answers_in};
-ghost use Rattle.hp_schedules.specs.Scripts.{next_of};
+ghost use Rattle.hp_schedules.specs.Scripts.{frames_of, next_of};
 
 use crate::line_answers::{FinishedLine, LineAnswer, plan_answer};
-use crate::scripts::{CallScript, Step, later_operation};
+use crate::results::{frame_count, nth_frame};
+use crate::scripts::{CallScript, OwnWork, Step, later_operation};
 use hp_ops::Driver;
-use hp_units::{Event, Record, Refusal, Reply, Serial};
+use hp_units::{Cpu, Event, Record, Refusal, Reply, Serial};
 use std::alloc::{AllocError, Global};
 
 /// A processor's position in its script: its line, the operation that it began last, and the driver
@@ -55,46 +56,61 @@ impl Cursor {
         }
     }
 
-    /// Returns the next call of the script, or `None` at its end.
+    /// Returns the script's next call after the new records of processor `cpu`, or `None` at its
+    /// end.
     pub(crate) fn request(
         &self,
         alloc: Global,
         cpus: u32,
         lines: &[Step],
+        news: &[Record],
+        cpu: Cpu,
     ) -> Result<Option<NextCall>, AllocError>
-        ensures { IfOk result (λ request. (receipts : List Receipt)
-            → IsCursor cpus lines.now receipts self.now → IsRequested cpus lines.now receipts request) }
+        ensures { IfOk result (λ request. IsCursor cpus lines.now (receipts_of cpu news.now) self.now
+            → IsRequested cpus lines.now (receipts_of cpu news.now) request) }
     {
-        if let Some(request) = self.asked(alloc, lines)? {
+        if let Some(request) = self.asked(alloc, lines, news, cpu)? {
             return Ok(Some(request));
         }
         if self.line >= lines.len() {
             return Ok(None);
         }
-        Cursor::new(cpus, lines, self.line + 1, self.op).asked(alloc, lines)
+        Cursor::new(cpus, lines, self.line + 1, self.op).asked(alloc, lines, news, cpu)
     }
 
     /// Returns the next call of the current line, or `None` if the line is
     /// finished or there is none.
-    fn asked(&self, alloc: Global, lines: &[Step]) -> Result<Option<NextCall>, AllocError>
-        ensures { IfOk result (IsAsked self.now lines.now) }
+    fn asked(
+        &self,
+        alloc: Global,
+        lines: &[Step],
+        news: &[Record],
+        cpu: Cpu,
+    ) -> Result<Option<NextCall>, AllocError>
+        ensures { IfOk result (IsAsked (receipts_of cpu news.now) self.now lines.now) }
     {
         let Some(line) = lines.get(self.line) else {
             return Ok(None);
         };
-        match self.event(alloc, line)? {
+        match self.event(alloc, line, news, cpu)? {
             Some(event) => Ok(Some(NextCall { event, from: *self })),
             None => Ok(None),
         }
     }
 
     /// Returns the line's next event, or `None` if the line is finished.
-    fn event(&self, alloc: Global, line: &Step) -> Result<Option<Event>, AllocError>
-        ensures { IfOk result (λ next. next ≡ asks self.now line.now) }
+    fn event(
+        &self,
+        alloc: Global,
+        line: &Step,
+        news: &[Record],
+        cpu: Cpu,
+    ) -> Result<Option<Event>, AllocError>
+        ensures { IfOk result (λ next. next ≡ asks (receipts_of cpu news.now) self.now line.now) }
     {
         match line {
             Step::Ask(event) => Ok(Some(event.copy(alloc)?)),
-            Step::Own(work) => Ok(Some(work.event(self.op))),
+            Step::Own(work) => Ok(Some(work.event(self.op, news, cpu))),
             Step::Carry { plan, .. } => self.driver.next(alloc, plan),
         }
     }
@@ -113,13 +129,33 @@ impl Cursor {
         ]
     }
 
+    /// Appends numbers of the earlier results that the lines from the cursor's on work on, and
+    /// returns whether each fits 32 bits.
+    pub(crate) fn push_frames(
+        &self,
+        lines: &[Step],
+        news: &[Record],
+        cpu: Cpu,
+        numbers: &mut Vec<u32>,
+    ) -> Result<bool, AllocError>
+        ensures { IfOk result (λ fit. fit ≡ true → numbers.new.items
+            ≡ numbers.old.items ++ frames_ahead self.now lines.now (receipts_of cpu news.now)) }
+    {
+        for place in self.line..lines.len() {
+            if !push_named(&lines[place], news, cpu, numbers)? {
+                return Ok(false);
+            }
+        }
+        Ok(true)
+    }
+
     /// Returns the position after the current line's call, given the record of that call.
     pub(crate) fn after(&self, cpus: u32, lines: &[Step], latest: &Record) -> Cursor
         ensures moved { (receipts : List Receipt) (event : AnyEvent)
-            → IsCursor cpus lines.now receipts self.now → asks_at self.now lines.now ≡ Some event
+            → IsCursor cpus lines.now receipts self.now → asks_at receipts self.now lines.now ≡ Some event
             → IsCursor cpus lines.now (receipts ++ receipt_of latest.now ∷ []) result }
         ensures settled { (receipts : List Receipt) (event : AnyEvent)
-            → IsCursor cpus lines.now receipts self.now → asks_at self.now lines.now ≡ Some event
+            → IsCursor cpus lines.now receipts self.now → asks_at receipts self.now lines.now ≡ Some event
             → IsSettled lines.now result }
     {
         let op = later_operation(self.op, latest.serial, &latest.event);
@@ -226,6 +262,28 @@ impl Cursor {
             answer: plan_answer(self.driver.ended()),
         })
     }
+}
+
+/// If the line frees the frame of an earlier call, appends how many such calls the processor has
+/// made, and the frame. Returns whether each number fits 32 bits.
+fn push_named(
+    line: &Step,
+    news: &[Record],
+    cpu: Cpu,
+    numbers: &mut Vec<u32>,
+) -> Result<bool, AllocError>
+    ensures { IfOk result (λ fit. fit ≡ true → numbers.new.items
+        ≡ numbers.old.items ++ frames_named (frames_of (receipts_of cpu news.now)) line.now) }
+{
+    let Step::Own(OwnWork::Free { nth }) = line else {
+        return Ok(true);
+    };
+    let Ok(count) = u32::try_from(frame_count(news, cpu)) else {
+        return Ok(false);
+    };
+    numbers.push(count)?;
+    numbers.push(nth_frame(news, cpu, *nth).0)?;
+    Ok(true)
 }
 
 /// Returns the driver at the beginning of a line, or an unused one if there is no such line.

@@ -1,5 +1,5 @@
-//! Numbers each processor's requests and replies so far. Equal transcripts nearly always share a
-//! number, so that places are compared by numbers.
+//! Numbers each processor's transcript: its requests and replies so far. Equal transcripts nearly
+//! always share a number, so that places are compared by numbers.
 ghost use Rattle.std.specs.Prelude.{◌≡◌, ◌++◌, ◌∷◌, ◌<◌, ◌≤◌, [], IfNone, IfOk, IfSome, IsTrue, OnOk, List, Some, length, replicate, slice_get};
 ghost use Rattle.hp_units.specs.declared.replies.Receipt.{Receipt};
 ghost use Rattle.hp_units.specs.declared.replies.Record.{Record as NewRecord};
@@ -13,7 +13,7 @@ use indexmap::IndexMap;
 use std::alloc::{AllocError, Global};
 use std::marker::Model;
 
-/// A request and its reply, after the chain numbered `below`.
+/// An exchange, which is a request and its reply, at the end of the transcript numbered `below`.
 #[derive(Drop)]
 pub(crate) struct Exchange {
     event: Event,
@@ -21,9 +21,9 @@ pub(crate) struct Exchange {
     below: usize,
 }
 
-/// Chains of exchanges by number: 0 is the empty chain, and each entry makes one more.
+/// Transcripts by number. Number 0 is the empty transcript, and each entry adds one.
 ///
-/// `latest` maps a hash to the newest chain that has it.
+/// `latest` maps a hash to the newest transcript that has it.
 pub(crate) struct Chains {
     entries: Vec<Exchange>,
     latest: IndexMap<u64, usize>,
@@ -52,7 +52,7 @@ impl Drop for Chains {
     }
 }
 
-/// The number of each processor's chain at a walk's current place.
+/// The number of each processor's transcript at a walk's current place.
 pub struct Exchanges {
     chains: Chains,
     here: Vec<usize>,
@@ -79,7 +79,7 @@ impl Drop for Exchanges {
 }
 
 impl Chains {
-    /// Creates a collection with only the empty chain.
+    /// Creates a collection with only the empty transcript.
     fn new(alloc: Global) -> Chains
         ensures { result ≡ [] ∷ [] }
     {
@@ -89,8 +89,8 @@ impl Chains {
         }
     }
 
-    /// Returns the number of the chain `below` with the record's exchange at its end, and adds that
-    /// chain if it is not found.
+    /// Returns the number of the transcript `below` with the record's exchange at its end, and adds
+    /// that transcript if it is not found.
     fn after(&mut self, alloc: Global, below: usize, latest: &Record) -> Result<usize, AllocError>
         requires { below < length self.old }
         ensures kept { KeepNumbers self.old self.new }
@@ -112,8 +112,8 @@ impl Chains {
         Ok(number)
     }
 
-    /// Returns the number of the chain `below` with the record's exchange at its end, if it is the
-    /// newest with the hash `digest`.
+    /// Returns the number of the transcript `below` with the record's exchange at its end, if it is
+    /// the newest with the hash `digest`.
     fn found(&self, digest: u64, below: usize, latest: &Record) -> Option<usize>
         ensures { IfSome result (IsChained self.now self.now (exchange_in latest.now) below) }
     {
@@ -130,7 +130,7 @@ impl Chains {
         }
     }
 
-    /// Returns the number of the chain without its last exchange, or 0 if it is empty.
+    /// Returns the number of the transcript without its last exchange, or 0 if it is empty.
     fn before(&self, number: usize) -> usize
         ensures before { IsBefore self.now number result }
         ensures within { result < length self.now }
@@ -142,8 +142,8 @@ impl Chains {
         }
     }
 
-    /// Returns the entry that made chain `number`, or `None` if the chain is empty or does not
-    /// exist.
+    /// Returns the entry that made transcript `number`, or `None` if the transcript is empty or
+    /// does not exist.
     fn entry(&self, number: usize) -> Option<&Exchange>
         ensures some { IfSome result (λ entry. IsMadeOf exchange_below at_end self.now number entry.now) }
         ensures none { IfNone result ((xs : List Receipt) → slice_get self.now number ≡ Some xs → xs ≡ []) }
@@ -166,7 +166,7 @@ impl Exchange {
 }
 
 impl Exchanges {
-    /// Creates the chains of `processors` processors, all empty.
+    /// Creates the transcripts of `processors` processors, all empty.
     pub fn start(alloc: Global, processors: usize) -> Result<Exchanges, AllocError>
         ensures { IfOk result (λ x. x ≡ record { chains = [] ∷ []; here = replicate processors 0 }) }
     {
@@ -177,7 +177,7 @@ impl Exchanges {
         })
     }
 
-    /// Returns the number that identifies each processor's current chain.
+    /// Returns the number of each processor's current transcript.
     pub fn numbers(&self) -> &[usize]
         ensures { result.now ≡ self.now.here }
     {
@@ -225,7 +225,7 @@ fn exchange_at(entries: &[Exchange], place: usize) -> Option<&Exchange>
     entries.get(place)
 }
 
-/// Returns a hash of an exchange at the end of the chain `below`.
+/// Returns a hash of an exchange at the end of the transcript `below`.
 ///
 /// The event is left out: the processor and its earlier exchanges nearly always determine it.
 fn exchange_digest(below: usize, latest: &Record) -> u64 {

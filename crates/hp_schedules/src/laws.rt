@@ -2,7 +2,7 @@
 ghost use Rattle.std.specs.Prelude.{◌≡◌, ◌≢◌, ◌↔◌, ◌++◌, ◌∷◌, ℕ, [], List, Some};
 ghost use Rattle.hp_units.specs.declared.replies.Receipt.{Receipt};
 ghost use Rattle.hp_units.specs.declared.replies.Record.{Record};
-ghost use Rattle.hp_schedules.specs.Alike.{AreAlike, UndoNothing};
+ghost use Rattle.hp_schedules.specs.Alike.{AreAlike, AreMergeable};
 ghost use Rattle.hp_schedules.specs.Causes.{AnswerAlike, IsCaused};
 ghost use Rattle.hp_schedules.specs.Continuing.{ContinueAlike, ContinuesAs};
 ghost use Rattle.hp_schedules.specs.Cursors.{IsSteered};
@@ -11,7 +11,7 @@ ghost use Rattle.hp_schedules.specs.Orders.{HasCount, HasOneCount};
 ghost use Rattle.hp_schedules.specs.Outcomes.{OutcomeValue};
 ghost use Rattle.hp_schedules.specs.Interleavings.{AreOneCalls, IsCountOfLengths, IsInterleaving};
 ghost use Rattle.hp_schedules.specs.Schedules.{EndsWith, IsComplete, Setting, plays};
-ghost use Rattle.hp_schedules.specs.Scripts.{after_line};
+ghost use Rattle.hp_schedules.specs.Scripts.{Known, after_line, nothing_known};
 ghost use Rattle.hp_schedules.specs.declared.scripts.Step.{Step};
 
 /// The number of complete schedules is unique, and so is the number of those with a given end.
@@ -34,27 +34,28 @@ pub fn interleavings_are_counted()
         → (HasCount (IsComplete g) m ↔ IsCountOfLengths g.scripts m) }
 {}
 
-/// If no script undoes steps by their serials, two schedules with alike records have the same
-/// continuations, with the same outcomes.
+/// If no script undoes steps by their serials or works on an operation other than the latest, two
+/// schedules with alike records have the same continuations, with the same outcomes.
 pub fn alike_places_go_on_alike()
-    ensures { (g : Setting) (p q rest : List ℕ) (h k : List Record) (x : OutcomeValue) → UndoNothing g.scripts
-        → plays g p ≡ Some h → plays g q ≡ Some k → AreAlike g h k
+    ensures { (g : Setting) (p q rest : List ℕ) (h k : List Record) (x : OutcomeValue)
+        → AreMergeable g.scripts → plays g p ≡ Some h → plays g q ≡ Some k → AreAlike g h k
         → EndsWith g (p ++ rest) x → EndsWith g (q ++ rest) x }
 {}
 
-/// If no script undoes steps by their serials, two beginnings that continue alike have the same
-/// continuations, call for call, with the same events, serials and replies.
+/// If no script undoes steps by their serials or works on an operation other than the latest, two
+/// beginnings that continue alike have the same continuations, call for call, with the same events,
+/// serials and replies.
 pub fn alike_beginnings_continue_alike()
-    ensures { (g : Setting) (p q rest : List ℕ) (h k end : List Record) → UndoNothing g.scripts
+    ensures { (g : Setting) (p q rest : List ℕ) (h k end : List Record) → AreMergeable g.scripts
         → plays g p ≡ Some h → plays g q ≡ Some k → ContinueAlike g h k → plays g (p ++ rest) ≡ Some end
         → ContinuesAs g q rest h k end }
 {}
 
-/// Whether a line is finished, and the receipts that are left then, do not depend on the number of
-/// the operation that it works on.
+/// Whether a line is finished, and the receipts that are left then, do not depend on the result that
+/// it works on.
 pub fn lines_finish_alike()
-    ensures { (cpus op : ℕ) (line : Step) (earlier later : List Receipt)
-        → after_line cpus op line earlier later ≡ after_line cpus 0 line earlier later }
+    ensures { (cpus : ℕ) (known : Known) (line : Step) (earlier later : List Receipt)
+        → after_line cpus known line earlier later ≡ after_line cpus nothing_known line earlier later }
 {}
 
 /// Answers stay: whatever records follow, a processor's finished lines keep their answers, and only

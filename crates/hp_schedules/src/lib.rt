@@ -1,10 +1,14 @@
 //! Scripts, schedules and their outcomes, without a machine.
 //!
 //! A script is what one processor calls, line after line. A schedule gives the processor of each
-//! call, in order; it is complete when all scripts are finished. The crate owns scripts and
-//! positions in them, the parts that a search is split into, outcomes and how many schedules lead
-//! to each, the number of interleavings, the numbers by which a walk compares transcripts, and
-//! which schedules continue alike. It makes no calls: hp_explore walks the schedules.
+//! call, in order; it is complete when all scripts are finished. The crate owns:
+//! - scripts and positions in them,
+//! - the parts that a search is split into,
+//! - outcomes, how many schedules lead to each, and the number of interleavings,
+//! - the numbers by which a walk compares transcripts,
+//! - which schedules continue alike.
+//!
+//! It makes no calls: hp_explore walks the schedules.
 //!
 //! Read specs/Scripts first, then specs/Schedules, specs/Outcomes and specs/Ends.
 #![tactic(auto)]
@@ -23,6 +27,7 @@ mod outcomes;
 mod part_numbers;
 mod parts;
 mod positions;
+mod results;
 mod rows;
 mod scripts;
 mod tally;
@@ -45,5 +50,5 @@ pub use part_numbers::ShardId;
 pub use parts::Shard;
 pub use positions::Positions;
 pub use rows::{Rows, Share};
-pub use scripts::{CallScript, Step, StepWork, undo_nothing};
+pub use scripts::{CallScript, OwnWork, Step, StepWork, are_mergeable};
 pub use tally::{Ending, Tally, fit_in, schedule_of, total_of};

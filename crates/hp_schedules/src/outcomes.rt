@@ -123,7 +123,8 @@ impl Outcome {
     }
 }
 
-/// Returns the replies to each of `processors` processors among the records.
+/// Returns the replies to each of `processors` processors among the records, with 0 for the number
+/// of an opened operation.
 pub fn all_answers(
     alloc: Global,
     processors: u32,
@@ -140,7 +141,8 @@ pub fn all_answers(
     Ok(all)
 }
 
-/// Returns the replies to one processor among the records.
+/// Returns the replies to one processor among the records, with 0 for the number of an opened
+/// operation.
 fn answers_to(alloc: Global, cpu: Cpu, records: &[Record]) -> Result<Replies, AllocError>
     ensures { IfOk result (λ answers. answers ≡ replies_to cpu records.now) }
 {
@@ -157,7 +159,7 @@ fn answers_to(alloc: Global, cpu: Cpu, records: &[Record]) -> Result<Replies, Al
 
 /// Returns the reply with 0 in place of the number of an opened operation.
 ///
-/// That number is only the number of calls before, so it must not tell outcomes apart.
+/// That number only counts the calls before, so two outcomes must not differ by it.
 pub(crate) fn told(reply: &Reply) -> Reply
     ensures { result ≡ told reply.now }
 {
@@ -182,7 +184,8 @@ fn are_answers_below(answers: &[Replies], processors: u32, records: &[Record]) -
     true
 }
 
-/// Returns whether `replies` are the replies to this processor among the records.
+/// Returns whether `replies` are the replies to this processor among the records, with 0 for the
+/// number of an opened operation.
 fn are_replies_to(replies: &[Reply], cpu: Cpu, records: &[Record]) -> bool
     ensures { IsTrue result ↔ (replies.now ≡ replies_to cpu records.now) }
 {
@@ -198,7 +201,8 @@ fn are_replies_to(replies: &[Reply], cpu: Cpu, records: &[Record]) -> bool
     compared == replies.len()
 }
 
-/// Returns whether the reply at index `place` is that of the record.
+/// Returns whether the reply at index `place` is that of the record, with 0 for the number of an
+/// opened operation.
 fn is_told_at(replies: &[Reply], place: usize, latest: &Record) -> bool
     ensures { IsTrue result ↔ (slice_get replies.now place ≡ Some (told latest.now.reply)) }
 {

@@ -1,5 +1,5 @@
-//! Parts of a search: disjoint sets of schedules, told apart by their first calls. Each can be
-//! searched on its own.
+//! Parts of a search: disjoint sets of schedules, each of which can be searched on its own. A
+//! schedule's first calls decide its part.
 ghost use Rattle.std.specs.Prelude.{◌≡◌, ◌↔◌, ◌<◌, ◌≤◌, ◌+◌, ◌*◌, ◌%◌, IfSome, IsSome, IsTrue, false, length, take};
 ghost use Rattle.hp_schedules.specs.Parts.{IsOfPart, IsOn, part_number};
 ghost use Rattle.hp_schedules.specs.Schedules.{schedule_of};
@@ -32,7 +32,7 @@ impl Model for Shard {
 }
 
 impl Shard {
-    /// Returns the only part of one, which holds all schedules.
+    /// Returns the whole search as a single part, which holds all schedules.
     pub fn whole() -> Shard
         ensures { result ≡ record { index = 0; of = 1; calls = 0 } }
     {

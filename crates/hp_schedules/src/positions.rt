@@ -32,24 +32,27 @@ impl Positions {
         Ok(Positions { cursors })
     }
 
-    /// Returns the processor's next call, or `None` if it has no script or its script is finished.
+    /// Returns the processor's next call after the new records, or `None` if it has no script or its
+    /// script is finished.
+    ///
+    /// Looks through the records only for a line that works on an earlier result by its number.
     pub fn request(
         &self,
         alloc: Global,
         cpus: u32,
         scripts: &[CallScript],
+        news: &[Record],
         cpu: u32,
     ) -> Result<Option<NextCall>, AllocError>
         requires { length self.now.cursors.items ≡ length scripts.now }
-        ensures { IfOk result (λ request. (g : Setting) (news : List NewRecord) → g.scripts ≡ scripts.now
-            → g.layout.cpus ≡ cpus → AreCursors g news self.now.cursors.items
-            → IsCalledFor g cpu news request) }
+        ensures { IfOk result (λ request. (g : Setting) → g.scripts ≡ scripts.now → g.layout.cpus ≡ cpus
+            → AreCursors g news.now self.now.cursors.items → IsCalledFor g cpu news.now request) }
     {
         let place = cpu as usize;
         if place >= scripts.len() {
             return Ok(None);
         }
-        self.cursors[place].request(alloc, cpus, scripts[place].lines())
+        self.cursors[place].request(alloc, cpus, scripts[place].lines(), news, Cpu(cpu))
     }
 
     /// Returns the operation that the processor began last, or 0 if it began none.
@@ -88,23 +91,34 @@ impl Positions {
         self.cursors[place].answered(scripts[place].lines(), &latest.reply)
     }
 
-    /// Appends five numbers that the processor's further calls depend on, beside the replies to
-    /// them, and returns whether each fits 32 bits. If not, `numbers` holds a part of them.
-    pub fn push_steering(&self, cpu: u32, numbers: &mut Vec<u32>) -> Result<bool, AllocError>
-        requires { cpu < length self.now.cursors.items }
+    /// Appends the numbers that the processor's further calls depend on, beside the replies to them,
+    /// and returns whether each fits 32 bits. If not, `numbers` holds a part of them.
+    ///
+    /// They are five, and two more for each further line that frees the frame of an earlier call.
+    pub fn push_steering(
+        &self,
+        scripts: &[CallScript],
+        news: &[Record],
+        cpu: u32,
+        numbers: &mut Vec<u32>,
+    ) -> Result<bool, AllocError>
+        requires scripts { cpu < length scripts.now }
+        requires cursors { cpu < length self.now.cursors.items }
         ensures { IfOk result (λ fit. fit ≡ true → (part : List ℕ)
-            × (numbers.new.items ≡ numbers.old.items ++ part) × (length part ≡ 5)
-            × ((g : Setting) (news : List NewRecord) → AreCursors g news self.now.cursors.items
-            → IsSteered g cpu news part)) }
+            × (numbers.new.items ≡ numbers.old.items ++ part)
+            × ((g : Setting) → g.scripts ≡ scripts.now → AreCursors g news.now self.now.cursors.items
+            → IsSteered g cpu news.now part)) }
     {
-        let steering = self.cursors[cpu as usize].steering();
+        let place = cpu as usize;
+        let cursor = &self.cursors[place];
+        let steering = cursor.steering();
         for number in &steering {
             let Ok(number) = u32::try_from(*number) else {
                 return Ok(false);
             };
             numbers.push(number)?;
         }
-        Ok(true)
+        cursor.push_frames(scripts[place].lines(), news, Cpu(cpu), numbers)
     }
 
     /// Appends two numbers that the answer of the processor's plan in progress depends on, beside

@@ -2,14 +2,16 @@
 ghost use Rattle.std.specs.Prelude.{◌≡◌, cond, length};
 ghost use Rattle.std.specs.List.{list_all};
 ghost use Rattle.hp_units.specs.Marks.{is_opening, mark_of};
-ghost use Rattle.hp_schedules.specs.Alike.{leaves_lines, leaves_script};
+ghost use Rattle.hp_units.specs.Receipts.{receipts_of};
+ghost use Rattle.hp_schedules.specs.Alike.{is_mergeable, is_mergeable_line};
 ghost use Rattle.hp_schedules.specs.Interleavings.{holds_no_plan, is_one_call};
-ghost use Rattle.hp_schedules.specs.Scripts.{work_of};
+ghost use Rattle.hp_schedules.specs.Scripts.{known_with, step_work_of, work_of};
 
-use hp_units::{Cpu, Event, Plan, Serial, mark_of};
+use crate::results::{nth_begun, nth_frame};
+use hp_units::{Cpu, Event, Plan, Record, Serial, mark_of};
 use std::marker::Model;
 
-/// Work on the operation that the processor itself began last.
+/// Work on an operation.
 #[derive(Clone, Copy, Drop)]
 pub enum StepWork {
     /// Drains a processor's lists.
@@ -22,13 +24,27 @@ pub enum StepWork {
     Cancel,
 }
 
+/// Work on the result of an earlier call of the same processor.
+///
+/// Results are numbered from 0, from the beginning of the scripts on. A call of the driver counts,
+/// and so does a refused one.
+#[derive(Clone, Copy, Drop)]
+pub enum OwnWork {
+    /// Works on the operation that the processor began last.
+    Latest(StepWork),
+    /// Works on the operation that the processor's Begin of this number began.
+    Nth { nth: u32, work: StepWork },
+    /// Frees the block that the processor's KernelAlloc of this number took.
+    Free { nth: u32 },
+}
+
 /// One line of a script.
 #[derive(Drop)]
 pub enum Step {
     /// Calls one event.
     Ask(Event),
-    /// Works on the operation that the processor began last.
-    Own(StepWork),
+    /// Works on an earlier result.
+    Own(OwnWork),
     /// Lets the driver carry out a plan with at most `turns` migrations. The driver's calls count
     /// as the processor's.
     Carry { plan: Plan, turns: u32 },
@@ -51,14 +67,30 @@ impl Model for CallScript {
 
 impl StepWork {
     /// Returns the event that does this work on operation `op`.
-    pub(crate) fn event(self, op: Serial) -> Event
-        ensures { result ≡ work_of op self }
+    fn event(self, op: Serial) -> Event
+        ensures { result ≡ step_work_of op self }
     {
         match self {
             StepWork::DrainFor { cpu } => Event::DrainFor { op, cpu },
             StepWork::Migrate => Event::Migrate { op },
             StepWork::Commit => Event::Commit { op },
             StepWork::Cancel => Event::Cancel { op },
+        }
+    }
+}
+
+impl OwnWork {
+    /// Returns the event that does this work after the new records, if `op` is the operation that
+    /// the processor began last.
+    pub(crate) fn event(self, op: Serial, news: &[Record], cpu: Cpu) -> Event
+        ensures { result ≡ work_of (known_with op (receipts_of cpu news.now)) self }
+    {
+        match self {
+            OwnWork::Latest(work) => work.event(op),
+            OwnWork::Nth { nth, work } => work.event(nth_begun(news, cpu, nth)),
+            OwnWork::Free { nth } => Event::KernelFree {
+                frame: nth_frame(news, cpu, nth),
+            },
         }
     }
 }
@@ -71,13 +103,15 @@ impl Step {
         !matches!(self, Step::Carry { .. })
     }
 
-    /// Returns whether the line undoes no steps by their serials.
-    fn leaves_steps(&self) -> bool
-        ensures { result ≡ leaves_lines self.now }
+    /// Returns whether the line undoes no steps by their serials, and works on no operation other
+    /// than the latest.
+    fn is_mergeable(&self) -> bool
+        ensures { result ≡ is_mergeable_line self.now }
     {
         match self {
             Step::Ask(event) => !matches!(event, Event::UndoAfter { .. }),
-            _ => true,
+            Step::Own(work) => !matches!(work, OwnWork::Nth { .. }),
+            Step::Carry { .. } => true,
         }
     }
 }
@@ -117,12 +151,13 @@ impl CallScript {
         true
     }
 
-    /// Returns whether no line undoes steps by their serials.
-    fn leaves_steps(&self) -> bool
-        ensures { result ≡ leaves_script self.now }
+    /// Returns whether no line undoes steps by their serials, or works on an operation other than
+    /// the latest.
+    fn is_mergeable(&self) -> bool
+        ensures { result ≡ is_mergeable self.now }
     {
         for line in self.lines() {
-            if !line.leaves_steps() {
+            if !line.is_mergeable() {
                 return false;
             }
         }
@@ -141,12 +176,16 @@ pub(crate) fn later_operation(op: Serial, serial: Serial, event: &Event) -> Seri
     }
 }
 
-/// Returns whether no script undoes steps by their serials.
-pub fn undo_nothing(scripts: &[CallScript]) -> bool
-    ensures { result ≡ list_all leaves_script scripts.now }
+/// Returns whether no script undoes steps by their serials, or works on an operation other than the
+/// one that its processor began last.
+///
+/// A walk may treat two places that continue alike as one only if this holds: serials differ between
+/// the schedules that lead there.
+pub fn are_mergeable(scripts: &[CallScript]) -> bool
+    ensures { result ≡ list_all is_mergeable scripts.now }
 {
     for script in scripts {
-        if !script.leaves_steps() {
+        if !script.is_mergeable() {
             return false;
         }
     }

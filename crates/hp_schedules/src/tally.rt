@@ -51,8 +51,8 @@ pub fn schedule_of(alloc: Global, records: &[Record]) -> Result<Vec<Cpu>, AllocE
 
 /// The ends so far, the limit on the schedules counted, and the trail of what was counted.
 ///
-/// `latest` maps a hash to the index of the newest end that has it. The trail shows how much each
-/// count has grown since the trail was shorter.
+/// `latest` maps a hash to the index of the newest end that has it. The trail records what was
+/// added to each count. So it shows how much a count has grown since the trail had a given length.
 #[derive(Drop)]
 pub struct Tally {
     limit: u64,

@@ -1,5 +1,5 @@
 -- From what an exploration says to what its text promises.
-use Rattle.std.proofs.Common.{◌≡◌, ℕ, ◌≤◌, Bool, List, Option, Some, None, sum_by, sym, subst, inl, inr}
+use Rattle.std.proofs.Common.{◌≡◌, ℕ, ◌≤◌, Bool, List, Option, Some, None, option_map, sum_by, sym, subst, inl, inr}
 use Rattle.hp_explore.specs.declared.exploring.Exploration.{Exploration}
 use Rattle.std.specs.Prelude.{◌⊎◌}
 use Rattle.hp_schedules.specs.declared.multinomials.HowMany.{HowMany}
@@ -15,7 +15,7 @@ use Rattle.hp_schedules.specs.declared.scripts.Step.{Step}
 use Rattle.hp_schedules.specs.Schedules.{IsComplete, Setting}
 use Rattle.hp_search.specs.declared.forms.EndsForm.{EndsForm}
 use Rattle.hp_search.specs.declared.groups.GroupBy.{GroupBy}
-use Rattle.hp_search.specs.Groups.{AreShown}
+use Rattle.hp_search.specs.Groups.{AreShown, grouping_of}
 use Rattle.hp_search.specs.declared.lab_fault.LabFault.{LabFault}
 use Rattle.hp_search.specs.Ends.{IsMore, IsTold}
 use Rattle.hp_search.specs.Faults.{IsFaultOf, IsToldAs}
@@ -37,18 +37,20 @@ explored_told g limit ended x (Some known) whole few room first many stopped h =
 
 -- and they, or their groups, are told, where the scripts are those of a scenario that was made ready
 pub is_explored : (form : EndsForm) (by : Option GroupBy) (p : Prepared) (scripts : List (List Step))
-    (limit : ℕ) (ended : Type 0) (x shown : Exploration) (text : List ℕ) (found : Bool)
-    → scripts ≡ p.start.scripts.items → IfWhole x (AreEnds (setting p.start.machine scripts))
+    (limit : ℕ) (ended : Type 0) (x shown : Exploration) (text : List ℕ) (found : Bool) (cpus : ℕ)
+    → cpus ≡ p.start.machine.layout.cpus → scripts ≡ p.start.scripts.items → IfWhole x (AreEnds (setting p.start.machine scripts))
     → IfWhole x (λ _. HasMoreThan (IsComplete (setting p.start.machine scripts)) limit → ⊥)
     → IfWhole x (λ _. FillsHistory (setting p.start.machine scripts) → ⊥)
     → IfFirst x (λ ends. AreFirst (setting p.start.machine scripts) (counted ends) ends)
     → IfFirst x (λ ends. HasMoreThan (IsComplete (setting p.start.machine scripts)) (counted ends))
     → IfFirst x (λ ends. (counted ends ≡ limit) ⊎ ended)
     → AreInOrder x.ends.items → sum_by (λ e. e.count) x.ends.items ≤ limit
-    → AreShown by x.ends.items shown.ends.items → shown.is_whole ≡ x.is_whole
+    → AreShown (option_map (λ b. record { by = b; cpus = cpus; scripts = scripts }) by) x.ends.items
+    shown.ends.items
+    → shown.is_whole ≡ x.is_whole
     → IsTold form (names_of p) (before_of p) (setting_of p) shown text found
     → IsExploredOn form by (names_of p) (before_of p) (setting_of p) limit ended text found
-is_explored form by p scripts limit ended x shown text found same whole few room first many stopped ordered
+is_explored form by p scripts limit ended x shown text found cpus all same whole few room first many stopped ordered
     within grouped is_whole told =
     let more =
     subst (λ (w : Bool). IsMore (setting_of p).scripts w told.0) is_whole told.1 in
@@ -63,7 +65,11 @@ is_explored form by p scripts limit ended x shown text found same whole few room
       ordered = ordered;
       within = within;
       shown = shown.ends.items;
-      grouped = grouped;
+      grouped =
+          subst (λ (ss : List (List Step)). AreShown (option_map (grouping_of (setting p.start.machine ss)) by)
+          x.ends.items shown.ends.items) same
+          (subst (λ (n : ℕ). AreShown (option_map (λ b. record { by = b; cpus = n; scripts = scripts }) by)
+          x.ends.items shown.ends.items) all grouped);
       told = told.2;
     }
 
@@ -79,24 +85,25 @@ pub loosely : (form : EndsForm) (by : Option GroupBy) (input : List ℕ) (setup 
     → IsExplorationOf form by input setup limit ended text found
     → IsExplorationOf form by input setup limit (Unit {0}) text found
 loosely form by input setup limit ended text found h = record {
-  scenario = h.scenario;
+  named = h.named;
   read = h.read;
-  fit = h.fit;
-  after = record {
-    start = h.after.start;
-    scripts = h.after.scripts;
-    begun = h.after.begun;
+  plain = h.plain;
+  resolved = h.resolved;
+  holds = record {
+    start = h.holds.start;
+    scripts = h.holds.scripts;
+    begun = h.holds.begun;
     holds = record {
-      ends = h.after.holds.ends;
-      more = h.after.holds.more;
+      ends = h.holds.holds.ends;
+      more = h.holds.holds.more;
       are =
-          first_loosely (setting h.after.start h.after.scripts) limit ended h.after.holds.ends
-          h.after.holds.more h.after.holds.are;
-      ordered = h.after.holds.ordered;
-      within = h.after.holds.within;
-      shown = h.after.holds.shown;
-      grouped = h.after.holds.grouped;
-      told = h.after.holds.told;
+          first_loosely (setting h.holds.start h.holds.scripts) limit ended h.holds.holds.ends
+          h.holds.holds.more h.holds.holds.are;
+      ordered = h.holds.holds.ordered;
+      within = h.holds.holds.within;
+      shown = h.holds.holds.shown;
+      grouped = h.holds.holds.grouped;
+      told = h.holds.holds.told;
     };
   };
 }

@@ -1,5 +1,5 @@
 -- Why a search of a scenario has no answer, and what its answer says.
-use Rattle.std.proofs.Common.{◌≡◌, ℕ, List, sym, subst}
+use Rattle.std.proofs.Common.{ℕ, List, sym, subst}
 use Rattle.hp_explore.specs.declared.exploring.ExploreFault.{ExploreFault}
 use Rattle.hp_explore.specs.FindFaults.{IsFindCause, IsRecorded, SparesHistory, find_fault_from}
 use Rattle.hp_explore.specs.Reaching.{IsFound}

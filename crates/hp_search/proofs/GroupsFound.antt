@@ -10,37 +10,59 @@ use Rattle.hp_laws.proofs.Lists.{get_push_cases}
 use Rattle.hp_laws.proofs.Replays.{take_one}
 use Rattle.hp_schedules.specs.Digests.{mixed}
 use Rattle.hp_schedules.specs.Outcomes.{OutcomeValue}
+use Rattle.hp_schedules.specs.declared.scripts.Step.{Step}
 use Rattle.hp_schedules.specs.declared.tally.Ending.{Ending}
+use Rattle.hp_plan_ends.specs.Likeness.{plans_digest}
 use Rattle.hp_search.specs.Objects.{answer_list, block_string}
-use Rattle.hp_search.specs.Groups.{Agree, AreKnown, HasNoGroup, part_digest}
+use Rattle.hp_search.specs.Groups.{Agree, AgreeIn, AreKnown, GroupingValue, HasNoGroup, digest_in, part_digest}
 use Rattle.hp_search.specs.declared.groups.GroupBy.{GroupBy}
-use Rattle.hp_search.specs.declared.groups.GroupBy.TheVariants.{Answers, Blocks}
+use Rattle.hp_search.specs.declared.groups.GroupBy.TheVariants.{Answers, Blocks, Plans}
 
 -- ---- outcomes that agree
 
-pub agree_self : (by : GroupBy) (x : OutcomeValue) → Agree by x x
-agree_self Blocks x = refl
-agree_self Answers x = refl
+in_self : (by : GroupBy) (cpus : ℕ) (scripts : List (List Step)) (x : OutcomeValue)
+    → AgreeIn by cpus scripts x x
+in_self Blocks cpus scripts x = refl
+in_self Answers cpus scripts x = refl
+in_self Plans cpus scripts x = refl
 
-pub agree_back : (by : GroupBy) (x y : OutcomeValue) → Agree by x y → Agree by y x
-agree_back Blocks x y h = sym h
-agree_back Answers x y h = sym h
+in_back : (by : GroupBy) (cpus : ℕ) (scripts : List (List Step)) (x y : OutcomeValue)
+    → AgreeIn by cpus scripts x y → AgreeIn by cpus scripts y x
+in_back Blocks cpus scripts x y h = sym h
+in_back Answers cpus scripts x y h = sym h
+in_back Plans cpus scripts x y h = sym h
 
-pub agree_on : (by : GroupBy) (x y z : OutcomeValue) → Agree by x y → Agree by y z → Agree by x z
-agree_on Blocks x y z h k = h ∙ k
-agree_on Answers x y z h k = h ∙ k
+in_turn : (by : GroupBy) (cpus : ℕ) (scripts : List (List Step)) (x y z : OutcomeValue)
+    → AgreeIn by cpus scripts x y → AgreeIn by cpus scripts y z → AgreeIn by cpus scripts x z
+in_turn Blocks cpus scripts x y z h k = h ∙ k
+in_turn Answers cpus scripts x y z h k = h ∙ k
+in_turn Plans cpus scripts x y z h k = h ∙ k
+
+pub agree_self : (by : GroupingValue) (x : OutcomeValue) → Agree by x x
+agree_self by x = in_self by.by by.cpus by.scripts x
+
+pub agree_back : (by : GroupingValue) (x y : OutcomeValue) → Agree by x y → Agree by y x
+agree_back by x y h = in_back by.by by.cpus by.scripts x y h
+
+pub agree_on : (by : GroupingValue) (x y z : OutcomeValue) → Agree by x y → Agree by y z → Agree by x z
+agree_on by x y z h k = in_turn by.by by.cpus by.scripts x y z h k
 
 -- have one hash
-same_digest : (by : GroupBy) (x y : OutcomeValue) → Agree by x y → part_digest by x ≡ part_digest by y
-same_digest Blocks x y h =
+same_in : (by : GroupBy) (cpus : ℕ) (scripts : List (List Step)) (x y : OutcomeValue)
+    → AgreeIn by cpus scripts x y → digest_in by cpus scripts x ≡ digest_in by cpus scripts y
+same_in Blocks cpus scripts x y h =
     ap (λ (rows : List Row). fold mixed 0 (separated (codes ", ") block_string true rows)) h
-same_digest Answers x y h =
+same_in Answers cpus scripts x y h =
     ap (λ (all : List (List Reply)). fold mixed 0 (separated (codes ", ") answer_list true all)) h
+same_in Plans cpus scripts x y h = ap plans_digest h
+
+same_digest : (by : GroupingValue) (x y : OutcomeValue) → Agree by x y → part_digest by x ≡ part_digest by y
+same_digest by x y h = same_in by.by by.cpus by.scripts x y h
 
 -- ---- the hashes that are known
 
 -- where a hash has no place, no group has it
-pub unknown : {S : Type 0} (by : GroupBy) (groups : List Ending) (x : OutcomeValue)
+pub unknown : {S : Type 0} (by : GroupingValue) (groups : List Ending) (x : OutcomeValue)
     (latest : IndexMap ℕ ℕ S) (digest : ℕ)
     → AreKnown by groups latest → digest ≡ part_digest by x → None ≡ get nat_eq latest digest
     → HasNoGroup by groups x
@@ -54,7 +76,7 @@ unknown by groups x latest digest known is none j g here agrees =
 -- ---- the group at a place
 
 -- no group up to the next place has the outcome; no group at all
-pub none_more : (by : GroupBy) (groups : List Ending) (x : OutcomeValue) (at : ℕ) (g : Ending)
+pub none_more : (by : GroupingValue) (groups : List Ending) (x : OutcomeValue) (at : ℕ) (g : Ending)
     → HasNoGroup by (take at groups) x → slice_get groups at ≡ Some g → (Agree by g.outcome x → ⊥)
     → HasNoGroup by (take (at + 1) groups) x
 none_more by groups x at g none here differs k f h agrees =
@@ -64,7 +86,7 @@ none_more by groups x at g none here differs k f h agrees =
       | inr new ↦ differs (subst (λ (d : Ending). Agree by d.outcome x) (sym new.1) agrees)
     ]
 
-pub none_all : (by : GroupBy) (groups : List Ending) (x : OutcomeValue) (at : ℕ) → length groups ≤ at
+pub none_all : (by : GroupingValue) (groups : List Ending) (x : OutcomeValue) (at : ℕ) → length groups ≤ at
     → HasNoGroup by (take at groups) x → HasNoGroup by groups x
 none_all by groups x at le none =
     subst (λ (xs : List Ending). HasNoGroup by xs x) (take_all at groups le) none

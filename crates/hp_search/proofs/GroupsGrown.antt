@@ -12,18 +12,17 @@ use Rattle.hp_schedules.specs.Orders.{IsBefore}
 use Rattle.hp_schedules.specs.Outcomes.{OutcomeValue}
 use Rattle.hp_schedules.specs.Shares.{AddsAt}
 use Rattle.hp_schedules.specs.declared.tally.Ending.{Ending}
-use Rattle.hp_search.specs.Groups.{AddUp, AddsEnd, Agree, AreGroups, Begins, HasNoGroup, IsFirstOf, IsGroup, Joins}
-use Rattle.hp_search.specs.declared.groups.GroupBy.{GroupBy}
+use Rattle.hp_search.specs.Groups.{AddUp, AddsEnd, Agree, AreGroups, Begins, HasNoGroup, GroupingValue, IsFirstOf, IsGroup, Joins}
 use Rattle.hp_search.proofs.GroupsFound.{agree_back, agree_on, agree_self}
 
 -- ---- counts
 
-none_adds : (by : GroupBy) (x : OutcomeValue) (ends : List Ending)
+none_adds : (by : GroupingValue) (x : OutcomeValue) (ends : List Ending)
     → ((k : ℕ) (e : Ending) → slice_get ends k ≡ Some e → Agree by e.outcome x → ⊥) → AddUp by x ends 0
 none_adds by x [] none = refl
 none_adds by x (e ∷ ends) none = inr (none 0 e refl, none_adds by x ends (λ k d h. none (suc k) d h))
 
-adds_more : (by : GroupBy) (x : OutcomeValue) (ends : List Ending) (e : Ending) (n : ℕ) → AddUp by x ends n
+adds_more : (by : GroupingValue) (x : OutcomeValue) (ends : List Ending) (e : Ending) (n : ℕ) → AddUp by x ends n
     → Agree by e.outcome x → AddUp by x (ends ++ e ∷ []) (n + e.count)
 adds_more by x [] e n nothing agrees = inl (0, agrees, omega (arith, nothing), refl)
 adds_more by x (d ∷ ends) e n h agrees =
@@ -37,7 +36,7 @@ adds_more by x (d ∷ ends) e n h agrees =
       | inr other ↦ inr (other.0, adds_more by x ends e n other.1 agrees)
     ]
 
-adds_other : (by : GroupBy) (x : OutcomeValue) (ends : List Ending) (e : Ending) (n : ℕ) → AddUp by x ends n
+adds_other : (by : GroupingValue) (x : OutcomeValue) (ends : List Ending) (e : Ending) (n : ℕ) → AddUp by x ends n
     → (Agree by e.outcome x → ⊥) → AddUp by x (ends ++ e ∷ []) n
 adds_other by x [] e n nothing differs = inr (differs, nothing)
 adds_other by x (d ∷ ends) e n h differs =
@@ -48,7 +47,7 @@ adds_other by x (d ∷ ends) e n h differs =
 
 -- ---- the first of a group
 
-first_longer : (by : GroupBy) (x : OutcomeValue) (ends : List Ending) (e f : Ending)
+first_longer : (by : GroupingValue) (x : OutcomeValue) (ends : List Ending) (e f : Ending)
     → IsFirstOf by x ends f → IsFirstOf by x (ends ++ e ∷ []) f
 first_longer by x ends e f first = record {
   place = first.place;
@@ -64,7 +63,7 @@ first_longer by x ends e f first = record {
 }
 
 -- a group of which the end is none stays; one of which it is counts it too
-group_stays : (by : GroupBy) (ends : List Ending) (e g : Ending) → (Agree by e.outcome g.outcome → ⊥)
+group_stays : (by : GroupingValue) (ends : List Ending) (e g : Ending) → (Agree by e.outcome g.outcome → ⊥)
     → IsGroup by ends g → IsGroup by (ends ++ e ∷ []) g
 group_stays by ends e g differs is = record {
   leader = is.leader;
@@ -74,7 +73,7 @@ group_stays by ends e g differs is = record {
   count = adds_other by g.outcome ends e g.count is.count differs;
 }
 
-group_grows : (by : GroupBy) (ends : List Ending) (e g more : Ending) → Agree by g.outcome e.outcome
+group_grows : (by : GroupingValue) (ends : List Ending) (e g more : Ending) → Agree by g.outcome e.outcome
     → more.outcome ≡ g.outcome → more.count ≡ g.count + e.count → more.first.items ≡ g.first.items
     → IsGroup by ends g → IsGroup by (ends ++ e ∷ []) more
 group_grows by ends e g more agrees outcome count first is = record {
@@ -91,14 +90,14 @@ group_grows by ends e g more agrees outcome count first is = record {
 }
 
 -- no end so far is of the group that an end begins
-new_alone : (by : GroupBy) (ends old : List Ending) (e : Ending) → AreGroups by ends old
+new_alone : (by : GroupingValue) (ends old : List Ending) (e : Ending) → AreGroups by ends old
     → HasNoGroup by old e.outcome → (k : ℕ) (d : Ending) → slice_get ends k ≡ Some d
     → Agree by d.outcome e.outcome → ⊥
 new_alone by ends old e ok none k d h agrees =
     let at = ok.every k d h in
     none at.0 at.1 at.2 (agree_on by at.1.outcome d.outcome e.outcome at.3 agrees)
 
-group_begins : (by : GroupBy) (ends groups : List Ending) (e g : Ending) → AreGroups by ends groups
+group_begins : (by : GroupingValue) (ends groups : List Ending) (e g : Ending) → AreGroups by ends groups
     → HasNoGroup by groups e.outcome → g.outcome ≡ e.outcome → g.count ≡ e.count
     → g.first.items ≡ e.first.items → IsGroup by (ends ++ e ∷ []) g
 group_begins by ends groups e g ok none outcome count first = record {
@@ -148,7 +147,7 @@ was groups at entry more here outcome first k f h =
       | inr past ↦ (f, past.1, refl, refl)
     ]
 
-joined : (by : GroupBy) (ends groups : List Ending) (e : Ending) (new : List Ending)
+joined : (by : GroupingValue) (ends groups : List Ending) (e : Ending) (new : List Ending)
     → AreGroups by ends groups → Joins by groups e new → AreGroups by (ends ++ e ∷ []) new
 joined by ends groups e new ok joins =
     subst (AreGroups by (ends ++ e ∷ [])) (sym counted.new_is)
@@ -243,7 +242,7 @@ joined by ends groups e new ok joins =
         (subst (λ (t : List ℕ). IsBefore a.0.first.items t) b.3
         (ok.ordered (order_before ends e order) i j a.0 b.0 less a.1 b.1))
 
-begun : (by : GroupBy) (ends groups : List Ending) (e : Ending) (new : List Ending)
+begun : (by : GroupingValue) (ends groups : List Ending) (e : Ending) (new : List Ending)
     → AreGroups by ends groups → Begins by groups e new → AreGroups by (ends ++ e ∷ []) new
 begun by ends groups e new ok begins =
     subst (AreGroups by (ends ++ e ∷ [])) (sym begins.new_is)
@@ -342,14 +341,14 @@ begun by ends groups e new ok begins =
           ]
         ]
 
-grown : (by : GroupBy) (ends groups : List Ending) (e : Ending) (new : List Ending)
+grown : (by : GroupingValue) (ends groups : List Ending) (e : Ending) (new : List Ending)
     → AreGroups by ends groups → AddsEnd by groups e new → AreGroups by (ends ++ e ∷ []) new
 grown by ends groups e new ok adds =
     elim adds [ inl joins ↦ joined by ends groups e new ok joins | inr begins ↦ begun by ends groups e new ok begins ]
 
 -- ---- groups of the ends so far
 
-pub none_yet : (by : GroupBy) → AreGroups by [] []
+pub none_yet : (by : GroupingValue) → AreGroups by [] []
 none_yet by = record {
   each = λ j g h. absurd cc;
   every = λ k e h. absurd cc;
@@ -358,7 +357,7 @@ none_yet by = record {
   ordered = λ order i j f g less h k. absurd cc;
 }
 
-pub groups_more : (by : GroupBy) (ends groups new : List Ending) (at : ℕ) (e : Ending) → at < length ends
+pub groups_more : (by : GroupingValue) (ends groups new : List Ending) (at : ℕ) (e : Ending) → at < length ends
     → e ≡ get_or ends at e → AreGroups by (take at ends) groups → AddsEnd by groups e new
     → AreGroups by (take (at + 1) ends) new
 groups_more by ends groups new at e within here so_far adds =
@@ -366,7 +365,7 @@ groups_more by ends groups new at e within here so_far adds =
     (sym (take_more ends at e within ∙ ap (λ (f : Ending). take at ends ++ f ∷ []) (sym here)))
     (grown by (take at ends) groups e new so_far adds)
 
-pub groups_room : (by : GroupBy) (ends groups : List Ending) (at bound : ℕ) (e : Ending) → at < length ends
+pub groups_room : (by : GroupingValue) (ends groups : List Ending) (at bound : ℕ) (e : Ending) → at < length ends
     → e ≡ get_or ends at e → AreGroups by (take at ends) groups
     → sum_by (λ (f : Ending). f.count) ends < bound
     → sum_by (λ (f : Ending). f.count) groups + e.count < bound

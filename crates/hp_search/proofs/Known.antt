@@ -2,8 +2,9 @@
 use Rattle.std.proofs.Common.{◌≡◌, ℕ, ◌-◌, ◌≤◌, List, length, get_or, take, Ok, refl, sym, subst, arith}
 use Rattle.std.proofs.lemmas.Option.{slice_get_read}
 use Rattle.hp_scenario.specs.declared.lines.Line.{Line}
-use Rattle.hp_scenario.specs.Scenario.{ScenarioValue, scenario_in}
-use Rattle.hp_scenario.specs.Seen.{scenario_seen}
+use Rattle.hp_scenario.specs.Scenario.{ScenarioValue}
+use Rattle.hp_names.specs.Named.{NamedValue, named_in}
+use Rattle.hp_names.specs.Resolved.{Resolves}
 use Rattle.hp_explore.specs.declared.exploring.ExploreFault.{ExploreFault}
 use Rattle.hp_explore.specs.declared.exploring.ExploreFault.TheVariants as explore
 use Rattle.hp_schedules.specs.declared.tally.Ending.{Ending}
@@ -13,7 +14,7 @@ use Rattle.hp_search.specs.declared.lab_fault.LabFault.{LabFault}
 use Rattle.hp_search.specs.declared.lab_fault.LabFault.TheVariants.{NotJson, BadShape, Layout, BadLine, NotForScript, PastLayout, HistoryFull, OutOfMemory}
 use Rattle.hp_search.specs.Ends.{IsNumbered}
 use Rattle.hp_search.specs.Faults.{IsFaultWith, IsFull, IsFullTold, IsToldAs, IsUntold}
-use Rattle.hp_search.specs.Holding.{HoldsIn, InScenario, IsStoppedAfter}
+use Rattle.hp_search.specs.Holding.{HoldsAfter, HoldsIn, InScenario}
 use Rattle.hp_search.specs.Prepared.{IsPrepared, IsUnprepared, before_of, names_of, setting_of}
 use Rattle.hp_search.specs.declared.prepared.Prepared.{Prepared}
 use Rattle.hp_questions.specs.Starts.{HasNoStart}
@@ -22,10 +23,18 @@ use Rattle.hp_questions.specs.declared.start_fault.StartFault.TheVariants as sta
 
 -- ---- a line that cannot stand in a script
 
-pub unready : (input : List ℕ) (s : ScenarioValue) (setup : ℕ) (fault : StartFault)
-    → scenario_in input ≡ Ok s → HasNoStart s setup fault → IsUnprepared input setup (start_fault_from fault)
-unready input s setup (start.NotForScript place why) read h = (s, read, h)
-unready input s setup start.OutOfMemory read h = tt
+pub unready : (input : List ℕ) (named plain : NamedValue) (s : ScenarioValue) (setup : ℕ)
+    (fault : StartFault)
+    → named_in input ≡ Ok named → Resolves setup named plain → plain.scenario ≡ s → HasNoStart s setup fault
+    → IsUnprepared input setup (start_fault_from fault)
+unready input named plain s setup (start.NotForScript place why) read resolved same h = record {
+  named = named;
+  read = read;
+  plain = plain;
+  resolved = resolved;
+  holds = rw same h;
+}
+unready input named plain s setup start.OutOfMemory read resolved same h = tt
 
 -- ---- the fault of a call
 
@@ -47,37 +56,41 @@ untold C g explore.OutOfMemory told is cause = subst (IsUntold C g) (sym is) tt
 
 -- ---- made ready for a search
 
--- what holds on the machine where a search begins holds in the scenario
-pub held_in : (P : (names : List (List ℕ)) → (before : List Line) → Setting → Type 0) (input : List ℕ)
-    (setup : ℕ) (p : Prepared)
-    → IsPrepared input setup p → P (names_of p) (before_of p) (setting_of p) → HoldsIn P input setup
-held_in P input setup p ready h = record {
-  scenario = scenario_seen p.scenario;
+in_prepared : (P : NamedValue → Type 0) (input : List ℕ) (setup : ℕ) (p : Prepared)
+    → (ready : IsPrepared input setup p) → P ready.plain → InScenario input setup P
+in_prepared P input setup p ready h = record {
+  named = ready.named;
   read = ready.read;
-  fit = ready.fit;
-  after = record {
-    start = p.start.machine;
-    scripts = p.start.scripts.items;
-    begun = ready.begun;
-    holds = subst (λ (n : ℕ). P (names_of p) (take n p.scenario.lines) (setting_of p)) ready.number h;
-  };
+  plain = ready.plain;
+  resolved = ready.resolved;
+  holds = h;
 }
 
+-- what holds on the machine where a search begins holds in the scenario
 pub stopped_in : (P : Setting → Type 0) (input : List ℕ) (setup : ℕ) (p : Prepared)
-    → IsPrepared input setup p → P (setting_of p) → InScenario input (IsStoppedAfter P setup)
-stopped_in P input setup p ready h = (
-  scenario_seen p.scenario,
-  ready.read,
-  (
-    ready.fit,
-    record {
+    → IsPrepared input setup p → P (setting_of p) → InScenario input setup (HoldsAfter P setup)
+stopped_in P input setup p ready h =
+    in_prepared (HoldsAfter P setup) input setup p ready (record {
       start = p.start.machine;
       scripts = p.start.scripts.items;
       begun = ready.begun;
       holds = h;
-    },
-  ),
-)
+    })
+
+pub held_in : (P : (names : List (List ℕ)) → (before : List Line) → Setting → Type 0) (input : List ℕ)
+    (setup : ℕ) (p : Prepared)
+    → IsPrepared input setup p → P (names_of p) (before_of p) (setting_of p) → HoldsIn P input setup
+held_in P input setup p ready h =
+    in_prepared
+    (λ (s : NamedValue). HoldsAfter (P s.scenario.names (take setup s.scenario.lines)) setup s) input setup p
+    ready (record {
+      start = p.start.machine;
+      scripts = p.start.scripts.items;
+      begun = ready.begun;
+      holds =
+          subst (λ (s : ScenarioValue). P s.names (take setup s.lines) (setting_of p)) (sym ready.scenario)
+          (subst (λ (n : ℕ). P (names_of p) (take n p.scenario.lines) (setting_of p)) ready.number h);
+    })
 
 -- why there is no answer there
 pub untold_in : (C : Setting → ExploreFault → Type 0) (input : List ℕ) (setup : ℕ) (p : Prepared)
@@ -101,7 +114,7 @@ unprepared_known C input setup (Layout f) h = h
 unprepared_known C input setup (BadLine n) h = h
 unprepared_known C input setup (NotForScript place why) h = h
 unprepared_known C input setup (PastLayout n) h = absurd h
-unprepared_known C input setup (HistoryFull needed) h = absurd (h.2.1.holds.0)
+unprepared_known C input setup (HistoryFull needed) h = absurd (h.holds.holds.0)
 unprepared_known C input setup OutOfMemory h = tt
 
 -- ---- the number of an end

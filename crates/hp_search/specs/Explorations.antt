@@ -1,5 +1,5 @@
 -- What an exploration promises.
-use Rattle.std.specs.Prelude.{◌≡◌, ◌⊎◌, ℕ, ◌-◌, ◌^◌, ◌≤◌, Bool, List, Option, Some, None, sum_by}
+use Rattle.std.specs.Prelude.{◌≡◌, ◌⊎◌, ℕ, ◌-◌, ◌^◌, ◌≤◌, Bool, List, Option, Some, None, option_map, sum_by}
 use Rattle.hp_schedules.specs.declared.multinomials.HowMany.{HowMany}
 use Rattle.hp_schedules.specs.declared.tally.Ending.{Ending}
 use Rattle.hp_schedules.specs.Ends.{AreEnds, AreInOrder}
@@ -13,7 +13,7 @@ use Rattle.hp_search.specs.declared.forms.EndsForm.{EndsForm}
 use Rattle.hp_search.specs.declared.lab_fault.LabFault.{LabFault}
 use Rattle.hp_search.specs.Ends.{AreEndsTold}
 use Rattle.hp_search.specs.Faults.{IsFaultWith}
-use Rattle.hp_search.specs.Groups.{AreShown}
+use Rattle.hp_search.specs.Groups.{AreShown, grouping_of}
 use Rattle.hp_search.specs.declared.groups.GroupBy.{GroupBy}
 use Rattle.hp_search.specs.Holding.{HoldsIn}
 
@@ -39,7 +39,7 @@ pub record IsExploredOn (form : EndsForm) (by : Option GroupBy) (names : List (L
   pub ordered : AreInOrder ends
   pub within : sum_by (λ e. e.count) ends ≤ limit
   pub shown : List Ending
-  pub grouped : AreShown by ends shown
+  pub grouped : AreShown (option_map (grouping_of g) by) ends shown
   pub told : AreEndsTold form names before g shown more text found
 
 -- ---- in a scenario

@@ -7,12 +7,12 @@ use Rattle.hp_explore.specs.Faults.{FillsAlong, IsCause}
 use Rattle.hp_explore.specs.declared.exploring.ExploreFault.{ExploreFault}
 use Rattle.hp_explore.specs.declared.exploring.ExploreFault.TheVariants as explore
 use Rattle.hp_scenario.specs.declared.fault.ScenarioFault.{ScenarioFault}
-use Rattle.hp_scenario.specs.Scenario.{scenario_in}
+use Rattle.hp_names.specs.Named.{named_in}
 use Rattle.hp_questions.specs.Starts.{IsUnfitAfter}
 use Rattle.hp_search.specs.FaultOrigins.{fault_from}
 use Rattle.hp_search.specs.declared.lab_fault.LabFault.{LabFault}
 use Rattle.hp_search.specs.declared.lab_fault.LabFault.TheVariants.{NotJson, BadShape, Layout, BadLine, NotForScript, PastLayout, HistoryFull, OutOfMemory}
-use Rattle.hp_search.specs.Holding.{InScenario, IsStoppedAfter}
+use Rattle.hp_search.specs.Holding.{HoldsAfter, InScenario}
 
 -- ---- on a machine
 
@@ -21,7 +21,7 @@ abbrev pub FillsAlongSome : Setting → List Ending → Type 0
 FillsAlongSome g ends =
     (place : ℕ) × (e : Ending) × (slice_get ends place ≡ Some e) × FillsAlong g e.first.items
 
--- a full history is a cause by `C`; it needs room for `needed` records, if that is known
+-- `C` gives a full history as the cause; it needs room for `needed` records, if that is known
 abbrev pub IsFull : (C : Setting → ExploreFault → Type 0) → (needed : Option ℕ) → Setting → Type 0
 IsFull C needed g = C g explore.HistoryFull × IsRoomNeeded g needed
 
@@ -46,7 +46,7 @@ IsUntold C g fault = ⊥
 
 -- the bytes are not a scenario, and this is the reason
 abbrev pub IsUnread : (input : List ℕ) → LabFault → Type 0
-IsUnread input fault = (why : ScenarioFault) × (scenario_in input ≡ Err why) × (fault ≡ fault_from why)
+IsUnread input fault = (why : ScenarioFault) × (named_in input ≡ Err why) × (fault ≡ fault_from why)
 
 -- when each fault comes, given `C`, why a call fails; `PastLayout` comes only from a search for an
 -- end
@@ -56,10 +56,11 @@ IsFaultWith C input setup NotJson = IsUnread input NotJson
 IsFaultWith C input setup BadShape = IsUnread input BadShape
 IsFaultWith C input setup (Layout fault) = IsUnread input (Layout fault)
 IsFaultWith C input setup (BadLine line) = IsUnread input (BadLine line)
-IsFaultWith C input setup (NotForScript line why) = InScenario input (IsUnfitAfter setup line why)
+IsFaultWith C input setup (NotForScript line why) =
+    InScenario input setup (λ s. IsUnfitAfter setup line why s.scenario)
 IsFaultWith C input setup (PastLayout number) = ⊥
 IsFaultWith C input setup (HistoryFull needed) =
-    InScenario input (IsStoppedAfter (IsFull C needed) setup)
+    InScenario input setup (HoldsAfter (IsFull C needed) setup)
 IsFaultWith C input setup OutOfMemory = Unit {0}
 
 -- the faults of an exploration

@@ -16,7 +16,7 @@ use Rattle.hp_search.specs.declared.found.FindResult.TheVariants.{Absent, Found,
 use Rattle.hp_search.specs.declared.lab_fault.LabFault.{LabFault}
 use Rattle.hp_search.specs.declared.lab_fault.LabFault.TheVariants.{PastLayout}
 use Rattle.hp_search.specs.Faults.{IsFaultWith}
-use Rattle.hp_search.specs.Holding.{HoldsIn, InScenario, IsStoppedAfter}
+use Rattle.hp_search.specs.Holding.{HoldsAfter, HoldsIn, InScenario}
 use Rattle.hp_search.specs.FoundTexts.{absent_told, found_text, unknown_told}
 
 -- ---- on a machine
@@ -28,8 +28,8 @@ IsFoundTold form names before g (sought.Nearest schedule) text result =
     (text ≡ found_text form names before g schedule.items) × (result ≡ Found)
 IsFoundTold form names before g sought.Absent text result = (text ≡ absent_told form) × (result ≡ Absent)
 
--- the text has the first schedule with the fewest changes of processor whose end has each wanted
--- line; or that there is none, and then the history has room for all calls; or that this is not
+-- the text has the first schedule with the fewest changes of processor whose end has each wanted line.
+-- Or it reports that there is none, and then the history has room for all calls; or that this is not
 -- known. No wanted line is past the layout
 abbrev pub IsFoundOn : ScheduleForm → (names : List (List ℕ)) → (before : List Line) → Setting
     → List Wanted → (text : List ℕ) → FindResult → Type 0
@@ -61,5 +61,5 @@ IsSearchCause wanted g fault = AreWithin g.layout wanted × IsFindCause g wanted
 -- when each fault comes; a full history only from a call that the search makes
 abbrev pub IsFindFaultOf : (input : List ℕ) → (setup : ℕ) → List Wanted → LabFault → Type 0
 IsFindFaultOf input setup wanted (PastLayout number) =
-    InScenario input (IsStoppedAfter (IsPastLayout wanted number) setup)
+    InScenario input setup (HoldsAfter (IsPastLayout wanted number) setup)
 IsFindFaultOf input setup wanted fault = IsFaultWith (IsSearchCause wanted) input setup fault

@@ -23,7 +23,8 @@ abbrev pub found_text : ScheduleForm → (names : List (List ℕ)) → (before :
 found_text form names before g schedule =
     schedule_text form names before g.layout schedule (plays g schedule)
 
--- no interleaving ends as wanted, or it is not known whether one does; there is no scenario then
+-- the text if no interleaving ends as wanted, or if it is not known whether one does; there is no
+-- scenario then
 abbrev pub absent_told : ScheduleForm → List ℕ
 absent_told Words = codes "ends so: 0\n"
 absent_told Object = codes "{\"found\": false}\n"

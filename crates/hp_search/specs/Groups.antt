@@ -6,42 +6,61 @@ use Rattle.hp_schedules.specs.Digests.{mixed}
 use Rattle.hp_schedules.specs.Ends.{AreInOrder}
 use Rattle.hp_schedules.specs.Outcomes.{OutcomeValue}
 use Rattle.hp_schedules.specs.Shares.{AddsAt}
+use Rattle.hp_schedules.specs.Schedules.{Setting}
+use Rattle.hp_schedules.specs.declared.scripts.Step.{Step}
 use Rattle.hp_schedules.specs.declared.tally.Ending.{Ending}
+use Rattle.hp_plan_ends.specs.Likeness.{plans_digest}
+use Rattle.hp_plan_ends.specs.PlanEnds.{all_plan_ends}
 use Rattle.hp_search.specs.Objects.{answer_list, block_string}
 use Rattle.hp_search.specs.declared.groups.GroupBy.{GroupBy}
-use Rattle.hp_search.specs.declared.groups.GroupBy.TheVariants.{Answers, Blocks}
+use Rattle.hp_search.specs.declared.groups.GroupBy.TheVariants.{Answers, Blocks, Plans}
+
+-- a part of the outcomes of these scripts, on a layout with this many processors
+pub record GroupingValue : Type 0 where
+  pub by : GroupBy
+  pub cpus : ℕ
+  pub scripts : List (List Step)
+
+-- in a setting
+abbrev pub grouping_of : Setting → GroupBy → GroupingValue
+grouping_of g by = record { by = by; cpus = g.layout.cpus; scripts = g.scripts }
 
 -- two outcomes agree in the part that makes a group
-abbrev pub Agree : GroupBy → OutcomeValue → OutcomeValue → Type 0
-Agree Blocks x y = x.blocks ≡ y.blocks
-Agree Answers x y = x.replies ≡ y.replies
+abbrev pub AgreeIn : GroupBy → (cpus : ℕ) → (scripts : List (List Step)) → OutcomeValue → OutcomeValue
+    → Type 0
+AgreeIn Blocks cpus scripts x y = x.blocks ≡ y.blocks
+AgreeIn Answers cpus scripts x y = x.replies ≡ y.replies
+AgreeIn Plans cpus scripts x y = all_plan_ends cpus scripts x.replies ≡ all_plan_ends cpus scripts y.replies
+
+abbrev pub Agree : GroupingValue → OutcomeValue → OutcomeValue → Type 0
+Agree by x y = AgreeIn by.by by.cpus by.scripts x y
 
 -- the counts of the ends that agree with an outcome add up to `count`
-abbrev pub AddUp : GroupBy → OutcomeValue → List Ending → (count : ℕ) → Type 0
+abbrev pub AddUp : GroupingValue → OutcomeValue → List Ending → (count : ℕ) → Type 0
 AddUp by x [] count = count ≡ 0
 AddUp by x (e ∷ ends) count =
     ((rest : ℕ) × Agree by e.outcome x × (count ≡ e.count + rest) × AddUp by x ends rest)
     ⊎ ((Agree by e.outcome x → ⊥) × AddUp by x ends count)
 
 -- `e` is the first of the ends that agree with an outcome
-pub record IsFirstOf (by : GroupBy) (x : OutcomeValue) (ends : List Ending) (e : Ending) : Type 0 where
+pub record IsFirstOf (by : GroupingValue) (x : OutcomeValue) (ends : List Ending) (e : Ending) : Type 0 where
   pub place : ℕ
   pub here : slice_get ends place ≡ Some e
   pub agrees : Agree by e.outcome x
   pub earliest : (k : ℕ) (d : Ending) → slice_get ends k ≡ Some d → Agree by d.outcome x → place ≤ k
 
--- `g` is a group of ends: its outcome and its first schedule are those of the first end that agrees
--- with it, and it counts the schedules of all that do
-pub record IsGroup (by : GroupBy) (ends : List Ending) (g : Ending) : Type 0 where
+-- `g` is a group of ends. Its outcome and its first schedule are those of the first end that agrees
+-- with it, and it counts the schedules of all ends that do
+pub record IsGroup (by : GroupingValue) (ends : List Ending) (g : Ending) : Type 0 where
   pub leader : Ending
   pub leads : IsFirstOf by g.outcome ends leader
   pub outcome : g.outcome ≡ leader.outcome
   pub first : g.first.items ≡ leader.first.items
   pub count : AddUp by g.outcome ends g.count
 
--- the groups of ends: each end is of one group and no other, the groups count as many schedules as
--- the ends, and they are in the order of their first schedules if the ends are
-pub record AreGroups (by : GroupBy) (ends groups : List Ending) : Type 0 where
+-- the groups of ends. Each end is of one group and no other, and the groups count as many schedules as
+-- the ends. They are in the order of their first schedules if the ends are
+pub record AreGroups (by : GroupingValue) (ends groups : List Ending) : Type 0 where
   pub each : (j : ℕ) (g : Ending) → slice_get groups j ≡ Some g → IsGroup by ends g
   pub every : (k : ℕ) (e : Ending) → slice_get ends k ≡ Some e
       → (j : ℕ) × (g : Ending) × (slice_get groups j ≡ Some g) × Agree by g.outcome e.outcome
@@ -51,32 +70,32 @@ pub record AreGroups (by : GroupBy) (ends groups : List Ending) : Type 0 where
   pub ordered : AreInOrder ends → AreInOrder groups
 
 -- the ends that are shown: these, or their groups
-abbrev pub AreShown : Option GroupBy → (ends shown : List Ending) → Type 0
+abbrev pub AreShown : Option GroupingValue → (ends shown : List Ending) → Type 0
 AreShown None ends shown = shown ≡ ends
 AreShown (Some by) ends shown = AreGroups by ends shown
 
 -- ---- one end after another
 
 pub record GroupsValue : Type 0 where
-  pub by : GroupBy
+  pub by : GroupingValue
   pub ends : List Ending
 
 -- the group at this index is that of an outcome; no group is
-abbrev pub HasGroupAt : GroupBy → List Ending → OutcomeValue → (place : ℕ) → Type 0
+abbrev pub HasGroupAt : GroupingValue → List Ending → OutcomeValue → (place : ℕ) → Type 0
 HasGroupAt by groups x place =
     (g : Ending) × (slice_get groups place ≡ Some g) × Agree by g.outcome x
 
-abbrev pub HasNoGroup : GroupBy → List Ending → OutcomeValue → Type 0
+abbrev pub HasNoGroup : GroupingValue → List Ending → OutcomeValue → Type 0
 HasNoGroup by groups x = (j : ℕ) (g : Ending) → slice_get groups j ≡ Some g → Agree by g.outcome x → ⊥
 
 -- an end joins its group, which counts its schedules too
-pub record Joins (by : GroupBy) (old : List Ending) (e : Ending) (new : List Ending) : Type 0 where
+pub record Joins (by : GroupingValue) (old : List Ending) (e : Ending) (new : List Ending) : Type 0 where
   pub place : ℕ
   pub has : HasGroupAt by old e.outcome place
   pub counted : AddsAt old place e.count new
 
--- no group is the end's, and it begins one
-pub record Begins (by : GroupBy) (old : List Ending) (e : Ending) (new : List Ending) : Type 0 where
+-- no group agrees with the end, so the end begins one
+pub record Begins (by : GroupingValue) (old : List Ending) (e : Ending) (new : List Ending) : Type 0 where
   pub group : Ending
   pub none : HasNoGroup by old e.outcome
   pub outcome : group.outcome ≡ e.outcome
@@ -84,20 +103,21 @@ pub record Begins (by : GroupBy) (old : List Ending) (e : Ending) (new : List En
   pub first : group.first.items ≡ e.first.items
   pub new_is : new ≡ old ++ group ∷ []
 
-abbrev pub AddsEnd : GroupBy → List Ending → Ending → List Ending → Type 0
+abbrev pub AddsEnd : GroupingValue → List Ending → Ending → List Ending → Type 0
 AddsEnd by old e new = Joins by old e new ⊎ Begins by old e new
 
 -- ---- hashes
 
--- a part as text, and its hash
-abbrev pub part_text : GroupBy → OutcomeValue → List ℕ
-part_text Blocks x = separated (codes ", ") block_string true x.blocks
-part_text Answers x = separated (codes ", ") answer_list true x.replies
+-- the hash of a part
+abbrev pub digest_in : GroupBy → (cpus : ℕ) → (scripts : List (List Step)) → OutcomeValue → ℕ
+digest_in Blocks cpus scripts x = fold mixed 0 (separated (codes ", ") block_string true x.blocks)
+digest_in Answers cpus scripts x = fold mixed 0 (separated (codes ", ") answer_list true x.replies)
+digest_in Plans cpus scripts x = plans_digest (all_plan_ends cpus scripts x.replies)
 
-abbrev pub part_digest : GroupBy → OutcomeValue → ℕ
-part_digest by x = fold mixed 0 (part_text by x)
+abbrev pub part_digest : GroupingValue → OutcomeValue → ℕ
+part_digest by x = digest_in by.by by.cpus by.scripts x
 
 -- the map has the hash of each group
-abbrev pub AreKnown : {S : Type 0} → GroupBy → List Ending → IndexMap ℕ ℕ S → Type 0
+abbrev pub AreKnown : {S : Type 0} → GroupingValue → List Ending → IndexMap ℕ ℕ S → Type 0
 AreKnown by groups latest =
     (j : ℕ) (g : Ending) → slice_get groups j ≡ Some g → ContainsKey nat_eq latest (part_digest by g.outcome)

@@ -6,11 +6,11 @@ use Rattle.hp_machine.specs.Machine.{MachineValue}
 use Rattle.hp_schedules.specs.Schedules.{Setting}
 use Rattle.hp_explore.specs.Settings.{setting}
 use Rattle.hp_scenario.specs.declared.lines.Line.{Line}
-use Rattle.hp_scenario.specs.Scenario.{scenario_in}
 use Rattle.hp_scenario.specs.Seen.{scenario_seen}
-use Rattle.hp_questions.specs.Checks.{AreFit}
+use Rattle.hp_names.specs.Named.{NamedValue, named_in}
+use Rattle.hp_names.specs.Resolved.{Resolves}
+use Rattle.hp_questions.specs.Starts.{HasStart}
 use Rattle.hp_search.specs.Faults.{IsFaultWith}
-use Rattle.hp_questions.specs.Starts.{IsStart}
 use Rattle.hp_search.specs.declared.lab_fault.LabFault.{LabFault}
 use Rattle.hp_search.specs.declared.prepared.Prepared.{Prepared}
 
@@ -24,22 +24,23 @@ names_of p = p.scenario.names.keys
 abbrev pub before_of : Prepared → List Line
 before_of p = take p.setup p.scenario.lines
 
--- `p` is the scenario in the bytes, after `setup` lines of setup
+-- `p` is the scenario in the bytes, after `setup` lines of setup, with the numbers of their results
 pub record IsPrepared (input : List ℕ) (setup : ℕ) (p : Prepared) : Type 0 where
   pub number : p.setup ≡ setup
-  pub read : scenario_in input ≡ Ok (scenario_seen p.scenario)
-  pub fit : AreFit p.scenario.layout.cpus (drop setup p.scenario.lines)
-      (length (drop setup p.scenario.lines))
-  pub begun : IsStart p.scenario.layout (take setup p.scenario.lines) (drop setup p.scenario.lines)
-      p.start.machine p.start.scripts.items
+  pub named : NamedValue
+  pub read : named_in input ≡ Ok named
+  pub plain : NamedValue
+  pub resolved : Resolves setup named plain
+  pub scenario : plain.scenario ≡ scenario_seen p.scenario
+  pub begun : HasStart plain.scenario plain.sources setup p.start.machine p.start.scripts.items
 
--- why bytes are not made ready: a fault of reading them, or of a line after the setup; or out of
--- memory
+-- why a scenario could not be prepared: a fault of reading the bytes, or of a line after the setup; or
+-- out of memory
 abbrev pub IsUnprepared : (input : List ℕ) → (setup : ℕ) → LabFault → Type 0
 IsUnprepared input setup fault = IsFaultWith (λ g f. ⊥) input setup fault
 
--- the calls after the setup of a machine that a schedule led to, and that it has at least the
--- setup's records; `None` if the schedule cannot be played
+-- the calls after the setup, of the machine to which a schedule led; and that it has at least the
+-- setup's records. `None` if the schedule cannot be played
 abbrev pub calls_in : Setting → Option MachineValue → Option (List Record)
 calls_in g played = option_map (λ m. drop (length g.start) m.history) played
 

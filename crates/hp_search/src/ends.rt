@@ -145,9 +145,9 @@ impl Prepared {
         Ok(())
     }
 
-    /// Writes the object of an end without its closing bracket: its number, how many interleavings
-    /// lead to it, the processors' replies, the states of the memory blocks, and the calls of the
-    /// first interleaving. Replays that interleaving, and fails like `played`.
+    /// Writes the object of an end without its closing bracket. It has the end's number, how many
+    /// interleavings lead to it, the processors' replies, the states of the memory blocks, and the
+    /// calls of the first interleaving. Replays that interleaving, and fails like `played`.
     pub fn write_end_keys(
         &self,
         out: &mut String,

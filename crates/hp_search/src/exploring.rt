@@ -12,16 +12,21 @@ use hp_explore::{ExploreFault, Watch, explore};
 use std::alloc::Global;
 
 /// Explores the scenario in `input`: counts all interleavings of its scripts' calls, or the first
-/// `limit` if there are more. If `watch` ends the search, it counts the first ones up to there. The first `setup` lines are run in order; each later line goes to the
-/// script of its processor, where operation 0 is the one that the processor began last.
+/// `limit` if there are more. If `watch` ends the search, the first ones up to that point are
+/// counted.
 ///
-/// As words, the text has the number of interleavings, and for each different end how many lead to
-/// it, the processors' replies, the states of the memory blocks, and the calls of the first
+/// The first `setup` lines are run in order. Each later line goes to the script of its processor,
+/// where operation 0 is the one that the processor began last.
+///
+/// As words, the text has the number of interleavings. For each different end, it has how many lead
+/// to it, the processors' replies, the states of the memory blocks, and the calls of the first
 /// interleaving that leads to it. As objects, it has one line of JSON per end, and as a summary one
 /// line of words. In these forms nothing is found if there are more interleavings than those that
-/// were counted, and the text reports that. As a scenario, it has the layout, the lines of the setup, and the
-/// calls of the first interleaving that leads to the end with the number; if no end has that
-/// number, there is no text, and nothing is found.
+/// were counted, and the text reports that.
+///
+/// As a scenario, the text has the layout, the lines of the setup, and the calls of the first
+/// interleaving that leads to the end with the number. If no end has that number, there is no text,
+/// and nothing is found.
 ///
 /// With `by`, ends that agree in this part of their outcome are put together, and the text has
 /// their groups in place of the ends.
@@ -70,7 +75,8 @@ fn explored<W: Watch>(
     let machine = &prepared.start.machine;
     let scripts = prepared.start.scripts.as_slice();
     let explored = explore(alloc, machine, scripts, limit, watch)?;
-    let shown = grouped(alloc, explored, by)?;
+    let processors = machine.layout().cpus();
+    let shown = grouped(alloc, explored, by, processors, scripts)?;
     // The search has made the calls of each first interleaving, so only memory can run out.
     let Ok(finding) = prepared.exploration_told(alloc, &shown, form) else {
         return Err(ExploreFault::OutOfMemory);

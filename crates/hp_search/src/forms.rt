@@ -7,7 +7,7 @@ pub enum EndsForm {
     Words,
     /// All of them, as JSON, one object per line.
     Objects,
-    /// One line for each.
+    /// One line of words for each.
     Summary,
     /// The first interleaving of the end with this number, as a scenario; ends are counted from 1.
     Scenario(u64),

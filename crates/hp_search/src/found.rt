@@ -9,7 +9,7 @@ pub struct SearchText {
     pub is_found: bool,
 }
 
-/// What a search for an end came to.
+/// How a search for an end ended.
 #[derive(Clone, Copy, Debug, PartialEq, Eq, Drop)]
 pub enum FindResult {
     /// An interleaving ends as wanted.
@@ -26,6 +26,6 @@ pub struct FindText {
     /// The interleaving that was found, or a text that reports that there is none, or that it is not
     /// known.
     pub text: String,
-    /// What the search came to.
+    /// Whether an interleaving was found.
     pub result: FindResult,
 }

@@ -1,13 +1,12 @@
 //! Ends put together by a part of their outcome.
-ghost use Rattle.std.specs.Prelude.{◌≡◌, ◌↔◌, ◌+◌, ◌<◌, ◌^◌, ◌++◌, [], IfNone, IfOk, IfSome, IsTrue, OnErr, OnOk, fold, length, string_bytes, sum_by};
-ghost use Rattle.hp_schedules.specs.Digests.{mixed};
+ghost use Rattle.std.specs.Prelude.{◌≡◌, ◌+◌, ◌<◌, ◌^◌, [], IfNone, IfOk, IfSome, IsTrue, OnErr, OnOk, length, option_map, sum_by};
 ghost use Rattle.hp_schedules.specs.Shares.{AddsAt};
-ghost use Rattle.hp_search.specs.Groups.{AddsEnd, Agree, AreGroups, AreKnown, AreShown, Begins, HasGroupAt, HasNoGroup, part_digest, part_text};
+ghost use Rattle.hp_search.specs.Groups.{AddsEnd, AreGroups, AreKnown, AreShown, Begins, HasGroupAt, HasNoGroup, part_digest};
 
-use crate::objects::{write_answers, write_blocks};
+use crate::groupings::{Grouping, agree, part_digest};
 use hp_explore::Exploration;
-use hp_schedules::{Ending, Outcome, Replies, learn, mixed};
-use hp_units::{Cpu, Reply, Row};
+use hp_schedules::{CallScript, Ending, Outcome, learn};
+use hp_units::Cpu;
 use indexmap::IndexMap;
 use std::alloc::{AllocError, Global};
 use std::marker::Model;
@@ -19,15 +18,21 @@ pub enum GroupBy {
     Blocks,
     /// What each processor was answered.
     Answers,
+    /// How the plans of each processor ended.
+    Plans,
 }
 
 /// Puts ends together that agree in a part of their outcome.
 ///
 /// A group has the outcome and the first interleaving of its first end, and counts the
 /// interleavings of all its ends. The groups are in the order of their first ends.
-pub fn groups_of(alloc: Global, ends: &[Ending], by: GroupBy) -> Result<Vec<Ending>, AllocError>
+pub fn groups_of(
+    alloc: Global,
+    ends: &[Ending],
+    by: &Grouping<'_>,
+) -> Result<Vec<Ending>, AllocError>
     requires { sum_by (λ e. e.count) ends.now < 2 ^ 64 }
-    ensures { IfOk result (λ groups. AreGroups by ends.now groups.items) }
+    ensures { IfOk result (λ groups. AreGroups by.now ends.now groups.items) }
 {
     let mut groups = Groups::new(alloc, by);
     for end in ends {
@@ -41,14 +46,20 @@ pub(crate) fn grouped(
     alloc: Global,
     explored: Exploration,
     by: Option<GroupBy>,
+    cpus: u32,
+    scripts: &[CallScript],
 ) -> Result<Exploration, AllocError>
-    requires { sum_by (λ e. e.count) explored.ends.items < 2 ^ 64 }
-    ensures ends { IfOk result (λ shown. AreShown by explored.ends.items shown.ends.items) }
+    requires fits { sum_by (λ e. e.count) explored.ends.items < 2 ^ 64 }
+    requires few { length scripts.now < 2 ^ 32 }
+    ensures ends { IfOk result (λ shown.
+        AreShown (option_map (λ b. record { by = b; cpus = cpus; scripts = scripts.now }) by)
+        explored.ends.items shown.ends.items) }
     ensures whole { IfOk result (λ shown. shown.is_whole ≡ explored.is_whole) }
 {
     match by {
         Some(by) => {
-            let ends = groups_of(alloc, &explored.ends, by)?;
+            let grouping = Grouping::new(by, cpus, scripts);
+            let ends = groups_of(alloc, &explored.ends, &grouping)?;
             Ok(Exploration {
                 ends,
                 is_whole: explored.is_whole,
@@ -61,24 +72,24 @@ pub(crate) fn grouped(
 /// Groups of the ends so far.
 ///
 /// `latest` maps a hash to the index of the newest group that has it.
-struct Groups {
-    by: GroupBy,
+struct Groups<'a> {
+    by: &'a Grouping<'a>,
     ends: Vec<Ending>,
     latest: IndexMap<u64, usize>,
 }
 
-impl Model for Groups {
+impl<'a> Model for Groups<'a> {
     ghost use Rattle.hp_search.specs.Groups.{AreKnown, GroupsValue};
 
     ghost Value = { GroupsValue };
 
-    ghost view = { λ g. record { by = g.by; ends = g.ends.items } };
+    ghost view = { λ g. record { by = g.by.now; ends = g.ends.items } };
 
-    ghost invariant = { λ g. AreKnown g.by g.ends.items g.latest };
+    ghost invariant = { λ g. AreKnown g.by.now g.ends.items g.latest };
 }
 
 /// Keeps callers from proving again how each field is dropped.
-impl Drop for Groups {
+impl<'a> Drop for Groups<'a> {
     fn drop(self) {
         let Groups {
             by: _,
@@ -88,10 +99,10 @@ impl Drop for Groups {
     }
 }
 
-impl Groups {
+impl<'a> Groups<'a> {
     /// Starts with no group.
-    fn new(alloc: Global, by: GroupBy) -> Groups
-        ensures { result ≡ record { by = by; ends = [] } }
+    fn new(alloc: Global, by: &'a Grouping<'a>) -> Groups<'a>
+        ensures { result ≡ record { by = by.now; ends = [] } }
     {
         Groups {
             by,
@@ -109,13 +120,15 @@ impl Groups {
         ensures err { OnErr result (self.new ≡ self.old) }
     {
         let digest = part_digest(alloc, self.by, &end.outcome)?;
-        match place_of(
+        let place = place_of(
+            alloc,
             self.ends.as_slice(),
             &self.latest,
             self.by,
             digest,
             &end.outcome,
-        ) {
+        )?;
+        match place {
             Some(place) => {
                 self.join(place, end.count);
                 Ok(())
@@ -153,7 +166,7 @@ impl Groups {
 
     /// Returns the groups.
     fn into_ends(self) -> Vec<Ending>
-        ensures { result.items ≡ self.ends }
+        ensures { result.items ≡ self.entry.ends }
     {
         let Groups {
             by: _,
@@ -184,137 +197,57 @@ fn copy_of(alloc: Global, end: &Ending) -> Result<Ending, AllocError>
 ///
 /// It is nearly always the newest group with this hash. If not, all groups are compared.
 fn place_of(
+    alloc: Global,
     groups: &[Ending],
     latest: &IndexMap<u64, usize>,
-    by: GroupBy,
+    by: &Grouping<'_>,
     digest: u64,
     outcome: &Outcome,
-) -> Option<usize>
-    requires known { AreKnown by groups.now latest.now }
-    requires digest { digest ≡ part_digest by outcome.now }
-    ensures some { IfSome result (HasGroupAt by groups.now outcome.now) }
-    ensures none { IfNone result (HasNoGroup by groups.now outcome.now) }
+) -> Result<Option<usize>, AllocError>
+    requires known { AreKnown by.now groups.now latest.now }
+    requires digest { digest ≡ part_digest by.now outcome.now }
+    ensures some { IfOk result (λ place. IfSome place (HasGroupAt by.now groups.now outcome.now)) }
+    ensures none { IfOk result (λ place. IfNone place (HasNoGroup by.now groups.now outcome.now)) }
 {
     let Some(place) = latest.get(&digest) else {
-        return None;
+        return Ok(None);
     };
-    if is_group_at(groups, *place, by, outcome) {
-        return Some(*place);
+    if is_group_at(alloc, groups, *place, by, outcome)? {
+        return Ok(Some(*place));
     }
-    first_place_of(groups, by, outcome)
+    first_place_of(alloc, groups, by, outcome)
 }
 
 /// Returns whether an end with this outcome belongs to the group at index `place`.
-fn is_group_at(groups: &[Ending], place: usize, by: GroupBy, outcome: &Outcome) -> bool
-    ensures { IsTrue result → HasGroupAt by groups.now outcome.now place }
+fn is_group_at(
+    alloc: Global,
+    groups: &[Ending],
+    place: usize,
+    by: &Grouping<'_>,
+    outcome: &Outcome,
+) -> Result<bool, AllocError>
+    ensures { IfOk result (λ is. IsTrue is → HasGroupAt by.now groups.now outcome.now place) }
 {
     match groups.get(place) {
-        Some(group) => agree(by, &group.outcome, outcome),
-        None => false,
+        Some(group) => agree(alloc, by, &group.outcome, outcome),
+        None => Ok(false),
     }
 }
 
 /// Returns the index of the first group that an end with this outcome belongs to.
-fn first_place_of(groups: &[Ending], by: GroupBy, outcome: &Outcome) -> Option<usize>
-    ensures some { IfSome result (HasGroupAt by groups.now outcome.now) }
-    ensures none { IfNone result (HasNoGroup by groups.now outcome.now) }
+fn first_place_of(
+    alloc: Global,
+    groups: &[Ending],
+    by: &Grouping<'_>,
+    outcome: &Outcome,
+) -> Result<Option<usize>, AllocError>
+    ensures some { IfOk result (λ place. IfSome place (HasGroupAt by.now groups.now outcome.now)) }
+    ensures none { IfOk result (λ place. IfNone place (HasNoGroup by.now groups.now outcome.now)) }
 {
     for (place, group) in groups.iter().enumerate() {
-        if agree(by, &group.outcome, outcome) {
-            return Some(place);
+        if agree(alloc, by, &group.outcome, outcome)? {
+            return Ok(Some(place));
         }
     }
-    None
-}
-
-/// Returns whether two outcomes agree in a part.
-fn agree(by: GroupBy, outcome: &Outcome, other: &Outcome) -> bool
-    ensures { IsTrue result ↔ Agree by outcome.now other.now }
-{
-    match by {
-        GroupBy::Blocks => same_rows(outcome.blocks(), other.blocks()),
-        GroupBy::Answers => same_answers(outcome.replies(), other.replies()),
-    }
-}
-
-/// Returns whether both lists hold the same rows.
-fn same_rows(rows: &[Row], others: &[Row]) -> bool
-    ensures { IsTrue result ↔ (rows.now ≡ others.now) }
-{
-    if rows.len() != others.len() {
-        return false;
-    }
-    for place in 0..rows.len() {
-        if !same_row(&rows[place], &others[place]) {
-            return false;
-        }
-    }
-    true
-}
-
-/// Returns whether both rows are equal.
-pub(crate) fn same_row(row: &Row, other: &Row) -> bool
-    ensures { IsTrue result ↔ (row.now ≡ other.now) }
-{
-    *row == *other
-}
-
-/// Returns whether each processor has the same replies in both.
-fn same_answers(all: &[Replies], others: &[Replies]) -> bool
-    ensures { IsTrue result ↔ (all.now ≡ others.now) }
-{
-    if all.len() != others.len() {
-        return false;
-    }
-    for place in 0..all.len() {
-        if !same_replies(all[place].as_slice(), others[place].as_slice()) {
-            return false;
-        }
-    }
-    true
-}
-
-/// Returns whether both lists hold the same replies.
-fn same_replies(replies: &[Reply], others: &[Reply]) -> bool
-    ensures { IsTrue result ↔ (replies.now ≡ others.now) }
-{
-    if replies.len() != others.len() {
-        return false;
-    }
-    for place in 0..replies.len() {
-        if !replies[place].same(&others[place]) {
-            return false;
-        }
-    }
-    true
-}
-
-/// Returns a hash of a part of an outcome. Equal parts have equal hashes.
-fn part_digest(alloc: Global, by: GroupBy, outcome: &Outcome) -> Result<u64, AllocError>
-    ensures { IfOk result (λ digest. digest ≡ part_digest by outcome.now) }
-{
-    let mut text = String::new(alloc);
-    write_part(&mut text, by, outcome)?;
-    Ok(text_digest(text.as_bytes()))
-}
-
-/// Writes a part of an outcome.
-fn write_part(out: &mut String, by: GroupBy, outcome: &Outcome) -> Result<(), AllocError>
-    ensures { OnOk result (string_bytes out.new ≡ string_bytes out.old ++ part_text by outcome.now) }
-{
-    match by {
-        GroupBy::Blocks => write_blocks(out, outcome.blocks()),
-        GroupBy::Answers => write_answers(out, outcome.replies()),
-    }
-}
-
-/// Returns a hash of a text.
-fn text_digest(bytes: &[u8]) -> u64
-    ensures { result ≡ fold mixed 0 bytes.now }
-{
-    let mut digest = 0;
-    for byte in bytes {
-        digest = mixed(digest, u64::from(*byte));
-    }
-    digest
+    Ok(None)
 }

@@ -3,10 +3,10 @@
 //!
 //! hp_questions runs a scenario's setup and makes the scripts, and hp_explore searches. This crate
 //! joins them (`prepared`), returns what each search found (`exploring`, `threads`, `finding`), and
-//! spells ends and schedules as words, as JSON and as a scenario (`words`, `objects`, `replays`).
-//! It owns the conditions on a scenario's bytes, when each fault of a search comes, and the faults
-//! of the program and of a sum of parts; the crates that return those say when. It opens no file
-//! and no stream.
+//! writes ends and schedules as words, as JSON and as a scenario (`words`, `objects`, `replays`).
+//! It owns the conditions on a scenario's bytes, and when each fault of a search comes. It also
+//! owns the faults of the program and of a sum of parts; when these come is in the crates that
+//! return them. It opens no file and no stream.
 //!
 //! Read specs/Prepared and specs/Holding first, then specs/Explorations: what `explore_text`
 //! promises; specs/Findings; specs/Words; specs/FaultTexts and specs/FaultOrigins.
@@ -17,6 +17,7 @@ mod exploring;
 mod finding;
 mod forms;
 mod found;
+mod groupings;
 mod groups;
 mod lab_fault;
 mod objects;
@@ -33,6 +34,7 @@ pub use exploring::explore_text;
 pub use finding::find_text;
 pub use forms::{EndsForm, ScheduleForm};
 pub use found::{FindResult, FindText, SearchText};
+pub use groupings::Grouping;
 pub use groups::{GroupBy, groups_of};
 pub use lab_fault::LabFault;
 pub use objects::{found_object, write_keys, write_more};

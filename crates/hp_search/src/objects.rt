@@ -40,9 +40,9 @@ fn write_first(out: &mut String, counted: u128, known: HowMany) -> Result<(), Al
     }
 }
 
-/// Writes the object of an end without its closing bracket: its number, how many interleavings lead
-/// to it, the processors' replies, the states of the memory blocks, and the calls of the first
-/// interleaving, if it can be played. Owners are written by name.
+/// Writes the object of an end without its closing bracket. It has the end's number, how many
+/// interleavings lead to it, the processors' replies, the states of the memory blocks, and the
+/// calls of the first interleaving, if it can be played. Owners are written by name.
 pub fn write_keys(
     out: &mut String,
     names: &IndexSet<Text>,

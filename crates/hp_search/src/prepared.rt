@@ -13,6 +13,7 @@ use crate::lab_fault::LabFault;
 use crate::replay_text;
 use hp_explore::{ExploreFault, play, room_needed};
 use hp_machine::Machine;
+use hp_names::{NamedScenario, resolve_front};
 use hp_questions::{Start, front_of, start_of};
 use hp_scenario::{Line, Scenario};
 use hp_schedules::{HowMany, interleavings_of};
@@ -21,7 +22,7 @@ use std::alloc::{AllocError, Global};
 
 /// A scenario made ready for a search.
 pub struct Prepared {
-    /// The scenario.
+    /// The scenario, with plain numbers in place of results of the setup.
     pub scenario: Scenario,
     /// How many of the scenario's first lines are the setup.
     pub setup: u64,
@@ -42,7 +43,8 @@ impl Drop for Prepared {
 
 /// Reads a scenario and makes it ready for a search: runs its first `setup` lines in order on one
 /// machine, and puts each later line into the script of its processor. In a script, operation 0 is
-/// the one that the processor began last.
+/// the one that the processor began last. A name for a result of the setup becomes its number; one
+/// for a result of a script is looked up there.
 ///
 /// Errors: those of reading the scenario; `NotForScript` with the first line after the setup that
 /// may not be in a script; `OutOfMemory`, which may come in place of any other result.
@@ -51,8 +53,13 @@ pub fn prepare(alloc: Global, input: &[u8], setup: u64) -> Result<Prepared, LabF
     ensures few { IfOk result (λ p. length p.start.scripts.items < 2 ^ 32) }
     ensures err { IfErr result (IsUnprepared input.now setup) }
 {
-    let scenario = Scenario::read(alloc, input)?;
-    let start = start_of(alloc, &scenario, setup)?;
+    let named = NamedScenario::read(alloc, input)?;
+    let NamedScenario {
+        scenario,
+        sources,
+        bound: _,
+    } = resolve_front(alloc, named, setup)?;
+    let start = start_of(alloc, &scenario, sources.as_slice(), setup)?;
     Ok(Prepared {
         scenario,
         setup,

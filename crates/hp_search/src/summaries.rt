@@ -2,7 +2,7 @@
 ghost use Rattle.std.specs.Prelude.{OnOk, string_bytes};
 ghost use Rattle.hp_search.specs.Summaries.{Continues, WritesLine, WritesSummary};
 
-use crate::groups::same_row;
+use crate::groupings::same_row;
 use crate::write_counts;
 use hp_schedules::{Ending, HowMany, Replies, total_of};
 use hp_units::{Reply, Row, State, Zone};
@@ -14,13 +14,14 @@ const WIDTH: usize = 100;
 /// Written in a line in place of the blocks that have no room.
 const CUT: &str = " ..";
 
-/// Writes how many interleavings and ends there are, then a line for each end, in order: its
-/// number, how many interleavings lead to it, their share of those that were counted, how many
-/// calls were refused, and the memory blocks, as in `end 2: 31, 55.3 %, 1 refused, 0:N 1:M`.
+/// Writes how many interleavings and ends there are, and then a line for each end, in order, such
+/// as `end 2: 31, 55.3 %, 1 refused, 0:N 1:M`. The line has the end's number, how many
+/// interleavings lead to it, their share of those that were counted, how many calls were refused,
+/// and the memory blocks.
 ///
-/// A block is drawn as `trace` draws it, without its frames: `N` or `M` for an online one in this
-/// zone, `N>off` for one that is going offline, `off` or `absent`. Neighbours that are drawn alike
-/// are joined, as in `0-3:N`.
+/// A block is drawn as `trace` draws it, without its frames: `N` or `M` if it is online in this
+/// zone, `N>off` if it is going offline, `off` or `absent`. Neighbours that are drawn alike are
+/// joined, as in `0-3:N`.
 pub fn write_summary(
     out: &mut String,
     alloc: Global,

@@ -58,7 +58,8 @@ fn explored<W: Watch>(
     let machine = &prepared.start.machine;
     let scripts = prepared.start.scripts.as_slice();
     let explored = explore_with_jobs(rt, alloc, machine, scripts, limit, jobs, watch)?;
-    let shown = grouped(alloc, explored, by)?;
+    let processors = machine.layout().cpus();
+    let shown = grouped(alloc, explored, by, processors, scripts)?;
     // The search has made the calls of each first interleaving, so only memory can run out.
     let Ok(finding) = prepared.exploration_told(alloc, &shown, form) else {
         return Err(ExploreFault::OutOfMemory);

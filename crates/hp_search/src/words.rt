@@ -43,9 +43,9 @@ fn write_total(out: &mut String, counted: u128, more: Option<HowMany>) -> Result
     }
 }
 
-/// Writes an end on a machine of `layout`, after an empty line: its number, how many interleavings
-/// lead to it, the processors' replies, the states of the memory blocks, and the calls of the first
-/// interleaving, if it can be played. Owners are written by name.
+/// Writes an end on a machine of `layout`, after an empty line. The text has the end's number, how
+/// many interleavings lead to it, the processors' replies, the states of the memory blocks, and the
+/// calls of the first interleaving, if it can be played. Owners are written by name.
 pub fn write_end(
     out: &mut String,
     names: &IndexSet<Text>,

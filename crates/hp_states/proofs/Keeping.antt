@@ -6,7 +6,7 @@ use Rattle.std.proofs.lemmas.Option.{none-some, slice_get_within}
 use Rattle.hp_laws.proofs.Lists.{get_push_cases}
 use Rattle.hp_units.specs.declared.replies.Record.{Record}
 use Rattle.hp_steps.specs.Steps.{StepsValue}
-use Rattle.hp_schedules.specs.Alike.{AreAlike, UndoNothing}
+use Rattle.hp_schedules.specs.Alike.{AreAlike, AreMergeable}
 use Rattle.hp_schedules.specs.Ends.{AreCounted}
 use Rattle.hp_schedules.specs.Parts.{AllOfPart, PartValue}
 use Rattle.hp_schedules.specs.Schedules.{Setting, plays, schedule_of}
@@ -108,7 +108,7 @@ memo_more g ends memo later shares is kept one =
       all = λ i key other at h. by_place i key other (get_push_cases memo.keys memo.key key i at)
           (get_push_cases memo.rows shares other i h);
       many = omega (arith, kept.many, length_push memo.keys memo.key, length_push memo.rows shares);
-      undo = kept.undo;
+      mergeable = kept.mergeable;
     })
   where
     by_place : (i : ℕ) (key : List ℕ) (other : List Share)
@@ -150,7 +150,7 @@ memo_extended g ends old new same keep kept = record {
   many =
       ap (λ (keys : List (List ℕ)). length keys) same.1
       ∙ (kept.many ∙ ap (λ (all : List (List Share)). length all) (sym same.2));
-  undo = λ set. kept.undo (sym same.0 ∙ set);
+  mergeable = λ set. kept.mergeable (sym same.0 ∙ set);
 }
 
 -- the same where only the key that was written last may be another
@@ -180,20 +180,20 @@ memo_added g old new memo grow kept = record {
     room = is.room;
   };
   many = kept.many;
-  undo = kept.undo;
+  mergeable = kept.mergeable;
 }
 
 -- nothing is kept yet
 pub memo_begun : (g : Setting) (ends : List Ending) (memo : MemoValue) → memo.keys ≡ [] → memo.rows ≡ []
-    → (memo.is_on ≡ true → UndoNothing g.scripts) → IsMemo g ends memo
-memo_begun g ends memo bare none undo = record {
+    → (memo.is_on ≡ true → AreMergeable g.scripts) → IsMemo g ends memo
+memo_begun g ends memo bare none mergeable = record {
   all =
       λ i key shares at h. absurd (none-some shares
       (subst (λ (rows : List (List Share)). slice_get rows i ≡ Some shares) none h));
   many =
       ap (λ (keys : List (List ℕ)). length keys) bare
       ∙ ap (λ (rows : List (List Share)). length rows) (sym none);
-  undo = undo;
+  mergeable = mergeable;
 }
 
 -- where the walk stands, as long as that stays
@@ -257,11 +257,11 @@ found_like g p memo ends shares found = record {
 -- what is added to the ends
 found_counted : (g : Setting) (part : PartValue) (p : StepsValue) (old new : List Ending)
     (shares : List Share)
-    → AllOfPart (length g.scripts) part (schedule_of p.records) → UndoNothing g.scripts → IsAt g p
+    → AllOfPart (length g.scripts) part (schedule_of p.records) → AreMergeable g.scripts → IsAt g p
     → IsLike g p old shares → CountsBefore g part p old → AddsShares old shares new
     → CountsThrough g part p new
-found_counted g part p old new shares within undo here like before adds =
-    merged g part (schedule_of p.records) p.records like.seen old new within undo here.played like.alike
+found_counted g part p old new shares within mergeable here like before adds =
+    merged g part (schedule_of p.records) p.records like.seen old new within mergeable here.played like.alike
     like.seen_is before (adds_told old new shares like.seen.counts like.told adds)
 
 -- and the history has room for what goes on from here
@@ -274,14 +274,14 @@ pub found_walked : (g : Setting) (part : PartValue) (p : StepsValue) (memo : Mem
 found_walked g part p memo old new shares within found before adds = (
   record {
     counted =
-        found_counted g part p old new shares within (found.kept.undo found.on) found.here like
+        found_counted g part p old new shares within (found.kept.mergeable found.on) found.here like
         before.counted adds;
     ordered = ordered_added old new like.seen.counts before.ordered counts;
     room = before.room;
     onward =
         λ s h comes on.
         room_alike g (schedule_of like.seen.news) (schedule_of p.records) like.seen.news p.records
-        (found.kept.undo found.on) like.seen_is.played found.here.played like.alike like.room s h on;
+        (found.kept.mergeable found.on) like.seen_is.played found.here.played like.alike like.room s h on;
   },
   grow_added old new like.seen.counts counts,
 )

@@ -6,7 +6,7 @@ use Rattle.std.proofs.lemmas.List.{append-nil}
 use Rattle.std.proofs.lemmas.Option.{slice_get_within}
 use Rattle.hp_laws.proofs.Lists.{get_some}
 use Rattle.hp_units.specs.declared.replies.Record.{Record}
-use Rattle.hp_schedules.specs.Alike.{AreAlike, UndoNothing}
+use Rattle.hp_schedules.specs.Alike.{AreAlike, AreMergeable}
 use Rattle.hp_schedules.specs.Ends.{AreCounted}
 use Rattle.hp_schedules.specs.Orders.{HasCount, IsBefore, IsFirst}
 use Rattle.hp_schedules.specs.Outcomes.{OutcomeValue}
@@ -39,7 +39,7 @@ turned g h k alike = record {
 
 -- as many schedules go on from there to each end
 moved_count : (g : Setting) (p q : List ℕ) (h k : List Record) (x : OutcomeValue) (n : ℕ)
-    → UndoNothing g.scripts → plays g p ≡ Some h → plays g q ≡ Some k → AreAlike g h k
+    → AreMergeable g.scripts → plays g p ≡ Some h → plays g q ≡ Some k → AreAlike g h k
     → HasCount (GoesOn g p x) n → HasCount (GoesOn g q x) n
 moved_count g p q h k x n all first second alike counted =
     moved (λ s. EndsWith g s x) (λ s. EndsWith g s x) p q n
@@ -76,7 +76,7 @@ through_from g part q s x h = elim h.0 [ inl b ↦ inl (b, h.1) | inr e ↦ inr 
 pub merged : (g : Setting) (part : PartValue) (q : List ℕ) (k : List Record) (seen : SeenValue)
     (old new : List Ending)
     → AllOfPart (length g.scripts) part q
-    → UndoNothing g.scripts → plays g q ≡ Some k → AreAlike g seen.news k → IsSeen g old seen
+    → AreMergeable g.scripts → plays g q ≡ Some k → AreAlike g seen.news k → IsSeen g old seen
     → AreCounted (BeforeInPart g part q) old → AddsCounts old seen.counts new
     → AreCounted (ThroughInPart g part q) new
 merged g part q k seen old new within all second alike is ok adds =

@@ -2,7 +2,7 @@
 use Rattle.std.proofs.Common.{◌≡◌, ℕ, ◌≤◌, List, [], ◌∷◌, ◌++◌, Some, length, take, refl, ap, sym, ◌∙◌, arith, inl, inr}
 use Rattle.std.proofs.lemmas.List.{length-append, length_push, take-append-le}
 use Rattle.hp_units.specs.declared.replies.Record.{Record}
-use Rattle.hp_schedules.specs.Alike.{AreAlike, UndoNothing}
+use Rattle.hp_schedules.specs.Alike.{AreAlike, AreMergeable}
 use Rattle.hp_schedules.specs.Ends.{AreCounted}
 use Rattle.hp_schedules.specs.Orders.{Extends}
 use Rattle.hp_schedules.specs.Parts.{AllOfPart, ComesTo, IsOfPart, IsOn, PartValue, part_number}
@@ -60,7 +60,7 @@ abbrev pub whole : PartValue
 whole = record { index = 0; of = 1; calls = 0 }
 
 pub merged_all : (g : Setting) (q : List ℕ) (k : List Record) (seen : SeenValue) (old new : List Ending)
-    → UndoNothing g.scripts → plays g q ≡ Some k → AreAlike g seen.news k → IsSeen g old seen
+    → AreMergeable g.scripts → plays g q ≡ Some k → AreAlike g seen.news k → IsSeen g old seen
     → AreCounted (Before g q) old → AddsCounts old seen.counts new → AreCounted (Through g q) new
 merged_all g q k seen old new all second alike is ok adds =
     same_counted (ThroughInPart g whole q) (Through g q) new (λ s x h. (h.0, h.1.0))

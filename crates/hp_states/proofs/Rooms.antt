@@ -6,7 +6,7 @@ use Rattle.std.proofs.lemmas.Option.{none-some, same_Some, slice_get_within}
 use Rattle.hp_laws.proofs.Lists.{get_push_cases, get_some}
 use Rattle.hp_units.specs.declared.events.Event.{Event}
 use Rattle.hp_units.specs.declared.replies.Record.{Record}
-use Rattle.hp_schedules.specs.Alike.{AreAlike, UndoNothing}
+use Rattle.hp_schedules.specs.Alike.{AreAlike, AreMergeable}
 use Rattle.hp_schedules.specs.Ends.{AreCounted, AreInOrder}
 use Rattle.hp_states.specs.Rooms.{HasNoRoom, is_full_after}
 use Rattle.hp_schedules.specs.Notes.{AddsEnd, AddsOne, IsNoted}
@@ -228,7 +228,7 @@ ordered_noted g part p old new x ordered counted noted =
 
 -- ---- a place that goes on like another
 
-pub room_alike : (g : Setting) (p q : List ℕ) (h k : List Record) → UndoNothing g.scripts
+pub room_alike : (g : Setting) (p q : List ℕ) (h k : List Record) → AreMergeable g.scripts
     → plays g p ≡ Some h → plays g q ≡ Some k → AreAlike g h k → HasRoomFrom g p → HasRoomFrom g q
 room_alike g p q h k all first second alike room s full on = room (p ++ on.0) moved (on.0, refl)
   where
@@ -246,7 +246,7 @@ room_alike g p q h k all first second alike room s full on = room (p ++ on.0) mo
       played =
           plays_on g p on.0
           ∙ (ap (λ (o : Option (List Record)). fold (play_one g) o on.0) first ∙ other.played);
-      asked = sym (call_same g full.news other.other full.cpu other.alike) ∙ full.asked;
+      asked = sym (call_same g full.news other.other full.cpu all other.alike) ∙ full.asked;
       full =
           ap (λ (n : ℕ). nat_le g.layout.history n || nat_le 18446744073709551615 (g.before + n))
           (sym (all_calls g full.news other.other other.alike)) ∙ full.full;

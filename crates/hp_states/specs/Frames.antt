@@ -23,8 +23,8 @@ use Rattle.hp_schedules.specs.declared.tally.Ending.{Ending}
 abbrev pub counts_of : List Ending → List ℕ
 counts_of ends = map (λ e. e.count) ends
 
--- the ends when the walk reached a place, at which the tally's trail was `start` long: they count the
--- part's schedules before the place
+-- the ends at the time when the walk reached the place and the tally's trail was `start` long: they
+-- count the part's schedules before the place
 pub record IsPlaceReached (g : Setting) (part : PartValue) (news : List Record) (tally : TallyValue)
     (start : ℕ) : Type 0 where
   pub old : List Ending
@@ -32,15 +32,14 @@ pub record IsPlaceReached (g : Setting) (part : PartValue) (news : List Record) 
   pub before : AreCounted (BeforeInPart g part (schedule_of news)) old
   pub grown : Grow old tally.ends
 
--- the frame of a place that the part's search has reached
+-- the level of a place that the part's search has reached
 pub record IsFrame (g : Setting) (part : PartValue) (news : List Record) (tally : TallyValue)
     (frame : Level) : Type 0 where
   pub comes : ComesTo (length g.scripts) part (schedule_of news)
   pub within : frame.start ≤ length tally.trail
   pub reached : IsPlaceReached g part news tally frame.start
 
--- the ends grow, and the counts when the trail was `start` long, and when it was shorter, are
--- told as before
+-- the ends grow, and the trail still gives the counts of the time when it was `start` long, or shorter
 pub record GoOn (start : ℕ) (old new : TallyValue) : Type 0 where
   pub grown : Grow old.ends new.ends
   pub told : KeepsBefore start old new
@@ -57,7 +56,7 @@ pub record IsPlaceWalked (g : Setting) (news : List Record) (ends : List Ending)
   pub grown : Grow old ends
   pub through : IsPartWalkedThrough g part (schedule_of news) ends
 
--- a frame with all processors still to be tried
+-- a level with all processors still to be tried
 abbrev pub IsFresh : TallyValue → Level → Type 0
 IsFresh tally frame = frame ≡ record { next = 0; is_over = true; start = length tally.trail }
 
@@ -67,7 +66,7 @@ IsAdded old shares new Counted =
     AddsShares old.ends shares new.ends × KeepsBefore (length old.trail) old new
 IsAdded old shares new (Open frame) = (new ≡ old) × IsFresh old frame
 
--- what was done with a place in a part's search: its schedules are counted, or it has a fresh frame
+-- how a place was treated in a part's search: its schedules are counted, or it has a fresh level
 abbrev pub IsEntered : Setting → List Record → PartValue → (old new : TallyValue) → Entry → Type 0
 IsEntered g news part old new Counted =
     IsPartWalkedThrough g part (schedule_of news) new.ends × GoOn (length old.trail) old new
@@ -75,7 +74,8 @@ IsEntered g news part old new (Open frame) =
     (new ≡ old) × (frame ≡ record { next = 0; is_over = true; start = length old.trail })
     × IsFrame g part news new frame
 
--- the same for each part that has all schedules from the place and is walked up to the place
+-- the same for each part to which all schedules from the place belong, and that is walked up to the
+-- place
 abbrev pub IsEnteredWithin : Setting → List Record → (old new : TallyValue) → Entry → Type 0
 IsEnteredWithin g news old new entry =
     (part : PartValue) → AllOfPart (length g.scripts) part (schedule_of news)
@@ -97,7 +97,7 @@ pub record IsArrival (g : Setting) (part : PartValue) (news : List Record) (memo
   pub walked : IsPartWalkedBefore g part (schedule_of news) ends
   pub on : IsOn (length g.scripts) part (schedule_of news)
 
--- the search of a part leaves a place, with its frame; all schedules from there are walked
+-- the search of a part leaves a place, whose level is `frame`; all schedules from there are walked
 pub record IsLeaving (g : Setting) (part : PartValue) (news : List Record) (cursors : List Cursor)
     (tally : TallyValue) (memo : MemoValue) (frame : Level) : Type 0 where
   pub played : plays g (schedule_of news) ≡ Some news

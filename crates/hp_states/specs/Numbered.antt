@@ -28,7 +28,7 @@ openings_of entries = lists_from entry_below in_front entries
 abbrev pub IsEntryOf : List (List NumberedOpening) → (number : ℕ) → Entry → Type 0
 IsEntryOf lists number entry = IsMadeOf entry_below in_front lists number entry
 
--- the number means the operation in front of the list `below`
+-- the number is that of the list `below` with this operation in front
 abbrev pub IsInFront : (old new : List (List NumberedOpening)) → (op state below number : ℕ) → Type 0
 IsInFront old new op state below number =
     (os : List NumberedOpening) → slice_get old below ≡ Some os
@@ -40,7 +40,7 @@ IsBegun old new op from was None = Unit {0}
 IsBegun old new op from was (Some n) =
     (below : ℕ) × (state : ℕ) × (was ≡ Some below) × (from ≡ Some state) × IsInFront old new op state below n
 
--- the number means what `f` makes of the list `was`; it is None if that list is unknown
+-- the number is that of `f` applied to the list `was`; it is None if that list is unknown
 abbrev pub IsMadeBy : (List NumberedOpening → List NumberedOpening) → List (List NumberedOpening)
     → (was number : Option ℕ) → Type 0
 IsMadeBy f lists None number = number ≡ None
@@ -71,7 +71,7 @@ IsNumbered g codes lists news (Some n) =
     (ns : List NumberedOpening) × (os : List Opening) × (slice_get lists n ≡ Some ns)
     × AreNamed g.layout codes ns os × AreOpen g.layout g.base (net_of (g.start ++ news)) os
 
--- if `was` means that, then `number` does after one more record that drops no earlier steps
+-- if `was` is the number before a record that drops no earlier steps, `number` is the one after it
 abbrev pub NumbersOn : (old new : List (List NumberedOpening)) → (from : Option ℕ) → (latest : Record)
     → (was number : Option ℕ) → Type 0
 NumbersOn old new from latest was number =

@@ -8,7 +8,7 @@ use Rattle.hp_schedules.specs.Cursors.{AreCursors}
 use Rattle.hp_schedules.specs.Schedules.{Setting, plays, schedule_of}
 use Rattle.hp_schedules.specs.declared.cursors.Cursor.{Cursor}
 
--- the memory at the place after the new records, and steps at it with no way back
+-- the memory at the place after the new records; and the steps there, with no deltas to undo
 abbrev pub memory_at : Setting → List Record → MemoryValue
 memory_at g news =
     record { layout = g.layout; state = value_of g.layout g.base (g.start ++ news) }

@@ -10,7 +10,7 @@ is_full_after g news =
     nat_le g.layout.history (length (g.start ++ news))
     || nat_le 18446744073709551615 (g.before + length (g.start ++ news))
 
--- where the schedule leads, the history has no room for a call that a processor has to make
+-- after the schedule, the history has no room for a call that a processor has to make
 pub record HasNoRoom (g : Setting) (s : List ℕ) : Type 0 where
   pub news : List Record
   pub cpu : ℕ

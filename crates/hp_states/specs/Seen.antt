@@ -1,7 +1,7 @@
 -- Walked places, and how many schedules continue from each.
 use Rattle.std.specs.Prelude.{◌≡◌, ℕ, ◌≤◌, Bool, true, List, [], ◌∷◌, ◌++◌, Some, length, slice_get, slice_index_or}
 use Rattle.hp_units.specs.declared.replies.Record.{Record}
-use Rattle.hp_schedules.specs.Alike.{UndoNothing}
+use Rattle.hp_schedules.specs.Alike.{AreMergeable}
 use Rattle.hp_schedules.specs.Notes.{HasNoEnd}
 use Rattle.hp_schedules.specs.Orders.{Extends, HasCount}
 use Rattle.hp_schedules.specs.Outcomes.{OutcomeValue}
@@ -22,7 +22,7 @@ pub record SeenValue : Type 0 where
 abbrev pub GoesOn : Setting → List ℕ → OutcomeValue → List ℕ → Type 0
 GoesOn g place x s = Extends s place × EndsWith g s x
 
--- what is kept of a place is right, if the ends are these
+-- the counts stored for a place are right for these ends
 pub record IsSeen (g : Setting) (ends : List Ending) (seen : SeenValue) : Type 0 where
   pub played : plays g (schedule_of seen.news) ≡ Some seen.news
   pub few : length seen.counts ≤ length ends
@@ -66,13 +66,12 @@ abbrev pub IsRowAmong : (keys : List (List ℕ)) → (rows : List (List Share)) 
 IsRowAmong keys rows key shares =
     (i : ℕ) × (slice_get rows i ≡ Some shares) × (slice_get keys i ≡ Some key)
 
--- the kept places are right for these ends; and if any are to be kept, no script undoes steps by
--- their serials
+-- the kept places are right for these ends; and if any are to be kept, the scripts are mergeable
 pub record IsMemo (g : Setting) (ends : List Ending) (memo : MemoValue) : Type 0 where
   pub all : (i : ℕ) (key : List ℕ) (shares : List Share) → slice_get memo.keys i ≡ Some key
       → slice_get memo.rows i ≡ Some shares → IsRow g ends memo.standing key shares
   pub many : length memo.keys ≡ length memo.rows
-  pub undo : memo.is_on ≡ true → UndoNothing g.scripts
+  pub mergeable : memo.is_on ≡ true → AreMergeable g.scripts
 
 -- the same places are kept
 abbrev pub AreSamePlaces : MemoValue → MemoValue → Type 0

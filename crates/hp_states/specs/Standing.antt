@@ -8,8 +8,8 @@ use Rattle.hp_schedules.specs.Schedules.{Setting}
 use Rattle.hp_schedules.specs.Scripts.{own_operation}
 use Rattle.hp_states.specs.Stops.{AreNumbersAt, AreSameStops, AreStopsAt, KeepStops, StopsValue}
 
--- the numbers of the places that the walk came through; what each number of exchanges means; and
--- the number of each processor's exchanges
+-- the numbers of the places on the walk's path; what each transcript number means; and the number of
+-- each processor's transcript
 pub record StandingValue : Type 0 where
   pub stops : StopsValue
   pub exchanged : ExchangesValue
@@ -29,7 +29,7 @@ abbrev pub AreSameNumbers : (old new : StandingValue) → Type 0
 AreSameNumbers old new =
     AreSameStops old.stops new.stops × (new.exchanged.chains ≡ old.exchanged.chains)
 
--- a processor's part of a key: the number of its exchanges, and the operation that it began last
+-- a processor's part of a key: the number of its transcript, and the operation that it began last
 pub record IsPart (s : StandingValue) (cpu : ℕ) (news : List Record) (key : List ℕ) : Type 0 where
   pub number : ℕ
   pub first : slice_get key (2 * cpu + 2) ≡ Some number

@@ -9,8 +9,8 @@ use Rattle.hp_schedules.specs.Openings.{NumberedOpening}
 use Rattle.hp_schedules.specs.Schedules.{Setting}
 use Rattle.hp_states.specs.declared.stops.Stop.{Stop}
 
--- what each number of a state and of a list of cancellable operations means; and the numbers of this
--- place and of those that the walk came through
+-- what each number of a state and of a list of cancellable operations means; the numbers of the current
+-- place, and of those before it on the path
 pub record StopsValue : Type 0 where
   pub codes : List (List ℕ)
   pub lists : List (List NumberedOpening)

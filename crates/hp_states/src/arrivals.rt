@@ -21,12 +21,14 @@ use hp_units::Record;
 use std::alloc::{AllocError, Global};
 
 /// Decides how to treat the place just reached: skip it if it belongs to another part, reuse the
-/// counts of a place that is alike, or walk it. If the search has stopped, a place of the part is
-/// always walked, so that its next schedule is near.
+/// counts of an equivalent place, or walk it.
 ///
-/// While too few calls are made to decide the part, a place is always walked, since schedules of
-/// other parts continue from it. Its state still gets a number, because operations that begin there
-/// can be cancelled back to it.
+/// Once the search has stopped, each place of its part is walked, so that the search soon reaches
+/// the next schedule and ends there.
+///
+/// A place with too few calls to decide the part is always walked, since schedules of other parts
+/// continue from it. Its state still gets a number, because operations that begin there can be
+/// cancelled back to it.
 pub fn arrive<W: Watch>(
     alloc: Global,
     records: &[Record],
@@ -63,8 +65,8 @@ pub fn arrive<W: Watch>(
     )
 }
 
-/// Decides the same for a place from which only schedules of one part continue: if a place that is
-/// alike has been walked, its counts are added.
+/// Decides the same for a place from which only schedules of one part continue: adds the counts of
+/// an equivalent place, if one is stored.
 fn enter<W: Watch>(
     alloc: Global,
     memory: &Memory,
@@ -100,8 +102,8 @@ fn enter<W: Watch>(
     Ok(Entry::Open(Level::new(tally)))
 }
 
-/// Adds the shares to the tally. If the tally has no room for all of them, the place is to be
-/// walked.
+/// Adds the shares to the tally. If the tally has no room for all of them, adds nothing, and the
+/// place has to be walked.
 fn add_shares<W: Watch>(
     tally: &mut Tally,
     shares: &[Share],
@@ -120,8 +122,8 @@ fn add_shares<W: Watch>(
     Ok(Entry::Counted)
 }
 
-/// Counts the schedule that led to this place if `is_end` is true: then it ends here and
-/// belongs to the part.
+/// Counts the schedule that led to this place if `is_end` is true: a schedule of the part then ends
+/// here.
 pub fn note<W: Watch>(
     alloc: Global,
     records: &[Record],
@@ -147,8 +149,8 @@ pub fn note<W: Watch>(
     noted
 }
 
-/// Adds up what was counted since the walk reached a place that has been walked, and keeps it if
-/// only schedules of the part continue from there.
+/// Sums up what was counted since the walk reached the place, which is now fully walked. Stores the
+/// sums if only schedules of the part continue from there.
 pub fn leave(
     records: &[Record],
     positions: &Positions,
@@ -175,8 +177,8 @@ pub fn leave(
     keep(positions, processors, tally.since(frame.start), memo)
 }
 
-/// Stores the place's key, if it has one, with these shares of what was counted since the walk
-/// reached it.
+/// Stores these shares under the place's key, if it has one. They are what was counted since the
+/// walk reached the place.
 fn keep(
     positions: &Positions,
     processors: u32,

@@ -94,7 +94,7 @@ impl Code {
         }
     }
 
-    /// Appends a mark and the bytes that belong to it.
+    /// Appends a width mark and the bytes of the number.
     fn marked(&mut self, mark: u8, bytes: &[u8]) -> Result<(), AllocError>
         ensures { OnOk result (self.new ≡ self.old ++ mark ∷ bytes.now) }
     {

@@ -1,9 +1,9 @@
-//! What a walk knows of each place on its way.
+//! What a walk stores for each place on its current path.
 ghost use Rattle.std.specs.Prelude.{◌≡◌, ◌+◌, ◌-◌, ◌^◌, ◌<◌, length, true, false};
 
 use hp_schedules::Tally;
 
-/// A place on the way.
+/// One level of the walk's stack: a place on the current path.
 #[derive(Clone, Copy, Drop)]
 pub struct Level {
     /// The processor whose call is tried next.
@@ -14,7 +14,7 @@ pub struct Level {
     pub start: usize,
 }
 
-/// What was done with the place just reached.
+/// How a place just reached was treated.
 #[derive(Clone, Copy, Drop)]
 pub enum Entry {
     /// Its schedules are counted, or belong to another part.
@@ -24,7 +24,7 @@ pub enum Entry {
 }
 
 impl Level {
-    /// Creates a frame for a place just reached, with all processors still to be tried.
+    /// Creates the level of a place just reached, with all processors still to be tried.
     pub(crate) fn new(tally: &Tally) -> Level
         ensures { result ≡ record { next = 0; is_over = true; start = length tally.now.trail } }
     {

@@ -1,15 +1,19 @@
 //! States as numbers, and the places that a walk over schedules reaches.
 //!
-//! A memory's state is encoded part by part (`code`, `memories`), and equal codes share a number
-//! (`texts`, `codes`), so that a search compares and keeps numbers instead of states. A number means
-//! only one state of a layout (`laws`). A place is where a schedule of scripts leads: the crate owns
-//! the numbers by which places are compared (`openings`, `stops`, `standing`), tables of keys that
-//! are made of such numbers (`key_table`), the places walked so far with how many schedules continue
-//! from each to each end (`memo`), and what a walk does when it reaches and leaves a place
-//! (`arrivals`). It makes no calls: hp_explore does.
+//! A search compares and stores numbers instead of states. A memory's state is encoded part by part
+//! (`code`, `memories`), and the code gets a number (`texts`, `codes`). A number means only one
+//! state of a layout (`laws`).
 //!
-//! Read specs/Numbers, specs/Parts and specs/Codes first, then specs/Places, specs/Stops
-//! and specs/Walks.
+//! A place is where a schedule of scripts leads. The crate owns:
+//! - the numbers by which places are compared (`openings`, `stops`, `standing`),
+//! - tables of keys made of such numbers (`key_table`),
+//! - the places walked so far, with how many schedules continue from each to each end (`memo`),
+//! - what a walk does when it reaches and leaves a place (`arrivals`).
+//!
+//! It makes no calls: hp_explore does.
+//!
+//! Read specs/Numbers, specs/Parts and specs/Codes first, then specs/Places, specs/Stops and
+//! specs/Walks.
 #![tactic(auto)]
 
 mod arrivals;

@@ -93,7 +93,7 @@ impl Memo {
         })
     }
 
-    /// Follows a call.
+    /// Moves to the place after the call `latest`.
     pub fn go_on(&mut self, alloc: Global, latest: &Record) -> Result<(), AllocError>
         requires { (g : Setting) × (news : List NewRecord) × IsOnWay g news self.old }
         ensures kept { KeepMeanings self.old.standing self.new.standing }
@@ -120,11 +120,10 @@ impl Memo {
         }
     }
 
-    /// Gives the state at the place a number, writes the place's key, and returns whether it has
-    /// one.
+    /// Numbers the state at the place, writes the place's key, and returns whether it has one.
     ///
-    /// It has none if no places are stored, or if it is unknown which operations a Cancel can take
-    /// back.
+    /// It has none if no places are stored, if it is unknown which operations a Cancel can take
+    /// back, or if a number does not fit 32 bits.
     pub(crate) fn come_to(
         &mut self,
         alloc: Global,

@@ -1,5 +1,5 @@
-//! The operations that a Cancel can take back whole at a place, with the states it leads back to.
-//! Equal lists share a number in nearly all cases, so that places are compared by numbers.
+//! The operations that a Cancel can undo completely at a place, each with the state from before its
+//! Begin. Equal lists share a number in nearly all cases, so that places are compared by numbers.
 ghost use Rattle.std.specs.Prelude.{◌≡◌, ◌∷◌, ◌<◌, ◌≤◌, [], IfNone, IfOk, IfSome, List, Some, length, slice_get};
 ghost use Rattle.hp_schedules.specs.Numbers.{KeepNumbers};
 ghost use Rattle.hp_states.specs.Numbered.{IsBegun, IsEntryOf, IsInFront, IsMadeBy, NumbersOn};
@@ -11,8 +11,8 @@ use indexmap::IndexMap;
 use std::alloc::{AllocError, Global};
 use std::marker::Model;
 
-/// An operation in front of the list numbered `below`, with the number of the
-/// state before its Begin.
+/// A list that has one operation in front of an earlier list. `state` is the number of the state
+/// before the operation's Begin.
 #[derive(Clone, Copy, Drop)]
 pub(crate) struct Entry {
     op: Serial,
@@ -21,7 +21,7 @@ pub(crate) struct Entry {
     below: usize,
 }
 
-/// Lists of operations by number: 0 is the empty list, and each entry makes one more.
+/// Lists of operations by number. Number 0 is the empty list, and each entry adds one list.
 ///
 /// `latest` maps a hash to the newest list that has it.
 pub(crate) struct Openings {
@@ -63,8 +63,8 @@ impl Openings {
         }
     }
 
-    /// Returns the number of the list after one more call, if the list before was `was` and the
-    /// state `from`. Returns `None` if the list is unknown.
+    /// Returns the number of the list after the call `latest`, or `None` if the list is unknown.
+    /// `was` and `from` are the numbers of the list and of the state before the call.
     pub(crate) fn after(
         &mut self,
         was: Option<usize>,

@@ -1,5 +1,5 @@
-//! Where a walk is, in numbers: those of its places (`stops`), and each processor's transcript.
-//! Equal numbers mean equal things.
+//! Where a walk is, as numbers: those of the places on its path (`stops`), and that of each
+//! processor's transcript. Equal numbers of one kind mean the same.
 ghost use Rattle.std.specs.Prelude.{◌≡◌, ◌++◌, ◌∷◌, [], IfOk, List, None, OnOk, Some, cond, length, replicate, true};
 ghost use Rattle.hp_units.specs.History.{effect_of};
 ghost use Rattle.hp_units.specs.declared.replies.Record.{Record as NewRecord};
@@ -65,7 +65,7 @@ impl Standing {
         })
     }
 
-    /// Follows a call. The state of the new place has no number yet.
+    /// Moves to the place after a call. Its state has no number yet.
     pub(crate) fn go_on(&mut self, alloc: Global, latest: &Record) -> Result<(), AllocError>
         requires { (g : Setting) × (news : List NewRecord) × IsStanding g news self.old }
         ensures kept { KeepMeanings self.old self.new }
@@ -87,8 +87,8 @@ impl Standing {
         self.exchanges.go_back(cpu);
     }
 
-    /// Gives the current state the number that it has, or a new one, unless it is unknown which
-    /// operations a Cancel can take back.
+    /// Numbers the current state. Does nothing if it is unknown which operations a Cancel can take
+    /// back.
     pub(crate) fn number_state(&mut self, alloc: Global, memory: &Memory) -> Result<(), AllocError>
         ensures kept { KeepMeanings self.old self.new }
         ensures here { (g : Setting) (news : List NewRecord) → memory.now ≡ memory_at g news
@@ -127,8 +127,8 @@ impl Standing {
         self.push_parts(positions, processors, key)
     }
 
-    /// Appends each processor's part of a key and returns whether all of it fits. If not, `key`
-    /// holds a part of it.
+    /// Appends each processor's part of a key and returns whether all numbers fit 32 bits. If not,
+    /// the contents of `key` are unspecified.
     #[inline(always)]
     fn push_parts(
         &self,

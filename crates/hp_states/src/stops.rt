@@ -1,5 +1,5 @@
-//! The places that a walk came through, in two numbers each: one for the state, and one for the
-//! operations that a Cancel can take back. Equal numbers mean equal things.
+//! The places on a walk's path, as two numbers each: one for the state, and one for the operations
+//! that a Cancel can take back. Equal numbers of one kind mean the same.
 ghost use Rattle.std.specs.Prelude.{◌≡◌, ℕ, ◌++◌, ◌∷◌, [], IfOk, List, None, OnOk, Some, cond, true, unwrap_or};
 ghost use Rattle.hp_units.specs.History.{effect_of};
 ghost use Rattle.hp_units.specs.declared.replies.Record.{Record as NewRecord};
@@ -15,7 +15,8 @@ use hp_units::Record;
 use std::alloc::{AllocError, Global};
 use std::marker::Model;
 
-/// A place on the way: the numbers of its cancellable operations and of its state, as far as known.
+/// A place on the path: the numbers of its cancellable operations and of its state, as far as
+/// known.
 #[derive(Clone, Copy, Drop)]
 pub(crate) struct Stop {
     openings: Option<usize>,
@@ -81,7 +82,7 @@ impl Stops {
         }
     }
 
-    /// Follows a call. The state of the new place has no number yet.
+    /// Moves to the place after a call. Its state has no number yet.
     pub fn go_on(&mut self, latest: &Record) -> Result<(), AllocError>
         requires { (g : Setting) × (news : List NewRecord) × AreStopsAt g news self.old }
         ensures kept { KeepStops self.old self.new }
@@ -109,8 +110,8 @@ impl Stops {
         self.here = here;
     }
 
-    /// Gives the current state the number that it has, or a new one, unless it is unknown which
-    /// operations a Cancel can take back.
+    /// Numbers the current state. Does nothing if it is unknown which operations a Cancel can take
+    /// back.
     pub fn number_state(&mut self, alloc: Global, memory: &Memory) -> Result<(), AllocError>
         ensures kept { KeepStops self.old self.new }
         ensures here { (g : Setting) (news : List NewRecord) → memory.now ≡ memory_at g news
@@ -155,7 +156,7 @@ fn first_number(is_closed: bool) -> Option<usize>
     if is_closed { Some(0) } else { None }
 }
 
-/// Returns the place, or one of which nothing is known.
+/// Returns the place, or one with unknown numbers if there is none.
 fn known_of(stop: Option<Stop>) -> Stop
     ensures { result ≡ unwrap_or stop (record { openings = None; state = None }) }
 {

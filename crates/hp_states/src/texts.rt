@@ -8,8 +8,8 @@ use indexmap::IndexMap;
 use std::alloc::{AllocError, Global};
 use std::marker::Model;
 
-/// The bytes that a table takes for one entry besides the entry itself: its hash, its number, their
-/// place in the table, and spare room.
+/// About how many bytes a table takes per entry, besides the entry itself: hash, number, slot and
+/// spare room.
 pub(crate) const TABLE_BYTES: u64 = 64;
 
 /// Byte strings in one buffer, with the end of each.

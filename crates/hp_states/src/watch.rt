@@ -51,8 +51,8 @@ pub struct Reach {
 }
 
 impl Reach {
-    /// Counts a place and asks the watch whether the search goes on there. A search that has ended
-    /// is not asked for again.
+    /// Counts a place and asks the watch whether the search goes on there. Does not ask again once
+    /// the search has ended.
     pub fn ask<W: Watch>(&mut self, bytes: u64, watch: &mut W)
         ensures { (self.old.is_stopped ≡ true → W.has_ended watch.old)
             → self.new.is_stopped ≡ true → W.has_ended watch.new }

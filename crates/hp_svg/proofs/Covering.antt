@@ -22,7 +22,7 @@ abbrev pub runs_from : List ℕ → List Run
 runs_from [] = []
 runs_from (mark ∷ cells) = runs_after (new_run 0 mark) cells
 
--- so many of one character, and others
+-- n of one character, and others
 take_same : (n mark : ℕ) (cells : List ℕ) → take n (replicate n mark ++ cells) ≡ replicate n mark
 take_same zero mark cells = refl
 take_same (suc n) mark cells = ap (λ (xs : List ℕ). mark ∷ xs) (take_same n mark cells)

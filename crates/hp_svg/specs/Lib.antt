@@ -1,3 +1,4 @@
 pub mod Marks
 pub mod Pages
 pub mod Runs
+pub mod Shown

@@ -3,9 +3,10 @@
 //!
 //! The crate owns the picture: where each text and each cell of a row is, its colour, the legend; and
 //! the page's text around the lines, which viewer/build.py writes from the files of viewer/. It knows
-//! nothing of machines or scenarios. What either looks like is tested; proved is that the runs of a
-//! picture cover each cell once, that no two characters share a colour, and that a page has the lines
-//! as they are. Read pictures.rt first, then rows.rt and runs.rt; page.rt is apart.
+//! nothing of machines or scenarios. What either looks like is tested; proved is that a row that a
+//! picture leaves out is in a round like the one above (specs/Shown), that the runs of a picture cover
+//! each cell once, that no two characters share a colour, and that a page has the lines as they are.
+//! Read pictures.rt first, then rows.rt and runs.rt; page.rt is apart.
 #![tactic(auto)]
 
 mod elements;
@@ -16,6 +17,7 @@ mod pictures;
 mod rows;
 mod runs;
 mod sheets;
+mod shown;
 mod viewer;
 
 pub use marks::{FILLS, colours_differ};

@@ -9,6 +9,7 @@ use crate::marks::{marks_in, write_label};
 use crate::moves::write_moves;
 use crate::rows::write_rows;
 use crate::sheets::{Sheet, legend_left, legend_top};
+use crate::shown::shown_rows;
 use hp_map::RowPicture;
 use hp_numbers::Text;
 use indexmap::IndexSet;
@@ -24,7 +25,8 @@ const HATCHING: &str = "<pattern id='isolated' width='4' height='4' patternUnits
 
 /// Returns rows as SVG, with cells `cell` pixels wide, shown at `scale` percent.
 ///
-/// Rows are one under another. Each has its texts and the heads of its memory blocks as text, a
+/// Rows are one under another. Of equal rounds of a plan's calls the first is shown, and below it a
+/// line of text about the others. Each row has its texts and the heads of its memory blocks as text, a
 /// rectangle for each run of equal characters of a block's cells ([`runs_of`](crate::runs_of)), an
 /// outline with its order for each free block and each block of the kernel, and below the cells a
 /// strip for the mobility of pageblocks. A line goes from where a page was, in the row above, to
@@ -43,16 +45,17 @@ pub fn picture_of(
     names: &IndexSet<Text>,
     cell: u8,
     scale: u16,
-    rows: &[RowPicture],
+    rows: Vec<RowPicture>,
 ) -> Result<String, AllocError> {
-    let marks = marks_in(alloc, rows)?;
-    let sheet = Sheet::of(rows, cell);
-    let has_kernel = has_kernel_blocks(rows);
+    let rows = shown_rows(alloc, rows)?;
+    let marks = marks_in(alloc, &rows)?;
+    let sheet = Sheet::of(&rows, cell);
+    let has_kernel = has_kernel_blocks(&rows);
     let entries = marks.len() + 4 + has_kernel as usize;
     let mut out = String::new(alloc);
-    write_front(&mut out, sheet, scale, sheet.height(entries, rows))?;
+    write_front(&mut out, sheet, scale, sheet.height(entries, &rows))?;
     write_legend(&mut out, alloc, names, marks.as_slice(), has_kernel)?;
-    write_body(&mut out, alloc, sheet, entries, rows)?;
+    write_body(&mut out, alloc, sheet, entries, &rows)?;
     Ok(out)
 }
 

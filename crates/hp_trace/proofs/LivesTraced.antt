@@ -11,6 +11,7 @@ use Rattle.hp_scenario.specs.Names.{Numbered}
 use Rattle.hp_scenario.specs.Scenario.{ScenarioValue}
 use Rattle.hp_scenario.specs.declared.lines.Line.{Line}
 use Rattle.hp_text.specs.Plans.{plan_line}
+use Rattle.hp_text.specs.State.{newline}
 use Rattle.hp_trace.specs.Calls.{MakesWork, answer_text, moved_of}
 use Rattle.hp_trace.specs.Lives.{AreRead, IsBegun, LiveValue, LivesThrough, with_lines}
 use Rattle.hp_trace.specs.Rows.{AreDrawn, DrawsIf, IsRow, Row, RowsValue, SaysAs, drawing, words}
@@ -27,11 +28,32 @@ use Rattle.hp_trace.proofs.NamesKept.{IsWrittenAlike, all_written_alike}
 abbrev below : List ℕ → RowsValue → RowsValue
 below front r = record r { text = front ++ r.text }
 
+front_joined : (f a b c d e g : List ℕ)
+    → f ++ (a ++ b ++ c ++ d ++ e ++ g) ≡ (f ++ a) ++ b ++ c ++ d ++ e ++ g
+front_joined f a b c d e g = simp append_assoc refl
+
 row_below : (front : List ℕ) (m : MachineValue) (asked answer : List ℕ) (moved : Option Move)
     (old new : RowsValue)
     → IsRow Written m asked answer moved old new
     → IsRow Written m asked answer moved (below front old) (below front new)
-row_below front m asked answer moved old new row = grind (arith, append_assoc)
+row_below front m asked answer moved old new row =
+    let w = row.added.written in
+    record {
+      blocks = row.blocks;
+      picture = row.picture;
+      added = record {
+        text = front ++ row.added.text;
+        kept = row.added.kept;
+        written = record {
+          gap = w.gap;
+          memory = w.memory;
+          is =
+              ap (λ (t : List ℕ). front ++ t) w.is
+              ∙ front_joined front old.text asked w.gap answer w.memory newline;
+        };
+        is = ap (λ (r : RowsValue). below front r) row.added.is;
+      };
+    }
 
 said_below : (front text : List ℕ) (old new : RowsValue) → SaysAs Written text old new
     → SaysAs Written text (below front old) (below front new)
@@ -134,7 +156,14 @@ lines_below : (v : View) (names : List (List ℕ)) (before number : ℕ) (first 
     → TracesLines v names before first (lines ++ map (λ c. c.line) came) start
     (record new.rows { text = total ++ shown }) new.machine
 lines_below v names before number first start lines [] total shown old new at same is traced lives alike =
-    grind (arith, append-nil)
+    subst (λ (ls : List Line). TracesLines v names before first ls start
+    (record new.rows { text = total ++ shown }) new.machine) (sym (append-nil lines))
+    (subst (λ (n : LiveValue). TracesLines v names before first lines start
+    (record n.rows { text = total ++ shown }) n.machine) (sym lives.1)
+    (subst (λ (t : List ℕ). TracesLines v names before first lines start
+    (record old.rows { text = total ++ t }) old.machine) (sym lives.0)
+    (subst (λ (t : List ℕ). TracesLines v names before first lines start (record old.rows { text = t })
+    old.machine) (sym (append-nil total)) traced)))
 lines_below v names before number first start lines (c ∷ came) total shown old new at same is traced
     lives alike =
     let next = lives.0 in
@@ -162,7 +191,14 @@ pub begun_after : (v : View) (s : ScenarioValue) (lines : List Line) (boot after
     (unseen later rows : RowsValue)
     → lines ≡ s.lines → boot ≡ booted s.layout → TracesLines v s.names 0 boot lines unseen later after
     → IsStart Written v after rows → IsBegun v s (record { machine = after; view = v; rows = rows })
-begun_after v s lines boot after unseen later rows same at traced start = grind arith
+begun_after v s lines boot after unseen later rows same at traced start = record {
+  same = refl;
+  lists = traced.lists;
+  run =
+      subst (λ (m : MachineValue). MakesLines s.names 1 m s.lines traced.lists after) at
+      (subst (λ (ls : List Line). MakesLines s.names 1 boot ls traced.lists after) same traced.made);
+  begun = start;
+}
 
 -- the lines before those that are shown are the scenario's
 skipped_are : (v : View) (n k : ℕ) → v.from ≡ n + 1 → skipped v (n + k) ≡ n

@@ -37,6 +37,7 @@ without_text t = record {
     kept = t.rows.kept;
     log = t.rows.log;
     json = t.rows.json;
+    joiner = t.rows.joiner;
   };
 }
 

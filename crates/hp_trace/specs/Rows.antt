@@ -1,10 +1,11 @@
 -- The rows of a trace: what was asked, what was answered, and the memory after it.
-use Rattle.std.specs.Prelude.{ℕ, ◌≡◌, List, [], ◌∷◌, ◌++◌, map, Option, None, Some}
+use Rattle.std.specs.Prelude.{ℕ, ◌≡◌, ◌==◌, List, [], ◌∷◌, ◌++◌, codes, map, Option, None, Some, if◌then◌else◌}
 use Rattle.std.proofs.Common.{subst}
 use Rattle.std.specs.Str.Lines.{lines}
 use Rattle.hp_machine.specs.Machine.{MachineValue}
 use Rattle.hp_map.specs.Pictures.{IsPicture}
 use Rattle.hp_map.specs.BlockPictures.{BlockValue}
+use Rattle.hp_map.specs.Rounds.{IsJoinOf, JoinerValue, Reads, RoundsValue, more_text, nothing_read}
 use Rattle.hp_map.specs.Rows.{RowValue, row_with}
 use Rattle.hp_map.specs.declared.row_picture.Move.{Move}
 use Rattle.hp_text.specs.State.{newline}
@@ -13,34 +14,91 @@ use Rattle.hp_trace_json.specs.Ascii.{AddsLine}
 use Rattle.hp_trace_json.specs.Parts.{state_of}
 use Rattle.hp_trace_json.specs.Traces.{TraceValue, no_trace}
 use Rattle.hp_trace.specs.declared.rows.Form.{Form}
-use Rattle.hp_trace.specs.declared.rows.Form.TheVariants.{Kept, Logged, Told, Unseen, Written}
+use Rattle.hp_trace.specs.declared.rows.Form.TheVariants.{Joined, Kept, Logged, Told, Unseen, Written}
 
--- what becomes of rows; the text so far, the rows that are kept, the log, and the rows as JSON
+-- what becomes of rows; the text so far, the rows that are kept, the log, the rows as JSON, and those of
+-- which equal rounds are joined
 pub record RowsValue : Type 0 where
   pub form : Form
   pub text : List ℕ
   pub kept : List RowValue
   pub log : LogValue
   pub json : TraceValue
+  pub joiner : JoinerValue
 
 abbrev pub no_rows : Form → RowsValue
-no_rows form = record { form = form; text = []; kept = []; log = no_log; json = no_trace }
+no_rows form = record {
+  form = form;
+  text = [];
+  kept = [];
+  log = no_log;
+  json = no_trace;
+  joiner = nothing_read;
+}
 
 -- lines as rows without memory blocks
 abbrev pub line_rows : (texts : List (List ℕ)) → List RowValue
 line_rows texts = map (λ text. row_with text [] None []) texts
 
--- a line of JSON more, for a text: no state is told
+-- a line of JSON more, for a text: it has no state
 pub record IsTextTold (old new : RowsValue) : Type 0 where
   pub json : TraceValue
   pub line : AddsLine old.json.text json.text
   pub seen : json.seen ≡ old.json.seen
   pub is : new ≡ record old { json = json }
 
+-- ---- a text in which equal rounds are joined
+
+-- a row more in a text: what was asked, what was answered, and the memory, up to the end of a line. The
+-- layout and the memory as text are tested, and not said here.
+pub record IsRowIn (asked answer old new : List ℕ) : Type 0 where
+  pub gap : List ℕ
+  pub memory : List ℕ
+  pub is : new ≡ old ++ asked ++ gap ++ answer ++ memory ++ newline
+
+-- a line without memory blocks is as it is
+abbrev pub IsShownIn : (asked answer : List ℕ) → List BlockValue → (old new : List ℕ) → Type 0
+IsShownIn asked answer [] old new = new ≡ old ++ asked ++ newline
+IsShownIn asked answer (block ∷ blocks) old new = IsRowIn asked answer old new
+
+abbrev pub AreShown : List RowValue → (old new : List ℕ) → Type 0
+AreShown [] old new = new ≡ old
+AreShown (row ∷ rows) old new =
+    (mid : List ℕ) × IsShownIn row.asked row.answer row.blocks old mid × AreShown rows mid new
+
+-- a line about the rounds that are not shown
+abbrev pub more_line : RoundsValue → List ℕ
+more_line r = if r.more == 0 then [] else codes "     " ++ more_text r ++ newline
+
+abbrev pub AreEntriesShown : List RoundsValue → (old new : List ℕ) → Type 0
+AreEntriesShown [] old new = new ≡ old
+AreEntriesShown (r ∷ rest) old new =
+    (mid : List ℕ) × AreShown r.rows old mid × AreEntriesShown rest (mid ++ more_line r) new
+
+-- the text is of these rows, and each of them is shown, or is in a round like the one right above
+pub record IsJoinedText (rows : List RowValue) (text : List ℕ) : Type 0 where
+  pub entries : List RoundsValue
+  pub joined : IsJoinOf rows entries
+  pub shown : AreEntriesShown entries [] text
+
+-- these rows were added so far
+pub record IsJoinedSoFar (rows : List RowValue) (r : RowsValue) : Type 0 where
+  pub done : List RoundsValue
+  pub read : Reads done r.joiner rows
+  pub shown : AreEntriesShown done [] r.text
+
+-- rows more
+pub record AreJoinedTo (more : List RowValue) (old new : RowsValue) : Type 0 where
+  pub form : new.form ≡ old.form
+  pub all : (rows : List RowValue) → IsJoinedSoFar rows old → IsJoinedSoFar (rows ++ more) new
+
+-- ---- texts
+
 -- a text of lines more
 abbrev pub SaysAs : Form → (text : List ℕ) → (old new : RowsValue) → Type 0
 SaysAs Unseen text old new = new ≡ old
 SaysAs Written text old new = new ≡ record old { text = old.text ++ text }
+SaysAs Joined text old new = AreJoinedTo (line_rows (lines text)) old new
 SaysAs Kept text old new = new ≡ record old { kept = old.kept ++ line_rows (lines text) }
 SaysAs Logged text old new = new ≡ old
 SaysAs Told text old new = IsTextTold old new
@@ -50,23 +108,38 @@ Says text old new = SaysAs old.form text old new
 
 -- ---- a row
 
--- a row more in a text: what was asked, what was answered, and the memory, up to the end of a line. The
--- layout and the memory as text are tested, and not said here.
-pub record IsRowIn (asked answer old new : List ℕ) : Type 0 where
-  pub gap : List ℕ
-  pub memory : List ℕ
-  pub is : new ≡ old ++ asked ++ gap ++ answer ++ memory ++ newline
-
--- a row more in the text; of the rows those stay that the next one is written by
+-- a row more in the text; of the rows those are kept that the next one is written by
 pub record IsWritten (row : RowValue) (old new : RowsValue) : Type 0 where
   pub text : List ℕ
   pub kept : List RowValue
   pub written : IsRowIn row.asked row.answer old.text text
   pub is : new ≡ record old { text = text; kept = kept }
 
+-- a row or a line more in the text
+pub record IsRowShown (row : RowValue) (old new : RowsValue) : Type 0 where
+  pub text : List ℕ
+  pub kept : List RowValue
+  pub shown : IsShownIn row.asked row.answer row.blocks old.text text
+  pub is : new ≡ record old { text = text; kept = kept }
+
+-- rows and lines more in the text
+pub record AreRowsShown (rows : List RowValue) (old new : RowsValue) : Type 0 where
+  pub text : List ℕ
+  pub kept : List RowValue
+  pub shown : AreShown rows old.text text
+  pub is : new ≡ record old { text = text; kept = kept }
+
+-- entries more in the text
+pub record AreMoreShown (entries : List RoundsValue) (old new : RowsValue) : Type 0 where
+  pub text : List ℕ
+  pub kept : List RowValue
+  pub shown : AreEntriesShown entries old.text text
+  pub is : new ≡ record old { text = text; kept = kept }
+
 abbrev pub AddsRow : Form → RowValue → (old new : RowsValue) → Type 0
 AddsRow Unseen row old new = new ≡ old
 AddsRow Written row old new = IsWritten row old new
+AddsRow Joined row old new = AreJoinedTo (row ∷ []) old new
 AddsRow Kept row old new = new ≡ record old { kept = old.kept ++ row ∷ [] }
 AddsRow Logged row old new = new ≡ old
 AddsRow Told row old new = new ≡ old
@@ -96,6 +169,7 @@ abbrev pub DrawsIf : Form → MachineValue → (asked answer : List ℕ) → (mo
     → (old new : RowsValue) → Type 0
 DrawsIf Unseen m asked answer moved old new = new ≡ old
 DrawsIf Written m asked answer moved old new = IsRow Written m asked answer moved old new
+DrawsIf Joined m asked answer moved old new = IsRow Joined m asked answer moved old new
 DrawsIf Kept m asked answer moved old new = IsRow Kept m asked answer moved old new
 DrawsIf Logged m asked answer moved old new = IsRowLogged m old new
 DrawsIf Told m asked answer moved old new = IsRowTold m old new

@@ -8,7 +8,7 @@ use Rattle.hp_scenario.specs.Asked.{asked_by}
 use Rattle.hp_scenario.specs.declared.lines.Line.{Line}
 use Rattle.hp_map.specs.Rows.{RowValue}
 use Rattle.hp_trace.specs.Calls.{MakesWork}
-use Rattle.hp_trace.specs.Rows.{AreDrawn, DrawsIf, Row, RowsValue, no_rows}
+use Rattle.hp_trace.specs.Rows.{AreDrawn, DrawsIf, IsJoinedText, Row, RowsValue, no_rows}
 use Rattle.hp_trace_json.specs.Ascii.{AddsLine}
 use Rattle.hp_text.specs.Lines.{shown_line}
 use Rattle.hp_trace.specs.Views.{shows, whole_view}
@@ -58,7 +58,7 @@ pub record TracesLine (v : View) (names : List (List ℕ)) (number : ℕ) (m : M
   pub made : MakesWork m line.cpu (asked_by line.work) (numbered_text names number line) rows after
   pub drawn : AreDrawn (rows_if (shows v number) rows) old new
 
--- lines were done, which so many come before, and the rows of those that are shown drawn
+-- lines were done, which this many come before, and the rows of those that are shown drawn
 pub record TracesLines (v : View) (names : List (List ℕ)) (before : ℕ) (m : MachineValue) (lines : List Line)
     (old new : RowsValue) (after : MachineValue) : Type 0 where
   pub lists : List (List Row)
@@ -79,7 +79,7 @@ pub record IsScenarioTraced (form : Form) (v : View) (s : ScenarioValue) (rows :
       TracesLines v s.names (skipped v (length s.lines)) first (drop (skipped v (length s.lines)) s.lines)
       start rows machine
 
--- the text of a scenario's trace: its rows were written
+-- all rows of a scenario's trace as text
 pub record IsTraceOf (v : View) (s : ScenarioValue) (text : List ℕ) : Type 0 where
   pub rows : RowsValue
   pub traced : IsScenarioTraced Written v s rows
@@ -90,6 +90,12 @@ pub record AreRowsOf (v : View) (s : ScenarioValue) (list : List RowValue) : Typ
   pub rows : RowsValue
   pub traced : IsScenarioTraced Kept v s rows
   pub kept : list ≡ rows.kept
+
+-- the text of its rows, in which equal rounds are joined
+pub record IsJoinedTraceOf (v : View) (s : ScenarioValue) (text : List ℕ) : Type 0 where
+  pub list : List RowValue
+  pub rows : AreRowsOf v s list
+  pub joined : IsJoinedText list text
 
 -- its rows as JSON: a line about the scenario, and then theirs, of all lines
 pub record IsJsonOf (s : ScenarioValue) (text : List ℕ) : Type 0 where

@@ -1,8 +1,8 @@
 //! A scenario traced line by line.
 ghost use Rattle.std.specs.Prelude.{◌≡◌, ◌+◌, ◌^◌, ◌<◌, ◌≤◌, IfOk, OnOk, length, string_bytes};
 ghost use Rattle.hp_scenario.specs.Seen.{scenario_seen};
-ghost use Rattle.hp_trace.specs.declared.rows.Form.TheVariants.{Kept, Written};
-ghost use Rattle.hp_trace.specs.Traces.{AreRowsOf, IsJsonOf, IsScenarioTraced, IsStart, IsTraceOf, TracesLine, TracesLines, numbered_text, skipped, start_text};
+ghost use Rattle.hp_trace.specs.declared.rows.Form.TheVariants.{Joined, Kept};
+ghost use Rattle.hp_trace.specs.Traces.{AreRowsOf, IsJoinedTraceOf, IsJsonOf, IsScenarioTraced, IsStart, TracesLine, TracesLines, numbered_text, skipped, start_text};
 
 use crate::calls::trace_work;
 use crate::rows::{Form, Rows};
@@ -22,13 +22,14 @@ use std::alloc::{AllocError, Global};
 /// the text that `hotplug serial` writes for it. So has a plan when it begins, and below the rows of
 /// its calls its end.
 ///
-/// The contract fixes what each row asks and answers, and in which order they come. How they are laid
-/// out is tested.
+/// Of equal rounds of a plan's calls the first is shown, and below it how many more there are. The
+/// contract fixes what each row asks and answers, in which order they come, and which are not shown.
+/// How they are laid out is tested.
 pub fn trace(alloc: Global, scenario: &Scenario, view: View) -> Result<String, AllocError>
-    ensures { IfOk result (λ text. IsTraceOf view (scenario_seen scenario.now) (string_bytes text)) }
+    ensures { IfOk result (λ text. IsJoinedTraceOf view (scenario_seen scenario.now) (string_bytes text)) }
 {
-    let rows = trace_scenario(alloc, scenario, view, Form::Written)?;
-    Ok(rows.into_text())
+    let rows = trace_scenario(alloc, scenario, view, Form::Joined)?;
+    rows.into_joined_text(alloc)
 }
 
 /// Returns the rows of that trace as values, each with all memory blocks, whatever the width of the
@@ -116,7 +117,7 @@ pub(crate) fn start(
     Ok(rows)
 }
 
-/// Returns what stands in the first row.
+/// Returns what the first row asks.
 fn start_text(alloc: Global, view: View) -> Result<String, AllocError>
     ensures { IfOk result (λ text. string_bytes text ≡ start_text view) }
 {

@@ -100,8 +100,8 @@ impl LiveTrace {
 }
 
 /// Called for its contract: the first row and the rows of lines that came after a scenario's, each
-/// read after the names of the lines before it, are what `trace` returns for the scenario with
-/// these lines and a view from the first of them on.
+/// read after the names of the lines before it, are all rows of the trace of the scenario with these
+/// lines, in a view from the first of them on. `trace` joins equal rounds of these rows.
 pub fn live_rows_are_the_trace()
     ensures { ShowTheTrace }
 {}

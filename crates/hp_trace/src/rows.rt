@@ -1,8 +1,9 @@
 //! The rows of a trace.
-ghost use Rattle.std.specs.Prelude.{◌≡◌, ◌++◌, [], IfOk, OnOk, string_bytes};
+ghost use Rattle.std.specs.Prelude.{◌≡◌, ◌++◌, ◌∷◌, [], List, IfOk, OnOk, string_bytes};
+ghost use Rattle.std.specs.Option.{option_to_list};
 ghost use Rattle.std.specs.Str.Lines.{lines};
-ghost use Rattle.hp_trace.specs.Rows.{AddsRow, AreDrawn, DrawsIf, IsRow, IsRowLogged, IsRowTold, IsTextTold, IsWritten, Says, line_rows, no_rows, noted};
-ghost use Rattle.hp_map.specs.Rows.{row_with};
+ghost use Rattle.hp_trace.specs.Rows.{AddsRow, AreDrawn, AreJoinedTo, AreMoreShown, AreRowsShown, DrawsIf, IsJoinedSoFar, IsJoinedText, IsRow, IsRowLogged, IsRowShown, IsRowTold, IsTextTold, IsWritten, Says, line_rows, more_line, no_rows, noted};
+ghost use Rattle.hp_map.specs.Rows.{RowValue, row_with};
 
 use crate::columns::write_row;
 use crate::folds::{RowLayout, memory_text};
@@ -11,20 +12,23 @@ use crate::state_logs::StateLog;
 use crate::view::View;
 use hp_judge::LogEvent;
 use hp_machine::Machine;
-use hp_map::{BlockPicture, Move, RowPicture, picture_of};
+use hp_map::{BlockPicture, Move, RoundJoiner, Rounds, RowPicture, picture_of};
 use hp_scenario::Line;
 use hp_units::{Receipt, Text};
 use indexmap::IndexSet;
 use std::alloc::{AllocError, Global};
 use std::marker::Model;
+use std::mem::replace;
 
 /// What becomes of the rows of a line.
 #[derive(Clone, Copy)]
 pub(crate) enum Form {
     /// Nothing.
     Unseen,
-    /// Text.
+    /// Text, each row as soon as it is drawn.
     Written,
+    /// Text in which equal rounds are joined.
+    Joined,
     /// Values, each with all memory blocks.
     Kept,
     /// The events between the states of the memory that they show.
@@ -43,6 +47,7 @@ pub(crate) struct Rows {
     kept: Vec<RowPicture>,
     log: StateLog,
     json: JsonRows,
+    joiner: RoundJoiner,
 }
 
 impl Model for Rows {
@@ -57,6 +62,7 @@ impl Model for Rows {
       kept = r.kept.items;
       log = r.log;
       json = r.json;
+      joiner = r.joiner;
     } };
 }
 
@@ -72,6 +78,7 @@ impl Rows {
             kept: Vec::new(alloc),
             log: StateLog::new(alloc),
             json: JsonRows::new(alloc),
+            joiner: RoundJoiner::new(alloc),
         }
     }
 
@@ -82,6 +89,7 @@ impl Rows {
         match self.form {
             Form::Unseen => Ok(()),
             Form::Written => self.text.push_str(text),
+            Form::Joined => self.join_lines(alloc, text),
             Form::Kept => keep_lines(&mut self.kept, alloc, text),
             Form::Logged => Ok(()),
             Form::Told => self.tell_text(alloc, text),
@@ -135,6 +143,7 @@ impl Rows {
         match self.form {
             Form::Unseen => Ok(()),
             Form::Written => self.draw_row(alloc, machine, asked, answer, moved),
+            Form::Joined => self.draw_row(alloc, machine, asked, answer, moved),
             Form::Kept => self.draw_row(alloc, machine, asked, answer, moved),
             Form::Logged => self.log_row(alloc, machine),
             Form::Told => self.tell_row(alloc, machine, receipt),
@@ -165,6 +174,7 @@ impl Rows {
         match self.form {
             Form::Unseen | Form::Logged | Form::Told => Ok(()),
             Form::Written => self.write(alloc, row),
+            Form::Joined => self.join(alloc, row),
             Form::Kept => {
                 self.kept.push(row)?;
                 Ok(())
@@ -184,6 +194,65 @@ impl Rows {
         self.kept.clear();
         self.kept.push(row)?;
         Ok(())
+    }
+
+    /// Adds a row, and shows the entry to which no more rows can be joined.
+    fn join(&mut self, alloc: Global, row: RowPicture) -> Result<(), AllocError>
+        ensures { OnOk result (AreJoinedTo (row ∷ []) self.old self.new) }
+    {
+        let gone = self.joiner.push(alloc, row)?;
+        self.show(alloc, gone)
+    }
+
+    /// Adds each line of a text as a row without memory blocks.
+    fn join_lines(&mut self, alloc: Global, text: &str) -> Result<(), AllocError>
+        ensures { OnOk result (AreJoinedTo (line_rows (lines text.now)) self.old self.new) }
+    {
+        for line in text.lines() {
+            let row = row_with(alloc, line, "", None, Vec::new(alloc))?;
+            self.join(alloc, row)?;
+        }
+        Ok(())
+    }
+
+    /// Shows an entry, if there is one.
+    fn show(&mut self, alloc: Global, entry: Option<Rounds>) -> Result<(), AllocError>
+        ensures { OnOk result (AreMoreShown (option_to_list entry) self.old self.new) }
+    {
+        match entry {
+            Some(entry) => self.show_entry(alloc, entry),
+            None => Ok(()),
+        }
+    }
+
+    /// Shows an entry: the rows of its first round, and a line about the others.
+    fn show_entry(&mut self, alloc: Global, entry: Rounds) -> Result<(), AllocError>
+        ensures { OnOk result (AreMoreShown (entry ∷ []) self.old self.new) }
+    {
+        let more = more_line(alloc, &entry)?;
+        self.show_rows(alloc, entry.into_rows())?;
+        self.text.push_str(more.as_str())
+    }
+
+    /// Shows rows.
+    fn show_rows(&mut self, alloc: Global, rows: Vec<RowPicture>) -> Result<(), AllocError>
+        ensures { OnOk result (AreRowsShown rows.items self.old self.new) }
+    {
+        for row in rows {
+            self.show_row(alloc, row)?;
+        }
+        Ok(())
+    }
+
+    /// Shows a row, or a line without memory blocks.
+    fn show_row(&mut self, alloc: Global, row: RowPicture) -> Result<(), AllocError>
+        ensures { OnOk result (IsRowShown row self.old self.new) }
+    {
+        if row.blocks().is_empty() {
+            let line = row.asked();
+            return writeln!(self.text, "{line}");
+        }
+        self.write(alloc, row)
     }
 
     /// Returns the memory blocks of the last row, or none before the first.
@@ -253,8 +322,22 @@ impl Rows {
             kept: _,
             log: _,
             json: _,
+            joiner: _,
         } = self;
         all
+    }
+
+    /// Returns the text of the rows, in which equal rounds are joined.
+    pub(crate) fn into_joined_text(self, alloc: Global) -> Result<String, AllocError>
+        ensures { IfOk result (λ text. (rows : List RowValue)
+            → IsJoinedSoFar rows self → IsJoinedText rows (string_bytes text)) }
+    {
+        let mut all = self;
+        let joiner = replace(&mut all.joiner, RoundJoiner::new(alloc));
+        let (gone, last) = joiner.finish(alloc)?;
+        all.show(alloc, gone)?;
+        all.show(alloc, last)?;
+        Ok(all.into_text())
     }
 
     /// Returns the rows as values.
@@ -268,6 +351,7 @@ impl Rows {
             kept: all,
             log: _,
             json: _,
+            joiner: _,
         } = self;
         all
     }
@@ -283,6 +367,7 @@ impl Rows {
             kept: _,
             log,
             json: _,
+            joiner: _,
         } = self;
         log.into_events()
     }
@@ -298,6 +383,7 @@ impl Rows {
             kept: _,
             log: _,
             json,
+            joiner: _,
         } = self;
         json.into_text()
     }
@@ -328,4 +414,18 @@ fn row_with(
     let asked = Text::new(asked);
     let answer = Text::new(answer);
     Ok(RowPicture::new(asked, answer, moved, blocks))
+}
+
+/// Returns the line about the rounds that are not shown; nothing if there are none.
+fn more_line(alloc: Global, entry: &Rounds) -> Result<String, AllocError>
+    ensures { IfOk result (λ text. string_bytes text ≡ more_line entry.now) }
+{
+    let mut out = String::new(alloc);
+    if entry.more() == 0 {
+        return Ok(out);
+    }
+    out.push_str("     ")?;
+    entry.write_more(&mut out)?;
+    out.push_str("\n")?;
+    Ok(out)
 }

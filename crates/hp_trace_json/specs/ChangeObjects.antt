@@ -8,12 +8,12 @@ use Rattle.hp_trace_json.specs.Changes.{ChangeValue}
 
 -- ---- tokens
 
--- these tokens were put behind those before
+-- these tokens were appended
 pub record Puts (old new : Written) (ts : List Token) : Type 0 where
   pub before : new.before ≡ old.before
   pub tokens : new.tokens ≡ old.tokens ++ ts
 
--- some tokens were
+-- some tokens were appended
 abbrev pub PutsSome : (old new : Written) → Type 0
 PutsSome old new = (ts : List Token) × Puts old new ts
 
@@ -39,7 +39,7 @@ is_all_kept c =
     && (length c.cpu_lists == 0) && (length c.kernel == 0) && (length c.pages == 0)
     && (length c.words == 0) && not (is_some c.auto)
 
--- what is told of a change: nothing if nothing changed, and else an object with the key `change`
+-- the tokens for a change: none if nothing changed, otherwise an object at the key `change`
 abbrev pub TellsChange : ChangeValue → (ts : List Token) → Type 0
 TellsChange c ts =
     ((c ≡ no_change) × (ts ≡ []))
@@ -49,7 +49,7 @@ TellsChange c ts =
 abbrev pub PutsChange : (old : Written) → ChangeValue → (new : Written) → Type 0
 PutsChange old c new = (ts : List Token) × Puts old new ts × TellsChange c ts
 
--- an object that tells a change, in which a reader finds its tokens
+-- an object with the tokens for a change; a reader finds these tokens in it
 pub record IsChangeObject (c : ChangeValue) (text : List ℕ) : Type 0 where
   pub inside : List Token
   pub told : TellsChange c inside

@@ -1,4 +1,4 @@
--- What a row tells of a state: how each part differs from the row above, and nothing else.
+-- What a row reports of a state: how each part differs from the row above, and nothing else.
 use Rattle.std.specs.Prelude.{ℕ, ◌≡◌, ◌+◌, ◌*◌, ◌==◌, ◌&&◌, Bool, List, Option, Some, None, ◌≢◌, ◌⊎◌}
 use Rattle.hp_units.specs.Arithmetic.{frame_count, pageblock_count}
 use Rattle.hp_units.specs.declared.rows.Auto.{Auto}
@@ -88,7 +88,7 @@ is_page owner page x = (x.owner == owner) && (x.page == page)
 abbrev pub SetsFrame : Option ℕ → Option ℕ → PageNow → Type 0
 SetsFrame was now x = x.frame ≡ now
 
--- those of an owner, and those of the owners
+-- the changed pages of an owner, and of all owners
 abbrev pub OwnersPagesTold : Option Pictured → Pictured → (owner count : ℕ) → List PageNow → Type 0
 OwnersPagesTold was now owner =
     TellsBelow
@@ -110,7 +110,7 @@ is_word owner page index x = ((x.owner == owner) && (x.page == page)) && (x.inde
 abbrev pub SetsWord : ℕ → ℕ → WordNow → Type 0
 SetsWord was now x = x.word ≡ now
 
--- those of a page, those of an owner's pages, and those of the owners
+-- the changed words of a page, of an owner's pages, and of all owners
 abbrev pub PagesWordsTold : (owner page : ℕ) → (was now : List ℕ) → (count : ℕ) → List WordNow → Type 0
 PagesWordsTold owner page was now =
     TellsBelow (λ index. Tells (is_word owner page index) SetsWord (word_of was index) (word_of now index))

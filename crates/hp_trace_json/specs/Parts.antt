@@ -1,5 +1,4 @@
--- The parts of a state that a trace shows, by their keys: of the state before the first row there is
--- nothing.
+-- The parts of a state that a trace shows, by their keys. Before the first row there is no state.
 use Rattle.std.specs.Prelude.{ℕ, zero, suc, Bool, true, false, List, [], Option, Some, None, slice_get, slice_index, slice_index_or, unwrap_or}
 use Rattle.hp_units.specs.declared.rows.Auto.{Auto}
 use Rattle.hp_units.specs.declared.rows.Kind.{Kind}

@@ -1,7 +1,7 @@
 -- How one list becomes another.
 use Rattle.std.specs.Prelude.{ℕ, ◌≡◌, ◌≢◌, ◌+◌, ◌-◌, ◌<◌, ◌≤◌, List, ◌++◌, drop, length, slice_get, take}
 
--- from a place on, so many entries go and others come
+-- from index `at` on, `gone` entries are removed and the entries `put` are inserted
 pub record SpliceValue : Type 0 where
   pub at : ℕ
   pub gone : ℕ
@@ -14,25 +14,26 @@ spliced s was = take s.at was ++ s.put ++ drop (s.at + s.gone) was
 abbrev pub is_start : List ℕ → List ℕ → ℕ → Type 0
 is_start was now n = (n ≤ length was) × (n ≤ length now) × (take n was ≡ take n now)
 
--- and the next ones, if both lists have one, are not
+-- as `is_start`, and the next entries, if both lists have one, differ
 abbrev pub is_last_start : List ℕ → List ℕ → ℕ → Type 0
 is_last_start was now n =
     is_start was now n × (n < length was → n < length now → slice_get was n ≢ slice_get now n)
 
--- the last n entries are the same, none of which is among the first ones
+-- the last n entries are the same, and none of them is among the first `start`
 abbrev pub is_end : List ℕ → List ℕ → (start n : ℕ) → Type 0
 is_end was now start n =
     (start + n ≤ length was) × (start + n ≤ length now)
     × (drop (length was - n) was ≡ drop (length now - n) now)
 
--- and the ones before these, if both lists have one, are not
+-- as `is_end`, and the entries before these, if both lists have one, differ
 abbrev pub is_last_end : List ℕ → List ℕ → (start n : ℕ) → Type 0
 is_last_end was now start n =
     is_end was now start n
     × (start + n < length was → start + n < length now
     → slice_get was (length was - 1 - n) ≢ slice_get now (length now - 1 - n))
 
--- the splice makes the one list the other, and tells of no entry that both have at their starts or at their ends
+-- the splice turns the one list into the other, and leaves out the entries that both have in common at
+-- their starts and ends
 pub record IsSplice (was now : List ℕ) (s : SpliceValue) : Type 0 where
   pub leads : spliced s was ≡ now
   pub begins : is_last_start was now s.at

@@ -1,20 +1,20 @@
--- What entries tell of a part of a state, which has a value for each key: of each key whose value
--- changed one entry, which makes the value now of the one before, and of the others nothing.
+-- What entries report of a part of a state, which has a value for each key. A key whose value changed
+-- has one entry, which makes the value now of the one before; every other key has none.
 use Rattle.std.specs.Prelude.{ℕ, ◌≡◌, ◌≢◌, ◌⊎◌, ◌<◌, ◌≤◌, Bool, List, [], ◌∷◌, ◌++◌}
 use Rattle.std.specs.List.{filter}
 
--- of a key, whose entries are those that `is` tells, with a value before and now
+-- what is reported of one key, whose entries `is` selects, for its values before and now
 abbrev pub Tells : {T V : Type 0} → (is : T → Bool) → (Sets : V → V → T → Type 0) → (was now : V) → List T
     → Type 0
 Tells is Sets was now told =
     ((was ≡ now) × (filter is told ≡ []))
     ⊎ ((x : _) × (was ≢ now) × (filter is told ≡ x ∷ []) × Sets was now x)
 
--- nothing of a key
+-- nothing is reported of a key
 abbrev pub IsSilent : {T : Type 0} → (is : T → Bool) → List T → Type 0
 IsSilent is told = filter is told ≡ []
 
--- of the keys below n what is said of each, and nothing of the others
+-- `Said` holds of each key below n, and `Silent` of every other
 abbrev pub TellsBelow : {T : Type 0} → (Said Silent : ℕ → List T → Type 0) → (n : ℕ) → List T → Type 0
 TellsBelow Said Silent n told = (k : ℕ) → (k < n → Said k told) × (n ≤ k → Silent k told)
 

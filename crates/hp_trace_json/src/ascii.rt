@@ -1,12 +1,13 @@
-//! Lines of plain characters, from JSON with any.
+//! Writes JSON as lines of printable ASCII.
 ghost use Rattle.std.specs.Prelude.{◌≡◌, ◌<◌, ◌≤◌, OnOk, string_bytes};
 ghost use Rattle.hp_trace_json.specs.Ascii.{AddsLine, AddsPlain, IsPlain};
 
 use std::alloc::AllocError;
 
-/// Writes JSON as one line, in which each character that is not plain ASCII, and `<`, is written by
-/// its number: these are in texts alone, so the JSON means the same (RFC 8259, section 7). No text
-/// can end a `script` element or open a comment in one, and none changes how a line is shown.
+/// Writes JSON as one line. Each `<`, and each character that is not printable ASCII, is written as
+/// a `\u` escape. JSON has such characters only in strings, so it means the same (RFC 8259, section
+/// 7). No string can end a `script` element or open a comment in one, and none changes how a line
+/// is shown.
 pub(crate) fn write_line(out: &mut String, json: &str) -> Result<(), AllocError>
     ensures { OnOk result (AddsLine (string_bytes out.old) (string_bytes out.new)) }
 {
@@ -14,7 +15,7 @@ pub(crate) fn write_line(out: &mut String, json: &str) -> Result<(), AllocError>
     out.push('\n')
 }
 
-/// Writes characters, those that are not plain by their numbers.
+/// Writes characters, and those that are not plain as escapes.
 fn write_plain(out: &mut String, json: &str) -> Result<(), AllocError>
     ensures { OnOk result (AddsPlain (string_bytes out.old) (string_bytes out.new)) }
 {
@@ -24,7 +25,7 @@ fn write_plain(out: &mut String, json: &str) -> Result<(), AllocError>
     Ok(())
 }
 
-/// Writes a character, by its number if it is not plain; by two, if it is past U+FFFF.
+/// Writes a character, as an escape if it is not plain. A character past U+FFFF takes two escapes.
 fn write_character(out: &mut String, c: char) -> Result<(), AllocError>
     ensures { OnOk result (AddsPlain (string_bytes out.old) (string_bytes out.new)) }
 {
@@ -40,7 +41,7 @@ fn write_character(out: &mut String, c: char) -> Result<(), AllocError>
     write_unit(out, 0xDC00 + rest % 0x400)
 }
 
-/// Writes a code unit of UTF-16 by its number.
+/// Writes a code unit of UTF-16 as an escape.
 fn write_unit(out: &mut String, unit: u32) -> Result<(), AllocError>
     ensures { OnOk result (AddsPlain (string_bytes out.old) (string_bytes out.new)) }
 {

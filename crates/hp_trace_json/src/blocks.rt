@@ -27,7 +27,7 @@ pub struct PageblockNow {
     pub is_unmovable: bool,
 }
 
-/// Returns the memory blocks whose rows differ, with their rows now.
+/// Returns the memory blocks whose rows differ between the two states, with their rows now.
 pub(crate) fn blocks_told(
     alloc: Global,
     was: &Option<Image>,
@@ -68,7 +68,8 @@ fn row_in(state: &Option<Image>, block: Block) -> Option<Row>
     }
 }
 
-/// Returns the pageblocks whose mobilities differ, with their mobilities now.
+/// Returns the pageblocks whose mobilities differ between the two states, with their mobilities
+/// now.
 pub(crate) fn pageblocks_told(
     alloc: Global,
     was: &Option<Image>,
@@ -111,7 +112,7 @@ fn tell_pageblock(
     Ok(())
 }
 
-/// Returns whether a pageblock is unmovable, if there is a state.
+/// Returns whether there is a state in which the pageblock is unmovable.
 fn unmovable_in(state: &Option<Image>, pageblock: Pageblock) -> bool
     ensures { result ≡ unmovable_in state.now pageblock }
 {

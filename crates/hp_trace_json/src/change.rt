@@ -65,7 +65,7 @@ impl Model for StateChange {
     } };
 }
 
-/// Returns how a state differs from the one before it; from nothing, if there is none.
+/// Returns how a state differs from the one before it, or from an empty state if there was none.
 pub fn change_between(
     alloc: Global,
     was: &Option<Image>,

@@ -29,7 +29,8 @@ pub struct PageNow {
     pub frame: Option<Frame>,
 }
 
-/// Returns the frames where the kernel's blocks differ, with the orders of those there now.
+/// Returns the frames at which the kernel's blocks differ between the two states. Each comes with
+/// the order of the kernel's block that starts there now.
 pub(crate) fn kernel_told(
     alloc: Global,
     was: &Option<Image>,
@@ -75,7 +76,7 @@ fn kernel_in(state: &Option<Image>, frame: Frame) -> Option<Order>
     }
 }
 
-/// Returns the pages whose frames differ, with their frames now.
+/// Returns the pages whose frames differ between the two states, with their frames now.
 pub(crate) fn pages_told(
     alloc: Global,
     was: &Option<Image>,
@@ -91,7 +92,7 @@ pub(crate) fn pages_told(
     Ok(told)
 }
 
-/// Returns the pages of an owner whose frames differ, with their frames now.
+/// Returns the pages of an owner whose frames differ between the two states, with their frames now.
 fn owners_pages_told(
     alloc: Global,
     was: &Option<Image>,

@@ -1,10 +1,12 @@
 //! The rows of a trace as JSON: a line for each row, with how the state differs from the row above.
 //!
-//! The crate owns what a row tells of a state (`StateChange`), what is kept of the rows above
-//! (`SeenState`), and the text. It runs nothing: its caller makes the calls and hands over the
-//! machine after each. Read specs/Told first, then specs/Changes: a reader that follows the rows has
-//! the machine's state, and is told of nothing that stayed. The text is safe and tested: ASCII, one
-//! line a row, no `<`.
+//! The crate owns what a row reports of a state (`StateChange`), what is stored of the rows above
+//! (`SeenState`), and the text. It runs nothing: its caller makes the calls and passes the machine
+//! after each.
+//!
+//! Read specs/Told first, then specs/Changes: a reader that follows the rows has the machine's
+//! state, and gets nothing that stayed the same. Each row is one line of printable ASCII without
+//! `<`. The text of a row is tested.
 #![tactic(auto)]
 
 mod ascii;

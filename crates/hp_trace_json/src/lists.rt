@@ -32,7 +32,7 @@ pub struct CpuListNow {
     pub splice: Splice,
 }
 
-/// Returns the free lists that differ, with how they changed.
+/// Returns the free lists that differ between the two states, with how they changed.
 pub(crate) fn free_lists_told(
     alloc: Global,
     was: &Option<Image>,
@@ -92,7 +92,7 @@ fn free_list_in(state: &Option<Image>, class: Class, order: Order) -> &[Frame]
     }
 }
 
-/// Returns the processors' lists that differ, with how they changed.
+/// Returns the processors' lists that differ between the two states, with how they changed.
 pub(crate) fn cpu_lists_told(
     alloc: Global,
     was: &Option<Image>,
@@ -147,7 +147,7 @@ fn cpu_list_in(state: &Option<Image>, cpu: Cpu, pool: Pool) -> &[Frame]
     }
 }
 
-/// Returns the pool of a number, 0 to 2; the last one past it.
+/// Returns the pool with this number, from 0 to 2. A greater number gives the last pool.
 fn pool_numbered(number: u32) -> Pool
     ensures { result ≡ pool_numbered number }
 {

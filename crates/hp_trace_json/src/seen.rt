@@ -25,14 +25,15 @@ impl Model for SeenState {
 }
 
 impl SeenState {
-    /// Makes the state before the first row: nothing.
+    /// Creates the value before the first row: no state was seen.
     pub fn new() -> SeenState
         ensures { result ≡ None }
     {
         SeenState { image: None }
     }
 
-    /// Returns how a machine's state differs from the one that was seen last, and has seen it.
+    /// Returns how a machine's state differs from the one seen last, and stores it as the one seen
+    /// last.
     pub fn observe(&mut self, alloc: Global, machine: &Machine) -> Result<StateChange, AllocError>
         ensures change { IfOk result (IsChange self.old (state_of machine.now)) }
         ensures seen { OnOk result (self.new ≡ Some (state_of machine.now)) }

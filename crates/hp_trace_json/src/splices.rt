@@ -6,14 +6,14 @@ use hp_units::Frame;
 use std::alloc::{AllocError, Global};
 use std::marker::Model;
 
-/// A change of a list: from a place on, some entries go and others come.
+/// A change of a list: from index `at` on, some entries are removed and others inserted.
 #[derive(Drop)]
 pub struct Splice {
-    /// The place.
+    /// The index at which the change begins.
     pub at: usize,
-    /// How many entries go.
+    /// How many entries are removed.
     pub gone: usize,
-    /// The entries that come.
+    /// The entries that are inserted.
     pub put: Vec<Frame>,
 }
 
@@ -25,7 +25,8 @@ impl Model for Splice {
     ghost view = { λ s. record { at = s.at; gone = s.gone; put = s.put.items } };
 }
 
-/// Returns what makes one list of the other: all between their longest common start and end.
+/// Returns the splice that turns one list into the other: all between their longest common start
+/// and end.
 pub fn splice_between(alloc: Global, was: &[Frame], now: &[Frame]) -> Result<Splice, AllocError>
     ensures { IfOk result (IsSplice was.now now.now) }
 {

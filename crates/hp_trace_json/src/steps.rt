@@ -21,7 +21,7 @@ impl Model for NetSerials {
 }
 
 impl NetSerials {
-    /// Makes a list of no steps.
+    /// Creates an empty list.
     pub fn new(alloc: Global) -> NetSerials
         ensures { result ≡ [] }
     {
@@ -37,8 +37,8 @@ impl NetSerials {
         self.serials.len()
     }
 
-    /// Follows a call, after which there are `count` steps, and returns those that it dropped. If
-    /// there is one more step than before, it is the call's.
+    /// Updates the list after a call that leaves `count` steps, and returns the steps that the call
+    /// dropped. If there is one more step than before, it is the call's.
     pub fn follow(
         &mut self,
         alloc: Global,
@@ -55,7 +55,7 @@ impl NetSerials {
         Ok(dropped)
     }
 
-    /// Returns how many of the steps are left, if there are `count` steps.
+    /// Returns how many of the earlier steps are left after a call that leaves `count` steps.
     fn kept_of(&self, count: u64) -> usize
         ensures low { result ≤ count }
         ensures within { result ≤ length self.now }
@@ -70,7 +70,7 @@ impl NetSerials {
     }
 }
 
-/// Adds a step, if there is one more.
+/// Adds a step if `is_step` is true.
 fn add_step(serials: &mut Vec<Serial>, is_step: bool, serial: Serial) -> Result<(), AllocError>
     ensures { OnOk result
         (serials.new.items ≡ serials.old.items ++ (if is_step then serial ∷ [] else [])) }

@@ -18,7 +18,7 @@ use indexmap::IndexSet;
 use std::alloc::{AllocError, Global};
 use std::marker::Model;
 
-/// What a row tells besides the machine's state: what was asked, and what was answered.
+/// What a row reports besides the machine's state: what was asked, and the answer.
 #[derive(Clone, Copy, Drop)]
 pub struct TraceRow<'a> {
     /// The number of the line, from 1; 0 is the memory at boot.
@@ -90,7 +90,7 @@ impl JsonTrace {
         write_line(&mut self.text, json.as_str())
     }
 
-    /// Adds a row with what else a line printed: a text, and no state.
+    /// Adds a row for other text that a line printed. The row shows no state.
     pub fn add_output(&mut self, alloc: Global, line: u64, output: &str) -> Result<(), AllocError>
         ensures line { OnOk result (AddsLine self.old.text self.new.text) }
         ensures seen { OnOk result (self.new.seen ≡ self.old.seen) }
@@ -100,7 +100,7 @@ impl JsonTrace {
         write_line(&mut self.text, json.as_str())
     }
 
-    /// Follows a line or a call whose row is left out.
+    /// Updates the steps after a line or a call whose row is left out.
     pub fn pass(
         &mut self,
         alloc: Global,

@@ -15,13 +15,13 @@ pub struct WordNow {
     pub owner: Owner,
     /// The page.
     pub page: Page,
-    /// The word's place in the page.
+    /// The word's index in the page.
     pub index: u32,
     /// The word now.
     pub word: u64,
 }
 
-/// Returns the words that differ, as they are now.
+/// Returns the words that differ between the two states, as they are now.
 pub(crate) fn words_told(
     alloc: Global,
     was: &Option<Image>,
@@ -37,7 +37,7 @@ pub(crate) fn words_told(
     Ok(told)
 }
 
-/// Returns the words of an owner's pages that differ, as they are now.
+/// Returns the words of an owner's pages that differ between the two states, as they are now.
 fn owners_words_told(
     alloc: Global,
     was: &Option<Image>,
@@ -58,7 +58,7 @@ fn owners_words_told(
     Ok(told)
 }
 
-/// Returns the words of a page that differ, as they are now.
+/// Returns the words of a page that differ between the two states, as they are now.
 fn pages_words_told(
     alloc: Global,
     count: u32,
@@ -111,7 +111,7 @@ fn tell_word(
     Ok(())
 }
 
-/// Returns a word of a page; 0 where there is none.
+/// Returns a word of a page; 0 if there is none.
 fn word_of(words: &[u64], index: u32) -> u64
     ensures { result ≡ word_of words.now index }
 {

@@ -1,4 +1,4 @@
--- What an event is for some memory blocks alone.
+-- What an event does to some memory blocks only.
 use Rattle.std.specs.Prelude.{◌≡◌, ℕ, nat_lt, nat_le, Bool, true, false, ◌&&◌}
 use Rattle.hp_judge.specs.BlockLogs.{concerns}
 use Rattle.hp_judge.specs.Events.{block_of, is_well_formed, allocates, allocates_unmovable, frees, is_of}
@@ -15,12 +15,12 @@ pub record DoesAlike (m : MachineSize) (f : ℕ) (e part : LogEvent) : Type 0 wh
   pub unmovable_is : allocates_unmovable m f part ≡ allocates_unmovable m f e
   pub frees_is : frees m f part ≡ frees m f e
 
--- two events go alike into a memory block's part of a log, and are alike onlines and offlines of it
+-- both or neither are onlines or offlines of the block, and both or neither belong to its part of a log
 pub record NamesAlike (m : MachineSize) (b : ℕ) (e part : LogEvent) : Type 0 where
   pub is_of_is : is_of b part ≡ is_of b e
   pub concerns_is : concerns m b part ≡ concerns m b e
 
--- in the blocks of the range the part is as the event, and in all others it is nothing
+-- in the blocks of the range, `part` does what the event does; in all others, it does nothing
 pub record IsPartOf (m : MachineSize) (r : BlockRange) (e part : LogEvent) : Type 0 where
   pub well_formed : is_well_formed m part ≡ true
   pub frames : (f : ℕ) → contains r (block_of m f) ≡ true → DoesAlike m f e part

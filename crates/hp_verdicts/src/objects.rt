@@ -98,7 +98,8 @@ fn write_fault(
     }
 }
 
-/// Writes which law is broken where, and against which earlier event.
+/// Writes the broken law, its frame or memory block, and the earlier event that it is broken
+/// against.
 fn write_violation(
     out: &mut String,
     size: &MachineSize,

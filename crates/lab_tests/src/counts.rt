@@ -20,7 +20,7 @@ const COUNTED: &[(&str, u64, &str)] = &[
     (
         "0 drain 0;1 drain 0;0 drain 1;1 drain 1;0 drain 0;1 drain 0",
         0,
-        "interleavings: more than 10: explore counts more with --limit N\n",
+        "interleavings: more than 10\n",
     ),
     (
         "0 drain 0;1 plan 2 off 1",
@@ -62,7 +62,7 @@ fn interleavings_are_known_before_any_call(rt: HostRuntime) -> Result<(), Fail> 
 
 /// Returns whether a search after one line of setup begins with one record and two scripts.
 fn begins_after_one(alloc: Global, scenario: &Scenario) -> bool {
-    match start_of(alloc, scenario, 1) {
+    match start_of(alloc, scenario, &[], 1) {
         Ok(start) => start.machine.last_serial() == 1 && start.scripts.len() == 2,
         Err(_fault) => false,
     }

@@ -68,6 +68,14 @@ const PLAN_TEXT: &str =
      \"1 begin off 1\",\n\"1 drainfor 1 0\",\n\"1 drainfor 1 1\",\n\"1 migrate 1\",\n\
      \"1 commit 1\"\n";
 
+/// The race with a plan: it is done, or it cannot move a page and is cancelled, with its steps kept
+/// or dropped.
+const PLAN_RACE: &str =
+    "0 map db 0;0 write db 0 0 7;0 kalloc 0;0 plan 2 off 1;1 map web 0;1 unmap web 0";
+
+const PLANS_SUMMARY: &str = "interleavings: 42\nends: 3\nend 1: 14, 33.3 %, 3 refused, 0:N 1:off\n\
+     end 2: 27, 64.2 %, 2 refused, 0:N 1:M\nend 3: 1, 2.3 %, 1 refused, 0:N 1:M\n";
+
 /// An offline that begins in the setup.
 const BEGUN: &str = "0 begin off 1;0 drainfor 0 0;0 drainfor 0 1;0 migrate 0;0 commit 0";
 
@@ -91,6 +99,8 @@ const BLOCKS: Option<GroupBy> = Some(GroupBy::Blocks);
 
 const ANSWERS: Option<GroupBy> = Some(GroupBy::Answers);
 
+const PLANS: Option<GroupBy> = Some(GroupBy::Plans);
+
 const EXPLORED: &[Explored] = &[
     (RACE, 3, EndsForm::Words, None, RACE_TEXT),
     (RACE, 3, EndsForm::Objects, None, RACE_OBJECTS),
@@ -103,6 +113,7 @@ const EXPLORED: &[Explored] = &[
     (RACE, 3, EndsForm::Objects, ANSWERS, RACE_OBJECTS),
     (RACE, 3, EndsForm::Summary, None, RACE_SUMMARY),
     (RACE, 3, EndsForm::Summary, BLOCKS, BLOCKS_SUMMARY),
+    (PLAN_RACE, 3, EndsForm::Summary, PLANS, PLANS_SUMMARY),
 ];
 
 /// Returns the scenario of these lines, on a layout of two memory blocks of one pageblock of two

@@ -1,5 +1,5 @@
 //! Tests of the laboratory: explorations with the text that each must write, what hp_schedules keeps
-//! for a walk, scenarios that are refused, scenarios with the report on each.
+//! for a walk, scenarios that are refused, scenarios with the report on each, scenarios with names.
 //!
 //! They are a crate of their own, as integration tests are, so that the gate does not prove hp_search
 //! and hp_check once more with them. `rt test` in this folder runs them.
@@ -13,6 +13,8 @@ mod counts;
 mod explorations;
 #[cfg(test)]
 mod findings;
+#[cfg(test)]
+mod names;
 #[cfg(test)]
 mod parts;
 #[cfg(test)]

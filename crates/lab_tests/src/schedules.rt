@@ -5,7 +5,7 @@ ghost use Rattle.std.specs.Prelude.{◌≡◌, IfOk, length};
 use hp_schedules::{
     CallScript, Change, Exchanges, Outcome, Positions, Rows, Shard, Share, Step, Tally,
     all_answers, call_count, change_of, fit_in, is_closed, key_digest, learn, mixed, schedule_of,
-    undo_nothing,
+    are_mergeable,
 };
 use hp_units::{Cpu, Event, Frame, Order, Record, Reply, Serial};
 use indexmap::IndexMap;
@@ -41,23 +41,24 @@ fn goes_on_and_back(alloc: Global, scripts: &[CallScript]) -> Result<bool, Alloc
     requires { length scripts.now ≡ 1 }
 {
     let mut positions = Positions::start(alloc, 1, scripts)?;
-    let Some(request) = positions.request(alloc, 1, scripts, 0)? else {
+    let calls = [taken()];
+    let Some(request) = positions.request(alloc, 1, scripts, &calls[..0], 0)? else {
         return Ok(false);
     };
-    let former = positions.go_on(1, scripts, 0, &request, &taken());
-    let is_over = positions.request(alloc, 1, scripts, 0)?.is_none();
+    let former = positions.go_on(1, scripts, 0, &request, &calls[0]);
+    let is_over = positions.request(alloc, 1, scripts, &calls, 0)?.is_none();
     let began = positions.operation(0);
     positions.go_back(Cpu(0), former);
-    let asks_again = positions.request(alloc, 1, scripts, 0)?.is_some();
+    let asks_again = positions.request(alloc, 1, scripts, &calls[..0], 0)?.is_some();
     Ok(is_over && began == Serial(0) && asks_again)
 }
 
-/// Returns whether a script of one line has one call, undoes nothing, and is finished after it.
+/// Returns whether a script of one line has one call, is mergeable, and is finished after it.
 fn are_walked(alloc: Global) -> Result<bool, AllocError> {
     let scripts = one_line(alloc)?;
     let is_one = call_count(alloc, scripts.as_slice())? == Some(1);
     let goes = goes_on_and_back(alloc, scripts.as_slice())?;
-    Ok(is_one && goes && undo_nothing(scripts.as_slice()))
+    Ok(is_one && goes && are_mergeable(scripts.as_slice()))
 }
 
 #[test]

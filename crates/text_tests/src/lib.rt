@@ -15,3 +15,5 @@ mod live_sessions;
 mod picture_parts;
 #[cfg(test)]
 mod pictures;
+#[cfg(test)]
+mod rounds;

@@ -231,7 +231,7 @@ fn picture(
     drawn: &[Row],
 ) -> Result<String, AllocError> {
     let names = names(alloc, from)?;
-    picture_of(alloc, &names, cell, scale, &rows(alloc, drawn)?)
+    picture_of(alloc, &names, cell, scale, rows(alloc, drawn)?)
 }
 
 /// Whether the picture of `ROWS` is `PICTURE`.
@@ -351,7 +351,7 @@ const ALL: View = View {
 fn scenario_picture(alloc: Global, scenario: &[u8]) -> Option<String> {
     let scenario = Scenario::read(alloc, scenario).ok()?;
     let rows = trace_rows(alloc, &scenario, ALL).ok()?;
-    picture_of(alloc, &IndexSet::new(alloc), 8, 100, &rows).ok()
+    picture_of(alloc, &IndexSet::new(alloc), 8, 100, rows).ok()
 }
 
 /// Returns the number of rectangles in the picture of a scenario.

@@ -9,8 +9,8 @@ use indexmap::IndexSet;
 use json::Writer;
 use std::alloc::{AllocError, Global};
 
-/// Returns an object with a change at the key `change`, as a row has it, or without a key if nothing
-/// changed.
+/// Returns an object with the change at the key `change`, as a row has it. The object is empty if
+/// nothing changed.
 pub fn change_object(
     alloc: Global,
     names: &IndexSet<Text>,

@@ -14,7 +14,7 @@ use indexmap::IndexSet;
 use json::Writer;
 use std::alloc::{AllocError, Global};
 
-/// Writes what a row tells of the state: nothing if nothing changed.
+/// Writes what a row reports of the state: nothing if nothing changed.
 pub(super) fn write_change(
     out: &mut Writer,
     alloc: Global,
@@ -149,7 +149,8 @@ fn write_lists(
     out.end_object()
 }
 
-/// Writes how a list changed; a place of 0, no entries that go, and none that come are left out.
+/// Writes how a list changed. Leaves out a start at index 0, and removals and insertions if there
+/// are none.
 fn write_splice(out: &mut Writer, key: &str, splice: &Splice) -> Result<(), AllocError>
     ensures { OnOk result (PutsSome out.old out.new) }
 {
@@ -172,7 +173,7 @@ fn write_count(out: &mut Writer, key: &str, count: usize) -> Result<(), AllocErr
     Ok(())
 }
 
-/// Writes the entries that come, if any do.
+/// Writes the entries that are inserted, if there are any.
 fn write_put(out: &mut Writer, frames: &[Frame]) -> Result<(), AllocError>
     ensures { OnOk result (PutsSome out.old out.new) }
 {
@@ -247,7 +248,7 @@ fn write_words(
     out.end_object()
 }
 
-/// Writes a word as a text; 0, which a page that is not mapped has too, as that there is none.
+/// Writes a word as a string, or `null` if it is 0, as all words of an unmapped page are.
 fn write_word(
     out: &mut Writer,
     alloc: Global,

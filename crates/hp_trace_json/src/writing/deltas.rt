@@ -136,7 +136,7 @@ fn write_small(out: &mut Writer, number: Option<u8>) -> Result<(), AllocError> {
     }
 }
 
-/// Writes what became of a page.
+/// Writes that a page was mapped, unmapped or moved.
 fn write_map(
     out: &mut Writer,
     names: &IndexSet<Text>,

@@ -10,10 +10,10 @@ use indexmap::IndexSet;
 use json::Writer;
 use std::alloc::{AllocError, Global};
 
-/// What a row tells.
+/// What a row reports.
 #[derive(Clone, Copy, Drop)]
 pub(crate) struct RowJson<'a> {
-    /// What was asked, and what was answered.
+    /// What was asked, and the answer.
     pub row: &'a TraceRow<'a>,
     /// The deltas of the call, if it was a step.
     pub journal: Option<&'a [Delta]>,
@@ -41,7 +41,7 @@ pub(crate) fn row_json(
     String::from_utf8_lossy(alloc, bytes.as_slice())
 }
 
-/// Returns the JSON of a row with what else a line printed.
+/// Returns the JSON of a row for other text that a line printed.
 pub(crate) fn output_json(alloc: Global, line: u64, output: &str) -> Result<String, AllocError> {
     let mut out = Writer::new(Vec::new(alloc));
     out.begin_object()?;
@@ -90,8 +90,8 @@ fn write_call(
     }
 }
 
-/// Writes an event as a line has it without its processor; what control files alone can ask for is
-/// `probe 0x80` or `auto online`.
+/// Writes an event as a line has it, without its processor. An event that only a control file can
+/// ask for is written as `probe 0x80` or `auto online`.
 fn write_event_words(
     out: &mut String,
     names: &IndexSet<Text>,

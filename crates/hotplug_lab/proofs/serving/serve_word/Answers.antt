@@ -1,7 +1,7 @@
 -- What holds of the text that was read holds of all that the reader had.
 use Rattle.std.proofs.Common.{◌≡◌, List, ℕ, subst}
 use Rattle.std.proofs.lemmas.Result.{IfErr-weaker, IfOk-weaker, err_from_is_err_and}
-use Rattle.hp_scenario.specs.Scenario.{scenario_in}
+use Rattle.hp_names.specs.Named.{named_in}
 use Rattle.hp_streams.proofs.Whole.{given}
 use Rattle.hp_lab_shell.specs.Needs.{unbegun_of}
 use Rattle.hotplug_lab.specs.Words.{ServesText}
@@ -24,8 +24,8 @@ returns-clause-told g c =
     IfOk-weaker c.serve_text.result _ _
     (λ served h. given (g.R.Source.remaining c.args.reader.now)
     (g.R.Source.remaining c.read_all.new.reader) c.in_ok-input.input.items c.in_ok-input.ensures.bytes
-    c.in_ok-input.ensures.end (λ i. served.unbegun.items ≡ unbegun_of c.args.word (scenario_in i))
-    (subst (λ (i : List ℕ). served.unbegun.items ≡ unbegun_of c.args.word (scenario_in i))
+    c.in_ok-input.ensures.end (λ i. served.unbegun.items ≡ unbegun_of c.args.word (named_in i))
+    (subst (λ (i : List ℕ). served.unbegun.items ≡ unbegun_of c.args.word (named_in i))
     c.deref.ensures.value h))
     c.serve_text.ensures.told
 

@@ -1,11 +1,11 @@
 use Rattle.std.proofs.lemmas.Result.{IfOk-weaker}
-use Rattle.hp_scenario.specs.Seen.{scenario_seen}
+use Rattle.hp_names.specs.Seen.{named_seen}
 use Rattle.hp_check.proofs.Agreement.{faults_agree, faults_have_causes, warnings_agree, warnings_have_causes}
 use Rattle.hp_check.proofs.checking.check.Goals as goal
 
 pub returns-in-Ok : goal.returns-in-Ok
 returns-in-Ok c =
-    let s = scenario_seen c.in-Ok.scenario in record {
+    let s = named_seen c.in-Ok.named in record {
       agrees =
           IfOk-weaker c.warnings_in.result _ _
           (λ found h. warnings_agree c.args.input.now s found.items c.in-Ok.ensures h) c.warnings_in.ensures;

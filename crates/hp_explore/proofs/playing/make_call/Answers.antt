@@ -9,7 +9,8 @@ use Rattle.hp_explore.specs.Faults.{IsCause}
 use Rattle.hp_schedules.specs.Schedules.{next_call}
 use Rattle.hp_explore.specs.Settings.{setting}
 use Rattle.hp_explore.specs.Walks.{news_in}
-use Rattle.hp_explore.proofs.Machines.{call_cause, call_full, call_latest, fills_here, further, had_room}
+use Rattle.hp_explore.proofs.Paths.{called_there}
+use Rattle.hp_explore.proofs.Machines.{call_cause, call_full, call_latest, fills_here, further, had_room, no_fewer}
 use Rattle.hp_schedules.proofs.Placed.{called_within}
 use Rattle.hp_explore.proofs.playing.make_call.Goals as goal
 use Rattle.hp_explore.proofs.playing.make_call.Goals.{After-latest, In-Some}
@@ -24,9 +25,11 @@ called c =
     c.cpu.view_is
     (subst (IsCalledFor (setting c.args.start.now c.args.scripts.now) _
     (news_in (setting c.args.start.now c.args.scripts.now) c.args.played.now)) c.in-Some.is
-    (c.in_ok-request.ensures (setting c.args.start.now c.args.scripts.now)
-    (news_in (setting c.args.start.now c.args.scripts.now) c.args.played.now) refl
-    (sym (c.cpus-cpus.ensures.is ∙ ap (λ (l : LayoutParts). l.cpus) c.layout.ensures)) c.requires.cursors))
+    (called_there (setting c.args.start.now c.args.scripts.now) _ c.news_since-news.result.now
+    (news_in (setting c.args.start.now c.args.scripts.now) c.args.played.now)
+    c.args.positions.now.cursors.items _ c.news_since-news.ensures
+    (c.in_ok-request.ensures (setting c.args.start.now c.args.scripts.now) refl
+    (sym (c.cpus-cpus.ensures.is ∙ ap (λ (l : LayoutParts). l.cpus) c.layout.ensures))) c.requires.cursors))
 
 -- whose record is the latest
 whose : (c : After-latest)
@@ -44,6 +47,10 @@ within c =
     called_within (setting c.args.start.now c.args.scripts.now) c.args.cpu
     (news_in (setting c.args.start.now c.args.scripts.now) c.args.played.now) c.args.scripts.now
     c.in-Some.request.event refl (called c).0
+
+pub news_since-news-requires : goal.news_since-news-requires
+news_since-news-requires c =
+    no_fewer (setting c.args.start.now c.args.scripts.now) c.args.played.now c.requires.reached
 
 pub go_on-requires-clause-whose : goal.go_on-requires-clause-whose
 go_on-requires-clause-whose c =
@@ -100,9 +107,12 @@ returns-clause-ok c = (
       (news_in (setting c.args.start.now c.args.scripts.now) c.args.played.now) ≡ None) c.cpu.view_is
       (subst (IsCalledFor (setting c.args.start.now c.args.scripts.now) _
       (news_in (setting c.args.start.now c.args.scripts.now) c.args.played.now)) c.in-None.is
-      (c.in_ok-request.ensures (setting c.args.start.now c.args.scripts.now)
-      (news_in (setting c.args.start.now c.args.scripts.now) c.args.played.now) refl
-      (sym (c.cpus-cpus.ensures.is ∙ ap (λ (l : LayoutParts). l.cpus) c.layout.ensures)) c.requires.cursors)),
+      (called_there (setting c.args.start.now c.args.scripts.now) _ c.news_since-news.result.now
+      (news_in (setting c.args.start.now c.args.scripts.now) c.args.played.now)
+      c.args.positions.now.cursors.items _ c.news_since-news.ensures
+      (c.in_ok-request.ensures (setting c.args.start.now c.args.scripts.now) refl
+      (sym (c.cpus-cpus.ensures.is ∙ ap (λ (l : LayoutParts). l.cpus) c.layout.ensures)))
+      c.requires.cursors)),
   refl,
 )
 

@@ -6,7 +6,7 @@ use Rattle.hp_schedules.specs.Cursors.{IsCalledFor}
 use Rattle.hp_schedules.specs.Schedules.{record_of_call}
 use Rattle.hp_explore.specs.Settings.{setting}
 use Rattle.hp_explore.specs.declared.ways.Turn.{Turn}
-use Rattle.hp_explore.proofs.Paths.{advanced, turned_latest}
+use Rattle.hp_explore.proofs.Paths.{advanced, called_there, turned_latest}
 use Rattle.hp_schedules.proofs.Placed.{called_within}
 use Rattle.hp_explore.proofs.turns.advance.Goals as goal
 use Rattle.hp_explore.proofs.turns.advance.Goals.{In-Some, After-latest}
@@ -18,8 +18,10 @@ called : (c : In-Some)
 called c =
     subst (IsCalledFor (setting c.args.start.now c.args.scripts.now) c.args.cpu c.args.here.now.records)
     c.in-Some.is
-    (c.in_ok-request.ensures (setting c.args.start.now c.args.scripts.now) c.args.here.now.records refl
-    (sym (c.cpus-cpus.ensures.is ∙ ap (λ (l : LayoutParts). l.cpus) c.layout.ensures)) c.requires.cursors)
+    (called_there (setting c.args.start.now c.args.scripts.now) c.args.cpu c.records-news.result.now
+    c.args.here.now.records c.args.positions.now.cursors.items _ c.records-news.ensures
+    (c.in_ok-request.ensures (setting c.args.start.now c.args.scripts.now) refl
+    (sym (c.cpus-cpus.ensures.is ∙ ap (λ (l : LayoutParts). l.cpus) c.layout.ensures))) c.requires.cursors)
 
 -- it has a script
 within : (c : In-Some) → c.args.cpu < length c.args.scripts.now
@@ -93,8 +95,10 @@ pub returns-in-None-clause-ok : goal.returns-in-None-clause-ok
 returns-in-None-clause-ok c = (
   subst (IsCalledFor (setting c.args.start.now c.args.scripts.now) c.args.cpu c.args.here.now.records)
       c.in-None.is
-      (c.in_ok-request.ensures (setting c.args.start.now c.args.scripts.now) c.args.here.now.records refl
-      (sym (c.cpus-cpus.ensures.is ∙ ap (λ (l : LayoutParts). l.cpus) c.layout.ensures)) c.requires.cursors),
+      (called_there (setting c.args.start.now c.args.scripts.now) c.args.cpu c.records-news.result.now
+      c.args.here.now.records c.args.positions.now.cursors.items _ c.records-news.ensures
+      (c.in_ok-request.ensures (setting c.args.start.now c.args.scripts.now) refl
+      (sym (c.cpus-cpus.ensures.is ∙ ap (λ (l : LayoutParts). l.cpus) c.layout.ensures))) c.requires.cursors),
   refl,
   refl,
   c.in_ok-reserve.ensures.items,

@@ -1,6 +1,5 @@
 -- The processors so far have their numbers.
 use Rattle.std.proofs.Common.{◌≡◌, ◌++◌, ℕ, List}
-use Rattle.hp_units.specs.declared.replies.Record.{Record}
 use Rattle.hp_schedules.specs.Cursors.{AreCursors}
 use Rattle.hp_schedules.specs.Schedules.{Setting}
 use Rattle.hp_explore.specs.Aims.{AreSteered}
@@ -9,5 +8,5 @@ use Rattle.hp_explore.proofs.visited.push_all_steering.Given as goal
 abbrev pub invariant-loop-cpu : goal.invariant-loop-cpu
 invariant-loop-cpu l =
     (part : List ℕ) × (l.numbers.items ≡ l.initial.numbers.items ++ part)
-    × ((g : Setting) (news : List Record) → AreCursors g news l.positions.cursors.items
-    → AreSteered g l.cpu news part)
+    × ((g : Setting) → g.scripts ≡ l.scripts → AreCursors g l.news l.positions.cursors.items
+    → AreSteered g l.cpu l.news part)

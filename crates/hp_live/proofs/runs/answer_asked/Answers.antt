@@ -9,7 +9,7 @@ use Rattle.hp_live.proofs.runs.answer_asked.Goals as goal
 pub returns-in-Event-clause-err : goal.returns-in-Event-clause-err
 returns-in-Event-clause-err c =
     on_err c.say.result
-    (rw c.in-Event.is (event_done _ _ _ _ _ c.call-did.ensures))
+    (rw c.in-Event.is (event_done _ _ _ _ _ c.say.new.self.did c.say.ensures.did c.call-did.ensures))
 
 pub returns-in-Plan-clause-ok : goal.returns-in-Plan-clause-ok
 returns-in-Plan-clause-ok c =
@@ -19,21 +19,21 @@ returns-in-Plan-clause-ok c =
 pub returns-in-Plan-clause-err : goal.returns-in-Plan-clause-err
 returns-in-Plan-clause-err c =
     on_err_weaker c.answer_plan.result
-    (λ d. rw c.in-Plan.is (plan_done _ _ _ _ _ d)) c.answer_plan.ensures.err
+    (λ d. rw c.in-Plan.is (plan_done _ _ _ _ _ c.answer_plan.new.out.did d)) c.answer_plan.ensures.err
 
 pub returns-in-NotTaken-clause-err : goal.returns-in-NotTaken-clause-err
 returns-in-NotTaken-clause-err c =
     on_err c.say-in-NotTaken.result
-    (rw c.in-NotTaken.is (not_taken_done c.args.machine.now c.args.cpu c.in-NotTaken.fault))
+    (rw c.in-NotTaken.is (not_taken_done c.args.machine.now c.args.cpu c.in-NotTaken.fault c.say-in-NotTaken.new.self.did))
 
 pub returns-in-Cat-clause-err : goal.returns-in-Cat-clause-err
 returns-in-Cat-clause-err c =
     on_err c.answer_file.result
-    (rw c.in-Cat.is (file_done c.args.machine.now c.args.cpu c.in-Cat.path.now))
+    (rw c.in-Cat.is (file_done c.args.machine.now c.args.cpu c.in-Cat.path.now c.answer_file.new.out.did))
 
 pub returns-in-Seal-clause-err : goal.returns-in-Seal-clause-err
 returns-in-Seal-clause-err c =
     on_err c.say-in-Seal.result
-    (subst (λ (q : Asked). IsDone c.args.machine.now c.args.cpu (asked_seen q) c.seal-count.new.self)
+    (subst (λ (q : Asked). IsDone c.args.machine.now c.args.cpu (asked_seen q) c.say-in-Seal.new.self.did c.seal-count.new.self)
     (sym c.in-Seal.is)
-    (seal_done c.args.machine.now c.seal-count.new.self c.args.cpu c.seal-count.ensures.goes_on))
+    (seal_done c.args.machine.now c.seal-count.new.self c.args.cpu c.say-in-Seal.new.self.did c.seal-count.ensures.goes_on))

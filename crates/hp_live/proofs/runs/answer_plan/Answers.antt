@@ -6,4 +6,4 @@ pub returns-clause-ok : goal.returns-clause-ok
 returns-clause-ok c =
     on_ok_weaker c.say.result
     (λ is. plan_told c.args.machine.now c.run_to_end.new.machine c.args.cpu c.args.turns c.args.plan.now
-    c.in_ok-end.end c.run_to_end.new.out c.say.new.self c.in_ok-end.ensures.ok is) c.say.ensures
+    c.in_ok-end.end c.run_to_end.new.out c.say.new.self c.in_ok-end.ensures.ok is) c.say.ensures.ok

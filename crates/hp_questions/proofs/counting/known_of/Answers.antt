@@ -9,7 +9,7 @@ use Rattle.hp_questions.proofs.counting.known_of.Goals as goal
 pub returns : goal.returns
 returns c =
     IfOk-weaker c.interleavings_of.result _ _
-    (λ known h others. known_after_any c.args.cpus c.deref.result.now others c.args.lines.now
-    c.args.limit known (subst (λ (ss : List (List Step)). IsKnown ss c.args.limit known)
+    (λ known h others sources. known_after_any c.args.cpus c.deref.result.now others c.args.lines.now
+    _ sources c.args.limit known (subst (λ (ss : List (List Step)). IsKnown ss c.args.limit known)
     (c.deref-2.ensures.value ∙ c.in_ok-scripts.ensures) h))
     c.interleavings_of.ensures

@@ -6,7 +6,8 @@ use Rattle.std.proofs.lemmas.Option.{slice_get_read}
 use Rattle.hp_units.specs.declared.replies.Record.{Record}
 use Rattle.std.proofs.Common.{List}
 use Rattle.hp_schedules.specs.Outcomes.{replies_to}
-use Rattle.hp_questions.specs.Wanted.{HasReply, IsAsWanted}
+use Rattle.hp_questions.specs.Wanted.{HasReply}
+use Rattle.hp_questions.specs.Patterns.{IsAsWanted}
 use Rattle.hp_questions.proofs.Below.{told_no, told_yes}
 use Rattle.hp_questions.proofs.Marking.{told_here, told_no_more, told_past}
 use Rattle.hp_questions.proofs.marks.is_told.Goals as goal

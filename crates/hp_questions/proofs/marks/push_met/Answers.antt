@@ -9,12 +9,12 @@ use Rattle.hp_questions.proofs.marks.push_met.Goals as goal
 
 pub loop-index-preserved : goal.loop-index-preserved
 loop-index-preserved c =
-    met_more c.args.wanted.now c.args.processors c.args.records.now c.loop-index.index
-    c.index-wanted-index.result c.has_line_so_far-is_met.result c.from.result c.args.numbers.now.items
-    c.loop-index.numbers.items c.push.new.self.items
+    met_more c.args.cpus c.args.scripts.now c.args.wanted.now c.args.processors c.args.records.now
+    c.loop-index.index c.index-wanted-index.result c.in_ok-is_met.is_met c.from.result
+    c.args.numbers.now.items c.loop-index.numbers.items c.push.new.self.items
     (read_here c.args.wanted.now c.loop-index.index c.index-wanted-index.result c.loop-index-test.true
     c.index-wanted-index.is)
     c.loop-index.invariant c.in_ok-push.ensures.items c.from.ensures
-    (subst (λ (line : EndLine). IsTrue c.has_line_so_far-is_met.result
-    ↔ HasLineSoFar c.args.processors c.args.records.now line) c.line_of.ensures
-    c.has_line_so_far-is_met.ensures)
+    (subst (λ (line : EndLine). IsTrue c.in_ok-is_met.is_met
+    ↔ HasLineSoFar c.args.cpus c.args.scripts.now c.args.processors c.args.records.now line)
+    c.line_of-line.ensures c.in_ok-is_met.ensures)

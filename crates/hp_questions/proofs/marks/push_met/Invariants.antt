@@ -6,4 +6,4 @@ use Rattle.hp_questions.proofs.marks.push_met.Given as goal
 abbrev pub invariant-loop-index : goal.invariant-loop-index
 invariant-loop-index l =
     (met : List ℕ) × (l.numbers.items ≡ l.initial.numbers.items ++ met)
-    × AreMet l.wanted l.processors l.records l.index met
+    × AreMet l.cpus l.scripts l.wanted l.processors l.records l.index met

@@ -8,5 +8,4 @@ loop-cpu-preserved c =
     c.push_reserved.ensures.items
     ∙ (ap (λ (xs : List (List step.Step)). xs ++ c.in_ok-script.script ∷ []) c.in_ok-reserve.ensures.items
     ∙ scripts_more c.loop-cpu.scripts.items c.in_ok-script.script c.args.begins.now c.args.lines.now
-    c.loop-cpu.cpu
-    c.loop-cpu.invariant c.in_ok-script.ensures)
+    c.args.sources.now c.loop-cpu.cpu c.loop-cpu.invariant c.in_ok-script.ensures)

@@ -8,7 +8,7 @@ use Rattle.hp_questions.proofs.starts.start_after.Goals as goal
 
 pub returns-clause-is : goal.returns-clause-is
 returns-clause-is c =
-    started c.args.layout.now c.cpus.result c.args.before.now c.args.after.now _
+    started c.args.layout.now c.cpus.result c.args.before.now c.args.after.now c.args.sources.now _
     c.run_lines.new.machine _ c.run_lines.new.begins.items c.deref.result.now c.in_ok-scripts.scripts.items
     c.in_ok-machine.ensures c.new-begins.ensures.items c.in_ok-run_lines.ensures
     (c.deref.ensures.value ∙ (c.in_ok-note_begins.ensures
@@ -17,5 +17,6 @@ returns-clause-is c =
 
 pub returns-clause-few : goal.returns-clause-few
 returns-clause-few c =
-    scripts_fit c.cpus.result c.deref.result.now c.args.after.now c.in_ok-scripts.scripts.items
+    scripts_fit c.cpus.result c.deref.result.now c.args.after.now c.args.sources.now
+    c.in_ok-scripts.scripts.items
     (omega (arith, c.cpus.ensures.is, c.cpus.ensures.layout.cpus)) c.in_ok-scripts.ensures

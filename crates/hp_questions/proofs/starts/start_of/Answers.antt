@@ -1,3 +1,4 @@
+use Rattle.std.proofs.Common.{◌∙◌}
 use Rattle.std.proofs.lemmas.Result.{err_from_is_err_and}
 use Rattle.hp_scenario.specs.Seen.{scenario_seen}
 use Rattle.hp_questions.proofs.Started.{no_start, parted, start_known}
@@ -23,5 +24,7 @@ returns-clause-ok c =
     parted s c.args.setup c.cpus-cpus.result c.as_slice-lines.result.now c.front_of-before.result.now
     c.rest_of-after.result.now c.cpus-cpus.ensures.is c.as_slice-lines.ensures c.front_of-before.ensures
     c.rest_of-after.ensures in
-    start_known s c.args.setup c.cpus-cpus.result c.front_of-before.result.now c.rest_of-after.result.now
-    _ _ parts c.in_ok-check_lines.ensures.ok c.in_ok-start_after.ensures.is
+    start_known s c.args.sources.now c.deref.result.now c.args.setup c.cpus-cpus.result
+    c.front_of-before.result.now c.rest_of-after.result.now _ _ parts
+    (c.deref.ensures.value ∙ c.in_ok-sources.ensures)
+    c.in_ok-check_lines.ensures.ok c.in_ok-start_after.ensures.is

@@ -1,6 +1,8 @@
-use Rattle.std.proofs.Common.{refl}
+use Rattle.std.proofs.Common.{ℕ, List, Option, refl, subst}
 use Rattle.std.proofs.lemmas.Result.{err_from_is_err_and}
+use Rattle.hp_questions.specs.Starts.{HasStart}
 use Rattle.hp_scenario.specs.Seen.{scenario_seen}
+use Rattle.hp_names.specs.Seen.{named_seen}
 use Rattle.hp_search.proofs.Known.{unready}
 use Rattle.hp_search.proofs.prepared.prepare.Goals as goal
 
@@ -9,13 +11,19 @@ returns-in_err-start-clause-err c =
     let p =
     err_from_is_err_and c.from_residual-in_err-start.result c.from_residual-in_err-start.ensures.1 in
     rw (p.1, p.2)
-    (unready c.args.input.now (scenario_seen c.in_ok-scenario.scenario) c.args.setup _
-    c.in_ok-scenario.ensures c.in_err-start.ensures.err)
+    (unready c.args.input.now (named_seen c.in_ok-named.named) _ _ c.args.setup _ c.in_ok-named.ensures
+    c.in_ok-scenario.ensures refl c.in_err-start.ensures.err)
 
 pub returns-clause-ok : goal.returns-clause-ok
 returns-clause-ok c = record {
   number = refl;
-  read = c.in_ok-scenario.ensures;
-  fit = c.in_ok-start.ensures.ok.fit;
-  begun = c.in_ok-start.ensures.ok.begun;
+  named = named_seen c.in_ok-named.named;
+  read = c.in_ok-named.ensures;
+  plain = named_seen c.in_ok-scenario.field-0;
+  resolved = c.in_ok-scenario.ensures;
+  scenario = refl;
+  begun =
+      subst (λ (sources : List (Option ℕ)). HasStart (scenario_seen c.in_ok-scenario.field-0.scenario) sources
+      c.args.setup c.in_ok-start.start.machine c.in_ok-start.start.scripts.items)
+      c.as_slice.ensures c.in_ok-start.ensures.ok;
 }

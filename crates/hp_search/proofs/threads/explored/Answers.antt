@@ -1,6 +1,7 @@
 -- The ends are those of all complete schedules, or of the first ones.
-use Rattle.std.proofs.Common.{List, string_bytes, subst}
+use Rattle.std.proofs.Common.{◌∙◌, ap, List, string_bytes, subst}
 use Rattle.std.proofs.lemmas.Result.{err_from_is_err_and}
+use Rattle.hp_units.specs.LayoutParts.{LayoutParts}
 use Rattle.hp_schedules.specs.declared.scripts.Step.{Step}
 use Rattle.hp_explore.specs.Faults.{IsCauseWithin}
 use Rattle.hp_explore.specs.Settings.{setting}
@@ -14,6 +15,7 @@ returns-clause-ok g c =
     let s = c.in_ok-shown.ensures in
     is_explored c.args.form c.args.by c.args.prepared.now c.as_slice-scripts.result.now c.args.limit _
     c.in_ok-explored.explored c.in_ok-shown.shown (string_bytes f.text) f.is_found
+    c.cpus-processors.result (c.cpus-processors.ensures.is ∙ ap (λ (l : LayoutParts). l.cpus) c.layout.ensures)
     c.as_slice-scripts.ensures.value h.ok h.few h.room h.first h.many h.stopped h.ordered h.within s.ends s.whole
     c.in-Ok.ensures.ok
 

@@ -5,6 +5,7 @@ use Rattle.hp_schedules.specs.Cursors.{IsCalledFor}
 use Rattle.hp_explore.specs.Paths.{PathValue}
 use Rattle.hp_schedules.specs.Schedules.{next_call}
 use Rattle.hp_explore.specs.Settings.{setting}
+use Rattle.hp_explore.proofs.Paths.{called_there}
 use Rattle.hp_explore.proofs.path.Path.next_call.Goals as goal
 
 pub request-requires : goal.request-requires
@@ -12,21 +13,25 @@ request-requires c = c.self.invariant.cursors_at.many
 
 pub returns-in-Some : goal.returns-in-Some
 returns-in-Some c =
+    let g = setting c.self.inside.machine.now c.self.inside.scripts.now in
+    let news = c.self.inside.here.records in
     subst (λ (p : PathValue). next_call p.setting c.args.cpu p.news ≡ Some c.in-Some.request.event)
     c.self.view_is
-    (subst (IsCalledFor (setting c.self.inside.machine.now c.self.inside.scripts.now) c.args.cpu
-    c.self.inside.here.records) c.in-Some.is
-    (c.in_ok-request.ensures (setting c.self.inside.machine.now c.self.inside.scripts.now)
-    c.self.inside.here.records refl
-    (sym (c.cpus-cpus.ensures.is ∙ ap (λ (l : LayoutParts). l.cpus) c.layout.ensures))
+    (subst (IsCalledFor g c.args.cpu news) c.in-Some.is
+    (called_there g c.args.cpu c.records-news.result.now news c.self.inside.positions.cursors.items _
+    c.records-news.ensures
+    (c.in_ok-request.ensures g refl
+    (sym (c.cpus-cpus.ensures.is ∙ ap (λ (l : LayoutParts). l.cpus) c.layout.ensures)))
     c.self.invariant.cursors_at)).0
 
 pub returns-in-None : goal.returns-in-None
 returns-in-None c =
+    let g = setting c.self.inside.machine.now c.self.inside.scripts.now in
+    let news = c.self.inside.here.records in
     subst (λ (p : PathValue). next_call p.setting c.args.cpu p.news ≡ None) c.self.view_is
-    (subst (IsCalledFor (setting c.self.inside.machine.now c.self.inside.scripts.now) c.args.cpu
-    c.self.inside.here.records) c.in-None.is
-    (c.in_ok-request.ensures (setting c.self.inside.machine.now c.self.inside.scripts.now)
-    c.self.inside.here.records refl
-    (sym (c.cpus-cpus.ensures.is ∙ ap (λ (l : LayoutParts). l.cpus) c.layout.ensures))
+    (subst (IsCalledFor g c.args.cpu news) c.in-None.is
+    (called_there g c.args.cpu c.records-news.result.now news c.self.inside.positions.cursors.items _
+    c.records-news.ensures
+    (c.in_ok-request.ensures g refl
+    (sym (c.cpus-cpus.ensures.is ∙ ap (λ (l : LayoutParts). l.cpus) c.layout.ensures)))
     c.self.invariant.cursors_at))

@@ -11,6 +11,6 @@ returns c = record {
       ap (λ (s : List ℕ). search_at c.in_ok-path.path s 0 c.in_ok-visited.visited) c.new.ensures.items
       ∙ ap (λ (p : PathValue). search_at p [] 0 c.in_ok-visited.visited) c.in_ok-path.ensures;
   none = c.in_ok-visited.ensures.none;
-  undo = c.in_ok-visited.ensures.undo;
+  mergeable = c.in_ok-visited.ensures.mergeable;
   way = c.in_ok-visited.ensures.way;
 }

@@ -1,27 +1,36 @@
 -- If all scripts are finished, the place is such an end just if its outcome has the lines.
+use Rattle.std.proofs.Common.{Bool, List, ℕ, subst}
 use Rattle.std.specs.Prelude.{◌↔◌, IsTrue}
 use Rattle.std.proofs.lemmas.Bool.{iff_false}
+use Rattle.std.proofs.lemmas.Result.{IfOk-weaker}
+use Rattle.hp_questions.specs.Wanted.{Meets}
+use Rattle.hp_schedules.specs.declared.scripts.Step.{Step}
 use Rattle.hp_explore.specs.Withins.{aim_within}
 use Rattle.hp_explore.proofs.Budgets.{met_told}
 use Rattle.hp_explore.proofs.SearchEnds.{end_told}
 use Rattle.hp_explore.proofs.within.WithinAim.is_met.Goals as goal
 use Rattle.hp_explore.proofs.within.WithinAim.is_met.Goals.{After-drop-outcome-inside-2}
 
-told : (c : After-drop-outcome-inside-2)
-    → IsTrue c.are_met.result
+told : (c : After-drop-outcome-inside-2) (met : Bool)
+    → (IsTrue met ↔ Meets c.cpus.result c.scripts.result.now c.args.self.now.wanted.now c.in_ok-outcome.outcome)
+    → IsTrue met
     ↔ (aim_within c.args.path.now.setting c.args.self.now.wanted.now c.args.self.now.budget).sought
     c.args._schedule.now
-told c =
+told c met is =
     let p = c.args.path.now in
     let wanted = c.args.self.now.wanted.now in
-    met_told p.setting wanted c.args.self.now.budget c.args._schedule.now p.news c.are_met.result
+    met_told p.setting wanted c.args.self.now.budget c.args._schedule.now p.news met
     c.requires.schedule c.requires.admitted
-    (end_told p wanted c.args.processors c.in_ok-outcome.outcome c.are_met.result c.is_played.ensures
+    (end_told p wanted c.args.processors c.in_ok-outcome.outcome met c.is_played.ensures
     (c.in_ok-is_over.ensures.0 c.if-not-branch.false) c.requires.processors c.in_ok-outcome.ensures
-    c.are_met.ensures)
+    (subst (λ (n : ℕ). IsTrue met ↔ Meets n p.setting.scripts wanted c.in_ok-outcome.outcome) c.cpus.ensures
+    (subst (λ (ss : List (List Step)). IsTrue met ↔ Meets c.cpus.result ss wanted c.in_ok-outcome.outcome)
+    c.scripts.ensures is)))
 
 pub returns-clause-found : goal.returns-clause-found
-returns-clause-found c = λ met. (told c).0 met
+returns-clause-found c =
+    IfOk-weaker c.are_met.result _ _ (λ met is. λ yes. (told c met is).0 yes) c.are_met.ensures
 
 pub returns-clause-missed : goal.returns-clause-missed
-returns-clause-missed c = λ met. iff_false (told c) met
+returns-clause-missed c =
+    IfOk-weaker c.are_met.result _ _ (λ met is. λ no. iff_false (told c met is) no) c.are_met.ensures

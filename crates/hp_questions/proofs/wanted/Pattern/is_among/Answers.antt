@@ -1,6 +1,7 @@
 -- One reply more that is not as wanted; else it is the one.
 use Rattle.hp_units.specs.declared.replies.Reply.{Reply}
-use Rattle.hp_questions.specs.Wanted.{HasReply, IsAsWanted}
+use Rattle.hp_questions.specs.Wanted.{HasReply}
+use Rattle.hp_questions.specs.Patterns.{IsAsWanted}
 use Rattle.hp_questions.proofs.Below.{below_all, none_more, read_here, told_no, told_yes}
 use Rattle.hp_questions.proofs.wanted.Pattern.is_among.Goals as goal
 

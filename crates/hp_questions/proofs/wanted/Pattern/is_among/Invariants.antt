@@ -1,6 +1,6 @@
 -- No reply so far is as wanted.
 use Rattle.hp_units.specs.declared.replies.Reply.{Reply}
-use Rattle.hp_questions.specs.Wanted.{IsAsWanted}
+use Rattle.hp_questions.specs.Patterns.{IsAsWanted}
 use Rattle.hp_questions.proofs.Below.{Below}
 use Rattle.hp_questions.proofs.wanted.Pattern.is_among.Given as goal
 

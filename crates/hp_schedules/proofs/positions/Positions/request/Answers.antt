@@ -7,12 +7,12 @@ use Rattle.hp_schedules.proofs.positions.Positions.request.Goals as goal
 
 pub returns-then-place-scripts : goal.returns-then-place-scripts
 returns-then-place-scripts c =
-    λ g news scripts cpus all. requested_past g news c.args.cpu c.args.scripts.now scripts (omega arith)
+    λ g scripts cpus all. requested_past g c.args.news.now c.args.cpu c.args.scripts.now scripts (omega arith)
 
 pub returns : goal.returns
 returns c =
     IfOk-weaker c.request.result _ _
-    (λ q asks g news scripts cpus all. requested_at g news c.args.cpus c.args.cpu c.args.scripts.now
+    (λ q asks g scripts cpus all. requested_at g c.args.news.now c.args.cpus c.args.cpu c.args.scripts.now
     c.index-scripts-place.result c.lines.result.now c.args.self.now.cursors.items
     c.index.result.now q scripts cpus
     (slice_get_read c.args.scripts.now (length c.args.scripts.now) c.args.cpu c.index-scripts-place.result

@@ -1,9 +1,0 @@
--- The numbers of one processor more.
-use Rattle.hp_explain.proofs.Causes.{causes_more}
-use Rattle.hp_explain.proofs.explainer.push_all_causes.Goals as goal
-
-pub loop-cpu-preserved : goal.loop-cpu-preserved
-loop-cpu-preserved c =
-    causes_more c.args.path.now.setting c.loop-cpu.cpu c.args.path.now.news c.args.numbers.now.items
-    c.loop-cpu.numbers.items c.push_causes.new.numbers.items c.loop-cpu.invariant
-    c.in_ok-push_causes.ensures

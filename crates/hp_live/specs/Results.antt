@@ -1,0 +1,67 @@
+-- The names of results in a session.
+use Rattle.std.specs.Prelude.{◌≡◌, ◌⊎◌, ℕ, List, length, Option, Some, None, option_map, slice_get}
+use Rattle.std.specs.Map.{lookup}
+use Rattle.std.specs.Str.{bytes_eq}
+use Rattle.hp_units.specs.declared.events.Event.{Event}
+use Rattle.hp_units.specs.declared.replies.Record.{Record}
+use Rattle.hp_machine.specs.Machine.{MachineValue}
+use Rattle.hp_names.specs.Bindings.{Bound, bound_to}
+use Rattle.hp_names.specs.Plain.{plain_in}
+use Rattle.hp_names.specs.Results.{missing_number, result_number}
+use Rattle.hp_names.specs.declared.bindings.Naming.{Naming}
+use Rattle.hp_names.specs.declared.plain.PlainLine.{PlainLine}
+use Rattle.hp_scenario.specs.Asked as asks
+use Rattle.hp_scenario.specs.Names.{Numbered, line_in}
+use Rattle.hp_live.specs.declared.answers.Did.{Did}
+use Rattle.hp_live.specs.declared.answers.Did.TheVariants as did
+
+-- ---- a text
+
+-- a line with plain numbers, the owners' names after it, and the name of its result
+pub record Typed : Type 0 where
+  pub numbered : Numbered
+  pub naming : Option Naming
+
+abbrev pub typed_of : PlainLine → Option Numbered → Option Typed
+typed_of plain n = option_map (λ n. record { numbered = n; naming = plain.naming }) n
+
+abbrev pub typed_by : (names : List (List ℕ)) → PlainLine → Option Typed
+typed_by names plain = typed_of plain (line_in names plain.text)
+
+-- the line in a text, after these owners' names and these results
+abbrev pub typed_in : (names : List (List ℕ)) → Bound → (text : List ℕ) → Option Typed
+typed_in names bound text = typed_by names (plain_in bound text)
+
+-- ---- the number of a result
+
+-- of what an event did
+abbrev pub number_did : Event → Did → ℕ
+number_did e (did.Event serial reply) = result_number e serial reply
+number_did e d = missing_number e
+
+-- of what a line did; only an event has one
+abbrev pub number_asked : asks.Meaning → Did → ℕ
+number_asked (asks.event e) d = number_did e d
+number_asked m d = 0
+
+-- of the record that an event left, if it left one
+abbrev pub number_record : Event → Option Record → ℕ
+number_record e None = missing_number e
+number_record e (Some r) = result_number e r.serial r.reply
+
+-- of the record that a line left after `before` others
+abbrev pub number_after : asks.Meaning → (before : ℕ) → (after : MachineValue) → ℕ
+number_after (asks.event e) before after = number_record e (slice_get after.history before)
+number_after m before after = 0
+
+-- by the machines before and after the line
+abbrev pub number_left : asks.Meaning → (before after : MachineValue) → ℕ
+number_left m before after = number_after m (length before.history) after
+
+-- ---- without memory
+
+-- the result of a line has its name; or no result has it, since there was no memory for a new name
+abbrev pub IsKnown : Bound → Option Naming → (line number : ℕ) → (new : Bound) → Type 0
+IsKnown old None line number new = new ≡ old
+IsKnown old (Some naming) line number new =
+    (new ≡ bound_to old naming line number) ⊎ ((new ≡ old) × (lookup (bytes_eq naming.key) old ≡ None))

@@ -1,0 +1,128 @@
+//! Rows that come one after another, of which equal rounds are joined.
+ghost use Rattle.std.specs.Prelude.{◌≡◌, ◌++◌, IfOk, OnOk};
+ghost use Rattle.std.specs.Option.{option_to_list};
+ghost use Rattle.hp_map.specs.Rounds.{Ends, IsJoinOf, JoinsTo, Takes, nothing_read};
+
+use crate::rounds::{Rounds, goes_on};
+use crate::row_picture::RowPicture;
+use std::alloc::{AllocError, Global};
+use std::marker::Model;
+use std::mem::replace;
+
+/// Joins the equal rounds of rows that come one after another. It keeps one round and the rows of
+/// the next.
+#[derive(Drop)]
+pub struct RoundJoiner {
+    last: Option<Rounds>,
+    /// The rows after the last entry: a round to which more rows may come, or another row.
+    rest: Vec<RowPicture>,
+}
+
+impl Model for RoundJoiner {
+    ghost use Rattle.hp_map.specs.Rounds.{JoinerValue};
+
+    ghost Value = { JoinerValue };
+
+    ghost view = { λ j. record { last = j.last; rest = j.rest.items } };
+}
+
+/// What became of the last entry when rows came after it.
+struct LastEntry {
+    /// The last entry, if the rows are no round like it.
+    gone: Option<Rounds>,
+    /// The last entry now.
+    last: Rounds,
+}
+
+impl RoundJoiner {
+    /// Makes a joiner to which no row has come.
+    pub fn new(alloc: Global) -> RoundJoiner
+        ensures { result ≡ nothing_read }
+    {
+        RoundJoiner {
+            last: None,
+            rest: Vec::new(alloc),
+        }
+    }
+
+    /// Takes the next row. Returns an entry to which no more rounds can be joined, if there is one
+    /// now.
+    ///
+    /// After an error rows are lost.
+    pub fn push(&mut self, alloc: Global, row: RowPicture) -> Result<Option<Rounds>, AllocError>
+        ensures { IfOk result (λ gone. Takes row gone self.old self.new) }
+    {
+        if self.rest.is_empty() || goes_on(&self.rest, &row) {
+            self.rest.push(row)?;
+            return Ok(None);
+        }
+        let rows = replace(&mut self.rest, Vec::new(alloc));
+        self.rest.push(row)?;
+        let LastEntry { gone, last } = join(alloc, self.last.take(), rows)?;
+        self.last = Some(last);
+        Ok(gone)
+    }
+
+    /// Returns the last two entries, when no row comes any more.
+    pub fn finish(self, alloc: Global) -> Result<(Option<Rounds>, Option<Rounds>), AllocError>
+        ensures { IfOk result (λ ends. Ends self (option_to_list ends.0 ++ option_to_list ends.1)) }
+    {
+        let RoundJoiner { last, rest } = self;
+        if rest.is_empty() {
+            return Ok((None, None));
+        }
+        let LastEntry { gone, last } = join(alloc, last, rest)?;
+        Ok((gone, Some(last)))
+    }
+}
+
+/// Joins rows to the last entry if they are one more round like it. Otherwise they make a new one.
+fn join(alloc: Global, last: Option<Rounds>, rows: Vec<RowPicture>) -> Result<LastEntry, AllocError>
+    ensures { IfOk result (λ entry. JoinsTo last rows.items entry.gone entry.last) }
+{
+    let Some(last) = last else {
+        return Ok(LastEntry {
+            gone: None,
+            last: Rounds::once(rows),
+        });
+    };
+    if last.is_one_more(alloc, &rows)? {
+        return Ok(LastEntry {
+            gone: None,
+            last: last.with_one_more()?,
+        });
+    }
+    Ok(LastEntry {
+        gone: Some(last),
+        last: Rounds::once(rows),
+    })
+}
+
+/// Adds an entry, if there is one.
+fn add(entries: &mut Vec<Rounds>, entry: Option<Rounds>) -> Result<(), AllocError>
+    ensures { OnOk result (entries.new.items ≡ entries.old.items ++ option_to_list entry) }
+{
+    match entry {
+        Some(entry) => {
+            entries.push(entry)?;
+            Ok(())
+        }
+        None => Ok(()),
+    }
+}
+
+/// Joins the equal rounds of rows.
+pub fn join_rounds(alloc: Global, rows: Vec<RowPicture>) -> Result<Vec<Rounds>, AllocError>
+    ensures { IfOk result (λ entries. IsJoinOf rows.items entries.items) }
+{
+    let mut joiner = RoundJoiner::new(alloc);
+    let mut entries = Vec::new(alloc);
+    for row in rows {
+        let gone = joiner.push(alloc, row)?;
+        add(&mut entries, gone)?;
+    }
+    let (gone, last) = joiner.finish(alloc)?;
+    add(&mut entries, gone)?;
+    add(&mut entries, last)?;
+    Ok(entries)
+}

@@ -1,0 +1,6 @@
+pub mod BoundNumbers
+pub mod FrontRuns
+pub mod NamedLists
+pub mod NamedReads
+pub mod PlainTexts
+pub mod WordsCut

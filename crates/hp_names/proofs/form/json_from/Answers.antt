@@ -1,0 +1,11 @@
+use Rattle.std.proofs.Common.{◌≡◌, true, false}
+use Rattle.hp_scenario.proofs.Json.{json_read, json_refused}
+use Rattle.hp_names.proofs.form.json_from.Goals as goal
+
+pub returns-in-Ok : goal.returns-in-Ok
+returns-in-Ok c = json_read _ _ c.in-Ok.ensures.ok.0 c.in-Ok.ensures.ok.1
+
+pub returns-else-is_memory : goal.returns-else-is_memory
+returns-else-is_memory c =
+    json_refused _
+    (c.in-Err.ensures.err (λ e. let h : false ≡ true = c.if-is_memory.ensures.1 e in absurd cc))

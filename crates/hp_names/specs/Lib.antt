@@ -1,0 +1,9 @@
+pub mod Bindings
+pub mod Faults
+pub mod Named
+pub mod NamedWords
+pub mod Plain
+pub mod Resolved
+pub mod Results
+pub mod Runs
+pub mod Seen

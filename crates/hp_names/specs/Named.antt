@@ -1,0 +1,82 @@
+-- The scenario in a text with names, and the line whose result each line works on.
+use Rattle.std.specs.Prelude.{ℕ, ◌+◌, List, [], ◌∷◌, ◌++◌, length, Option, None, Result, Ok, option_map, replicate}
+use Rattle.serde_json.specs.Data.{Data}
+use Rattle.hp_units.specs.LayoutParts.{layout_fault}
+use Rattle.hp_scenario.specs.Form.{Form, form_of, form_with}
+use Rattle.hp_units.specs.LayoutParts.{LayoutParts}
+use Rattle.hp_scenario.specs.Gives.{◌>>=◌, or_fault}
+use Rattle.hp_scenario.specs.Names.{Numbered, line_in}
+use Rattle.hp_scenario.specs.Scenario.{ScenarioValue, json_of, layout_or}
+use Rattle.hp_scenario.specs.declared.lines.Line.{Line}
+use Rattle.hp_scenario.specs.declared.fault.ScenarioFault.{ScenarioFault}
+use Rattle.hp_scenario.specs.declared.fault.ScenarioFault.TheVariants.{NotJson, BadShape, BadLine}
+use Rattle.hp_names.specs.Bindings.{Bound, bound_after}
+use Rattle.hp_names.specs.Plain.{plain_in}
+use Rattle.hp_names.specs.declared.plain.PlainLine.{PlainLine}
+
+-- a scenario, and for each line the place of the line whose result it works on, counted from 0. The
+-- scenario's line has the number 0 where the result's number is to be. Then what names are bound to
+-- after the last line
+pub record NamedValue : Type 0 where
+  pub scenario : ScenarioValue
+  pub sources : List (Option ℕ)
+  pub bound : Bound
+
+-- a scenario in which no line works on a result by its name
+abbrev pub plainly : ScenarioValue → NamedValue
+plainly s = record { scenario = s; sources = replicate (length s.lines) None; bound = [] }
+
+-- the owners' names, the lines, their sources, and the names of results so far
+pub record ReadingValue : Type 0 where
+  pub names : List (List ℕ)
+  pub lines : List Line
+  pub sources : List (Option ℕ)
+  pub bound : Bound
+
+abbrev pub nothing : ReadingValue
+nothing = record { names = []; lines = []; sources = []; bound = [] }
+
+-- one more line; the number of its result is not known
+abbrev pub with_line : ReadingValue → PlainLine → Numbered → ReadingValue
+with_line r plain n = record {
+  names = n.names;
+  lines = r.lines ++ n.line ∷ [];
+  sources = r.sources ++ plain.source ∷ [];
+  bound = bound_after r.bound plain.naming (length r.lines) 0;
+}
+
+abbrev pub with_plain : ReadingValue → PlainLine → Option ReadingValue
+with_plain r plain = option_map (with_line r plain) (line_in r.names plain.text)
+
+-- one more text, if it is a line without its names
+abbrev pub with_text : ReadingValue → List ℕ → Option ReadingValue
+with_text r text = with_plain r (plain_in r.bound text)
+
+-- the lines in the texts, of which the first has number `at`, after the lines so far
+unfoldable pub lines_from : ℕ → ReadingValue → List (List ℕ) → Result ReadingValue ScenarioFault
+lines_from at r [] = Ok r
+lines_from at r (text ∷ texts) =
+    or_fault (BadLine at) (with_text r text) >>= λ next. lines_from (at + 1) next texts
+
+-- the scenario of a form, or the first fault: the layout's, then the lines'
+unfoldable pub named_with : Form → Result NamedValue ScenarioFault
+named_with form = do
+  layout ← layout_or form.parts (layout_fault form.parts)
+  r ← lines_from 1 nothing form.calls
+  Ok (record {
+    scenario = record { layout = layout; names = r.names; lines = r.lines };
+    sources = r.sources;
+    bound = r.bound;
+  })
+
+-- the scenario of parts and texts; a bad shape if one is missing
+abbrev pub named_if : Option LayoutParts → Option (List (List ℕ)) → Result NamedValue ScenarioFault
+named_if parts calls = or_fault BadShape (form_with parts calls) >>= named_with
+
+-- the scenario in a JSON value, or the first fault: the shape's before all others
+unfoldable pub named_of : Data → Result NamedValue ScenarioFault
+named_of d = or_fault BadShape (form_of d) >>= named_with
+
+-- the scenario in a text, or the first fault
+unfoldable pub named_in : List ℕ → Result NamedValue ScenarioFault
+named_in bytes = or_fault NotJson (json_of bytes) >>= named_of

@@ -1,0 +1,73 @@
+-- A line's text without names: `as NAME` is taken off, and the number that a name stands for is in
+-- the place of `$NAME`. A text with names that are not understood stays as it is, and is no line.
+use Rattle.std.specs.Prelude.{ℕ, List, [], ◌∷◌, Option, Some, None, if◌then◌else◌, option_and_then}
+use Rattle.std.specs.Fmt.{decimal}
+use Rattle.hp_scenario.specs.Words.{words_of}
+use Rattle.hp_names.specs.Bindings.{Bound, key_of, result_at}
+use Rattle.hp_names.specs.NamedWords.{after_dollar, before_name, joined, name_at_end}
+use Rattle.hp_names.specs.Results.{result_of_verb, same_kind, wanted_by_verb}
+use Rattle.hp_names.specs.declared.plain.PlainLine.{PlainLine}
+use Rattle.hp_names.specs.declared.results.NamedResult.{NamedResult}
+use Rattle.hp_names.specs.declared.results.ResultKind.{ResultKind}
+
+-- a text that stays as it is
+abbrev pub unchanged : List ℕ → PlainLine
+unchanged text = record { text = text; source = None; naming = None }
+
+-- ---- `begin` and `kalloc`
+
+-- a text whose result gets a name, if it ends in one
+abbrev pub naming_line : (text : List ℕ) → (words : List (List ℕ)) → (cpu : List ℕ) → ResultKind
+    → Option (List ℕ) → PlainLine
+naming_line text words cpu kind None = unchanged text
+naming_line text words cpu kind (Some name) = record {
+  text = joined (before_name words);
+  source = None;
+  naming = Some (record { key = key_of cpu name; kind = kind });
+}
+
+-- ---- `drainfor`, `migrate`, `commit`, `cancel` and `kfree`
+
+-- a result of this kind
+abbrev pub of_kind : ResultKind → NamedResult → Option NamedResult
+of_kind kind r = if same_kind r.kind kind then Some r else None
+
+-- the result that a word names: the latest of the processor with the name after `$`, if its kind is
+-- the one that is wanted
+abbrev pub result_named : Bound → (cpu : List ℕ) → ResultKind → (word : List ℕ) → Option NamedResult
+result_named bound cpu kind word =
+    option_and_then (of_kind kind) (option_and_then (result_at bound cpu) (after_dollar word))
+
+-- a text with a result's number in the place of the word after the verb
+abbrev pub numbered_line : (text cpu verb : List ℕ) → (rest : List (List ℕ)) → Option NamedResult → PlainLine
+numbered_line text cpu verb rest None = unchanged text
+numbered_line text cpu verb rest (Some r) = record {
+  text = joined (cpu ∷ verb ∷ decimal r.number ∷ rest);
+  source = Some r.line;
+  naming = None;
+}
+
+abbrev pub working_line : Bound → (text cpu verb : List ℕ) → ResultKind → (args : List (List ℕ)) → PlainLine
+working_line bound text cpu verb kind [] = unchanged text
+working_line bound text cpu verb kind (word ∷ rest) =
+    numbered_line text cpu verb rest (result_named bound cpu kind word)
+
+-- ---- any line
+
+abbrev pub line_by_verb : Bound → (text cpu verb : List ℕ) → (args : List (List ℕ)) → Option ResultKind
+    → Option ResultKind → PlainLine
+line_by_verb bound text cpu verb args (Some kind) wanted =
+    naming_line text (cpu ∷ verb ∷ args) cpu kind (name_at_end args)
+line_by_verb bound text cpu verb args None (Some kind) = working_line bound text cpu verb kind args
+line_by_verb bound text cpu verb args None None = unchanged text
+
+-- the line in a text of these words, given what is bound before it
+unfoldable pub plain_of : Bound → (text : List ℕ) → (words : List (List ℕ)) → PlainLine
+plain_of bound text [] = unchanged text
+plain_of bound text (cpu ∷ []) = unchanged text
+plain_of bound text (cpu ∷ verb ∷ args) =
+    line_by_verb bound text cpu verb args (result_of_verb verb) (wanted_by_verb verb)
+
+-- the line in a text
+abbrev pub plain_in : Bound → List ℕ → PlainLine
+plain_in bound text = plain_of bound text (words_of text)

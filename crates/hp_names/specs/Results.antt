@@ -1,0 +1,56 @@
+-- The results of lines that a name can stand for, and their numbers.
+use Rattle.std.specs.Prelude.{ℕ, List, codes, Bool, true, false, Option, Some, None, if◌then◌else◌}
+use Rattle.std.specs.Str.{bytes_eq}
+use Rattle.hp_units.specs.declared.events.Event.{Event}
+use Rattle.hp_units.specs.declared.events.Event.TheVariants.{Begin, KernelAlloc}
+use Rattle.hp_units.specs.declared.replies.Reply.{Reply}
+use Rattle.hp_units.specs.declared.replies.Reply.TheVariants as reply
+use Rattle.hp_names.specs.declared.results.ResultKind.{ResultKind}
+use Rattle.hp_names.specs.declared.results.ResultKind.TheVariants.{Operation, Frame}
+
+-- ---- which lines have results with names, and which lines work on them
+
+-- what a line of this verb results in: an operation or a frame, if its result may have a name
+unfoldable pub result_of_verb : List ℕ → Option ResultKind
+result_of_verb verb =
+    if bytes_eq verb (codes "begin") then Some Operation
+    else (if bytes_eq verb (codes "kalloc") then Some Frame
+    else None)
+
+-- what the word after this verb is the number of, if a name may stand in its place
+unfoldable pub wanted_by_verb : List ℕ → Option ResultKind
+wanted_by_verb verb =
+    if bytes_eq verb (codes "drainfor") then Some Operation
+    else (if bytes_eq verb (codes "migrate") then Some Operation
+    else (if bytes_eq verb (codes "commit") then Some Operation
+    else (if bytes_eq verb (codes "cancel") then Some Operation
+    else (if bytes_eq verb (codes "kfree") then Some Frame
+    else None))))
+
+abbrev pub same_kind : ResultKind → ResultKind → Bool
+same_kind Operation Operation = true
+same_kind Operation Frame = false
+same_kind Frame Operation = false
+same_kind Frame Frame = true
+
+-- ---- numbers
+
+-- a frame that no layout has
+abbrev pub no_frame : ℕ
+no_frame = 4294967295
+
+abbrev pub frame_number : Reply → ℕ
+frame_number (reply.Frame frame) = frame
+frame_number r = no_frame
+
+-- the number of a call's result: the operation that it began, which has the call's serial, refused or
+-- not; or the frame that it got, which a refused call has not
+abbrev pub result_number : Event → (serial : ℕ) → Reply → ℕ
+result_number (Begin plan) serial r = serial
+result_number (KernelAlloc order) serial r = frame_number r
+result_number e serial r = 0
+
+-- the same of a call that made no record, since the history was full
+abbrev pub missing_number : Event → ℕ
+missing_number (KernelAlloc order) = no_frame
+missing_number e = 0

@@ -1,0 +1,153 @@
+//! Why names are not understood.
+ghost use Rattle.std.specs.Prelude.{◌≡◌, IfOk, map, option_map, is_some};
+ghost use Rattle.std.specs.List.{list_any};
+ghost use Rattle.hp_names.specs.Faults as spec;
+
+use crate::bindings::Bindings;
+use crate::results::{ResultKind, result_of_verb, wanted_by_verb};
+use crate::words::{after_dollar, last_two, name_at_end, words_in};
+use std::alloc::{AllocError, Global};
+
+/// Why the names in a text that is no line are not understood.
+#[derive(Clone, Copy, Debug, PartialEq, Eq, Drop)]
+pub enum NameFault {
+    /// No earlier line of the processor gives its result the name after `$`.
+    UnknownName,
+    /// The result with the name after `$` is no operation, or no frame.
+    WrongKind,
+    /// A word begins with `$`, and is not the one after `drainfor`, `migrate`, `commit`, `cancel`
+    /// or `kfree`.
+    ReferenceNotHere,
+    /// The line ends in `as` and a word, and is no `begin` and no `kalloc`.
+    NameNotHere,
+    /// The word after `as` has not the form of a name.
+    BadName,
+}
+
+/// Returns why the names of a text are not understood, given what names are bound to before it. It
+/// is to be asked of a text that is no line: an `echo` may have words that look like names.
+pub fn name_fault(
+    alloc: Global,
+    text: &str,
+    bound: &Bindings,
+) -> Result<Option<NameFault>, AllocError>
+    ensures { IfOk result (λ fault. fault ≡ spec.fault_in bound.now text.now) }
+{
+    let words = words_in(alloc, text)?;
+    fault_of(alloc, words.as_slice(), bound)
+}
+
+/// Returns why the names among words are not understood.
+#[tactic(auto, unfolding(crate::specs::Faults::name_fault))]
+fn fault_of(
+    alloc: Global,
+    words: &[&str],
+    bound: &Bindings,
+) -> Result<Option<NameFault>, AllocError>
+    ensures { IfOk result (λ fault. fault ≡ spec.name_fault bound.now (map (λ w. w.now) words.now)) }
+{
+    let [cpu, verb, args @ ..] = words else {
+        return Ok(None);
+    };
+    if result_of_verb(verb).is_some() {
+        let is_bad = has_mark_at_end(args) && name_at_end(args).is_none();
+        return Ok(stray_fault(has_reference(args), is_bad, NameFault::BadName));
+    }
+    match wanted_by_verb(verb) {
+        Some(kind) => fault_of_work(alloc, bound, cpu, kind, args),
+        None => Ok(stray_fault(
+            has_reference(args),
+            has_mark_at_end(args),
+            NameFault::NameNotHere,
+        )),
+    }
+}
+
+/// Returns the fault of the words after a verb that works on a result of this kind.
+fn fault_of_work(
+    alloc: Global,
+    bound: &Bindings,
+    cpu: &str,
+    kind: ResultKind,
+    args: &[&str],
+) -> Result<Option<NameFault>, AllocError>
+    ensures { IfOk result
+        (λ fault. fault ≡ spec.fault_of_work bound.now cpu.now kind (map (λ w. w.now) args.now)) }
+{
+    let [word, rest @ ..] = args else {
+        return Ok(None);
+    };
+    if let Some(fault) = reference_fault(alloc, bound, cpu, kind, word)? {
+        return Ok(Some(fault));
+    }
+    Ok(stray_fault(
+        has_reference(rest),
+        has_mark_at_end(args),
+        NameFault::NameNotHere,
+    ))
+}
+
+/// Returns the fault of the word after the verb, if it begins with `$` and names no result of this
+/// kind.
+fn reference_fault(
+    alloc: Global,
+    bound: &Bindings,
+    cpu: &str,
+    kind: ResultKind,
+    word: &str,
+) -> Result<Option<NameFault>, AllocError>
+    ensures { IfOk result (λ fault. fault ≡ spec.reference_fault bound.now cpu.now kind word.now) }
+{
+    let Some(name) = after_dollar(word) else {
+        return Ok(None);
+    };
+    let Some(found) = bound.result_at(alloc, cpu, name)? else {
+        return Ok(Some(NameFault::UnknownName));
+    };
+    Ok(if found.kind.is(kind) {
+        None
+    } else {
+        Some(NameFault::WrongKind)
+    })
+}
+
+/// Returns the fault of words that may not begin with `$`, or of a name that may not be there.
+fn stray_fault(has_reference: bool, has_name: bool, fault: NameFault) -> Option<NameFault>
+    ensures { result ≡ spec.stray_fault has_reference has_name fault }
+{
+    if has_reference {
+        Some(NameFault::ReferenceNotHere)
+    } else if has_name {
+        Some(fault)
+    } else {
+        None
+    }
+}
+
+/// Returns whether one of the words begins with `$`.
+fn has_reference(words: &[&str]) -> bool
+    ensures { result ≡ list_any spec.is_reference (map (λ w. w.now) words.now) }
+{
+    for word in words {
+        if is_reference(word) {
+            return true;
+        }
+    }
+    false
+}
+
+fn is_reference(word: &str) -> bool
+    ensures { result ≡ spec.is_reference word.now }
+{
+    after_dollar(word).is_some()
+}
+
+/// Returns whether `as` is the last word but one.
+fn has_mark_at_end(words: &[&str]) -> bool
+    ensures { result ≡ spec.has_mark_at_end (map (λ w. w.now) words.now) }
+{
+    match last_two(words) {
+        Some((mark, _word)) => mark == "as",
+        None => false,
+    }
+}

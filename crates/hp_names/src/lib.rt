@@ -1,0 +1,28 @@
+//! Names for the results of a scenario's lines, as `hotplug_lab` reads them.
+//!
+//! A `begin` or a `kalloc` may end in ` as NAME`, and `$NAME` may stand for the number of the operation
+//! or of the frame in a later line of the same processor. The crate owns which names a text may have,
+//! the plain text of a line without them, the scenario in a text with names, and the numbers that the
+//! results of a scenario's first lines have when these are run in order. What a line is without names,
+//! hp_scenario says.
+//!
+//! Read specs/Plain first, then specs/Named and specs/Resolved.
+#![tactic(auto)]
+
+mod bindings;
+mod faults;
+mod form;
+mod named;
+mod plain;
+mod reading;
+mod resolve;
+mod results;
+mod runs;
+mod words;
+
+pub use bindings::{Bindings, Naming};
+pub use faults::{NameFault, name_fault};
+pub use named::{NamedScenario, Sources};
+pub use plain::{PlainLine, plain_line};
+pub use resolve::resolve_front;
+pub use results::{NamedResult, ResultKind, missing_number, result_number};

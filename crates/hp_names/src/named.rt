@@ -1,0 +1,147 @@
+//! A scenario with names.
+ghost use Rattle.std.specs.Prelude.{◌≡◌, IfOk, Some, map, option_map};
+ghost use Rattle.serde_json.specs.View.{view};
+ghost use Rattle.hp_units.specs.PartsSeen.{parts_seen};
+ghost use Rattle.hp_scenario.specs.Gives.{Gives};
+ghost use Rattle.hp_scenario.specs.Seen.{scenario_seen};
+ghost use Rattle.hp_names.specs.Named.{named_if, named_in, named_of, plainly};
+ghost use Rattle.hp_names.specs.Seen.{named_seen};
+
+use crate::bindings::Bindings;
+use crate::form::{has_keys, json_from, layout_from, texts_at};
+use crate::reading::Reading;
+use hp_scenario::{Scenario, ScenarioFault, boots_at, parts_with};
+use hp_units::Parts;
+use serde_json::Value;
+use std::alloc::{AllocError, Global};
+use std::marker::Model;
+
+/// For each line of a scenario the place of the line whose result it works on, counted from 0. A
+/// contract sees a list.
+#[derive(Drop)]
+pub struct Sources {
+    sources: Vec<Option<usize>>,
+}
+
+impl Model for Sources {
+    ghost use Rattle.std.specs.Prelude.{List, Option, ℕ};
+
+    ghost Value = { List (Option ℕ) };
+
+    ghost view = { λ s. s.sources.items };
+}
+
+impl Sources {
+    /// Wraps sources without copying them.
+    pub fn new(sources: Vec<Option<usize>>) -> Sources
+        ensures { result ≡ sources.items }
+    {
+        Sources { sources }
+    }
+
+    /// Returns the sources in the order of the lines.
+    pub fn as_slice(&self) -> &[Option<usize>]
+        ensures { result.now ≡ self.now }
+    {
+        self.sources.as_slice()
+    }
+
+    /// Returns the sources as a vector, without copying them.
+    pub(crate) fn into_vec(self) -> Vec<Option<usize>>
+        ensures { result.items ≡ self }
+    {
+        let Sources { sources: all } = self;
+        all
+    }
+}
+
+/// A scenario, and the lines that work on the results of earlier ones. These lines have the number
+/// 0 where the number of the result is to be.
+#[derive(Drop)]
+pub struct NamedScenario {
+    /// The scenario.
+    pub scenario: Scenario,
+    /// The source of each line.
+    pub sources: Sources,
+    /// What names are bound to after the last line.
+    pub bound: Bindings,
+}
+
+impl NamedScenario {
+    /// Reads a scenario whose lines may have names for their results. A text without names is read
+    /// as [`Scenario::read`] reads it, and as fast, if none of its bytes is a `$`.
+    ///
+    /// A line whose names are not understood is no line.
+    pub fn read(alloc: Global, bytes: &[u8]) -> Result<NamedScenario, ScenarioFault>
+        ensures { Gives named_seen result (named_in bytes.now) }
+    {
+        if bytes.contains(&b'$') {
+            return read_named(alloc, bytes);
+        }
+        match Scenario::read(alloc, bytes) {
+            Ok(scenario) => Ok(without_names(alloc, scenario)?),
+            Err(fault) => match fault {
+                ScenarioFault::BadLine { line: _ } => read_named(alloc, bytes),
+                _ => Err(fault),
+            },
+        }
+    }
+}
+
+/// Returns a scenario in which no line has a source.
+fn without_names(alloc: Global, scenario: Scenario) -> Result<NamedScenario, AllocError>
+    ensures { IfOk result (λ named. named_seen named ≡ plainly (scenario_seen scenario)) }
+{
+    let sources = vec![in alloc; None; scenario.lines.as_slice().len()]?;
+    Ok(NamedScenario {
+        scenario,
+        sources: Sources::new(sources),
+        bound: Bindings::new(alloc),
+    })
+}
+
+/// Reads a scenario by way of its JSON value.
+#[tactic(auto, unfolding(crate::specs::Named::named_in))]
+fn read_named(alloc: Global, bytes: &[u8]) -> Result<NamedScenario, ScenarioFault>
+    ensures { Gives named_seen result (named_in bytes.now) }
+{
+    let value = json_from(alloc, bytes)?;
+    named_from(alloc, &value)
+}
+
+/// Returns the scenario in a JSON value. Checks the shape before the layout and the lines.
+#[tactic(auto, unfolding(crate::specs::Named::named_of, hp_scenario::specs::Form::form_of, hp_scenario::specs::Form::parts_of))]
+fn named_from(alloc: Global, value: &Value) -> Result<NamedScenario, ScenarioFault>
+    ensures { Gives named_seen result (named_of (view value.now)) }
+{
+    if !has_keys(value, 2) {
+        return Err(ScenarioFault::BadShape);
+    }
+    let layout = value.get("layout").ok_or(ScenarioFault::BadShape)?;
+    if !has_keys(layout, 11) {
+        return Err(ScenarioFault::BadShape);
+    }
+    let boot = boots_at(alloc, layout, "boot")?;
+    let calls = texts_at(alloc, value, "calls")?;
+    named_with(alloc, parts_with(layout, &boot), &calls)
+}
+
+/// Returns the scenario of a layout's parts and of the lines' texts; `BadShape` if there are no
+/// parts.
+#[tactic(auto, unfolding(crate::specs::Named::named_with))]
+fn named_with(
+    alloc: Global,
+    parts: Option<Parts<'_>>,
+    calls: &[&str],
+) -> Result<NamedScenario, ScenarioFault>
+    ensures { Gives named_seen result
+        (named_if (option_map parts_seen parts.entry) (Some (map (λ t. t.now) calls.now))) }
+{
+    let Some(parts) = parts else {
+        return Err(ScenarioFault::BadShape);
+    };
+    let layout = layout_from(alloc, &parts)?;
+    let mut reading = Reading::new(alloc);
+    reading.add_all(alloc, calls)?;
+    Ok(reading.into_named(layout))
+}

@@ -1,0 +1,105 @@
+//! The results of lines that may have names.
+ghost use Rattle.std.specs.Prelude.{◌≡◌};
+ghost use Rattle.hp_names.specs.Results as spec;
+
+use hp_units::{Event, Reply, Serial};
+
+/// What a named result is.
+#[derive(Clone, Copy, Debug, Drop)]
+pub enum ResultKind {
+    /// The operation that a `begin` began.
+    Operation,
+    /// The frame that a `kalloc` got.
+    Frame,
+}
+
+/// A result with a name.
+#[derive(Clone, Copy, Debug, Drop)]
+pub struct NamedResult {
+    /// What it is.
+    pub kind: ResultKind,
+    /// The place of its line, counted from 0.
+    pub line: usize,
+    /// The number of the operation or the frame; 0 while it is not known.
+    pub number: u64,
+}
+
+/// A frame that no layout has.
+const NO_FRAME: u64 = 4_294_967_295;
+
+impl ResultKind {
+    /// Returns whether both are the same kind.
+    pub(crate) fn is(self, other: ResultKind) -> bool
+        ensures { result ≡ spec.same_kind self other }
+    {
+        match self {
+            ResultKind::Operation => match other {
+                ResultKind::Operation => true,
+                ResultKind::Frame => false,
+            },
+            ResultKind::Frame => match other {
+                ResultKind::Operation => false,
+                ResultKind::Frame => true,
+            },
+        }
+    }
+}
+
+/// Returns what a line of this verb results in, if its result may have a name.
+#[tactic(auto, unfolding(crate::specs::Results::result_of_verb))]
+pub(crate) fn result_of_verb(verb: &str) -> Option<ResultKind>
+    ensures { result ≡ spec.result_of_verb verb.now }
+{
+    match verb {
+        "begin" => Some(ResultKind::Operation),
+        "kalloc" => Some(ResultKind::Frame),
+        _ => None,
+    }
+}
+
+/// Returns what the word after this verb is the number of, if a name may stand in its place.
+#[tactic(auto, unfolding(crate::specs::Results::wanted_by_verb))]
+pub(crate) fn wanted_by_verb(verb: &str) -> Option<ResultKind>
+    ensures { result ≡ spec.wanted_by_verb verb.now }
+{
+    match verb {
+        "drainfor" => Some(ResultKind::Operation),
+        "migrate" => Some(ResultKind::Operation),
+        "commit" => Some(ResultKind::Operation),
+        "cancel" => Some(ResultKind::Operation),
+        "kfree" => Some(ResultKind::Frame),
+        _ => None,
+    }
+}
+
+/// Returns the number of a call's result: of a `Begin` the operation, also if it was refused; of a
+/// `KernelAlloc` the frame, or 4294967295, which no layout has, if it was refused; otherwise 0.
+pub fn result_number(event: &Event, serial: Serial, reply: &Reply) -> u64
+    ensures { result ≡ spec.result_number event.now serial reply.now }
+{
+    match event {
+        Event::Begin { plan: _ } => serial.0,
+        Event::KernelAlloc { order: _ } => frame_number(reply),
+        _ => 0,
+    }
+}
+
+/// Returns the frame of a reply.
+fn frame_number(reply: &Reply) -> u64
+    ensures { result ≡ spec.frame_number reply.now }
+{
+    match reply {
+        Reply::Frame(frame) => u64::from(frame.0),
+        _ => NO_FRAME,
+    }
+}
+
+/// Returns the number of the result of a call that made no record, since the history was full.
+pub fn missing_number(event: &Event) -> u64
+    ensures { result ≡ spec.missing_number event.now }
+{
+    match event {
+        Event::KernelAlloc { order: _ } => NO_FRAME,
+        _ => 0,
+    }
+}

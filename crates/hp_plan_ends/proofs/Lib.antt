@@ -1,0 +1,3 @@
+pub mod Bare
+pub mod Played
+pub mod Reading
