@@ -9,9 +9,9 @@ use Rattle.hp_units.specs.History.{value_of}
 use Rattle.hp_units.specs.declared.replies.Record.{Record}
 use Rattle.hp_units.specs.declared.replies.OpEnd.{OpEnd}
 use Rattle.hp_units.specs.declared.replies.Reply.{Reply}
-use Rattle.hp_plan_ends.specs.PlanEnds.{ends_answered, plan_ends, plan_ends_of}
-use Rattle.hp_plan_ends.proofs.Played.{ends_are_answers}
-use Rattle.hp_plan_ends.proofs.Reading.{ends_append}
+use Rattle.hp_questions.specs.PlanEnds.{ends_answered, plan_ends, plan_ends_of}
+use Rattle.hp_questions.proofs.Played.{ends_are_answers}
+use Rattle.hp_questions.proofs.Reading.{ends_append}
 use Rattle.hp_schedules.specs.Continuing.{ContinuesAs}
 use Rattle.hp_schedules.specs.LineAnswers.{answers_at}
 use Rattle.hp_schedules.specs.Outcomes.{ended_rows_below, outcome, replies_below, replies_to}

@@ -1,7 +1,7 @@
 -- How many interleavings the scripts of a check have.
 use Rattle.std.proofs.Common.{◌≡◌, ◌==◌, ◌-◌, ◌^◌, ℕ, Bool, true, false, List, [], Result, Ok, Err, IfOk, OnOk, refl, sym, subst}
 use Rattle.std.proofs.lemmas.Bool.{eq-eqb, eqb-true}
-use Rattle.hp_questions.specs.Counting.{IsCountTold}
+use Rattle.hp_starts.specs.Counting.{IsCountTold}
 use Rattle.hp_scenario.specs.Gives.{Fails}
 use Rattle.hp_names.specs.Named.{NamedValue, named_in}
 use Rattle.hp_scenario.specs.declared.fault.ScenarioFault.{ScenarioFault}

@@ -2,7 +2,7 @@
 use Rattle.std.specs.Prelude.{◌≡◌, ℕ, ◌-◌, ◌^◌, ◌==◌, Bool, true, false, List, [], ◌++◌, Result, Ok, Err}
 use Rattle.hp_names.specs.Named.{NamedValue, named_in}
 use Rattle.hp_scenario.specs.declared.fault.ScenarioFault.{ScenarioFault}
-use Rattle.hp_questions.specs.Counting.{IsCountTold}
+use Rattle.hp_starts.specs.Counting.{IsCountTold}
 
 -- the most interleavings that are counted
 abbrev pub usual_limit : ℕ

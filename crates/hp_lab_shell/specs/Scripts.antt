@@ -2,8 +2,8 @@
 use Rattle.std.specs.Prelude.{ℕ, List, [], length, Option, Some, None, Result, Ok, Err}
 use Rattle.hp_names.specs.Named.{NamedValue}
 use Rattle.hp_scenario.specs.declared.fault.ScenarioFault.{ScenarioFault}
-use Rattle.hp_questions.specs.Unbegun.{unbegun_lines}
-use Rattle.hp_questions.specs.declared.unbegun.Unbegun.{Unbegun}
+use Rattle.hp_starts.specs.Unbegun.{unbegun_lines}
+use Rattle.hp_starts.specs.declared.unbegun.Unbegun.{Unbegun}
 
 -- the lines of scripts that work on operation 0 although their processor has begun none
 abbrev pub unbegun_in : (setup : ℕ) → Result NamedValue ScenarioFault → List Unbegun

@@ -8,7 +8,7 @@ ghost use Rattle.hp_lab_shell.specs.Checks.{IsCheckOf, IsCountIn, IsCountOf};
 use crate::text_and_status::TextAndStatus;
 use hp_check::{check, fault_count, write_report};
 use hp_names::NamedScenario;
-use hp_questions::interleavings_line;
+use hp_starts::interleavings_line;
 use hp_scenario::ScenarioFault;
 use hp_search::LabProgramFault;
 use std::alloc::{AllocError, Global};

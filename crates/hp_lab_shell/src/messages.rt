@@ -1,6 +1,6 @@
 //! The faults and warnings that are printed on standard error.
 
-use hp_questions::Unbegun;
+use hp_starts::Unbegun;
 use hp_search::LabProgramFault;
 use hp_text::{Brackets, write_escaped};
 use std::alloc::{AllocError, Global};

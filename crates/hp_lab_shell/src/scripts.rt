@@ -4,7 +4,7 @@ ghost use Rattle.hp_names.specs.Named.{named_in};
 ghost use Rattle.hp_lab_shell.specs.Scripts.{count_of, unbegun_in};
 
 use hp_names::NamedScenario;
-use hp_questions::{Unbegun, unbegun_lines};
+use hp_starts::{Unbegun, unbegun_lines};
 use hp_scenario::ScenarioFault;
 use std::alloc::{AllocError, Global};
 

@@ -3,4 +3,3 @@ pub mod FrontRuns
 pub mod NamedLists
 pub mod NamedReads
 pub mod PlainTexts
-pub mod WordsCut

@@ -1,9 +1,10 @@
 -- Scenarios that are read: line by line, and without names as ever.
-use Rattle.std.proofs.Common.{◌≡◌, ℕ, ◌+◌, ◌<◌, ◌≤◌, Bool, true, false, cond, Bor, List, [], ◌∷◌, ◌++◌, length, get_or, map, drop, Option, Some, None, Result, Ok, Err, refl, sym, ap, ◌∙◌, append_assoc, add-one, arith, option_map}
+use Rattle.std.proofs.Common.{◌≡◌, ℕ, ◌+◌, ◌<◌, ◌≤◌, Bool, true, false, cond, List, [], ◌∷◌, ◌++◌, length, slice_get, drop, Option, Some, None, Result, Ok, Err, refl, sym, ap, ◌∙◌, append_assoc, add-one, arith, option_map}
 use Rattle.std.specs.Prelude.{replicate}
 use Rattle.std.specs.Str.{is_utf8}
 use Rattle.std.proofs.Math.Seq.{drop-cons}
 use Rattle.std.proofs.lemmas.List.{append-nil, drop_all, length-append}
+use Rattle.std.proofs.lemmas.Option.{get_or_from_slice_get, slice_get_within}
 use Rattle.serde_json.specs.Data.{Data}
 use Rattle.hp_units.specs.LayoutParts.{LayoutParts, layout_fault}
 use Rattle.hp_scenario.specs.Form.{Form, form_of}
@@ -16,15 +17,14 @@ use Rattle.hp_names.specs.Named.{NamedValue, ReadingValue, lines_from, named_in,
 use Rattle.hp_names.specs.Plain.{plain_in, unchanged}
 use Rattle.hp_names.proofs.PlainTexts.{line_unchanged}
 
-abbrev seen : List (Bor (List ℕ)) → List (List ℕ)
-seen ws = map (λ t. t.now) ws
-
 -- ---- line by line
 
-first_left : (ws : List (Bor (List ℕ))) (i : ℕ) (d : Bor (List ℕ)) → i < length ws
-    → seen (drop i ws) ≡ (get_or ws i d).now ∷ seen (drop (i + 1) ws)
-first_left ws i d lt =
-    ap seen (drop-cons ws i d lt) ∙ ap (λ (n : ℕ). (get_or ws i d).now ∷ seen (drop n ws)) (sym (add-one i))
+-- the first of the texts that are left
+text_at : (xs : List (List ℕ)) (i : ℕ) (text : List ℕ) → slice_get xs i ≡ Some text
+    → drop i xs ≡ text ∷ drop (i + 1) xs
+text_at xs i text at =
+    rw (drop-cons xs i text (slice_get_within xs i text at), get_or_from_slice_get xs i text text at)
+    (rw (← add-one i))
 
 read_if : (r next : ReadingValue) (text : List ℕ) (b : Bool) → with_text r text ≡ cond b (Some next) None
     → b ≡ true → with_text r text ≡ Some next
@@ -35,37 +35,36 @@ stops_if : (r next : ReadingValue) (text : List ℕ) (b : Bool) → with_text r 
 stops_if r next text b h is = h ∙ ap (λ (c : Bool). cond c (Some next) None) is
 
 -- a text that is a line: what is left goes on after it
-pub line_goes_on : (ws : List (Bor (List ℕ))) (i : ℕ) (d : Bor (List ℕ)) (r next : ReadingValue) (b : Bool)
-    (total : Result ReadingValue ScenarioFault) → i < length ws
-    → with_text r (get_or ws i d).now ≡ cond b (Some next) None → b ≡ true
-    → lines_from (i + 1) r (seen (drop i ws)) ≡ total
-    → lines_from ((i + 1) + 1) next (seen (drop (i + 1) ws)) ≡ total
+pub line_goes_on : (xs : List (List ℕ)) (i : ℕ) (text : List ℕ) (r next : ReadingValue) (b : Bool)
+    (total : Result ReadingValue ScenarioFault) → slice_get xs i ≡ Some text
+    → with_text r text ≡ cond b (Some next) None → b ≡ true
+    → lines_from (i + 1) r (drop i xs) ≡ total
+    → lines_from ((i + 1) + 1) next (drop (i + 1) xs) ≡ total
 unfolding lines_from
-line_goes_on ws i d r next b total lt h is so_far =
-    let says = read_if r next (get_or ws i d).now b h is in
-    sym (ap (lines_from (i + 1) r) (first_left ws i d lt)
+line_goes_on xs i text r next b total at h is so_far =
+    let says = read_if r next text b h is in
+    sym (ap (lines_from (i + 1) r) (text_at xs i text at)
     ∙ ap (λ (o : Option ReadingValue). or_fault (BadLine (i + 1)) o
-    >>= λ n. lines_from ((i + 1) + 1) n (seen (drop (i + 1) ws))) says) ∙ so_far
+    >>= λ n. lines_from ((i + 1) + 1) n (drop (i + 1) xs)) says) ∙ so_far
 
 -- a text that is no line: the reading ends there
-pub line_stops : (ws : List (Bor (List ℕ))) (i : ℕ) (d : Bor (List ℕ)) (r next : ReadingValue) (b : Bool)
-    (total : Result ReadingValue ScenarioFault) → i < length ws
-    → with_text r (get_or ws i d).now ≡ cond b (Some next) None → b ≡ false
-    → lines_from (i + 1) r (seen (drop i ws)) ≡ total → total ≡ Err (BadLine (i + 1))
+pub line_stops : (xs : List (List ℕ)) (i : ℕ) (text : List ℕ) (r next : ReadingValue) (b : Bool)
+    (total : Result ReadingValue ScenarioFault) → slice_get xs i ≡ Some text
+    → with_text r text ≡ cond b (Some next) None → b ≡ false
+    → lines_from (i + 1) r (drop i xs) ≡ total → total ≡ Err (BadLine (i + 1))
 unfolding lines_from
-line_stops ws i d r next b total lt h is so_far =
-    let says = stops_if r next (get_or ws i d).now b h is in
-    sym so_far ∙ (ap (lines_from (i + 1) r) (first_left ws i d lt)
+line_stops xs i text r next b total at h is so_far =
+    let says = stops_if r next text b h is in
+    sym so_far ∙ (ap (lines_from (i + 1) r) (text_at xs i text at)
     ∙ ap (λ (o : Option ReadingValue). or_fault (BadLine (i + 1)) o
-    >>= λ n. lines_from ((i + 1) + 1) n (seen (drop (i + 1) ws))) says)
+    >>= λ n. lines_from ((i + 1) + 1) n (drop (i + 1) xs)) says)
 
 -- no text is left
-pub lines_done : (ws : List (Bor (List ℕ))) (i : ℕ) (r : ReadingValue)
+pub lines_done : (xs : List (List ℕ)) (i : ℕ) (r : ReadingValue)
     (total : Result ReadingValue ScenarioFault)
-    → length ws ≤ i → lines_from (i + 1) r (seen (drop i ws)) ≡ total → total ≡ Ok r
+    → length xs ≤ i → lines_from (i + 1) r (drop i xs) ≡ total → total ≡ Ok r
 unfolding lines_from
-lines_done ws i r total le so_far =
-    sym so_far ∙ ap (λ (t : List (Bor (List ℕ))). lines_from (i + 1) r (seen t)) (drop_all _ _ le)
+lines_done xs i r total le so_far = sym so_far ∙ ap (lines_from (i + 1) r) (drop_all _ _ le)
 
 -- ---- without names
 

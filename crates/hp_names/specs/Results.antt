@@ -35,9 +35,12 @@ same_kind Frame Frame = true
 
 -- ---- numbers
 
--- a frame that no layout has
+-- a frame that no layout has, and an operation that no machine has
 abbrev pub no_frame : ℕ
 no_frame = 4294967295
+
+abbrev pub no_operation : ℕ
+no_operation = 18446744073709551615
 
 abbrev pub frame_number : Reply → ℕ
 frame_number (reply.Frame frame) = frame
@@ -52,5 +55,6 @@ result_number e serial r = 0
 
 -- the same of a call that made no record, since the history was full
 abbrev pub missing_number : Event → ℕ
+missing_number (Begin plan) = no_operation
 missing_number (KernelAlloc order) = no_frame
 missing_number e = 0

@@ -11,7 +11,6 @@
 
 mod bindings;
 mod faults;
-mod form;
 mod named;
 mod plain;
 mod reading;
@@ -26,3 +25,4 @@ pub use named::{NamedScenario, Sources};
 pub use plain::{PlainLine, plain_line};
 pub use resolve::resolve_front;
 pub use results::{NamedResult, ResultKind, missing_number, result_number};
+pub use runs::run_line;

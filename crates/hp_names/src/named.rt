@@ -1,5 +1,5 @@
 //! A scenario with names.
-ghost use Rattle.std.specs.Prelude.{◌≡◌, IfOk, Some, map, option_map};
+ghost use Rattle.std.specs.Prelude.{◌≡◌, IfOk, option_map};
 ghost use Rattle.serde_json.specs.View.{view};
 ghost use Rattle.hp_units.specs.PartsSeen.{parts_seen};
 ghost use Rattle.hp_scenario.specs.Gives.{Gives};
@@ -8,9 +8,10 @@ ghost use Rattle.hp_names.specs.Named.{named_if, named_in, named_of, plainly};
 ghost use Rattle.hp_names.specs.Seen.{named_seen};
 
 use crate::bindings::Bindings;
-use crate::form::{has_keys, json_from, layout_from, texts_at};
 use crate::reading::Reading;
-use hp_scenario::{Scenario, ScenarioFault, boots_at, parts_with};
+use hp_scenario::{
+    Scenario, ScenarioFault, Texts, boots_at, has_keys, json_from, layout_from, parts_with, texts_at,
+};
 use hp_units::Parts;
 use serde_json::Value;
 use std::alloc::{AllocError, Global};
@@ -122,26 +123,24 @@ fn named_from(alloc: Global, value: &Value) -> Result<NamedScenario, ScenarioFau
         return Err(ScenarioFault::BadShape);
     }
     let boot = boots_at(alloc, layout, "boot")?;
-    let calls = texts_at(alloc, value, "calls")?;
-    named_with(alloc, parts_with(layout, &boot), &calls)
+    named_with(alloc, parts_with(layout, &boot), texts_at(value, "calls"))
 }
 
-/// Returns the scenario of a layout's parts and of the lines' texts; `BadShape` if there are no
-/// parts.
+/// Returns the scenario of a layout's parts and of the lines' texts; `BadShape` if one is missing.
 #[tactic(auto, unfolding(crate::specs::Named::named_with))]
 fn named_with(
     alloc: Global,
     parts: Option<Parts<'_>>,
-    calls: &[&str],
+    calls: Option<Texts<'_>>,
 ) -> Result<NamedScenario, ScenarioFault>
     ensures { Gives named_seen result
-        (named_if (option_map parts_seen parts.entry) (Some (map (λ t. t.now) calls.now))) }
+        (named_if (option_map parts_seen parts.entry) calls.entry) }
 {
-    let Some(parts) = parts else {
+    let (Some(parts), Some(calls)) = (parts, calls) else {
         return Err(ScenarioFault::BadShape);
     };
     let layout = layout_from(alloc, &parts)?;
     let mut reading = Reading::new(alloc);
-    reading.add_all(alloc, calls)?;
+    reading.add_all(alloc, &calls)?;
     Ok(reading.into_named(layout))
 }

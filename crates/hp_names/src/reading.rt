@@ -1,5 +1,5 @@
 //! Reads the lines of a scenario with names, one after another.
-ghost use Rattle.std.specs.Prelude.{◌≡◌, ◌++◌, ◌∷◌, [], IfOk, None, OnOk, Some, length, map, option_map, if◌then◌else◌};
+ghost use Rattle.std.specs.Prelude.{◌≡◌, ◌++◌, ◌∷◌, [], IfOk, None, OnOk, Some, length, option_map, if◌then◌else◌};
 ghost use Rattle.hp_scenario.specs.Gives.{Gives};
 ghost use Rattle.hp_names.specs.Bindings.{bound_after};
 ghost use Rattle.hp_names.specs.Named.{lines_from, nothing, with_text};
@@ -8,7 +8,7 @@ ghost use Rattle.hp_names.specs.Seen.{named_seen};
 use crate::bindings::{Bindings, Naming};
 use crate::named::{NamedScenario, Sources};
 use crate::plain::plain_line;
-use hp_scenario::{Line, Lines, Scenario, ScenarioFault, read_line};
+use hp_scenario::{Line, Lines, Scenario, ScenarioFault, Texts, read_line};
 use hp_units::{Layout, Text};
 use indexmap::IndexSet;
 use std::alloc::{AllocError, Global};
@@ -50,12 +50,16 @@ impl Reading {
     }
 
     /// Appends the lines in the texts. No line was appended before.
-    pub(crate) fn add_all(&mut self, alloc: Global, texts: &[&str]) -> Result<(), ScenarioFault>
+    pub(crate) fn add_all(
+        &mut self,
+        alloc: Global,
+        texts: &Texts<'_>,
+    ) -> Result<(), ScenarioFault>
         requires { self.old ≡ nothing }
-        ensures { Gives (λ _. self.new) result (lines_from 1 nothing (map (λ t. t.now) texts.now)) }
+        ensures { Gives (λ _. self.new) result (lines_from 1 nothing texts.now) }
     {
         for index in 0..texts.len() {
-            if !self.add(alloc, texts[index])? {
+            if !self.add(alloc, texts.at(index))? {
                 let line = index as u64 + 1;
                 return Err(ScenarioFault::BadLine { line });
             }

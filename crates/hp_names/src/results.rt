@@ -27,6 +27,9 @@ pub struct NamedResult {
 /// A frame that no layout has.
 const NO_FRAME: u64 = 4_294_967_295;
 
+/// An operation that no machine has: it comes after the last one that a history has room for.
+const NO_OPERATION: u64 = 18_446_744_073_709_551_615;
+
 impl ResultKind {
     /// Returns whether both are the same kind.
     pub(crate) fn is(self, other: ResultKind) -> bool
@@ -94,11 +97,13 @@ fn frame_number(reply: &Reply) -> u64
     }
 }
 
-/// Returns the number of the result of a call that made no record, since the history was full.
+/// Returns the number of the result of a call that made no record, since the history was full: an
+/// operation that no machine has, or a frame that no layout has; otherwise 0.
 pub fn missing_number(event: &Event) -> u64
     ensures { result ≡ spec.missing_number event.now }
 {
     match event {
+        Event::Begin { plan: _ } => NO_OPERATION,
         Event::KernelAlloc { order: _ } => NO_FRAME,
         _ => 0,
     }

@@ -10,10 +10,16 @@ use hp_scenario::{Asked, Line};
 use hp_units::{CallFault, Cpu, Event, OpEnd, Plan};
 use std::alloc::{AllocError, Global};
 
-/// Does a line's work. Returns the number of its result, or 0 if it has none.
+/// Runs a line on the machine, as `hotplug serial` does. Returns the number of its result, or 0 if
+/// it has none.
 ///
-/// A text that a control file does not take does nothing, and neither does `cat`.
-pub(crate) fn run_line(alloc: Global, machine: &mut Machine, line: &Line) -> Result<u64, AllocError>
+/// A text that a control file does not take does nothing, and neither does `cat`. A full history is
+/// no error. The records that a `seal` hands out are dropped.
+///
+/// # Errors
+///
+/// `AllocError` if memory allocation fails.
+pub fn run_line(alloc: Global, machine: &mut Machine, line: &Line) -> Result<u64, AllocError>
     ensures { IfOk result (λ number. RunsLine machine.old line.now machine.new number) }
 {
     match line.work.asked() {

@@ -1,9 +1,9 @@
+pub mod Bare
 mod Below
-pub mod Lists
 pub mod Marking
 pub mod MarksMade
 pub mod Places
 pub mod PlansKept
 pub mod PlansMet
-pub mod Scripted
-pub mod Started
+pub mod Played
+pub mod Reading

@@ -8,7 +8,7 @@ use Rattle.hp_laws.proofs.Lists.{get_left}
 use Rattle.hp_units.specs.declared.replies.OpEnd.{OpEnd}
 use Rattle.hp_units.specs.declared.replies.Record.{Record}
 use Rattle.hp_units.specs.declared.replies.Reply.{Reply}
-use Rattle.hp_plan_ends.specs.PlanEnds.{all_plan_ends, plan_ends_of}
+use Rattle.hp_questions.specs.PlanEnds.{all_plan_ends, plan_ends_of}
 use Rattle.hp_schedules.specs.Outcomes.{replies_below}
 use Rattle.hp_schedules.specs.declared.scripts.Step.{Step}
 use Rattle.hp_questions.specs.Marks.{PlansGoOn}

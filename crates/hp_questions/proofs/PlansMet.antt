@@ -3,7 +3,7 @@ use Rattle.std.proofs.Common.{◌≡◌, ℕ, List, Bool, Option, subst, sym}
 use Rattle.std.specs.Prelude.{◌↔◌, IfOk, IsTrue, Result}
 use Rattle.hp_units.specs.declared.replies.Record.{Record}
 use Rattle.hp_units.specs.declared.replies.Reply.{Reply}
-use Rattle.hp_plan_ends.specs.PlanEnds.{all_plan_ends}
+use Rattle.hp_questions.specs.PlanEnds.{all_plan_ends}
 use Rattle.hp_schedules.specs.Outcomes.{OutcomeValue, replies_below}
 use Rattle.hp_schedules.specs.declared.scripts.Step.{Step}
 use Rattle.hp_questions.specs.Marks.{HasLineSoFar}

@@ -1,14 +1,8 @@
-pub mod Begins
-pub mod Checks
-pub mod Counting
+pub mod Likeness
 pub mod Limits
 pub mod Marks
 pub mod Patterns
+pub mod PlanEnds
 pub mod PlanLines
-pub mod Results
-pub mod Scripts
-pub mod Setup
-pub mod Starts
-pub mod Unbegun
 pub mod Wanted
 pub mod WantedLines

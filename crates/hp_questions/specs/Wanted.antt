@@ -1,7 +1,7 @@
 -- What is wanted of an end, and which ends are so.
 use Rattle.std.specs.Prelude.{◌≡◌, ℕ, List, Option, Some, None, slice_get}
 use Rattle.hp_units.specs.declared.replies.Reply.{Reply}
-use Rattle.hp_plan_ends.specs.PlanEnds.{all_plan_ends}
+use Rattle.hp_questions.specs.PlanEnds.{all_plan_ends}
 use Rattle.hp_schedules.specs.Outcomes.{OutcomeValue}
 use Rattle.hp_schedules.specs.declared.scripts.Step.{Step}
 use Rattle.hp_questions.specs.Patterns.{IsAsWanted}

@@ -1,10 +1,10 @@
 //! Patterns for the ends of plans.
 ghost use Rattle.std.specs.Prelude.{◌≡◌, ◌↔◌, ◌<◌, ◌^◌, IfOk, IsTrue, None, length};
-ghost use Rattle.hp_plan_ends.specs.PlanEnds.{all_plan_ends};
+ghost use Rattle.hp_questions.specs.PlanEnds.{all_plan_ends};
 ghost use Rattle.hp_questions.specs.PlanLines.{HasEnd, HasPlanEnd, IsCauseAsWanted, IsCancelledAs, IsEndAsWanted, IsRefusedAs};
 
 use crate::wanted::Pattern;
-use hp_plan_ends::{PlanEnds, all_plan_ends};
+use hp_questions::{PlanEnds, all_plan_ends};
 use hp_schedules::{CallScript, Replies};
 use hp_units::{Cpu, OpEnd, Refusal, Reply};
 use std::alloc::{AllocError, Global};

@@ -13,8 +13,9 @@ use hp_units::{Boot, Parts};
 use serde_json::Value;
 use std::alloc::Global;
 
+/// Returns whether a value is an object with this many keys.
 #[tactic(auto, unfolding(crate::specs::Form::has_keys))]
-pub(crate) fn has_keys(value: &Value, count: usize) -> bool
+pub fn has_keys(value: &Value, count: usize) -> bool
     ensures { result ≡ keys count (view value.now) }
 {
     match value.as_object() {
@@ -84,8 +85,9 @@ fn items_at<'a>(value: &'a Value, key: &str) -> Option<&'a Vec<Value>>
     value.get(key)?.as_array()
 }
 
+/// Returns the texts in the array at a key, or `None` if there is no array of texts.
 #[tactic(auto, unfolding(crate::specs::Form::texts_at))]
-pub(crate) fn texts_at<'a>(value: &'a Value, key: &str) -> Option<Texts<'a>>
+pub fn texts_at<'a>(value: &'a Value, key: &str) -> Option<Texts<'a>>
     ensures { result ≡ texts key.now (view value.now) }
 {
     Texts::new(items_at(value, key)?)

@@ -50,9 +50,13 @@ impl Scenario {
     }
 }
 
-/// Parses the bytes as JSON.
+/// Parses the bytes of a scenario as JSON.
+///
+/// # Errors
+///
+/// `NotJson` if they are not JSON, `OutOfMemory` if memory allocation fails.
 #[tactic(auto, unfolding(crate::specs::Scenario::json_of))]
-fn json_from(alloc: Global, bytes: &[u8]) -> Result<Value, ScenarioFault>
+pub fn json_from(alloc: Global, bytes: &[u8]) -> Result<Value, ScenarioFault>
     ensures { Gives view result (or_fault ScenarioFault.NotJson (json_of bytes.now)) }
 {
     match Value::from_slice(alloc, bytes) {
@@ -108,7 +112,11 @@ fn scenario_with(
 }
 
 /// Returns the layout with these parts.
-fn layout_from(alloc: Global, parts: &Parts<'_>) -> Result<Layout, ScenarioFault>
+///
+/// # Errors
+///
+/// `Layout` with the first fault of the parts, `OutOfMemory` if memory allocation fails.
+pub fn layout_from(alloc: Global, parts: &Parts<'_>) -> Result<Layout, ScenarioFault>
     ensures { Gives (λ l. l) result (layout_or (parts_seen parts.now) (layout_fault (parts_seen parts.now))) }
 {
     match Layout::new(alloc, parts) {

@@ -9,7 +9,7 @@ use std::marker::Model;
 
 /// Values that are all texts. A contract sees the list of these.
 #[derive(Drop)]
-pub(crate) struct Texts<'a> {
+pub struct Texts<'a> {
     values: &'a [Value],
 }
 
@@ -40,7 +40,7 @@ impl<'a> Texts<'a> {
     }
 
     /// Returns how many texts there are.
-    pub(crate) fn len(&self) -> usize
+    pub fn len(&self) -> usize
         ensures { result ≡ length self.now }
     {
         self.values.len()
@@ -48,7 +48,7 @@ impl<'a> Texts<'a> {
 
     /// Returns the text at a place.
     #[tactic(auto, using(crate::proofs::TextLists::text_there, crate::proofs::TextLists::text_lacks))]
-    pub(crate) fn at(&self, place: usize) -> &'a str
+    pub fn at(&self, place: usize) -> &'a str
         requires { place < length self.now }
         ensures { slice_get self.now place ≡ Some result.now }
     {

@@ -6,8 +6,12 @@ ghost use Rattle.hp_scenario.specs.Words.{is_name_byte as name_byte, is_name as 
 use std::alloc::AllocError;
 
 /// Replaces `words` by the words of a text, which are between single spaces.
+///
+/// # Errors
+///
+/// `AllocError` if memory allocation fails. `words` then holds a part of them.
 #[tactic(auto, using(crate::proofs::WordsCut::last_word))]
-pub(crate) fn split_words<'a>(words: &mut Vec<&'a str>, text: &'a str) -> Result<(), AllocError>
+pub fn split_words<'a>(words: &mut Vec<&'a str>, text: &'a str) -> Result<(), AllocError>
     ensures { OnOk result (map (λ w. w.now) words.new.items ≡ words_of text.now) }
 {
     words.clear();
@@ -53,7 +57,7 @@ fn are_name_bytes(bytes: &[u8]) -> bool
 }
 
 /// Returns whether a word is a name: a letter from `a` to `z`, then at most 31 more name bytes.
-pub(crate) fn is_name(word: &str) -> bool
+pub fn is_name(word: &str) -> bool
     ensures { result ≡ names word.now }
 {
     match word.as_bytes() {

@@ -12,7 +12,7 @@ use Rattle.hp_schedules.specs.Digests.{mixed}
 use Rattle.hp_schedules.specs.Outcomes.{OutcomeValue}
 use Rattle.hp_schedules.specs.declared.scripts.Step.{Step}
 use Rattle.hp_schedules.specs.declared.tally.Ending.{Ending}
-use Rattle.hp_plan_ends.specs.Likeness.{plans_digest}
+use Rattle.hp_questions.specs.Likeness.{plans_digest}
 use Rattle.hp_search.specs.Objects.{answer_list, block_string}
 use Rattle.hp_search.specs.Groups.{Agree, AgreeIn, AreKnown, GroupingValue, HasNoGroup, digest_in, part_digest}
 use Rattle.hp_search.specs.declared.groups.GroupBy.{GroupBy}

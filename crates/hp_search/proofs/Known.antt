@@ -17,9 +17,9 @@ use Rattle.hp_search.specs.Faults.{IsFaultWith, IsFull, IsFullTold, IsToldAs, Is
 use Rattle.hp_search.specs.Holding.{HoldsAfter, HoldsIn, InScenario}
 use Rattle.hp_search.specs.Prepared.{IsPrepared, IsUnprepared, before_of, names_of, setting_of}
 use Rattle.hp_search.specs.declared.prepared.Prepared.{Prepared}
-use Rattle.hp_questions.specs.Starts.{HasNoStart}
-use Rattle.hp_questions.specs.declared.start_fault.StartFault.{StartFault}
-use Rattle.hp_questions.specs.declared.start_fault.StartFault.TheVariants as start
+use Rattle.hp_starts.specs.Starts.{HasNoStart}
+use Rattle.hp_starts.specs.declared.start_fault.StartFault.{StartFault}
+use Rattle.hp_starts.specs.declared.start_fault.StartFault.TheVariants as start
 
 -- ---- a line that cannot stand in a script
 

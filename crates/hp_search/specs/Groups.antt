@@ -9,8 +9,8 @@ use Rattle.hp_schedules.specs.Shares.{AddsAt}
 use Rattle.hp_schedules.specs.Schedules.{Setting}
 use Rattle.hp_schedules.specs.declared.scripts.Step.{Step}
 use Rattle.hp_schedules.specs.declared.tally.Ending.{Ending}
-use Rattle.hp_plan_ends.specs.Likeness.{plans_digest}
-use Rattle.hp_plan_ends.specs.PlanEnds.{all_plan_ends}
+use Rattle.hp_questions.specs.Likeness.{plans_digest}
+use Rattle.hp_questions.specs.PlanEnds.{all_plan_ends}
 use Rattle.hp_search.specs.Objects.{answer_list, block_string}
 use Rattle.hp_search.specs.declared.groups.GroupBy.{GroupBy}
 use Rattle.hp_search.specs.declared.groups.GroupBy.TheVariants.{Answers, Blocks, Plans}

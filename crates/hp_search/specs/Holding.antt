@@ -7,7 +7,7 @@ use Rattle.hp_explore.specs.Settings.{setting}
 use Rattle.hp_names.specs.Named.{NamedValue, named_in}
 use Rattle.hp_names.specs.Resolved.{Resolves}
 use Rattle.hp_scenario.specs.declared.lines.Line.{Line}
-use Rattle.hp_questions.specs.Starts.{HasStart}
+use Rattle.hp_starts.specs.Starts.{HasStart}
 
 -- the lines after the first `setup` may be in scripts, and `P` holds of these scripts and of the
 -- machine after the setup, which is run in order from boot

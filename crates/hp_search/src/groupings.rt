@@ -1,6 +1,6 @@
 //! A part of an outcome by which ends are put together.
 ghost use Rattle.std.specs.Prelude.{◌≡◌, ◌↔◌, ◌<◌, ◌^◌, IfOk, IsTrue, codes, fold, length, true};
-ghost use Rattle.hp_plan_ends.specs.PlanEnds.{all_plan_ends};
+ghost use Rattle.hp_questions.specs.PlanEnds.{all_plan_ends};
 ghost use Rattle.hp_schedules.specs.Digests.{mixed};
 ghost use Rattle.hp_search.specs.Groups.{Agree, part_digest};
 ghost use Rattle.hp_search.specs.Objects.{answer_list, block_string};
@@ -8,7 +8,7 @@ ghost use Rattle.hp_text.specs.Separated.{separated};
 
 use crate::groups::GroupBy;
 use crate::objects::{write_answers, write_blocks};
-use hp_plan_ends::{PlanEnds, all_plan_ends, plans_digest, same_plan_ends};
+use hp_questions::{PlanEnds, all_plan_ends, plans_digest, same_plan_ends};
 use hp_schedules::{CallScript, Outcome, Replies, mixed};
 use hp_units::{Reply, Row};
 use std::alloc::{AllocError, Global};

@@ -2,7 +2,7 @@
 ghost use Rattle.std.specs.Prelude.{◌≡◌, Some};
 ghost use Rattle.hp_search.specs.declared.lab_fault.LabFault.TheVariants.{OutOfMemory};
 
-use hp_questions::StartFault;
+use hp_starts::StartFault;
 use hp_scenario::{ScenarioFault, Unfit};
 use hp_units::LayoutFault;
 use std::alloc::AllocError;

@@ -1,4 +1,4 @@
-use Rattle.std.proofs.Common.{◌≡◌, ◌∙◌, true, ℕ, List, Option, Some, None, Ok, Bor, codes, map, option_map, refl, sym, ap}
+use Rattle.std.proofs.Common.{◌≡◌, ◌∙◌, true, ℕ, List, Option, Some, None, Ok, Bor, codes, option_map, refl, sym, ap}
 use Rattle.serde_json.specs.Data.{Data}
 use Rattle.serde_json.specs.Find.{get}
 use Rattle.serde_json.specs.View.{view}
@@ -11,29 +11,25 @@ use Rattle.hp_scenario.specs.declared.fault.ScenarioFault.TheVariants.{BadShape}
 use Rattle.hp_names.specs.Named.{named_if, named_of}
 use Rattle.hp_names.proofs.named.named_from.Goals as goal
 
-there : {A : Type 0} (o : Option A) (x : A) → or_fault BadShape o ≡ Ok x → o ≡ Some x
-there None x e = absurd cc
-there (Some y) x e = cc
+there : (o : Option (List Boot)) (boot : List Boot) → or_fault BadShape o ≡ Ok boot → o ≡ Some boot
+there None boot e = absurd cc
+there (Some x) boot e = cc
 
 -- the scenario of the parts that a JSON value has
-of_parts : (d layout : Data) (boot : List Boot) (p : Option LayoutParts) (calls : List (List ℕ))
+of_parts : (d layout : Data) (boot : List Boot) (p : Option LayoutParts) (calls : Option (List (List ℕ)))
     → true ≡ has_keys 2 d → Some layout ≡ get (codes "layout") d → true ≡ has_keys 11 layout
     → or_fault BadShape (boots_at (codes "boot") layout) ≡ Ok boot
-    → p ≡ parts_with boot layout → or_fault BadShape (texts_at (codes "calls") d) ≡ Ok calls
-    → named_if p (Some calls) ≡ named_of d
+    → p ≡ parts_with boot layout → calls ≡ texts_at (codes "calls") d → named_if p calls ≡ named_of d
 unfolding named_of form_of parts_of
 of_parts d layout boot p calls two named eleven placed parts texts =
-    rw (parts, sym two, sym named, sym eleven, there _ _ placed, there _ _ texts) refl
+    rw (parts, texts, sym two, sym named, sym eleven, there _ _ placed) refl
 
 pub returns : goal.returns
 returns c =
     let layout = c.in_ok-layout.layout in
     let named =
     ap (option_map (λ (v : Bor Value). view v.now)) (sym c.in_ok-layout.ensures.ok_part) ∙ c.get.ensures in
-    let calls = map (λ (t : Bor (List ℕ)). t.now) c.deref-2.result.now in
-    rw (← (of_parts (view c.args.value.now) (view layout.now) c.in_ok-boot.boot.items _ calls
+    rw (← (of_parts (view c.args.value.now) (view layout.now) c.in_ok-boot.boot.items _ c.texts_at.result
     c.if-not-has_keys.ensures named c.if-not-has_keys-2.ensures c.in_ok-boot.ensures
     (c.parts_with.ensures ∙ ap (λ (boot : List Boot). parts_with boot (view layout.now))
-    c.deref.ensures.value)
-    (c.in_ok-calls.ensures ∙ ap (λ (items : List (Bor (List ℕ))). Ok (map (λ t. t.now) items))
-    (sym c.deref-2.ensures.value)))) c.named_with.ensures
+    c.deref.ensures.value) c.texts_at.ensures)) c.named_with.ensures

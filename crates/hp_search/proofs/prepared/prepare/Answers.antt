@@ -1,6 +1,6 @@
 use Rattle.std.proofs.Common.{ℕ, List, Option, refl, subst}
 use Rattle.std.proofs.lemmas.Result.{err_from_is_err_and}
-use Rattle.hp_questions.specs.Starts.{HasStart}
+use Rattle.hp_starts.specs.Starts.{HasStart}
 use Rattle.hp_scenario.specs.Seen.{scenario_seen}
 use Rattle.hp_names.specs.Seen.{named_seen}
 use Rattle.hp_search.proofs.Known.{unready}

@@ -1,3 +1,0 @@
-pub mod Bare
-pub mod Played
-pub mod Reading

@@ -1,2 +1,0 @@
-pub mod Likeness
-pub mod PlanEnds

@@ -1,0 +1,200 @@
+-- The ends of plans as they are read, reply by reply.
+use Rattle.std.proofs.Common.{◌≡◌, ℕ, ◌<◌, List, [], ◌∷◌, ◌++◌, length, get_or, Option, Some, None, slice_get, refl, ap, sym, ◌∙◌}
+use Rattle.std.specs.Option.{option_map_or, option_to_list}
+use Rattle.std.proofs.lemmas.List.{append-nil, append_assoc}
+use Rattle.std.proofs.lemmas.List.Sums.{fold-append}
+use Rattle.std.proofs.lemmas.Option.{slice_get-get_or}
+use Rattle.hp_units.specs.Boot.{boot_memory}
+use Rattle.hp_units.specs.LayoutParts.{LayoutParts}
+use Rattle.hp_units.specs.Receipts.{receipt_of, receipts_of}
+use Rattle.hp_units.specs.declared.events.Event.{Event}
+use Rattle.hp_units.specs.declared.replies.OpEnd.{OpEnd}
+use Rattle.hp_units.specs.declared.replies.Receipt.{Receipt}
+use Rattle.hp_units.specs.declared.replies.Record.{Record}
+use Rattle.hp_units.specs.declared.replies.Reply.{Reply}
+use Rattle.hp_questions.specs.PlanEnds.{end_answered, end_finished, ends_answered, plan_ends, receipts_by, with_reply}
+use Rattle.hp_schedules.specs.Cursors.{AreCursors, IsCalledFor}
+use Rattle.hp_schedules.specs.LineAnswers.{IsAnswered, answers_at, answers_in}
+use Rattle.hp_schedules.specs.Schedules.{Setting, next_call}
+use Rattle.hp_schedules.specs.Scripts.{next_of}
+use Rattle.hp_schedules.specs.declared.cursors.Cursor.{Cursor}
+use Rattle.hp_schedules.specs.declared.cursors.NextCall.{NextCall}
+use Rattle.hp_schedules.specs.declared.line_answers.FinishedLine.{FinishedLine}
+use Rattle.hp_schedules.specs.declared.line_answers.LineAnswer.{LineAnswer}
+use Rattle.hp_schedules.specs.declared.scripts.Step.{Step}
+use Rattle.hp_schedules.proofs.AnswersAt.{of_script}
+use Rattle.hp_schedules.proofs.LineAnswers.{none_begun}
+use Rattle.hp_schedules.proofs.Placed.{asked_is}
+use Rattle.hp_schedules.proofs.Steps.{receipts_own}
+
+-- ---- a setting for the scripts: any will do
+
+abbrev layout_for : (cpus : ℕ) → LayoutParts
+layout_for cpus = record {
+  order = 0;
+  pageblocks = 1;
+  blocks = 0;
+  cpus = cpus;
+  batch = 0;
+  high = 0;
+  owners = 0;
+  pages = 0;
+  words = 0;
+  history = 0;
+  boot = [];
+}
+
+abbrev setting_for : (cpus : ℕ) → List (List Step) → Setting
+setting_for cpus scripts = record {
+  layout = layout_for cpus;
+  base = boot_memory (layout_for cpus);
+  before = 0;
+  start = [];
+  scripts = scripts;
+}
+
+-- ---- the replies so far
+
+-- the record of a call, without a serial
+abbrev pub called : (cpu : ℕ) → Event → Reply → Record
+called cpu event reply = record { serial = 0; cpu = cpu; event = event; reply = reply }
+
+-- the replies are read: the cursors are after the calls that got them, and the ends are theirs
+pub record IsRead (cpus : ℕ) (scripts : List (List Step)) (cpu : ℕ) (cursors : List Cursor)
+    (news : List Record) (replies : List Reply) (ends : List OpEnd) : Type 0 where
+  pub many : length cursors ≡ length scripts
+  pub at : (g : Setting) → g.scripts ≡ scripts → g.layout.cpus ≡ cpus → AreCursors g news cursors
+  pub receipts : receipts_of cpu news ≡ receipts_by cpus (get_or scripts cpu []) replies
+  pub ends_are : ends ≡ plan_ends cpus (get_or scripts cpu []) replies
+
+pub read_none : (cpus : ℕ) (scripts : List (List Step)) (cpu : ℕ) (cursors : List Cursor)
+    (ends : List OpEnd)
+    → length cursors ≡ length scripts
+    → ((g : Setting) → g.scripts ≡ scripts → g.layout.cpus ≡ cpus → AreCursors g [] cursors) → ends ≡ []
+    → IsRead cpus scripts cpu cursors [] [] ends
+unfolding plan_ends
+read_none cpus scripts cpu cursors ends many begun none = record {
+  many = many;
+  at = begun;
+  receipts = refl;
+  ends_are = none ∙ ap ends_answered (sym (none_begun cpus (get_or scripts cpu [])));
+}
+
+-- what the script calls next
+asked_for : (cpus : ℕ) (scripts : List (List Step)) (cpu : ℕ) (news : List Record) (next : Option Event)
+    → cpu < length scripts → next_call (setting_for cpus scripts) cpu news ≡ next
+    → next_of cpus (get_or scripts cpu []) (receipts_of cpu news) ≡ next
+asked_for cpus scripts cpu news next within is =
+    sym (asked_is (setting_for cpus scripts) news cpus cpu (get_or scripts cpu [])
+    (next_of cpus (get_or scripts cpu []) (receipts_of cpu news)) refl
+    (slice_get-get_or scripts cpu [] within) refl) ∙ is
+
+-- the script is over
+pub read_past : (cpus : ℕ) (scripts : List (List Step)) (cpu : ℕ) (cursors : List Cursor)
+    (news : List Record) (replies : List Reply) (ends : List OpEnd) (reply : Reply)
+    → cpu < length scripts → (a : IsRead cpus scripts cpu cursors news replies ends)
+    → ((g : Setting) → g.scripts ≡ scripts → g.layout.cpus ≡ cpus
+    → AreCursors g news cursors → IsCalledFor g cpu news None)
+    → IsRead cpus scripts cpu cursors news (replies ++ reply ∷ []) ends
+unfolding plan_ends
+read_past cpus scripts cpu cursors news replies ends reply within a asked = record {
+  many = a.many;
+  at = a.at;
+  receipts = a.receipts ∙ sym same;
+  ends_are = a.ends_are ∙ ap (λ (rs : List Receipt). ends_answered (answers_in cpus lines rs)) (sym same);
+}
+  where
+    lines : List Step
+    lines = get_or scripts cpu []
+
+    over : next_of cpus lines (receipts_by cpus lines replies) ≡ None
+    over =
+        ap (next_of cpus lines) (sym a.receipts)
+        ∙ asked_for cpus scripts cpu news None within
+        (asked (setting_for cpus scripts) refl refl (a.at (setting_for cpus scripts) refl refl))
+
+    same : receipts_by cpus lines (replies ++ reply ∷ []) ≡ receipts_by cpus lines replies
+    same =
+        fold-append (with_reply cpus lines) [] replies (reply ∷ [])
+        ∙ ap (λ (o : Option Event). option_map_or (λ event. receipts_by cpus lines replies
+        ++ record { serial = 0; event = event; reply = reply } ∷ []) o (receipts_by cpus lines replies)) over
+
+-- the ends with further answers, and with one more
+pub ends_append : (answers later : List (Option LineAnswer))
+    → ends_answered (answers ++ later) ≡ ends_answered answers ++ ends_answered later
+ends_append [] later = refl
+ends_append (x ∷ answers) later =
+    ap (λ (ends : List OpEnd). option_to_list (end_answered x) ++ ends) (ends_append answers later)
+    ∙ sym (append_assoc (option_to_list (end_answered x)) (ends_answered answers) (ends_answered later))
+
+ends_push : (answers : List (Option LineAnswer)) (answer : Option LineAnswer)
+    → ends_answered (answers ++ answer ∷ []) ≡ ends_answered answers ++ option_to_list (end_answered answer)
+ends_push answers answer =
+    ends_append answers (answer ∷ [])
+    ∙ ap (λ (ends : List OpEnd). ends_answered answers ++ ends)
+    (append-nil (option_to_list (end_answered answer)))
+
+ends_more : (old new : List (Option LineAnswer)) (f : Option FinishedLine) → IsAnswered old f new
+    → ends_answered new ≡ ends_answered old ++ option_to_list (end_finished f)
+ends_more old new None same = ap ends_answered same ∙ sym (append-nil (ends_answered old))
+ends_more old new (Some f) is = ap ends_answered is.1 ∙ ends_push old f.answer
+
+-- one call more
+pub read_more : (cpus : ℕ) (scripts : List (List Step)) (cpu : ℕ) (cursors later : List Cursor)
+    (news : List Record) (replies : List Reply) (ends new : List OpEnd) (reply : Reply) (call : NextCall)
+    (event : Event) (f : Option FinishedLine)
+    → cpu < length scripts → (a : IsRead cpus scripts cpu cursors news replies ends) → event ≡ call.event
+    → ((g : Setting) → g.scripts ≡ scripts → g.layout.cpus ≡ cpus
+    → AreCursors g news cursors → IsCalledFor g cpu news (Some call))
+    → length later ≡ length cursors
+    → ((g : Setting) (news : List Record) → g.scripts ≡ scripts → g.layout.cpus ≡ cpus
+    → AreCursors g news cursors → IsCalledFor g cpu news (Some call)
+    → AreCursors g (news ++ called cpu event reply ∷ []) later)
+    → ((g : Setting) (news : List Record) → g.scripts ≡ scripts → next_call g cpu news ≡ Some event
+    → AreCursors g (news ++ called cpu event reply ∷ []) later
+    → IsAnswered (answers_at g cpu news) f (answers_at g cpu (news ++ called cpu event reply ∷ [])))
+    → new ≡ ends ++ option_to_list (end_finished f)
+    → IsRead cpus scripts cpu later (news ++ called cpu event reply ∷ []) (replies ++ reply ∷ []) new
+unfolding plan_ends
+read_more cpus scripts cpu cursors later news replies ends new reply call event f within a event_is asked many
+    on answered new_is = record {
+      many = many ∙ a.many;
+      at = λ g s c. on g news s c (a.at g s c) (asked g s c (a.at g s c));
+      receipts =
+          receipts_own news (called cpu event reply)
+          ∙ (ap (λ (rs : List Receipt). rs ++ receipt_of (called cpu event reply) ∷ []) a.receipts ∙ sym longer);
+      ends_are =
+          new_is
+          ∙ (ap (λ (xs : List OpEnd). xs ++ option_to_list (end_finished f))
+          (a.ends_are ∙ (ap (λ (rs : List Receipt). ends_answered (answers_in cpus lines rs)) (sym a.receipts)
+          ∙ ap ends_answered (sym (of_script g cpu news lines here))))
+          ∙ (sym (ends_more (answers_at g cpu news)
+          (answers_at g cpu (news ++ called cpu event reply ∷ [])) f
+          (answered g news refl next (on g news refl refl (a.at g refl refl)
+          (asked g refl refl (a.at g refl refl)))))
+          ∙ (ap ends_answered (of_script g cpu (news ++ called cpu event reply ∷ []) lines here)
+          ∙ ap (λ (rs : List Receipt). ends_answered (answers_in cpus lines rs))
+          (receipts_own news (called cpu event reply)
+          ∙ (ap (λ (rs : List Receipt). rs ++ receipt_of (called cpu event reply) ∷ []) a.receipts
+          ∙ sym longer)))));
+    }
+  where
+    lines : List Step
+    lines = get_or scripts cpu []
+
+    g : Setting
+    g = setting_for cpus scripts
+
+    here : slice_get scripts cpu ≡ Some lines
+    here = slice_get-get_or scripts cpu [] within
+
+    next : next_call g cpu news ≡ Some event
+    next = (asked g refl refl (a.at g refl refl)).0 ∙ ap Some (sym event_is)
+
+    longer : receipts_by cpus lines (replies ++ reply ∷ [])
+        ≡ receipts_by cpus lines replies ++ receipt_of (called cpu event reply) ∷ []
+    longer =
+        fold-append (with_reply cpus lines) [] replies (reply ∷ [])
+        ∙ ap (λ (o : Option Event). option_map_or (λ e. receipts_by cpus lines replies
+        ++ record { serial = 0; event = e; reply = reply } ∷ []) o (receipts_by cpus lines replies))
+        (ap (next_of cpus lines) (sym a.receipts) ∙ asked_for cpus scripts cpu news (Some event) within next)

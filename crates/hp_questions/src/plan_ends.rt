@@ -1,0 +1,120 @@
+//! How the plans of scripts ended.
+ghost use Rattle.std.specs.Prelude.{◌≡◌, ◌<◌, ◌^◌, [], IfOk, length, slice_index_or};
+ghost use Rattle.hp_questions.specs.PlanEnds.{all_plan_ends, end_answered, end_finished, plan_ends};
+
+use hp_schedules::{CallScript, FinishedLine, LineAnswer, Positions, Replies};
+use hp_units::{Cpu, OpEnd, Record, Reply, Serial};
+use std::alloc::{AllocError, Global};
+use std::marker::Model;
+
+/// How the plans of one processor ended that are over, in the order of its lines. A contract sees
+/// them as a list.
+#[derive(Drop)]
+pub struct PlanEnds {
+    ends: Vec<OpEnd>,
+}
+
+impl Model for PlanEnds {
+    ghost use Rattle.std.specs.Prelude.{List};
+    ghost use Rattle.hp_units.specs.declared.replies.OpEnd.{OpEnd};
+
+    ghost Value = { List OpEnd };
+
+    ghost view = { λ e. e.ends.items };
+}
+
+impl PlanEnds {
+    /// Returns the ends in order.
+    pub fn as_slice(&self) -> &[OpEnd]
+        ensures { result.now ≡ self.now }
+    {
+        let PlanEnds { ends } = self;
+        ends.as_slice()
+    }
+}
+
+/// Returns how the plans of each script ended, from processor 0 on, given the replies to each
+/// processor. `cpus` is the number of processors of the layout.
+pub fn all_plan_ends(
+    alloc: Global,
+    cpus: u32,
+    scripts: &[CallScript],
+    all: &[Replies],
+) -> Result<Vec<PlanEnds>, AllocError>
+    requires { length scripts.now < 2 ^ 32 }
+    ensures { IfOk result (λ ends. ends.items ≡ all_plan_ends cpus scripts.now all.now) }
+{
+    let mut ends = Vec::new(alloc);
+    for cpu in 0..scripts.len() as u32 {
+        ends.reserve(1)?;
+        let own = plan_ends(alloc, cpus, scripts, cpu, replies_of(all, cpu))?;
+        ends.push_reserved(own);
+    }
+    Ok(ends)
+}
+
+/// Returns the replies to a processor, or none if there are none for it.
+fn replies_of(all: &[Replies], cpu: u32) -> &[Reply]
+    ensures { result.now ≡ slice_index_or all.now cpu [] }
+{
+    match all.get(cpu as usize) {
+        Some(replies) => replies.as_slice(),
+        None => &[],
+    }
+}
+
+/// Returns how the plans of the processor ended, given the replies to it.
+///
+/// The script makes its calls again, without a machine: each gets the next reply.
+fn plan_ends(
+    alloc: Global,
+    cpus: u32,
+    scripts: &[CallScript],
+    cpu: u32,
+    replies: &[Reply],
+) -> Result<PlanEnds, AllocError>
+    requires { cpu < length scripts.now }
+    ensures { IfOk result (λ ends. ends ≡ plan_ends cpus (slice_index_or scripts.now cpu []) replies.now) }
+{
+    let mut positions = Positions::start(alloc, cpus, scripts)?;
+    let mut calls = Vec::new(alloc);
+    let mut ends = Vec::new(alloc);
+    for reply in replies {
+        calls.reserve(1)?;
+        let Some(call) = positions.request(alloc, cpus, scripts, calls.as_slice(), cpu)? else {
+            continue;
+        };
+        let latest = Record {
+            serial: Serial(0),
+            cpu: Cpu(cpu),
+            event: call.event.copy(alloc)?,
+            reply: *reply,
+        };
+        positions.go_on(cpus, scripts, cpu, &call, &latest);
+        if let Some(end) = end_of(&positions.answered(scripts, &latest)) {
+            ends.push(end)?;
+        }
+        calls.push_reserved(latest);
+    }
+    Ok(PlanEnds { ends })
+}
+
+/// Returns the end of the plan that a call finished, if it finished one.
+fn end_of(finished: &Option<FinishedLine>) -> Option<OpEnd>
+    ensures { result ≡ end_finished finished.now }
+{
+    match finished {
+        Some(line) => end_in(&line.answer),
+        None => None,
+    }
+}
+
+/// Returns the end of a plan that is the answer.
+fn end_in(answer: &Option<LineAnswer>) -> Option<OpEnd>
+    ensures { result ≡ end_answered answer.now }
+{
+    match answer {
+        Some(LineAnswer::Plan(end)) => Some(*end),
+        _ => None,
+    }
+}

@@ -1,0 +1,31 @@
+-- Which lines may not be in a script.
+use Rattle.std.specs.Prelude.{◌≡◌, ℕ, ◌+◌, ◌<◌, List, Some, None, slice_get}
+use Rattle.hp_scenario.specs.Unfit.{unfit}
+use Rattle.hp_scenario.specs.declared.lines.Line.{Line}
+use Rattle.hp_scenario.specs.declared.unfit.Unfit.{Unfit}
+use Rattle.hp_starts.specs.declared.start_fault.StartFault.{StartFault}
+use Rattle.hp_starts.specs.declared.start_fault.StartFault.TheVariants.{NotForScript, OutOfMemory}
+
+-- every line before index `below` may be in a script
+abbrev pub AreFit : (cpus : ℕ) → List Line → (below : ℕ) → Type 0
+AreFit cpus lines below =
+    (k : ℕ) (line : Line) → k < below → slice_get lines k ≡ Some line → unfit cpus line ≡ None
+
+-- the line, which has the number `place`, may not be in a script, and the fault gives the reason
+abbrev pub IsLineFault : (cpus place : ℕ) → Line → StartFault → Type 0
+IsLineFault cpus place line (NotForScript at why) = (at ≡ place) × (unfit cpus line ≡ Some why)
+IsLineFault cpus place line OutOfMemory = ⊥
+
+-- the first line that may not be in a script; `before` lines come first, and lines are counted from
+-- 1
+pub record IsFirstUnfit (cpus before : ℕ) (lines : List Line) (place : ℕ) (why : Unfit) : Type 0 where
+  pub at : ℕ
+  pub line : Line
+  pub here : slice_get lines at ≡ Some line
+  pub counted : place ≡ before + at + 1
+  pub cause : unfit cpus line ≡ Some why
+  pub first : AreFit cpus lines at
+
+abbrev pub IsUnfit : (cpus before : ℕ) → List Line → StartFault → Type 0
+IsUnfit cpus before lines (NotForScript place why) = IsFirstUnfit cpus before lines place why
+IsUnfit cpus before lines OutOfMemory = ⊥

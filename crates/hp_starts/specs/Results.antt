@@ -1,0 +1,100 @@
+-- The results of earlier lines: what a line of a script does with the operation that an earlier line
+-- of the same script began, or with the frame that one got.
+use Rattle.std.specs.Prelude.{ℕ, ◌+◌, ◌-◌, ◌==◌, nat_lt, ◌&&◌, Bool, true, false, if◌then◌else◌, List, Option, Some, None, drop, take, map, option_and_then, slice_get}
+use Rattle.std.specs.List.{count_by}
+use Rattle.std.specs.Option.{option_flatten, option_map}
+use Rattle.hp_units.specs.Marks.{is_opening, mark_of}
+use Rattle.hp_units.specs.declared.events.Event.{Event}
+use Rattle.hp_units.specs.declared.events.Event.TheVariants as event
+use Rattle.hp_schedules.specs.declared.scripts.OwnWork.{OwnWork}
+use Rattle.hp_schedules.specs.declared.scripts.OwnWork.TheVariants.{Latest, Nth, Free}
+use Rattle.hp_schedules.specs.declared.scripts.StepWork.{StepWork}
+use Rattle.hp_schedules.specs.declared.scripts.StepWork.TheVariants.{DrainFor, Migrate, Commit, Cancel}
+use Rattle.hp_scenario.specs.Asked as asks
+use Rattle.hp_scenario.specs.declared.lines.Line.{Line}
+use Rattle.hp_starts.specs.Begins.{line_begins}
+
+-- ---- events
+
+-- the work that an event does on an operation, whichever it is; `None` if it does none
+abbrev pub work_in : Event → Option StepWork
+work_in (event.DrainFor op cpu) = Some (DrainFor cpu)
+work_in (event.Migrate op) = Some Migrate
+work_in (event.Commit op) = Some Commit
+work_in (event.Cancel op) = Some Cancel
+work_in e = None
+
+-- an event asks for a block for the kernel; an event gives one back
+abbrev pub is_alloc : Event → Bool
+is_alloc (event.KernelAlloc order) = true
+is_alloc e = false
+
+abbrev pub is_free : Event → Bool
+is_free (event.KernelFree frame) = true
+is_free e = false
+
+-- ---- lines with a result
+
+-- a line's work is a Begin, and not a plan that begins its operation itself; it asks for a block
+abbrev pub asked_opens : asks.Meaning → Bool
+asked_opens (asks.event e) = is_opening (mark_of e)
+asked_opens m = false
+
+abbrev pub asked_allocs : asks.Meaning → Bool
+asked_allocs (asks.event e) = is_alloc e
+asked_allocs m = false
+
+-- the same of a line of the processor
+abbrev pub line_opens : (cpu : ℕ) → Line → Bool
+line_opens cpu line = (line.cpu == cpu) && asked_opens (asks.asked_by line.work)
+
+abbrev pub line_allocs : (cpu : ℕ) → Line → Bool
+line_allocs cpu line = (line.cpu == cpu) && asked_allocs (asks.asked_by line.work)
+
+-- how many operations a processor begins in lines, by a Begin or a plan; how many blocks it asks for
+abbrev pub begun_in : (cpu : ℕ) → List Line → ℕ
+begun_in cpu lines = count_by (line_begins cpu) lines
+
+abbrev pub allocs_in : (cpu : ℕ) → List Line → ℕ
+allocs_in cpu lines = count_by (line_allocs cpu) lines
+
+-- ---- work on a result
+
+-- work on the operation that the line at `place` began. It is the processor's latest one if no line
+-- since then begins another; else it is named by how many the script began before it
+abbrev pub on_begun : (cpu : ℕ) → (earlier : List Line) → (place : ℕ) → StepWork → OwnWork
+on_begun cpu earlier place w =
+    if begun_in cpu (drop (place + 1) earlier) == 0 then Latest w
+    else Nth (begun_in cpu (take place earlier)) w
+
+-- what an event does with the result of the line at `place`, which is `line`: work on the operation
+-- that it began, or a free of the frame that it got. `None` if that line has no such result
+abbrev pub on_result : (cpu : ℕ) → (earlier : List Line) → (place : ℕ) → Line → Event → Option OwnWork
+on_result cpu earlier place line e =
+    if line_opens cpu line then option_map (on_begun cpu earlier place) (work_in e)
+    else
+    (if line_allocs cpu line && is_free e then Some (Free (allocs_in cpu (take place earlier)))
+    else None)
+
+abbrev pub asked_on : (cpu : ℕ) → (earlier : List Line) → (place : ℕ) → Line → asks.Meaning → Option OwnWork
+asked_on cpu earlier place line (asks.event e) = on_result cpu earlier place line e
+asked_on cpu earlier place line m = None
+
+-- the work of the line at `place` on the result of an earlier line, its source; `None` if it has no
+-- source, or none of this processor before it that has such a result
+abbrev pub named_at : (cpu : ℕ) → List Line → (sources : List (Option ℕ)) → (place : ℕ) → asks.Meaning
+    → Option OwnWork
+named_at cpu lines sources place m =
+    option_and_then
+    (λ source. option_and_then (λ line. asked_on cpu (take place lines) source line m)
+    (slice_get (take place lines) source)) (option_flatten (slice_get sources place))
+
+-- ---- sources
+
+-- a source as a place among the lines after the setup; `None` if it is in the setup
+abbrev pub source_after : (setup source : ℕ) → Option ℕ
+source_after setup source = if nat_lt source setup then None else Some (source - setup)
+
+-- the sources of the lines after the setup
+abbrev pub sources_after : (setup : ℕ) → List (Option ℕ) → List (Option ℕ)
+sources_after setup sources = map (option_and_then (source_after setup)) (drop setup sources)

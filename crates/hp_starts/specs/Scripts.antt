@@ -1,0 +1,80 @@
+-- The lines after the setup, as scripts.
+use Rattle.std.specs.Prelude.{ℕ, ◌+◌, ◌==◌, ◌||◌, Bool, false, if◌then◌else◌, List, [], ◌∷◌, ◌++◌, Option, Some, None, map}
+use Rattle.std.specs.List.{range_with_len}
+use Rattle.std.specs.Option.{option_map_or}
+use Rattle.hp_units.specs.declared.events.Event.{Event}
+use Rattle.hp_units.specs.declared.events.Event.TheVariants as event
+use Rattle.hp_schedules.specs.Scripts.{step_work_of}
+use Rattle.hp_schedules.specs.declared.scripts.OwnWork.{OwnWork}
+use Rattle.hp_schedules.specs.declared.scripts.OwnWork.TheVariants.{Latest}
+use Rattle.hp_schedules.specs.declared.scripts.Step as step
+use Rattle.hp_schedules.specs.declared.scripts.Step.TheVariants.{Ask, Own, Carry}
+use Rattle.hp_schedules.specs.declared.scripts.StepWork as own
+use Rattle.hp_schedules.specs.declared.scripts.StepWork.TheVariants.{DrainFor, Migrate, Commit, Cancel}
+use Rattle.hp_scenario.specs.Asked as asks
+use Rattle.hp_scenario.specs.declared.lines.Line.{Line}
+use Rattle.hp_starts.specs.Begins.{last_begun, line_begins}
+use Rattle.hp_starts.specs.Results.{named_at}
+use Rattle.hp_starts.specs.declared.begins.Begin.{Begin}
+
+-- the work of an event on operation 0, which in a script is the one that its processor began last;
+-- `None` for any other operation
+abbrev pub own_if_last : (op : ℕ) → own.StepWork → Option own.StepWork
+own_if_last op w = if op == 0 then Some w else None
+
+abbrev pub own_work : Event → Option own.StepWork
+own_work (event.DrainFor op cpu) = own_if_last op (DrainFor cpu)
+own_work (event.Migrate op) = own_if_last op Migrate
+own_work (event.Commit op) = own_if_last op Commit
+own_work (event.Cancel op) = own_if_last op Cancel
+own_work e = None
+
+-- work on the operation that the processor began last: `op`, unless its script has begun one
+abbrev pub own_step : (op : ℕ) → (begun : Bool) → own.StepWork → step.Step
+own_step op begun w = if begun then Own (Latest w) else Ask (step_work_of op w)
+
+-- an event as a step of a script
+abbrev pub called : (op : ℕ) → (begun : Bool) → Event → step.Step
+called op begun e = option_map_or (own_step op begun) (own_work e) (Ask e)
+
+-- the same where the event may work on the result of an earlier line: `named` is then this work
+abbrev pub named_or_called : (op : ℕ) → (begun : Bool) → (named : Option OwnWork) → Event → step.Step
+named_or_called op begun None e = called op begun e
+named_or_called op begun (Some w) e = Own w
+
+-- a line's work as a step; reading a file, a seal and a text that a file refuses make no call
+abbrev pub explored : (op : ℕ) → (begun : Bool) → (named : Option OwnWork) → asks.Meaning → Option step.Step
+explored op begun named (asks.event e) = Some (named_or_called op begun named e)
+explored op begun named (asks.plan items turns) = Some (Carry items turns)
+explored op begun named (asks.not_taken fault) = None
+explored op begun named (asks.cat path) = None
+explored op begun named asks.seal = None
+
+-- a line as a step of a processor's script, if it is the processor's line
+abbrev pub step_for : (cpu : ℕ) → (op : ℕ) → (begun : Bool) → (named : Option OwnWork) → Line
+    → Option step.Step
+step_for cpu op begun named line =
+    if line.cpu == cpu then explored op begun named (asks.asked_by line.work) else None
+
+-- the steps that a line adds to a processor's script: one or none
+abbrev pub steps_of : Option step.Step → List step.Step
+steps_of None = []
+steps_of (Some s) = s ∷ []
+
+-- the steps that lines add to a processor's script. They are what is left of `lines` from `place` on,
+-- and `sources` has, for each line that works on the result of an earlier one, the place of that one
+abbrev pub steps_in : (cpu : ℕ) → (op : ℕ) → (begun : Bool) → (lines : List Line)
+    → (sources : List (Option ℕ)) → (place : ℕ) → (left : List Line) → List step.Step
+steps_in cpu op begun lines sources place [] = []
+steps_in cpu op begun lines sources place (line ∷ left) =
+    steps_of (step_for cpu op begun (named_at cpu lines sources place (asks.asked_by line.work)) line)
+    ++ steps_in cpu op (begun || line_begins cpu line) lines sources (place + 1) left
+
+-- a processor's script, after these Begins
+abbrev pub script_of : List Begin → List Line → (sources : List (Option ℕ)) → (cpu : ℕ) → List step.Step
+script_of begins lines sources cpu = steps_in cpu (last_begun cpu begins) false lines sources 0 lines
+
+-- the script of each processor, from processor 0
+abbrev pub scripts_of : (cpus : ℕ) → List Begin → List Line → (sources : List (Option ℕ))
+    → List (List step.Step)
+scripts_of cpus begins lines sources = map (script_of begins lines sources) (range_with_len 0 cpus)

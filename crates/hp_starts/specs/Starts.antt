@@ -1,0 +1,42 @@
+-- The machine after a scenario's setup, and the scripts of the lines after it.
+use Rattle.std.specs.Prelude.{◌≡◌, ℕ, List, [], ◌++◌, Option, length, take, drop}
+use Rattle.hp_units.specs.LayoutParts.{LayoutParts}
+use Rattle.hp_machine.specs.Machine.{MachineValue, booted}
+use Rattle.hp_schedules.specs.declared.scripts.Step.{Step}
+use Rattle.hp_scenario.specs.declared.lines.Line.{Line}
+use Rattle.hp_scenario.specs.declared.unfit.Unfit.{Unfit}
+use Rattle.hp_scenario.specs.Scenario.{ScenarioValue}
+use Rattle.hp_starts.specs.Begins.{begins_in}
+use Rattle.hp_starts.specs.Checks.{AreFit, IsFirstUnfit}
+use Rattle.hp_starts.specs.Results.{sources_after}
+use Rattle.hp_starts.specs.Scripts.{scripts_of}
+use Rattle.hp_starts.specs.Setup.{RunsLines}
+use Rattle.hp_starts.specs.declared.begins.Begin.{Begin}
+use Rattle.hp_starts.specs.declared.start_fault.StartFault.{StartFault}
+use Rattle.hp_starts.specs.declared.start_fault.StartFault.TheVariants.{NotForScript, OutOfMemory}
+
+-- the machine after `before`, run in order from boot, and the scripts of `after`; `sources` has the
+-- place among `after` of the line whose result a line works on
+pub record IsStart (l : LayoutParts) (before after : List Line) (sources : List (Option ℕ))
+    (start : MachineValue) (scripts : List (List Step)) : Type 0 where
+  pub sealed : List Begin
+  pub run : RunsLines (booted l) [] before start sealed
+  pub are : scripts ≡ scripts_of l.cpus (sealed ++ begins_in start.history) after sources
+
+-- a line after the setup may not be in a script, and it is the first
+abbrev pub IsUnfitAfter : (setup place : ℕ) → Unfit → ScenarioValue → Type 0
+IsUnfitAfter setup place why s =
+    IsFirstUnfit s.layout.cpus (length (take setup s.lines)) (drop setup s.lines) place why
+
+-- the start of a search after `setup` lines; the later lines may all be in scripts. `sources` has, for
+-- each line of the scenario, the line whose result it works on
+pub record HasStart (s : ScenarioValue) (sources : List (Option ℕ)) (setup : ℕ) (start : MachineValue)
+    (scripts : List (List Step)) : Type 0 where
+  pub fit : AreFit s.layout.cpus (drop setup s.lines) (length (drop setup s.lines))
+  pub begun : IsStart s.layout (take setup s.lines) (drop setup s.lines) (sources_after setup sources)
+      start scripts
+
+-- one of the later lines may not be in a script, and it is the first; or memory ran out
+abbrev pub HasNoStart : ScenarioValue → (setup : ℕ) → StartFault → Type 0
+HasNoStart s setup (NotForScript place why) = IsUnfitAfter setup place why s
+HasNoStart s setup OutOfMemory = Unit {0}

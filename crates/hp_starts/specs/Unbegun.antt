@@ -1,0 +1,35 @@
+-- Script lines that name operation 0 before their processor has begun an operation.
+use Rattle.std.specs.Prelude.{ℕ, zero, suc, ◌+◌, ◌==◌, ◌&&◌, nat_le, Bool, false, if◌then◌else◌, List, [], ◌∷◌, ◌++◌, Option, Some, None}
+use Rattle.std.specs.Option.{is_some, option_map_or}
+use Rattle.hp_scenario.specs.Asked as asks
+use Rattle.hp_scenario.specs.declared.lines.Line.{Line}
+use Rattle.hp_starts.specs.Begins.{line_begins}
+use Rattle.hp_starts.specs.Scripts.{own_work}
+use Rattle.hp_starts.specs.declared.unbegun.Unbegun.{Unbegun}
+
+-- a line's work is on operation 0; a line is the processor's and works on operation 0
+abbrev pub asked_names_last : asks.Meaning → Bool
+asked_names_last (asks.event e) = is_some (own_work e)
+asked_names_last m = false
+
+abbrev pub line_names_last : (cpu : ℕ) → Line → Bool
+line_names_last cpu line = (line.cpu == cpu) && asked_names_last (asks.asked_by line.work)
+
+-- the number, from 1, of a processor's first line after the setup that works on operation 0 with no
+-- line before it that begins an operation; `before` lines come before these
+abbrev pub unbegun_at : (cpu setup before : ℕ) → List Line → Option ℕ
+unbegun_at cpu setup before [] = None
+unbegun_at cpu setup before (line ∷ lines) =
+    if line_begins cpu line then None
+    else (if nat_le setup before && line_names_last cpu line then Some (before + 1)
+    else unbegun_at cpu setup (before + 1) lines)
+
+-- the same with its processor, as a list of one or none
+abbrev pub unbegun_of : (cpu setup : ℕ) → List Line → List Unbegun
+unbegun_of cpu setup lines =
+    option_map_or (λ line. record { cpu = cpu; line = line } ∷ []) (unbegun_at cpu setup 0 lines) []
+
+-- the same for all processors below `cpus`
+abbrev pub unbegun_lines : (cpus setup : ℕ) → List Line → List Unbegun
+unbegun_lines zero setup lines = []
+unbegun_lines (suc cpus) setup lines = unbegun_lines cpus setup lines ++ unbegun_of cpus setup lines

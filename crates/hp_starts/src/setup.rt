@@ -1,0 +1,37 @@
+//! The setup: lines that are run in order on one machine, as `hotplug serial` runs them.
+ghost use Rattle.std.specs.Prelude.{◌≡◌, ◌++◌, OnOk};
+ghost use Rattle.hp_starts.specs.Setup.{RunsLines, begins_sealed};
+
+use crate::begins::{Begin, note_begins};
+use hp_machine::Machine;
+use hp_names::run_line;
+use hp_scenario::{Line, Work};
+use std::alloc::{AllocError, Global};
+
+/// Runs lines in order, and appends the Begins that their seals hand out.
+pub(crate) fn run_lines(
+    alloc: Global,
+    machine: &mut Machine,
+    begins: &mut Vec<Begin>,
+    lines: &[Line],
+) -> Result<(), AllocError>
+    ensures { OnOk result
+        (RunsLines machine.old begins.old.items lines.now machine.new begins.new.items) }
+{
+    for line in lines {
+        note_sealed(begins, machine, &line.work)?;
+        run_line(alloc, machine, line)?;
+    }
+    Ok(())
+}
+
+/// Appends the Begins that a seal is about to hand out; other work adds none.
+fn note_sealed(begins: &mut Vec<Begin>, machine: &Machine, work: &Work) -> Result<(), AllocError>
+    ensures { OnOk result
+        (begins.new.items ≡ begins.old.items ++ begins_sealed machine.now work.now) }
+{
+    if work.is_seal() {
+        note_begins(begins, machine.history())?;
+    }
+    Ok(())
+}
