@@ -1,4 +1,4 @@
-//! The parts of a scenario, over the values that `serde_json` reads.
+//! The parts of a scenario, taken from `serde_json` values.
 ghost use Rattle.std.specs.Prelude.{◌≡◌, map, option_and_then, option_map};
 ghost use Rattle.serde_json.specs.Find.{as_array, as_str, get};
 ghost use Rattle.serde_json.specs.View.{items_view, view};
@@ -66,7 +66,7 @@ fn items_at<'a>(value: &'a Value, key: &str) -> Option<&'a Vec<Value>>
     value.get(key)?.as_array()
 }
 
-/// Returns the texts that values are.
+/// Returns the texts in values, or `BadShape` if a value is not a text.
 fn texts_of<'a>(alloc: Global, values: &'a Vec<Value>) -> Result<Vec<&'a str>, ScenarioFault>
     ensures { Gives (λ v. map (λ t. t.now) v.items) result
         (or_fault ScenarioFault.BadShape (each_in as_str (items_view values.now.items))) }

@@ -7,7 +7,7 @@ ghost use Rattle.hp_names.specs.NamedWords as spec;
 use hp_units::Text;
 use std::alloc::{AllocError, Global};
 
-/// Returns the words of a text, which are between single spaces.
+/// Returns the words of a text, which single spaces separate.
 #[tactic(auto, using(crate::proofs::WordsCut::last_word))]
 pub(crate) fn words_in<'a>(alloc: Global, text: &'a str) -> Result<Vec<&'a str>, AllocError>
     ensures { IfOk result (λ words. map (λ w. w.now) words.items ≡ words_of text.now) }
@@ -54,7 +54,7 @@ fn are_name_bytes(bytes: &[u8]) -> bool
     bytes.iter().all(|byte| is_name_byte(*byte))
 }
 
-/// Returns whether a word is a name, in the form of an owner's.
+/// Returns whether a word is a valid name. Names of results have the form of owners' names.
 fn is_name(word: &str) -> bool
     ensures { result ≡ names word.now }
 {

@@ -7,13 +7,14 @@
 //! results of earlier lines.
 //!
 //! It also parses, matches and checks the lines that an end is to have or to lack. Such a line is a
-//! reply to a processor, or the state of a memory block, as an end is printed. Before the end of a
-//! schedule, the crate returns which of these lines are met so far, and whether the others can
-//! still be met. It searches nothing: hp_explore does, and hp_search writes what it finds.
+//! reply to a processor, the end of a plan, or the state of a memory block, written as `explore`
+//! prints it. Before the end of a schedule, the crate returns which of these lines are met so far,
+//! and whether the others can still be met. It does not search: hp_explore does, and hp_search
+//! writes what it finds.
 //!
-//! Read specs/Scripts first, then specs/Results, specs/Setup, specs/Begins and specs/Starts; of wanted lines
-//! specs/Patterns, specs/PlanLines and specs/Wanted, then specs/Marks, specs/Limits and
-//! specs/WantedLines.
+//! Read specs/Scripts first, then specs/Results, specs/Setup, specs/Begins and specs/Starts. For
+//! wanted lines read specs/Patterns, specs/PlanLines and specs/Wanted, then specs/Marks,
+//! specs/Limits and specs/WantedLines.
 #![tactic(auto)]
 
 mod begins;

@@ -258,7 +258,7 @@ pub fn reply_pattern(word: &str, args: &[&str]) -> Option<Pattern>
     }
 }
 
-/// Returns a pattern for a reply without arguments.
+/// Returns a pattern for exactly this reply, if there are no arguments.
 #[tactic(auto, unfolding(crate::specs::WantedLines::bare_reply))]
 fn bare_reply(reply: Reply, args: &[&str]) -> Option<Pattern>
     ensures { result ≡ says.bare_reply reply (map (λ w. w.now) args.now) }
