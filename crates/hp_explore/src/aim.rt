@@ -24,7 +24,7 @@ pub trait Aim {
     /// may be tried there, which numbers are marks, and whether the aim is whole.
     ghost shows: { Self → Setting → AimValue };
 
-    /// What `is_met` makes of the aim.
+    /// What `is_met` may make of the aim.
     ghost becomes: { Self → Setting → Self → Type 0 };
 
     /// Returns whether the processor's next call may be tried. If not, no sought schedule makes it
@@ -80,7 +80,7 @@ pub trait Aim {
         ensures missed { IfOk result (λ met.
             met ≡ false → (shows self.new path.now.setting).sought schedule.now → ⊥) };
 
-    /// An aim that was not asked stays as it is.
+    /// The aim may stay as it is.
     ghost stays: { (aim : Self) (g : Setting) → becomes aim g aim };
 
     /// Two changes of the aim, one after the other, are one change.

@@ -6,8 +6,8 @@ const SCHEDULES_A_PART: u32 = 64;
 
 /// Returns how many first calls should decide a schedule's part, so that the parts have about equal
 /// work.
-///
-/// This is the smallest number with at least 64 schedules of first calls per part, if no script
+/// This is the smallest number with which each part gets at least 64 schedules of first calls, if
+/// no script ends before them. Returns 0 for fewer than two parts or processors.
 /// ends before them. Returns 0 for fewer than two parts or processors.
 pub fn calls_for(processors: u32, parts: u32) -> u32
     ensures one { parts < 2 → result ≡ 0 }
