@@ -47,9 +47,9 @@ pub struct ExplainText {
 /// the form of the answers, and `explain` the search.
 ///
 /// If there is such an order, the text has it as `find_text` writes what it found. If there is
-/// none, the text has the longest beginning of one, how far each processor is after it, and the
-/// answer that its next line would get. As a scenario the text is empty then. If `watch` ended the
-/// search, the text reports that nothing is known.
+/// none, the text has the longest explained beginning of an order, how far each processor is after
+/// it, and the answer that its next line would get. As a scenario the text is empty then. If
+/// `watch` ended the search, the text reports that nothing is known.
 ///
 /// # Errors
 ///
@@ -193,8 +193,9 @@ fn text_of(
     }
 }
 
-/// Returns the text, in `form`, for answers that no order explains: the longest beginning of one,
-/// and how far the processors are after it. As a scenario the text is empty. Replays the schedule.
+/// Returns the text, in `form`, for answers that no order explains: the longest explained
+/// beginning, and how far the processors are after it. As a scenario the text is empty. Replays the
+/// schedule.
 fn longest_told(
     alloc: Global,
     prepared: &Prepared,
