@@ -63,9 +63,9 @@ abbrev pub calls_left : Setting → ℕ
 calls_left g =
     min (g.layout.history - length g.start) (18446744073709551615 - (g.before + length g.start))
 
--- the schedule begins an order that explains what was seen. It can be played, and the history has room
--- for its calls. Each line that it finishes was answered as it was seen, and each of its calls was made
--- in time
+-- the schedule is explained so far, as the beginning of an order. It can be played, and the history has
+-- room for its calls. Each line that it finishes was answered as it was seen, and each of its calls was
+-- made in time
 pub record IsExplained (g : Setting) (seen : List (List ObservedLine)) (schedule : List ℕ) : Type 0 where
   pub news : List Record
   pub played : plays g schedule ≡ Some news

@@ -25,8 +25,8 @@ pub record AreTurns (g : Setting) (part : PartValue) (news : List Record) (ends 
   pub within : frame.next ≤ length g.scripts
 
 -- the levels below the top of the stack, latest first. At each, the processor before its next one made
--- a call, and the history had room for it. The trail was no longer at a level than at the level above
--- it; above the first of these levels it was `most` long
+-- a call, and the history had room for it. The trail did not get shorter from one level to the level
+-- above it; above the first of these levels it was `most` long
 abbrev pub AreBelow : Setting → PartValue → TallyValue → (most : ℕ) → List Record → List Level → Type 0
 AreBelow g part tally most news [] = news ≡ []
 AreBelow g part tally most news (frame ∷ frames) =

@@ -119,7 +119,7 @@ pub(crate) struct Request<'m, 'a, 'w> {
     pub word: Word<'w>,
     /// The names of the files, in order; empty for standard input.
     pub files: &'m [&'a str],
-    /// Whether progress is printed even if standard error is no terminal.
+    /// Whether progress is printed even if standard error is not a terminal.
     pub progress: bool,
     /// Whether it is a search for an end.
     pub is_search: bool,

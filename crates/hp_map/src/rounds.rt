@@ -11,8 +11,8 @@ use std::alloc::{AllocError, Global};
 use std::marker::Model;
 
 /// A round of a plan's calls, and how many rounds right after it repeat it: the same calls got the
-/// same replies and left the memory as it was. Or a single row of another kind, which is never
-/// repeated.
+/// same replies and left the memory as it was. Or a single row of another kind, for which there are
+/// no such rounds.
 #[derive(Drop)]
 pub struct Rounds {
     rows: Vec<RowPicture>,

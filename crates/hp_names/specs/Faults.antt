@@ -36,8 +36,7 @@ fault_of_name bound cpu kind (Some name) = result_fault kind (result_at bound cp
 abbrev pub reference_fault : Bound → (cpu : List ℕ) → ResultKind → (word : List ℕ) → Option NameFault
 reference_fault bound cpu kind word = fault_of_name bound cpu kind (after_dollar word)
 
--- the fault of words that may not begin with `$`, and may not end in a name; the second fault is
--- `fault`
+-- ReferenceNotHere if a word begins with `$`; if not, `fault` if there is a name
 abbrev pub stray_fault : (references : Bool) → (name : Bool) → NameFault → Option NameFault
 stray_fault references name fault =
     if references then Some ReferenceNotHere else (if name then Some fault else None)

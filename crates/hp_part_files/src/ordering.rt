@@ -7,7 +7,7 @@ use crate::gathering::PartEnds;
 use hp_schedules::Ending;
 use std::alloc::{AllocError, Global};
 
-/// Why not each part comes once. Parts are counted from 1.
+/// What is wrong if a part is missing or comes twice. Parts are counted from 1.
 #[derive(Clone, Copy, Drop)]
 pub enum OrderFault {
     /// A part is missing.

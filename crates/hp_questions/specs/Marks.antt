@@ -31,7 +31,7 @@ leaves_plans line = true
 abbrev pub asks_no_plans : List Wanted → Bool
 asks_no_plans wanted = list_all (λ one. leaves_plans (line_of one)) wanted
 
--- one of the replies so far has the line, so that every later end has it
+-- a reply so far meets the line, so that every later end has the line
 abbrev pub HasReplySoFar : (processors : ℕ) → List Record → EndLine → Type 0
 HasReplySoFar processors news (Plan cpu end) = ⊥
 HasReplySoFar processors news (Block block row) = ⊥
@@ -39,7 +39,7 @@ HasReplySoFar processors news (Answer cpu reply) = HasAnswer reply (replies_belo
 HasReplySoFar processors news (AnswerAt cpu earlier reply) =
     HasAnswerAt reply (replies_below processors news) cpu earlier
 
--- one of the replies so far has the line, or a finished plan ended as it wants
+-- a reply so far meets the line, or a finished plan ended as the line wants
 abbrev pub HasLineSoFar : (cpus : ℕ) → (scripts : List (List Step)) → (processors : ℕ) → List Record → EndLine
     → Type 0
 HasLineSoFar cpus scripts processors news (Plan cpu end) =

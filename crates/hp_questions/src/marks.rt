@@ -12,8 +12,8 @@ use hp_units::{Cpu, Record, Reply, Serial};
 use std::alloc::{AllocError, Global};
 
 /// Appends the marks after these records: for each processor its number of replies, and for each
-/// wanted line 1 if a reply has it or a plan ended as it wants, else 0. Returns whether each number
-/// fits 32 bits. If not, `numbers` holds only a part of them.
+/// wanted line 1 if a reply meets it or a plan ended as it wants, else 0. Returns whether each
+/// number fits 32 bits. If not, `numbers` holds only a part of them.
 ///
 /// Places with the same marks can be merged: equal further calls with equal replies lead both to
 /// ends that meet the same wanted lines, if the rows at the end are equal and further plans end
@@ -52,8 +52,8 @@ pub fn asks_no_plans(wanted: &[Wanted]) -> bool
 }
 
 /// Returns `true` if no end can meet the wanted lines any more: the reply at a wanted place is
-/// another one, or a reply that is to be lacked has come. `false` promises nothing, since the ends
-/// of plans and the rows of blocks are not looked at.
+/// another one, or a reply that is to be lacked has come. `false` promises nothing, because the
+/// ends of plans and the rows of blocks are not looked at.
 pub fn is_lost(wanted: &[Wanted], processors: u32, records: &[Record]) -> bool
     ensures { IsTrue result → (cpus : ℕ) (scripts : List (List Step))
         → IsLost cpus scripts wanted.now processors records.now }
@@ -149,7 +149,7 @@ fn leaves_plans(line: &EndLine) -> bool
     !matches!(line, EndLine::Plan { .. })
 }
 
-/// Returns whether one of the replies so far has the line, or a finished plan ended as it wants.
+/// Returns whether a reply so far meets the line, or a finished plan ended as the line wants.
 fn has_line_so_far(
     alloc: Global,
     line: &EndLine,
@@ -171,7 +171,7 @@ fn has_line_so_far(
     }
 }
 
-/// Returns whether one of the replies so far has the line. False for lines about plans and blocks.
+/// Returns whether a reply so far meets the line. False for lines about plans and blocks.
 fn has_reply_so_far(line: &EndLine, processors: u32, records: &[Record]) -> bool
     ensures { IsTrue result ↔ HasReplySoFar processors records.now line.now }
 {

@@ -100,9 +100,9 @@ impl LiveTrace {
 }
 
 /// Called for its contract: the first row, and the rows of the lines that follow a scenario, are
-/// all rows of a trace. It is that of the scenario with these lines at its end, in a view from the
-/// first of them on. Each line is read after the names of the lines before it. `trace` joins equal
-/// rounds of these rows.
+/// all rows of the trace of the scenario with these lines at its end, in a view from the first of
+/// them on. Each line is read after the names of the lines before it. `trace` joins equal rounds of
+/// these rows.
 pub fn live_rows_are_the_trace()
     ensures { ShowTheTrace }
 {}
