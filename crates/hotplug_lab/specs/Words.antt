@@ -30,7 +30,8 @@ use Rattle.hp_lab_shell.specs.declared.words.Word.{Word}
 use Rattle.hp_lab_shell.specs.declared.words.Word.TheVariants.{Check, Explore, Find, Log, Never, Part, Picture, Sum, Told, Trace}
 use Rattle.hp_lab_shell.specs.Needs.{HasLines, IsPastEnd}
 
--- the text of an exploration, whatever ended it; the status is 0 if it finds what was asked for, and 3 if not
+-- the text of an exploration, whatever ended it; the status is 0 if it finds what was asked for, and 3
+-- if not
 abbrev pub IsExploringOf : ExploreOptions → EndsForm → Option GroupBy → (input text : List ℕ)
     → (status : ℕ) → Type 0
 IsExploringOf asked form by input text status =

@@ -104,8 +104,8 @@ impl Walk {
     }
 }
 
-/// Returns the line of the text in which each entry of `calls` begins, counted from 1. If the key comes
-/// twice, the last list counts.
+/// Returns the line of the text in which each entry of `calls` begins, counted from 1. If the key
+/// comes twice, the last list counts.
 pub fn call_lines(alloc: Global, input: &[u8]) -> Result<Vec<u64>, AllocError>
     ensures signs { IfOk result (λ lines. AreSignLines input.now lines.items) }
 {

@@ -75,8 +75,8 @@ impl Tally {
         self.in_scripts = true;
     }
 
-    /// Notes whether the next line works on the result of an earlier line, by its name. The number in
-    /// such a line is 0.
+    /// Notes whether the next line works on the result of an earlier line, by its name. The number
+    /// in such a line is 0.
     pub(crate) fn note_name(&mut self, by_name: bool) {
         self.by_name = by_name;
     }

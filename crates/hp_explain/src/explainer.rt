@@ -40,8 +40,8 @@ impl<'a> Explainer<'a> {
         longest
     }
 
-    /// Returns whether the line that the processor works on next may run at this place: each line that
-    /// was answered before it began is finished.
+    /// Returns whether the line that the processor works on next may run at this place: each line
+    /// that was answered before it began is finished.
     fn may_run(&self, path: &Path<'_>, cpu: u32) -> bool
         ensures { IsTrue result ↔ MayRun path.now.setting self.now.seen.now path.now.news cpu }
     {

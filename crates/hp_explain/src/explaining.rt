@@ -16,8 +16,8 @@ use std::alloc::Global;
 /// The result of a search for an order that explains what was seen.
 #[derive(Drop)]
 pub enum Explanation {
-    /// The first order in which each line is answered as it was seen, as the processors in the order
-    /// of their calls.
+    /// The first order in which each line is answered as it was seen, as the processors in the
+    /// order of their calls.
     Explained(Vec<Cpu>),
     /// No order explains it. This is the first of the longest beginnings of an order in which each
     /// finished line is answered as it was seen.

@@ -35,7 +35,8 @@ pub enum ExplainResult {
 /// The result of a search for an order that explains answers, with its text.
 #[derive(Drop)]
 pub struct ExplainText {
-    /// The order that was found, or a text that reports that there is none, or that it is not known.
+    /// The order that was found, or a text that reports that there is none, or that it is not
+    /// known.
     pub text: String,
     /// How the search ended.
     pub result: ExplainResult,

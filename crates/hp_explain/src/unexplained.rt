@@ -13,8 +13,8 @@ const BETWEEN: &str = ", ";
 
 // ---- words
 
-/// Writes that no order explains the answers, the calls of the longest beginning, and a line for each
-/// processor. Owners are written by name.
+/// Writes that no order explains the answers, the calls of the longest beginning, and a line for
+/// each processor. Owners are written by name.
 pub(crate) fn write_unexplained(
     out: &mut String,
     names: &IndexSet<Text>,

@@ -20,8 +20,8 @@ use std::alloc::{AllocError, Global};
 /// If the aim is whole, the search covers every place. If it then finds nothing, the history also
 /// has room for every call.
 pub trait Aim {
-    /// What the aim is in a setting: which schedules are sought, which places are admitted, which calls
-    /// may be tried there, which numbers are marks, and whether the aim is whole.
+    /// What the aim is in a setting: which schedules are sought, which places are admitted, which
+    /// calls may be tried there, which numbers are marks, and whether the aim is whole.
     ghost shows: { Self → Setting → AimValue };
 
     /// What `is_met` may make of the aim.
@@ -36,8 +36,8 @@ pub trait Aim {
         ensures skipped { result ≡ false
             → MayBeSkipped (shows self.now path.now.setting) (schedule.now ++ cpu ∷ []) };
 
-    /// Returns whether the search goes on from the place that the latest call led to. If not, no sought
-    /// schedule continues from it.
+    /// Returns whether the search goes on from the place that the latest call led to. If not, no
+    /// sought schedule continues from it.
     fn admits(&self, path: &Path<'_>, schedule: &[Cpu], processors: u32) -> bool
         requires processors { processors ≡ length path.now.setting.scripts }
         requires schedule { schedule.now ≡ schedule_of path.now.news }
@@ -62,8 +62,8 @@ pub trait Aim {
             × (numbers.new.items ≡ numbers.old.items ++ marks)
             × (shows self.now path.now.setting).marks path.now.news marks) };
 
-    /// Returns whether the schedule is one that is sought. May make the aim narrower; the search then
-    /// goes on by the new aim.
+    /// Returns whether the schedule is one that is sought. May make the aim narrower; the search
+    /// then goes on by the new aim.
     fn is_met(
         &mut self,
         alloc: Global,

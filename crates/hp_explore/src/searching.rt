@@ -1,4 +1,5 @@
-//! The search for the first schedule that an aim seeks: depth first, processor 0 first, each place once.
+//! The search for the first schedule that an aim seeks: depth first, processor 0 first, each place
+//! once.
 ghost use Rattle.std.specs.Prelude.{◌≡◌, ◌<◌, ◌+◌, ◌++◌, ◌∷◌, ◌^◌, ℕ, List, [], IfErr, IfOk, OnOk, false, length, option_map, true};
 ghost use Rattle.hp_schedules.specs.Schedules.{schedule_of};
 ghost use Rattle.hp_explore.specs.Aims.{IsDone, IsFirstSought, IsSearchCause, IsTurnCause};

@@ -24,8 +24,8 @@ use std::alloc::{AllocError, Global};
 /// The keys of the places that a search has visited, and the numbers of the place where it is.
 ///
 /// Two places with the same key continue alike: with the same calls, and the aim seeks the same
-/// continuations. So a place is tried once. `key` is the key written last. With `is_on` false no place
-/// is ever kept.
+/// continuations. So a place is tried once. `key` is the key written last. With `is_on` false no
+/// place is ever kept.
 pub(crate) struct Visited {
     is_on: bool,
     stops: Stops,

@@ -1,4 +1,5 @@
-//! The aim of one pass of the search for a nearest schedule: an end as wanted, within a budget of changes.
+//! The aim of one pass of the search for a nearest schedule: an end as wanted, within a budget of
+//! changes.
 ghost use Rattle.std.specs.Prelude.{◌≡◌, ◌<◌, ◌^◌, ◌++◌, ℕ, IfErr, IfOk, List, OnOk, length, option_map, true};
 ghost use Rattle.hp_questions.specs.Marks.{AreMarks, asks_no_plans};
 ghost use Rattle.hp_explore.specs.FindFaults.{IsPassCause};

@@ -28,8 +28,8 @@ pub enum Lack {
     Answer,
 }
 
-/// A machine that answers lines one at a time, all lines so far with plain numbers, and the names of
-/// owners and of results in them.
+/// A machine that answers lines one at a time, all lines so far with plain numbers, and the names
+/// of owners and of results in them.
 #[derive(Drop)]
 pub struct Session {
     pub(crate) names: IndexSet<Text>,

@@ -3,8 +3,8 @@
 //!
 //! The first lines of a scenario are its setup, run in order on one machine as `hotplug serial`
 //! does. Each later line goes to the script of its processor. The crate owns which lines may be in
-//! a script, what step each becomes, which operation the number 0 names, and which steps work on the
-//! results of earlier lines.
+//! a script, what step each becomes, which operation the number 0 names, and which steps work on
+//! the results of earlier lines.
 //!
 //! It also parses, matches and checks the lines that an end is to have or to lack. Such a line is a
 //! reply to a processor, the end of a plan, or the state of a memory block, written as `explore`
