@@ -120,8 +120,8 @@ fn found<W: Watch>(
     Ok(find_answer(finding, 0, 3))
 }
 
-/// Searches in the same way. The status is 0 if there is none, and 3 if there is one or it is not
-/// known.
+/// Searches in the same way. The status is 0 if there is no such interleaving, and 3 if there is
+/// one or it is not known.
 fn never<W: Watch>(
     alloc: Global,
     input: &[u8],

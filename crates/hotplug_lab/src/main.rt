@@ -1,10 +1,11 @@
 //! Looks into scenarios of the memory machine: `hotplug_lab WORD` reads a file or standard input,
 //! and writes to standard output.
 //!
-//! The libraries write the texts: hp_check that of `check`; hp_search that of `explore`, and
+//! Libraries write the texts: hp_check that of `check`; hp_search that of `explore`, and
 //! hp_part_files that of its parts and their `sum`; hp_trace that of `trace` and its log, and
-//! hp_svg its picture; hp_verdicts that of `judge`, which reads no scenario. hp_lab_shell has the
-//! command line, the files and the messages; this program runs the other commands.
+//! hp_svg its picture; hp_verdicts that of `judge`, and hp_explain that of `explain`. hp_lab_shell
+//! has the command line, the files and the messages, and runs `judge`, `explain` and `live`; this
+//! program runs the other commands.
 //!
 //! The exit status is:
 //! - 1 after a fault, which standard error names, and after a check that finds faults,
@@ -14,8 +15,8 @@
 //!   if a log is unlawful,
 //! - 0 otherwise.
 //!
-//! It is the same if standard error takes no text. The help is a text like any other: if standard
-//! output does not take it, the status is 1.
+//! The status is the same if standard error cannot be written. The help is a text like any other:
+//! if standard output cannot be written, the status is 1.
 #![tactic(auto)]
 
 mod answering;

@@ -1,4 +1,4 @@
--- Findings that are added to others, and which fault the first of them reports.
+-- Findings that are added to others, and which fault the first added one reports.
 use Rattle.std.specs.Prelude.{◌≡◌, ℕ, ◌+◌, ◌≤◌, Bool, true, false, List, [], ◌∷◌, ◌++◌, Option, Some, None, Result, Ok, Err}
 use Rattle.std.specs.List.{All}
 use Rattle.std.specs.Option.{option_map, option_or}
@@ -13,7 +13,7 @@ use Rattle.hp_check.specs.declared.finding.Finding.{Finding}
 use Rattle.hp_check.specs.declared.finding.Finding.TheVariants as finding
 use Rattle.hp_check.specs.declared.finding.OutOfRange.{OutOfRange}
 
--- the first of the added findings reports this fault; without a fault there is none
+-- the first of the added findings reports this fault; without a fault, none is added
 abbrev pub IsFirst : Option ScenarioFault → List Finding → Type 0
 IsFirst None added = added ≡ []
 IsFirst (Some fault) added = Begins fault added
@@ -24,30 +24,31 @@ pub record Adds (P : Finding → Type 0) (fault : Option ScenarioFault) (old new
   pub each : All P added
   pub first : IsFirst fault added
 
--- the first fault of a list, whose items are numbered from here
+-- the first fault of a list whose items are numbered from `number`
 abbrev pub first_at : {X : Type 0} → (ℕ → X → Option ScenarioFault) → ℕ → List X → Option ScenarioFault
 first_at f number [] = None
 first_at f number (x ∷ xs) = option_or (f number x) (first_at f (number + 1) xs)
 
--- a fault of the shape unless a condition holds
+-- BadShape, unless a condition holds
 abbrev pub lacks : Bool → Option ScenarioFault
 lacks true = None
 lacks false = Some BadShape
 
--- the layout fault of a part that is out of its range, if there is such a part
+-- the layout fault of a part that is out of its range; None if no part is
 abbrev pub out_fault : (number : ℕ) → Option OutOfRange → Option ScenarioFault
 out_fault number None = None
 out_fault number (Some out) = Some (Layout (fault_of out))
 
--- the fault of a layout's limits; and of a layout whose parts may be unreadable
+-- the fault of a layout that is past its limits
 abbrev pub limit_fault : LayoutParts → Option ScenarioFault
 limit_fault l = option_map Layout (layout_fault l)
 
+-- the same for a layout whose parts may be unreadable
 abbrev pub limit_fault_of : Option LayoutParts → Option ScenarioFault
 limit_fault_of None = None
 limit_fault_of (Some l) = limit_fault l
 
--- the fault of reading, if it has one
+-- the fault of reading, if reading failed
 abbrev pub fault_in : {A : Type 0} → Result A ScenarioFault → Option ScenarioFault
 fault_in (Ok x) = None
 fault_in (Err fault) = Some fault
@@ -70,7 +71,7 @@ abbrev pub IsRepeat : Finding → Type 0
 IsRepeat (finding.Repeat place k) = Unit {0}
 IsRepeat f = ⊥
 
--- a warning, of one of this many lines or of a key
+-- a warning about a key, or about one of this many lines
 abbrev pub IsWarning : (lines : ℕ) → Finding → Type 0
 IsWarning lines (finding.Repeat place k) = Unit {0}
 IsWarning lines (finding.Warning number w) = (1 ≤ number) × (number ≤ lines)

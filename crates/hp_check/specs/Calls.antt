@@ -1,4 +1,4 @@
--- The entries of `calls`, and which of them are no lines.
+-- The entries of `calls`, and which of them are not lines.
 use Rattle.std.specs.Prelude.{◌≡◌, ℕ, ◌+◌, Bool, false, List, [], ◌∷◌, ◌++◌, codes, take, Option, Some, None, is_some, slice_get, option_and_then, if◌then◌else◌}
 use Rattle.std.specs.Option.{option_or}
 use Rattle.serde_json.specs.Data.{Data, Items, no_items, item}
@@ -30,7 +30,7 @@ entries_in d = items_or_none (option_and_then as_array (get (codes "calls") d))
 abbrev pub is_line_after : Bound → (text : List ℕ) → Bool
 is_line_after bound text = is_some (line_says (plain_in bound text).text)
 
--- the names after an entry at this place: if it is a line, its own is added
+-- the names after the entry at this place; a line adds the name of its result
 abbrev pub bound_text : (place : ℕ) → Bound → Option (List ℕ) → Bound
 bound_text place bound None = bound
 bound_text place bound (Some text) =
@@ -44,9 +44,9 @@ abbrev pub bound_through : (place : ℕ) → Bound → List Data → Bound
 bound_through place bound [] = bound
 bound_through place bound (d ∷ ds) = bound_through (place + 1) (bound_past place bound d) ds
 
--- ---- what is no line
+-- ---- what is not a line
 
--- the entry of this number, counted from 1, is this text, which is no line after the lines before it
+-- the entry of this number, counted from 1, is this text, which is not a line after the lines before it
 pub record IsBadEntry (entries : List Data) (number : ℕ) (text : List ℕ) : Type 0 where
   pub at : ℕ
   pub entry : Data
@@ -55,31 +55,32 @@ pub record IsBadEntry (entries : List Data) (number : ℕ) (text : List ℕ) : T
   pub is_text : as_str entry ≡ Some text
   pub no_line : is_line_after (bound_through 0 [] (take at entries)) text ≡ false
 
--- the same of a finding
+-- the finding reports such an entry
 abbrev pub IsBadCall : (entries : List Data) → Finding → Type 0
 IsBadCall entries (finding.BadCall number text names) = IsBadEntry entries number text
 IsBadCall entries f = ⊥
 
--- and of one entry, after lines with these names
+-- the finding reports this entry, at `place`, after lines with these names
 abbrev pub IsBadText : (place : ℕ) → Bound → Data → Finding → Type 0
 IsBadText place bound d (finding.BadCall number text names) =
     (number ≡ place + 1) × (as_str d ≡ Some text) × (is_line_after bound text ≡ false)
 IsBadText place bound d f = ⊥
 
--- the finding of a text was added, with what is wrong with its names, if they are the reason
+-- the finding for a text was added, with what is wrong with the text's names, if they are the reason
 abbrev pub AddsBadCall : (number : ℕ) → (text : List ℕ) → (old new : List Finding) → Type 0
 AddsBadCall number text old new =
     (names : Option NameSlip) × (new ≡ old ++ finding.BadCall number text names ∷ [])
 
--- the fault that reading has at a text, or at an entry that may be one
+-- the fault of reading a text
 abbrev pub text_fault : (place : ℕ) → Bound → Option (List ℕ) → Option ScenarioFault
 text_fault place bound None = None
 text_fault place bound (Some text) = if is_line_after bound text then None else Some (BadLine (place + 1))
 
+-- the fault of reading an entry, which may be a text
 abbrev pub entry_fault : (place : ℕ) → Bound → Data → Option ScenarioFault
 entry_fault place bound d = text_fault place bound (as_str d)
 
--- the first fault of entries, of which the first is at this place, after lines with these names
+-- the first fault of entries, of which the first is at `place`, after lines with these names
 abbrev pub calls_fault : (place : ℕ) → Bound → List Data → Option ScenarioFault
 calls_fault place bound [] = None
 calls_fault place bound (d ∷ ds) =

@@ -1,4 +1,4 @@
--- What is promised of a check: the first fault is that of reading, and each finding has a cause.
+-- What `check` promises: the first fault is that of reading, and each finding has a cause.
 use Rattle.std.specs.Prelude.{◌≡◌, ℕ, ◌≤◌, true, List, [], ◌∷◌, count_by, length, Some, None, Result, Ok, Err, is_some}
 use Rattle.std.specs.List.{All}
 use Rattle.serde_json.specs.Data.{Data}
@@ -66,9 +66,9 @@ IsPastLimits d = (l : LayoutParts) × (parts_in d ≡ Some l) × (is_some (layou
 abbrev pub IsScenarioWith : (P : ℕ → Type 0) → (input : List ℕ) → Type 0
 IsScenarioWith P input = (s : NamedValue) × (named_in input ≡ Ok s) × P (length s.scenario.lines)
 
--- why there is a finding: a text that is no JSON; a value of another form; a layout past its limits; an
--- entry of `calls`, of this number and text, that is no line. Only a scenario has warnings, and the
--- number of one is that of a line
+-- why there is a finding: the text is not JSON; the value has another form; the layout is past its
+-- limits; or the entry of `calls` with this number and text is not a line. Only a scenario has
+-- warnings, each about a key or about one of its lines
 abbrev pub HasCause : (input : List ℕ) → Finding → Type 0
 HasCause input (finding.NotJson hint line column) = json_of input ≡ None
 HasCause input (finding.Shape s) = IsJsonWith (λ d. form_of d ≡ None) input

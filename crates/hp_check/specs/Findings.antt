@@ -7,7 +7,7 @@ use Rattle.hp_check.specs.declared.finding.Key.TheVariants as key
 use Rattle.hp_check.specs.declared.finding.ScenarioObject.{ScenarioObject}
 use Rattle.hp_check.specs.declared.finding.ScenarioObject.TheVariants.{Whole, Layout}
 
--- all but warnings
+-- the finding is a fault, not a warning
 abbrev pub is_fault : Finding → Bool
 is_fault (finding.NotJson hint line column) = true
 is_fault (finding.Shape s) = true

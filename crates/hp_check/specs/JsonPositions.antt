@@ -1,4 +1,4 @@
--- White space of JSON (RFC 8259, section 2), and in which lines of a text something is.
+-- White space of JSON (RFC 8259, section 2), and the lines of a text that have more than white space.
 use Rattle.std.specs.Prelude.{◌≡◌, ℕ, ◌+◌, ◌==◌, ◌||◌, Bool, true, false, List, count_by, slice_get, take, Some, if◌then◌else◌}
 use Rattle.std.specs.List.{All}
 
@@ -23,7 +23,7 @@ pub record IsSignLine (input : List ℕ) (line : ℕ) : Type 0 where
 abbrev pub AreSignLines : (input lines : List ℕ) → Type 0
 AreSignLines input lines = All (IsSignLine input) lines
 
--- the lines are still such lines of the text, if the line that may have been noted is one
+-- the noted lines still have more than white space, if the line to be noted does
 abbrev pub KeepSignLines : (is_noted : Bool) → (line : ℕ) → (old new : List ℕ) → Type 0
 KeepSignLines is_noted line old new =
     (input : List ℕ) → AreSignLines input old → (is_noted ≡ true → IsSignLine input line)

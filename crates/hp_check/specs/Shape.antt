@@ -12,11 +12,11 @@ use Rattle.hp_check.specs.declared.finding.ScenarioObject.{ScenarioObject}
 abbrev pub is_there : Data → Key → Bool
 is_there d k = is_some (get (key_name k) d)
 
--- as many members as there are keys, and each key among them
+-- an object has as many members as there are keys, and each key is among them
 abbrev pub has_its_keys : ScenarioObject → Data → Members → Bool
 has_its_keys place d ms = (members_len ms == length (keys_of place)) && list_all (is_there d) (keys_of place)
 
--- a value that is missing is another fault
+-- the test holds for a value that is missing, because that is another fault
 abbrev pub if_there : (Data → Bool) → Option Data → Bool
 if_there f None = true
 if_there f (Some d) = f d

@@ -1,4 +1,4 @@
-//! The texts of `calls` that are no lines.
+//! The texts of `calls` that are not lines.
 ghost use Rattle.std.specs.Prelude.{◌≡◌, ◌^◌, ◌<◌, [], OnOk, map};
 ghost use Rattle.serde_json.specs.View.{view};
 ghost use Rattle.hp_names.specs.Bindings.{bound_after};
@@ -13,7 +13,7 @@ use hp_units::Text;
 use serde_json::Value;
 use std::alloc::{AllocError, Global};
 
-/// Adds the texts of a scenario's `calls` that are no lines.
+/// Adds the texts of a scenario's `calls` that are not lines.
 pub(crate) fn push_calls(
     found: &mut Vec<Finding>,
     alloc: Global,
@@ -30,7 +30,7 @@ pub(crate) fn push_calls(
     Ok(())
 }
 
-/// Returns the entries of the list at `calls`; none if there is no list.
+/// Returns the entries of the list at `calls`, or none if there is no list.
 #[tactic(auto, using(crate::proofs::Entries::items_seen), unfolding(crate::specs::Calls::entries_in))]
 fn entries_of(value: &Value) -> &[Value]
     ensures { map view result.now ≡ entries_in (view value.now) }
@@ -44,8 +44,8 @@ fn entries_of(value: &Value) -> &[Value]
     }
 }
 
-/// Adds an entry if it is a text and no line. The names of results are those of the lines before it;
-/// if it is a line, its own name is added.
+/// Adds a finding if the entry at `place` is a text and not a line. `bound` has the names of
+/// results of the lines before it. A line adds the name of its own result to `bound`.
 fn push_entry(
     found: &mut Vec<Finding>,
     bound: &mut Bindings,
@@ -68,7 +68,8 @@ fn push_entry(
     push_bad_call(found, bound, alloc, place as u64 + 1, text)
 }
 
-/// Gives the line at a place the name of its result, if it has one. The number is not known.
+/// Binds the name of the result of the line at a place, if it has one. The result's number is not
+/// known.
 fn bind(bound: &mut Bindings, naming: Option<Naming>, place: usize) -> Result<(), AllocError>
     ensures { OnOk result (bound.new ≡ bound_after bound.old naming place 0) }
 {
@@ -78,7 +79,7 @@ fn bind(bound: &mut Bindings, naming: Option<Naming>, place: usize) -> Result<()
     }
 }
 
-/// Adds a text that is no line, after lines with these names.
+/// Adds a text that is not a line after lines with these names.
 fn push_bad_call(
     found: &mut Vec<Finding>,
     bound: &Bindings,

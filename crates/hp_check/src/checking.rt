@@ -22,9 +22,9 @@ use std::alloc::{AllocError, Global};
 
 /// Finds all that is wrong with a scenario: its faults, or the warnings of a text without faults.
 ///
-/// Faults come in the order of those of `NamedScenario::read`, which stops at the first. They are of
-/// the keys and kinds of values, of the layout's ranges if its parts can be read, and of each text of
-/// `calls` that is no line. Warnings are of keys that the text has more than once, and then of
+/// Faults come in the order of `NamedScenario::read`, which stops at the first. They concern the
+/// keys and the kinds of values, the layout's ranges if all its parts can be read, and each text of
+/// `calls` that is not a line. Warnings concern keys that the text has more than once, and then
 /// lines; a line has at most one. The first `setup` lines run in order, before the scripts of the
 /// processors.
 pub fn check(alloc: Global, input: &[u8], setup: u64) -> Result<Vec<Finding>, AllocError>
@@ -37,7 +37,8 @@ pub fn check(alloc: Global, input: &[u8], setup: u64) -> Result<Vec<Finding>, Al
     }
 }
 
-/// Returns all that is wrong with bytes that `NamedScenario::read` refused with this fault.
+/// Returns all that is wrong with bytes that `NamedScenario::read` refused with this fault. Fails
+/// if the fault is out of memory.
 fn unless_memory(
     alloc: Global,
     input: &[u8],
@@ -71,7 +72,7 @@ fn warnings_in(
     Ok(found)
 }
 
-/// Returns all that is wrong with bytes that are no scenario.
+/// Returns all that is wrong with bytes that are not a scenario.
 fn faults_of(alloc: Global, input: &[u8]) -> Result<Vec<Finding>, AllocError>
     ensures { IfOk result (λ found.
         Adds (HasCause input.now) (fault_in (named_in input.now)) [] found.items) }
@@ -82,7 +83,7 @@ fn faults_of(alloc: Global, input: &[u8]) -> Result<Vec<Finding>, AllocError>
     }
 }
 
-/// Returns all that is wrong with a value that is no scenario.
+/// Returns all that is wrong with a value that is not a scenario.
 fn value_faults(alloc: Global, value: &Value) -> Result<Vec<Finding>, AllocError>
     ensures { IfOk result (λ found.
         Adds (ValueCause (view value.now)) (fault_in (named_of (view value.now))) [] found.items) }
@@ -94,7 +95,7 @@ fn value_faults(alloc: Global, value: &Value) -> Result<Vec<Finding>, AllocError
     Ok(found)
 }
 
-/// Returns the fault of a text that is no JSON.
+/// Returns the fault of a text that is not JSON.
 fn no_value(alloc: Global, input: &[u8], error: &Error) -> Result<Vec<Finding>, AllocError>
     ensures { IfOk result (λ found.
         Adds IsNotJson (Some ScenarioFault.NotJson) [] found.items × (¬ IsMemory error.now)) }

@@ -7,8 +7,9 @@ use crate::slips::write_slip;
 use hp_units::number32;
 use std::alloc::AllocError;
 
-/// Writes why a text is not a line: a space at one of its ends, or the wrong name or word, if it can
-/// be found, and what was expected. `names` is what `name_slip` returned for the text.
+/// Writes why a text is not a line, and what was expected. The reason is a space at one of its
+/// ends, or the wrong name or word, if that can be found. `names` is what `name_slip` returned for
+/// the text.
 pub fn write_expected(
     out: &mut String,
     text: &str,
@@ -26,7 +27,7 @@ pub fn write_expected(
     out.push_str(wanted(text))
 }
 
-/// Writes the wrong name or word, and why it is wrong, if that can be told.
+/// Writes the wrong name or word and why it is wrong, if that can be found.
 fn write_wrong_word(
     out: &mut String,
     text: &str,
@@ -40,8 +41,8 @@ fn write_wrong_word(
     }
 }
 
-/// Returns what to report of a text that is not a line: a first word that is no processor's number,
-/// a missing or unknown verb, or the form that its verb requires.
+/// Returns what to report of a text that is not a line: its first word is not a processor's number,
+/// its verb is missing or unknown, or the form that its verb requires.
 fn wanted(text: &str) -> &'static str {
     let mut words = text.split(' ');
     let cpu = words.next().and_then(|word| number32(word));

@@ -22,8 +22,8 @@ pub enum Finding {
     Shape(Shape),
     /// A part of the layout is out of its range.
     Layout(OutOfRange),
-    /// A text of `calls` is not a line; what is wrong with its names for results, if they are the
-    /// reason.
+    /// A text of `calls` is not a line. `names` is what is wrong with its names for results, if
+    /// they are the reason.
     BadCall {
         number: u64,
         text: Text,
@@ -148,7 +148,7 @@ pub enum Shape {
     NotNumber(Key),
     /// A value that is not a list.
     NotList(Key),
-    /// An entry of `boot` that is none of its words. Entries are numbered from 1.
+    /// An entry of `boot` that is not a word for a block's state. Entries are numbered from 1.
     NotBoot { number: u64 },
     /// An entry of `calls` that is not a text. Entries are numbered from 1.
     NotText { number: u64 },

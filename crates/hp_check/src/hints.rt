@@ -41,7 +41,7 @@ fn is_comma_too_many(before: &[u8], rest: &[u8]) -> bool {
     before.trim_ascii_end().ends_with(b",") && matches!(rest, [b']' | b'}' | b',', ..])
 }
 
-/// Returns the first character of a text, if it is an odd one.
+/// Returns the first character of a text, if it is odd (see `is_odd`).
 fn odd_start(text: &[u8]) -> Option<char> {
     let text = std::str::from_utf8(text).ok()?;
     let c = text.chars().next()?;

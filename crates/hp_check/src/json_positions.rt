@@ -1,5 +1,5 @@
 //! Where things are in a scenario's text: the lines in which the entries of `calls` begin, repeated
-//! keys, comments, how deep brackets nest.
+//! keys, comments, and how deep brackets nest.
 //!
 //! One walk goes over the brackets, commas, colons, words and strings of the JSON. It decodes no
 //! number and no escape, and accepts any bytes.
@@ -22,7 +22,7 @@ struct Walk {
 }
 
 impl Walk {
-    /// Goes past a lexeme, if one begins in this line.
+    /// Goes past a lexeme, if one begins here; `line` is its line.
     fn pass(&mut self, line: u64, lexeme: Option<Lexeme>) -> Result<(), AllocError>
         requires { self.old.depth + 1 < 2 ^ 64 }
         ensures depth { OnOk result (self.new.depth ≤ self.old.depth + 1) }
@@ -76,7 +76,7 @@ impl Walk {
         Ok(())
     }
 
-    /// Enters a list. The list at the key `calls` drops the lines of an earlier one.
+    /// Enters a list. If it is the list at the key `calls`, forgets the lines of an earlier one.
     fn open_list(&mut self)
         requires { self.old.depth + 1 < 2 ^ 64 }
         ensures depth { self.new.depth ≡ self.old.depth + 1 }
@@ -104,8 +104,8 @@ impl Walk {
     }
 }
 
-/// Returns the line of the text in which each entry of `calls` begins, counted from 1. If the key comes
-/// twice, the last list counts.
+/// Returns the line of the text in which each entry of `calls` begins, counted from 1. If the key
+/// comes twice, the last list counts.
 pub fn call_lines(alloc: Global, input: &[u8]) -> Result<Vec<u64>, AllocError>
     ensures signs { IfOk result (λ lines. AreSignLines input.now lines.items) }
 {
@@ -127,7 +127,7 @@ pub fn call_lines(alloc: Global, input: &[u8]) -> Result<Vec<u64>, AllocError>
     Ok(walk.lines)
 }
 
-/// Returns the line after a byte of this line.
+/// Returns the number of the line after this byte.
 fn line_after(line: u64, byte: u8) -> u64
     requires { line + 1 < 2 ^ 64 }
     ensures { result ≡ line_then line byte }

@@ -1,4 +1,4 @@
-//! What is wrong with the names for results in a text that is no line.
+//! What is wrong with the names for results in a text that is not a line.
 ghost use Rattle.std.specs.Prelude.{OnOk, string_bytes};
 ghost use Rattle.hp_check.specs.Hints.{AddsText};
 
@@ -8,7 +8,7 @@ use hp_names::{Bindings, NameFault, name_fault};
 use hp_units::Text;
 use std::alloc::{AllocError, Global};
 
-/// What is wrong with the names for results in a text that is no line.
+/// What is wrong with the names for results in a text that is not a line.
 #[derive(Drop)]
 pub struct NameSlip {
     /// The fault.
@@ -28,8 +28,8 @@ pub enum Meant {
     Other(Text),
 }
 
-/// Returns what is wrong with the names for results in a text that is no line, after lines with
-/// these names. Returns `None` if something else is wrong with it.
+/// Returns what is wrong with the names for results in a text that is not a line, after lines with
+/// these names. Returns `None` if the names are not the reason.
 pub fn name_slip(
     alloc: Global,
     text: &str,
@@ -60,7 +60,7 @@ fn meant_in(alloc: Global, text: &str, bound: &Bindings) -> Result<Meant, AllocE
     }
 }
 
-/// Returns a processor's name that differs in a letter.
+/// Returns a name of this processor that differs from `name` in a letter.
 fn near_name<'a>(bound: &'a Bindings, cpu: &str, name: &str) -> Option<&'a str> {
     for index in 0..bound.len() {
         let (owner, known) = bound.key_at(index)?.split_once(' ')?;
@@ -71,7 +71,7 @@ fn near_name<'a>(bound: &'a Bindings, cpu: &str, name: &str) -> Option<&'a str> 
     None
 }
 
-/// Returns the number of a processor that has the name.
+/// Returns the number of a processor that has this name.
 fn other_cpu<'a>(bound: &'a Bindings, name: &str) -> Option<&'a str> {
     for index in 0..bound.len() {
         let (owner, known) = bound.key_at(index)?.split_once(' ')?;
@@ -82,14 +82,14 @@ fn other_cpu<'a>(bound: &'a Bindings, name: &str) -> Option<&'a str> {
     None
 }
 
-/// Returns whether two names differ in one letter, which is another or is missing in one of them.
+/// Returns whether two names differ in one letter: it is another one, or one of them lacks it.
 fn is_near(a: &[u8], b: &[u8]) -> bool {
     let (a, b) = without_front(a, b);
     let (a, b) = without_back(a, b);
     a.len() <= 1 && b.len() <= 1
 }
 
-/// Returns both texts without what is the same at their fronts.
+/// Returns both texts without the beginning that they share.
 fn without_front<'a>(a: &'a [u8], b: &'a [u8]) -> (&'a [u8], &'a [u8]) {
     let mut a = a;
     let mut b = b;
@@ -109,7 +109,7 @@ fn without_front<'a>(a: &'a [u8], b: &'a [u8]) -> (&'a [u8], &'a [u8]) {
     (a, b)
 }
 
-/// Returns both texts without what is the same at their ends.
+/// Returns both texts without the ending that they share.
 fn without_back<'a>(a: &'a [u8], b: &'a [u8]) -> (&'a [u8], &'a [u8]) {
     let mut a = a;
     let mut b = b;
@@ -171,7 +171,7 @@ fn word_in(text: &str, fault: NameFault) -> &str {
     }
 }
 
-/// Returns why the word of a text is a wrong name.
+/// Returns why the wrong name is wrong.
 fn why(text: &str, word: &str, fault: NameFault) -> &'static str {
     match fault {
         NameFault::UnknownName => " is no result of an earlier line of its processor; ",
@@ -185,7 +185,7 @@ fn why(text: &str, word: &str, fault: NameFault) -> &'static str {
     }
 }
 
-/// Returns why the result is none that the text's verb works on.
+/// Returns why the text's verb does not work on this result.
 fn wrong_kind(text: &str) -> &'static str {
     match text.split(' ').nth(1) {
         Some("kfree") => " is an operation, not a frame; ",
@@ -193,7 +193,7 @@ fn wrong_kind(text: &str) -> &'static str {
     }
 }
 
-/// Returns the first word that begins with a dollar sign; the empty text if there is none.
+/// Returns the first word that begins with a dollar sign, or the empty text if there is none.
 fn reference_in(text: &str) -> &str {
     for word in text.split(' ') {
         if word.starts_with('$') {

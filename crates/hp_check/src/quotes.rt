@@ -1,4 +1,4 @@
-//! Quotes from a scenario's text, as findings have them.
+//! Quotes from a scenario's text, as findings show them.
 ghost use Rattle.std.specs.Prelude.{OnOk, string_bytes};
 ghost use Rattle.hp_check.specs.Hints.{AddsText};
 

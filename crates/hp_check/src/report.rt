@@ -9,8 +9,8 @@ use crate::shape::keys_of;
 use std::alloc::{AllocError, Global};
 
 /// Writes findings on a scenario, one per line, and how many faults and warnings there are. A
-/// finding on a text of `calls` has its number, and the line of the input in which it begins, if
-/// that is known.
+/// finding on a text of `calls` has the text's number, and the line of the input in which the text
+/// begins, if that is known.
 pub fn write_report(
     out: &mut String,
     alloc: Global,
@@ -58,7 +58,7 @@ fn write_finding(out: &mut String, lines: &[u64], finding: &Finding) -> Result<(
     }
 }
 
-/// Writes why a text is likely to be no JSON.
+/// Writes the likely reason why a text is not JSON.
 fn write_hint(out: &mut String, hint: Hint) -> Result<(), AllocError> {
     match hint {
         Hint::NoText => out.push_str(": there is no text"),
@@ -76,7 +76,7 @@ fn write_hint(out: &mut String, hint: Hint) -> Result<(), AllocError> {
     }
 }
 
-/// Writes a text that is no line, and what was expected.
+/// Writes a text that is not a line, and what was expected.
 fn write_call(out: &mut String, text: &str, names: &Option<NameSlip>) -> Result<(), AllocError> {
     write_quoted(out, text)?;
     out.push_str(": ")?;

@@ -39,7 +39,7 @@ fn push(found: &mut Vec<Finding>, shape: Shape) -> Result<(), AllocError>
     Ok(())
 }
 
-/// Adds a fault of the shape unless this holds.
+/// Adds a fault of the shape unless `holds` is true.
 fn push_unless(found: &mut Vec<Finding>, holds: bool, shape: Shape) -> Result<(), AllocError>
     ensures { OnOk result (Adds IsShape (lacks holds) found.old.items found.new.items) }
 {
@@ -196,7 +196,7 @@ fn number_keys() -> &'static [Key]
     ]
 }
 
-/// Adds the keys of a layout whose values must be numbers and are none.
+/// Adds the keys of a layout whose values must be numbers and are not.
 fn push_numbers(found: &mut Vec<Finding>, layout: &Value) -> Result<(), AllocError>
     ensures { OnOk result (Adds IsShape (lacks (list_all (means.is_number_at (view layout.now)) number_keys))
         found.old.items found.new.items) }
@@ -235,7 +235,7 @@ fn push_boot(found: &mut Vec<Finding>, boot: Option<&Value>) -> Result<(), Alloc
     push_boots(found, words)
 }
 
-/// Adds the entries of `boot` that are none of its words.
+/// Adds the entries of `boot` that are not words for a block's state.
 fn push_boots(found: &mut Vec<Finding>, words: &[Value]) -> Result<(), AllocError>
     ensures { OnOk result (Adds IsShape (lacks (list_all (λ v. is_some (boot_in (view v))) words.now))
         found.old.items found.new.items) }
@@ -263,7 +263,7 @@ fn push_calls(found: &mut Vec<Finding>, calls: Option<&Value>) -> Result<(), All
     push_texts(found, texts)
 }
 
-/// Adds the entries of `calls` that are no texts.
+/// Adds the entries of `calls` that are not texts.
 fn push_texts(found: &mut Vec<Finding>, texts: &[Value]) -> Result<(), AllocError>
     ensures { OnOk result (Adds IsShape (lacks (list_all (λ v. is_some (as_str (view v))) texts.now))
         found.old.items found.new.items) }

@@ -1,4 +1,4 @@
-//! The first wrong word of a text that is no line.
+//! The first wrong word of a text that is not a line.
 ghost use Rattle.std.specs.Prelude.{OnOk, string_bytes};
 ghost use Rattle.hp_check.specs.Hints.{AddsText};
 
@@ -22,8 +22,8 @@ enum Kind {
     Word,
 }
 
-/// Writes the first wrong word of a text that is no line, and what is wrong with it, if that can be
-/// found.
+/// Writes the first wrong word of a text that is not a line, and what is wrong with it, if that can
+/// be found.
 pub(crate) fn write_slip(out: &mut String, text: &str) -> Result<(), AllocError>
     ensures { OnOk result (AddsText (string_bytes out.old) (string_bytes out.new)) }
 {
@@ -72,7 +72,7 @@ fn why_not(kind: Kind, word: &str) -> Option<&'static str> {
     }
 }
 
-/// Returns what is wrong with digits that are no number: a leading zero, or else `too_many`.
+/// Returns what is wrong with digits that are not a number: a leading zero, or else `too_many`.
 fn number_slip(is_number: bool, word: &str, too_many: &'static str) -> Option<&'static str> {
     if is_number || !word.as_bytes().iter().all(|byte| byte.is_ascii_digit()) {
         return None;

@@ -5,14 +5,14 @@ use hp_scenario::{Asked, Line, Work};
 use hp_units::{Layout, Serial, mark_of};
 use std::alloc::{AllocError, Global};
 
-/// Which records begin an operation, and how many there are since the last seal. In scripts the order
-/// of the calls is not known.
+/// Which records begin an operation, and how many records there are since the last seal. In scripts
+/// the order of the calls is not known.
 #[derive(Drop)]
 pub(crate) struct Tally {
     /// Whether each record begins an operation, up to the first plan. How many records a plan makes
     /// is not known.
     begins: Vec<bool>,
-    /// Whether a record after these may begin one.
+    /// Whether a record after those in `begins` may begin an operation.
     any_later: bool,
     in_scripts: bool,
     /// Whether the line at hand works on the result of an earlier line, by its name.
@@ -21,7 +21,7 @@ pub(crate) struct Tally {
 }
 
 impl Tally {
-    /// Makes the tally of no lines.
+    /// Creates a tally before any line.
     pub(crate) fn new(alloc: Global) -> Tally {
         Tally {
             begins: Vec::new(alloc),
@@ -69,14 +69,14 @@ impl Tally {
         }
     }
 
-    /// Ends the setup: these lines are in scripts.
+    /// Ends the setup: `lines`, which come after it, are in scripts.
     pub(crate) fn end_setup(&mut self, lines: &[Line]) {
         self.any_later |= lines.iter().any(|line| may_open(&line.work));
         self.in_scripts = true;
     }
 
-    /// Notes whether the next line works on the result of an earlier line, by its name. The number in
-    /// such a line is 0.
+    /// Notes whether the next line works on the result of an earlier line, by its name. The number
+    /// in such a line is 0.
     pub(crate) fn note_name(&mut self, by_name: bool) {
         self.by_name = by_name;
     }
@@ -86,15 +86,16 @@ impl Tally {
         self.in_scripts
     }
 
-    /// Returns whether the records since the last seal fill a history.
+    /// Returns whether the records since the last seal fill a history of this many records.
     pub(crate) fn is_full(&self, history: u64) -> bool
         ensures { result ≡ nat_le history self.now.used }
     {
         history <= self.used
     }
 
-    /// Returns whether the record of a serial may begin an operation. 0 is the operation of an earlier
-    /// line that is named, and in scripts the one that the processor began last.
+    /// Returns whether the record with this serial may begin an operation. Serial 0 stands for the
+    /// result of an earlier line, by its name, and in scripts for the operation that the processor
+    /// began last.
     pub(crate) fn may_begin(&self, op: Serial) -> bool {
         if op.0 == 0 {
             return self.in_scripts || self.by_name;

@@ -28,7 +28,7 @@ pub(crate) fn push_warnings(
     push_each(found, layout, &mut tally, setup, lines, sources)
 }
 
-/// Adds the warnings of lines; the tally is that of the lines before them.
+/// Adds the warnings of lines. `tally` is that of the lines before them.
 fn push_each(
     found: &mut Vec<Finding>,
     layout: &Layout,
@@ -84,7 +84,7 @@ fn odd_warning(work: &Work) -> Option<Warning> {
     Some(Warning::Unexpected(odd?))
 }
 
-/// Returns a warning if a line in a script cannot be there, with this many processors.
+/// Returns a warning if a line in a script may not be there, with this many processors.
 fn unfit_warning(cpus: u32, in_scripts: bool, line: &Line) -> Option<Warning> {
     if !in_scripts {
         return None;
@@ -210,7 +210,7 @@ fn address_past(layout: &Layout, address: u64) -> Option<Warning> {
     })
 }
 
-/// Returns a warning if no line before begins the operation.
+/// Returns a warning if no earlier line begins the operation.
 fn no_begin(tally: &Tally, op: Serial) -> Option<Warning> {
     if tally.may_begin(op) {
         None
@@ -219,7 +219,8 @@ fn no_begin(tally: &Tally, op: Serial) -> Option<Warning> {
     }
 }
 
-/// Returns a warning about the first thing that an event names and that does not exist.
+/// Returns a warning about the first thing that an event names and that does not exist, if there is
+/// one.
 fn event_warning(layout: &Layout, tally: &Tally, event: &Event) -> Option<Warning> {
     match event {
         Event::KernelAlloc { order } => past(What::Order, order.0, layout.order() + 1),

@@ -10,10 +10,11 @@ use Rattle.hp_explain.specs.declared.observed.ObservedLine.{ObservedLine}
 
 -- ---- an object
 
--- the number at a key, as it is written; the text at a key
+-- the number at a key, as it is written
 abbrev pub number_at : (key : List ℕ) → Json → Option (List ℕ)
 number_at key j = option_and_then as_number (get key j)
 
+-- the text at a key
 abbrev pub text_at : (key : List ℕ) → Json → Option (List ℕ)
 text_at key j = option_and_then as_str (get key j)
 
@@ -55,8 +56,8 @@ abbrev pub first_to : List ObservedLine → ℕ
 first_to [] = 18446744073709551615
 first_to (one ∷ later) = one.to
 
--- the lines, each with the lowest `to` of its own and the later ones: a line was answered no later than
--- a later one
+-- the lines, each with the lowest `to` of its own and the later ones, because a line was answered no
+-- later than a later line
 abbrev pub filled : List ObservedLine → List ObservedLine
 filled [] = []
 filled (one ∷ later) = record one { to = min one.to (first_to (filled later)) } ∷ filled later

@@ -40,11 +40,12 @@ run_lines cpu (seen ∷ later) = script_lines cpu seen ++ run_lines (suc cpu) la
 abbrev pub IsRecords : List ℕ → Type 0
 IsRecords text = (count : ℕ) × (text ≡ decimal count ++ codes " records")
 
--- an empty line
+-- the line is empty
 abbrev pub is_empty : List ℕ → Bool
 is_empty [] = true
 is_empty (b ∷ bs) = false
 
+-- all lines are empty
 abbrev pub are_empty : List (List ℕ) → Bool
 are_empty texts = list_all is_empty texts
 
@@ -57,13 +58,15 @@ AreLast (text ∷ rest) = (are_empty (text ∷ rest) ≡ true) ⊎ (IsRecords te
 abbrev pub untimed : LineAnswer → ObservedLine
 untimed answer = record { answer = answer; from = 0; to = 18446744073709551615 }
 
+-- the same line without its times
 abbrev pub without_times : ObservedLine → ObservedLine
 without_times one = untimed one.answer
 
--- no times are known
+-- no times are known of a processor's lines
 abbrev pub AreUntimed : List ObservedLine → Type 0
 AreUntimed seen = map without_times seen ≡ seen
 
+-- no times are known of any line
 abbrev pub AreAllUntimed : List (List ObservedLine) → Type 0
 AreAllUntimed seen = map (map without_times) seen ≡ seen
 
@@ -88,7 +91,7 @@ IsRunText input seen = AreRun (lines input) seen
 
 -- ---- objects
 
--- the first byte that is no white space opens an object
+-- the first byte that is not white space opens an object
 abbrev pub are_objects : List ℕ → Bool
 are_objects [] = false
 are_objects (b ∷ bs) = if is_ascii_whitespace b then are_objects bs else b == 123

@@ -25,7 +25,7 @@ answers_marked g h k more marks same a b =
     let causes : a.0 ≡ b.0 = cc in
     answered_alike g h k more a.0 b.0 causes same a.2 b.2
 
--- so equally many lines are finished
+-- so equally many lines are finished after both
 many_alike : (g : Setting) (cpu : ℕ) (h k more : List Record) → AnswerAlike g cpu h k more
     → length (answers_at g cpu (h ++ more)) ≡ length (answers_at g cpu (k ++ more))
 many_alike g cpu h k more alike =
@@ -109,7 +109,7 @@ timed_alike g seen h k more alike here there before r later is =
         (there (h ++ past.0) r later
         (ap (λ (xs : List Record). h ++ xs) past.2 ∙ sym (append_assoc h past.0 (r ∷ later)))))
 
--- what an explained beginning promises, in terms of its records
+-- an explained beginning has records that were answered as seen and made in time
 pub explained_news : (g : Setting) (seen : List (List ObservedLine)) (schedule : List ℕ) (news : List Record)
     → plays g schedule ≡ Some news → IsExplained g seen schedule
     → AreAsSeen g seen news × AreInTime g seen news
@@ -119,7 +119,7 @@ explained_news g seen schedule news played explained =
       subst (AreInTime g seen) same explained.timed,
     )
 
--- a continuation leads to equally many calls from two places with one key
+-- from two places with the same key, a continuation leads to equally many calls
 as_long : (g : Setting) (h k : List Record) (rest : List ℕ) → HaveSameKey g h k
     → length (schedule_of h ++ rest) ≡ length (schedule_of k ++ rest)
 as_long g h k rest same =
@@ -132,8 +132,8 @@ as_long g h k rest same =
       same.alike.calls,
     )
 
--- what the same continuation leads to from the other of two places with one key, and that this is
--- explained
+-- the continuation that is explained from `h` leads from `k` to the same further records, and is
+-- explained there too
 record IsExplainedOn (g : Setting) (seen : List (List ObservedLine)) (rest : List ℕ) (h k : List Record)
     (end : List Record) : Type 0 where
   pub on : ContinuesAs g (schedule_of k) rest h k end
@@ -209,7 +209,7 @@ explaining_lawful g seen room longest = record {
       sought_alike g seen room longest h k marks rest same a b second.0 sought;
 }
 
--- ---- the aim as it becomes
+-- ---- how the aim gets narrower
 
 sought_narrower : (g : Setting) (seen : List (List ObservedLine)) (room : ℕ) (longest new s : List ℕ)
     → length longest ≤ length new → (aim_of g seen room new).sought s → (aim_of g seen room longest).sought s

@@ -7,7 +7,7 @@ use Rattle.hp_explore.specs.CausesBelow.{AreCausedBelow}
 use Rattle.hp_explain.specs.Explaining.{Explains, IsExplained, MayRun, calls_left}
 use Rattle.hp_explain.specs.declared.observed.ObservedLine.{ObservedLine}
 
--- the marks: the number of calls, and these numbers of all processors
+-- the marks: the number of calls, and what the answers of the plans in progress depend on
 abbrev pub IsMarked : Setting → List Record → List ℕ → Type 0
 IsMarked g news numbers =
     (causes : List ℕ) × (numbers ≡ length news ∷ causes)
@@ -18,8 +18,9 @@ abbrev pub MayRunAfter : Setting → List (List ObservedLine) → List ℕ → (
 MayRunAfter g seen schedule cpu =
     (news : List Record) × (plays g schedule ≡ Some news) × MayRun g seen news cpu
 
--- sought are the orders that explain what was seen, and the explained beginnings that are longer than
--- the longest known one; a search ends with an order. `room` is how many calls the history has room for
+-- the search seeks the orders that explain what was seen, and the explained beginnings that are longer
+-- than the longest known one. It returns only an order. `room` is how many calls the history has room
+-- for
 abbrev pub aim_of : Setting → List (List ObservedLine) → (room : ℕ) → (longest : List ℕ) → AimValue
 aim_of g seen room longest = record {
   sought = λ s. Explains g seen s ⊎ (IsExplained g seen s × (length longest < length s));

@@ -26,7 +26,7 @@ HasSeen seen cpu line answer =
     (lines : List ObservedLine) × (one : ObservedLine) × (slice_get seen cpu ≡ Some lines)
     × (slice_get lines line ≡ Some one) × (answer ≡ Some one.answer)
 
--- each line that was answered before the time is among the first ones
+-- each line that was answered before the time is among the first `count`
 abbrev pub AreOverBefore : List ObservedLine → (count time : ℕ) → Type 0
 AreOverBefore lines count time =
     (k : ℕ) (one : ObservedLine) → slice_get lines k ≡ Some one → one.to < time → k < count
@@ -63,8 +63,8 @@ abbrev pub calls_left : Setting → ℕ
 calls_left g =
     min (g.layout.history - length g.start) (18446744073709551615 - (g.before + length g.start))
 
--- the schedule is the beginning of an order that what was seen allows. It can be played, and the
--- history has room for its calls. Each line that it finishes was answered so, and each of its calls was
+-- the schedule is explained so far, as the beginning of an order. It can be played, and the history has
+-- room for its calls. Each line that it finishes was answered as it was seen, and each of its calls was
 -- made in time
 pub record IsExplained (g : Setting) (seen : List (List ObservedLine)) (schedule : List ℕ) : Type 0 where
   pub news : List Record
@@ -73,15 +73,15 @@ pub record IsExplained (g : Setting) (seen : List (List ObservedLine)) (schedule
   pub answered : AreAsSeen g seen news
   pub timed : AreInTime g seen news
 
--- the schedule is such an order, of all lines
+-- the schedule explains what was seen, and finishes all scripts
 pub record Explains (g : Setting) (seen : List (List ObservedLine)) (schedule : List ℕ) : Type 0 where
   pub begun : IsExplained g seen schedule
   pub over : (cpu : ℕ) → next_call g cpu begun.news ≡ None
 
 -- ---- results
 
--- the first schedule that explains what was seen, in the order of the processors. Or none does, and no
--- beginning that is explained is longer than this one
+-- the first schedule that explains what was seen, in the order of the processors. Or no schedule
+-- explains it, and no explained beginning is longer than this one
 abbrev pub IsExplanation : Setting → List (List ObservedLine) → Explanation → Type 0
 IsExplanation g seen (Explained schedule) =
     Explains g seen schedule.items
@@ -91,7 +91,7 @@ IsExplanation g seen (Unexplained longest) =
     ((s : List ℕ) → Explains g seen s → ⊥) × IsExplained g seen longest.items
     × ((s : List ℕ) → IsExplained g seen s → length s ≤ length longest.items)
 
--- the cause of a fault: a full history is none, since no explained schedule has such a call
+-- the cause of a fault. `HistoryFull` never comes: no explained schedule has a call without room
 abbrev pub IsExplainCause : FindFault → Type 0
 IsExplainCause HistoryFull = ⊥
 IsExplainCause OutOfMemory = Unit {0}

@@ -15,14 +15,14 @@ use Rattle.hp_explain.specs.declared.standing.Next.TheVariants.{Answered, Finish
 use Rattle.hp_explain.specs.declared.standing.Standing.{Standing}
 use Rattle.hp_explain.specs.declared.standing.Unfinished.{Unfinished}
 
--- this is the first line that the processor has not finished, and not all of its lines that were
--- answered before the time are finished
+-- `u.line` is the first line that the processor has not finished, and some line that it has not
+-- finished was answered before the time
 abbrev pub IsUnfinished : Setting → List (List ObservedLine) → List Record → (time : ℕ) → Unfinished → Type 0
 IsUnfinished g seen news time u =
     (lines : List ObservedLine) × (slice_get seen u.cpu ≡ Some lines)
     × (u.line ≡ length (answers_at g u.cpu news)) × (AreOverBefore lines u.line time → ⊥)
 
--- the processor's next line began after a line that is not finished was answered
+-- a line of `u.cpu` that is not finished was answered before the processor's next line began
 abbrev pub IsWaiting : Setting → List (List ObservedLine) → List Record → (cpu : ℕ) → Unfinished → Type 0
 IsWaiting g seen news cpu u =
     (lines : List ObservedLine) × (one : ObservedLine) × (slice_get seen cpu ≡ Some lines)
@@ -40,7 +40,7 @@ IsWaitingFor g seen news cpu None = MayRun g seen news cpu
 abbrev pub Adds : Setting → (cpu : ℕ) → (before news : List Record) → List (Option LineAnswer) → Type 0
 Adds g cpu before news more = answers_at g cpu news ≡ answers_at g cpu before ++ more
 
--- the answer that the latest call gave the processor's line; or that it gave none
+-- the answer that the latest call gave the processor's line; `GoesOn` if it gave none
 abbrev pub IsLatestAnswer : Setting → (cpu : ℕ) → (before news : List Record) → Next → Type 0
 IsLatestAnswer g cpu before news (Answered answer) = Adds g cpu before news (Some answer ∷ [])
 IsLatestAnswer g cpu before news GoesOn = Adds g cpu before news [] ⊎ Adds g cpu before news (None ∷ [])
@@ -73,14 +73,14 @@ pub record IsStanding (g : Setting) (seen : List (List ObservedLine)) (news : Li
   pub seen_is : s.seen ≡ option_map (λ one. one.answer) (slice_get (seen_of seen cpu) s.finished)
   pub next : IsNext g seen news cpu s.next
 
--- the same of each processor below a number
+-- the same for each processor below a number
 abbrev pub AreStandingsBelow : Setting → List (List ObservedLine) → List Record → (cpus : ℕ) → List Standing
     → Type 0
 AreStandingsBelow g seen news cpus all =
     (length all ≡ cpus)
     × ((cpu : ℕ) (s : Standing) → slice_get all cpu ≡ Some s → IsStanding g seen news cpu s)
 
--- the same of all processors
+-- the same for all processors
 abbrev pub AreStandings : Setting → List (List ObservedLine) → List Record → List Standing → Type 0
 AreStandings g seen news all = AreStandingsBelow g seen news (length seen) all
 

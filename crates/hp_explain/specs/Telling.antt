@@ -54,8 +54,8 @@ IsExplanationTold form names before g (found.Unexplained longest) text result = 
 
 -- ---- in a scenario
 
--- what was seen has a line for each line of each script. In words, the text is what `hotplug run`
--- prints of these answers; otherwise it has an object for each
+-- what was seen has a line for each line of each script. `answers` either has an object for each, or is
+-- what `hotplug run` prints of them
 abbrev pub AreAnswers : (answers : List ℕ) → List (List Step) → List (List ObservedLine) → Type 0
 AreAnswers answers scripts seen =
     (map length seen ≡ map length scripts) × (are_objects answers ≡ false → IsRunText answers seen)
@@ -71,7 +71,7 @@ IsExplainingOf form input answers text result =
     HoldsIn (λ names before g. OfAnswers answers g
     (λ seen. IsExplainedOn form names before g seen text result)) input 0
 
--- why a call fails in the search: never since the history is full
+-- why a call fails in the search; `HistoryFull` never comes
 abbrev pub IsExplainingCause : Setting → ExploreFault → Type 0
 IsExplainingCause g HistoryFull = ⊥
 IsExplainingCause g OutOfMemory = Unit {0}

@@ -176,8 +176,8 @@ pub(crate) fn too_few(cpu: u32, answers: usize, lines: usize) -> AnswersFault {
     }
 }
 
-/// Returns the fault for the first line of `rest`, which is no answer. It comes after `index`
-/// answers of a processor, and `number` is the number of the line of the first of them.
+/// Returns the fault for the first line of `rest`, which is not an answer. `index` answers of the
+/// processor come before it, and `number` is the number of the line of the first of them.
 fn no_answer(rest: &[&str], number: u64, cpu: u32, index: usize, count: usize) -> AnswersFault {
     let line = number.saturating_add(index as u64);
     let [text, ..] = rest else {
@@ -189,7 +189,7 @@ fn no_answer(rest: &[&str], number: u64, cpu: u32, index: usize, count: usize) -
     not_understood(text, line)
 }
 
-/// Returns the fault for a text that is no answer.
+/// Returns the fault for a text that is not an answer.
 pub(crate) fn not_understood(text: &str, line: u64) -> AnswersFault {
     if is_of_no_call(text) {
         AnswersFault::NotOfACall { line }

@@ -10,8 +10,7 @@ use hp_text::{write_plan_end, write_reply};
 use hp_units::{OpEnd, Refusal, Reply, Serial};
 use std::alloc::{AllocError, Global};
 
-/// Parses an answer as `hotplug run` prints it, or returns `None` if the text is none that a call
-/// gets.
+/// Parses an answer as `hotplug run` prints it, or returns `None` if no call gets such an answer.
 pub(crate) fn answer_in(alloc: Global, text: &str) -> Result<Option<LineAnswer>, AllocError>
     ensures { IfOk result (λ answer. IfSome answer (λ a. text.now ≡ answer_text a)) }
 {
@@ -67,7 +66,7 @@ fn write_answer_line(out: &mut String, answer: &LineAnswer) -> Result<(), AllocE
     }
 }
 
-/// Parses an answer. Also takes some texts that are no answers: the caller compares the text with
+/// Parses an answer. Also takes some texts that are not answers: the caller compares the text with
 /// what is written for the result.
 fn answer_like(alloc: Global, text: &str) -> Result<Option<LineAnswer>, AllocError> {
     match text.strip_prefix("plan: ") {

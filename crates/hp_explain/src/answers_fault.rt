@@ -25,8 +25,8 @@ pub enum AnswersFault {
     /// The line is what a run prints for a line that no call finished: its call left no record, or
     /// it seals.
     NotOfACall { line: u64 },
-    /// The line was answered before it began, or before an earlier line of its processor began or was
-    /// answered.
+    /// The line was answered before it began, or before an earlier line of its processor began or
+    /// was answered.
     TimesFall { line: u64 },
     /// Out of memory.
     OutOfMemory,

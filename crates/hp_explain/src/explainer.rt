@@ -40,8 +40,8 @@ impl<'a> Explainer<'a> {
         longest
     }
 
-    /// Returns whether the line that the processor works on next may run at this place: each line that
-    /// was answered before it began is finished.
+    /// Returns whether the line that the processor works on next may run at this place: each line
+    /// that was answered before it began is finished.
     fn may_run(&self, path: &Path<'_>, cpu: u32) -> bool
         ensures { IsTrue result ↔ MayRun path.now.setting self.now.seen.now path.now.news cpu }
     {
@@ -51,7 +51,7 @@ impl<'a> Explainer<'a> {
         }
     }
 
-    /// Returns whether this answer was seen of the line, which the latest call finished.
+    /// Returns whether the line that the latest call finished was seen with this answer.
     fn has_seen_latest(&self, schedule: &[Cpu], finished: &FinishedLine) -> bool
         ensures { (before : List ℕ) (cpu : ℕ) → schedule.now ≡ before ++ cpu ∷ []
             → (IsTrue result ↔ HasSeen self.now.seen.now cpu finished.now.line finished.now.answer) }
@@ -118,7 +118,8 @@ impl<'a> Aim for Explainer<'a> {
         Ok(true)
     }
 
-    /// A schedule of all lines is met. Any other is kept if it is longer than those before.
+    /// Returns true for a schedule that finishes all scripts. Keeps any other if it is the longest
+    /// so far.
     fn is_met(
         &mut self,
         alloc: Global,

@@ -16,10 +16,10 @@ use std::alloc::Global;
 /// The result of a search for an order that explains what was seen.
 #[derive(Drop)]
 pub enum Explanation {
-    /// The first order in which each line is answered as it was seen, as the processors in the order
-    /// of their calls.
+    /// The first order in which each line is answered as it was seen, as the processors in the
+    /// order of their calls.
     Explained(Vec<Cpu>),
-    /// No order does. This is the first of the longest beginnings of an order in which each
+    /// No order explains it. This is the first of the longest beginnings of an order in which each
     /// finished line is answered as it was seen.
     Unexplained(Vec<Cpu>),
 }
@@ -32,7 +32,7 @@ pub enum Explanation {
 /// Orders are in the order of their processors, the lower one first. A plan's calls are interleaved
 /// one by one with those of other processors. The search gives up a beginning at its first answer
 /// that differs. It tries a place once, unless a script undoes steps by their serials, or works on
-/// an operation other than the latest.
+/// an operation that it began before its latest one (`OwnWork::Nth`).
 ///
 /// # Errors
 ///

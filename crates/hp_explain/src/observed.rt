@@ -18,8 +18,8 @@ pub struct ObservedLine {
     pub to: u64,
 }
 
-/// What was seen of a processor's lines, in their order. No line is answered before an earlier one. A
-/// contract sees the list of the lines.
+/// What was seen of a processor's lines, in their order. No line is answered before an earlier one.
+/// A contract sees the list of the lines.
 #[derive(Drop)]
 pub struct ObservedScript {
     lines: Vec<ObservedLine>,
@@ -134,8 +134,8 @@ impl Observed {
         }
     }
 
-    /// Returns whether each line of the processor that was answered before `time` is among its first
-    /// `count`.
+    /// Returns whether each line of the processor that was answered before `time` is among its
+    /// first `count`.
     pub(crate) fn are_over(&self, cpu: u32, count: usize, time: u64) -> bool
         requires { cpu < length self.now }
         ensures { (lines : List SeenLine) → slice_get self.now cpu ≡ Some lines

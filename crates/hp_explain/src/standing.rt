@@ -28,7 +28,7 @@ pub(crate) struct Unfinished {
 pub(crate) enum Next {
     /// Nothing: its script is finished.
     Finished,
-    /// Its next line began after this one of another processor was answered.
+    /// Its next line began after this line was answered, which is not finished.
     Waits(Unfinished),
     /// Its next call gives its line this answer.
     Answered(LineAnswer),
@@ -198,7 +198,7 @@ fn unfinished_before(path: &Path<'_>, seen: &Observed, time: u64) -> Option<Unfi
     None
 }
 
-/// Returns whether the latest call gave its line an answer, and which.
+/// Returns the answer that the latest call gave its line, or `GoesOn` if it gave none.
 fn latest_answer(path: &Path<'_>) -> Next
     ensures { (before : List Record) (r : Record) → path.now.news ≡ before ++ r ∷ []
         → IsLatestAnswer path.now.setting r.cpu before path.now.news result }

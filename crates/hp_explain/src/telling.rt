@@ -35,7 +35,8 @@ pub enum ExplainResult {
 /// The result of a search for an order that explains answers, with its text.
 #[derive(Drop)]
 pub struct ExplainText {
-    /// The order that was found, or a text that reports that there is none, or that it is not known.
+    /// The order that was found, or a text that reports that there is none, or that it is not
+    /// known.
     pub text: String,
     /// How the search ended.
     pub result: ExplainResult,
@@ -47,9 +48,9 @@ pub struct ExplainText {
 /// the form of the answers, and `explain` the search.
 ///
 /// If there is such an order, the text has it as `find_text` writes what it found. If there is
-/// none, the text has the longest beginning of one, how far each processor is after it, and the
-/// answer that its next line would get. As a scenario the text is empty then. If `watch` ended the
-/// search, the text reports that nothing is known.
+/// none, the text has the longest explained beginning of an order, how far each processor is after
+/// it, and the answer that its next line would get. As a scenario the text is empty then. If
+/// `watch` ended the search, the text reports that nothing is known.
 ///
 /// # Errors
 ///
@@ -193,8 +194,9 @@ fn text_of(
     }
 }
 
-/// Returns the text, in `form`, for answers that no order explains: the longest beginning of one,
-/// and how far the processors are after it. As a scenario the text is empty. Replays the schedule.
+/// Returns the text, in `form`, for answers that no order explains: the longest explained
+/// beginning, and how far the processors are after it. As a scenario the text is empty. Replays the
+/// schedule.
 fn longest_told(
     alloc: Global,
     prepared: &Prepared,

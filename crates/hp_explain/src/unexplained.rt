@@ -1,5 +1,5 @@
-//! The text for answers that no order explains: the longest beginning of one, and how far each
-//! processor is after it.
+//! The text for answers that no order explains: the longest explained beginning of an order, and
+//! how far each processor is after it.
 
 use crate::standing::{Next, Standing};
 use hp_schedules::LineAnswer;
@@ -13,8 +13,8 @@ const BETWEEN: &str = ", ";
 
 // ---- words
 
-/// Writes that no order explains the answers, the calls of the longest beginning, and a line for each
-/// processor. Owners are written by name.
+/// Writes that no order explains the answers, the calls of the longest beginning, and a line for
+/// each processor. Owners are written by name.
 pub(crate) fn write_unexplained(
     out: &mut String,
     names: &IndexSet<Text>,
@@ -81,7 +81,7 @@ fn write_next(out: &mut String, next: Next, seen: Option<LineAnswer>) -> Result<
     }
 }
 
-/// Writes an answer in quotes, with words before it; nothing if there is none.
+/// Writes an answer in quotes, with words before it; writes nothing if there is none.
 fn write_quoted(
     out: &mut String,
     before: &str,
@@ -149,7 +149,7 @@ fn write_next_keys(out: &mut String, next: Next) -> Result<(), AllocError> {
     }
 }
 
-/// Writes an answer under a key; nothing if there is none.
+/// Writes an answer under a key; writes nothing if there is none.
 fn write_answer_key(
     out: &mut String,
     key: &str,

@@ -50,7 +50,7 @@ AddsLists old (ends ∷ lists) new = (next : List Ending) × AddsEnds old ends n
 abbrev pub counted_by : List (List Ending) → ℕ
 counted_by lists = sum_by (λ ends. sum_by (λ e. e.count) ends) lists
 
--- the same ends in the order of their first schedules
+-- the same ends, sorted by their first schedules
 pub record AreSorted (old new : List Ending) : Type 0 where
   pub moved : IsPermutation old new
   pub sorted : IsSortedBy (λ e f. is_lt (slice_cmp nat_cmp e.first.items f.first.items)) new

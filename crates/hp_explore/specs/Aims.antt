@@ -33,10 +33,11 @@ pub record AimValue : Type 1 where
   -- the search has to come to every place, so that it finds each call for which the history has no room
   pub is_whole : Type 0
 
--- no sought schedule is before the place; and none continues from it
+-- no sought schedule is before the place
 abbrev pub NoneBefore : AimValue → (place : List ℕ) → Type 0
 NoneBefore aim place = (s : List ℕ) → aim.sought s → IsBefore s place → ⊥
 
+-- no sought schedule continues from the place
 abbrev pub NoneFrom : AimValue → (place : List ℕ) → Type 0
 NoneFrom aim place = (s : List ℕ) → aim.sought s → Extends s place → ⊥
 
@@ -61,7 +62,8 @@ pub record IsNarrower (old new : AimValue) : Type 0 where
 
 -- ---- equivalent places
 
--- what the further calls of the processors below `cpus` depend on: a part of the numbers per processor
+-- what the further calls of the processors below `cpus` depend on; `numbers` has a part for each
+-- processor
 abbrev pub AreSteered : Setting → (cpus : ℕ) → List Record → List ℕ → Type 0
 AreSteered g zero news numbers = numbers ≡ []
 AreSteered g (suc cpus) news numbers =
@@ -79,8 +81,9 @@ pub record HaveSameKey (g : Setting) (first second : List Record) : Type 0 where
   pub first_steered : AreSteered g (length g.scripts) first steering
   pub second_steered : AreSteered g (length g.scripts) second steering
 
--- what the search rests on. A sought schedule can be played. Places with the same marks have equally
--- many calls. From admitted places with the same key and marks, the same continuations are sought
+-- the laws of an aim, on which the search relies. A sought schedule can be played. Places with the same
+-- marks have equally many calls. From admitted places with the same key and marks, the same
+-- continuations are sought
 pub record IsLawful (g : Setting) (aim : AimValue) : Type 0 where
   pub played : (s : List ℕ) → aim.sought s → (news : List Record) × (plays g s ≡ Some news)
   pub counted : (first second : List Record) (marks : List ℕ)
@@ -114,11 +117,12 @@ pub record FillsSearch (g : Setting) (aim : AimValue) : Type 0 where
   pub tried : aim.tries place call.cpu
   pub none : NoneBefore aim (place ++ call.cpu ∷ [])
 
--- the cause of a fault: of one step of the search, and of the whole search
+-- the cause of a fault in one step of the search
 abbrev pub IsTurnCause : Setting → AimValue → ExploreFault → Type 0
 IsTurnCause g aim explore.HistoryFull = FillsSearch g aim
 IsTurnCause g aim explore.OutOfMemory = Unit {0}
 
+-- the cause of a fault of the whole search
 abbrev pub IsSearchCause : Setting → AimValue → FindFault → Type 0
 IsSearchCause g aim HistoryFull = FillsSearch g aim
 IsSearchCause g aim OutOfMemory = Unit {0}

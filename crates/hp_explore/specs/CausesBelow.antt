@@ -38,7 +38,7 @@ caused_long g h k (suc n) xs ys a b =
       caused_long g h k n a.0 b.0 a.5 b.5,
     )
 
--- those of one processor
+-- two places with the same numbers have the same numbers for each processor
 caused_at : (g : Setting) (h k : List Record) (n : ℕ) (xs ys : List ℕ) → xs ≡ ys
     → AreCausedBelow g n h xs → AreCausedBelow g n k ys → (cpu : ℕ) → cpu < n
     → (part : List ℕ) × IsCaused g cpu h part × IsCaused g cpu k part
@@ -60,7 +60,7 @@ caused_at g h k (suc n) xs ys is a b cpu less =
 
 -- ---- answers after the same further records
 
--- a processor without a script has none
+-- a processor without a script has no answers
 none_at : (g : Setting) (cpu : ℕ) (news : List Record) → length g.scripts ≤ cpu → answers_at g cpu news ≡ []
 unfolding answers_at
 none_at g cpu news past = rw (slice_get_past g.scripts cpu past) refl

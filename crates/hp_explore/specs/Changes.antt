@@ -1,7 +1,7 @@
 -- Changes of processor in a schedule.
 use Rattle.std.specs.Prelude.{ℕ, ◌+◌, ◌==◌, if◌then◌else◌, List, [], ◌∷◌}
 
--- 1 if two calls in a row are by different processors
+-- 1 if two calls in a row are by different processors, else 0
 abbrev pub change : (cpu next : ℕ) → ℕ
 change cpu next = if cpu == next then 0 else 1
 

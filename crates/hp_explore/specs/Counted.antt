@@ -1,4 +1,4 @@
--- How many calls there were follows from how many replies each processor got.
+-- The number of calls follows from the number of replies to each processor.
 use Rattle.std.proofs.Common.{◌≡◌, ℕ, zero, suc, ◌+◌, ◌<◌, ◌≤◌, Bool, true, false, eqb, eq-eqb, List, [], ◌∷◌, ◌++◌, length, Option, Some, None, refl, ap, sym, subst, ◌∙◌, arith, inl, inr}
 use Rattle.std.specs.Prelude.{◌⊎◌, fold}
 use Rattle.std.proofs.lemmas.Bool.{cases_lt, eqb-true}
@@ -14,9 +14,9 @@ use Rattle.hp_questions.specs.Marks.{AreMarks}
 use Rattle.hp_questions.specs.declared.wanted.Wanted.{Wanted}
 use Rattle.hp_questions.proofs.Marking.{replies_append}
 
--- ---- what is played on from records
+-- ---- playing on from records
 
--- what is played on from records begins with those records
+-- playing on from records gives records that begin with these
 pub grown : (g : Setting) (rest : List ℕ) (h end : List Record) → from_news g h rest ≡ Some end
     → (more : List Record) × (end ≡ h ++ more)
 grown g [] h end is = ([], sym (same_Some h end is) ∙ sym (append-nil h))
@@ -44,7 +44,7 @@ continued g p rest h end first whole =
     grown g rest h end (sym (plays_on g p rest
     ∙ ap (λ (o : Option (List Record)). fold (play_one g) o rest) first) ∙ whole)
 
--- ---- replies of one record more
+-- ---- replies after one more record
 
 told_own : (cpu : ℕ) (h : List Record) (r : Record) → r.cpu ≡ cpu
     → length (replies_to cpu (h ++ r ∷ [])) ≡ length (replies_to cpu h) + 1

@@ -57,7 +57,7 @@ pub record FillsWithin (g : Setting) (limit : ℕ) : Type 0 where
   pub first : HasRoomBefore g (place ++ call.cpu ∷ [])
   pub few : HasMoreThan (λ s. (x : OutcomeValue) × Before g (place ++ call.cpu ∷ []) s x) limit → ⊥
 
--- the same for a part's search and its schedules
+-- the same for the search of a part, and for the part's schedules
 pub record FillsPartWithin (g : Setting) (part : PartValue) (limit : ℕ) : Type 0 where
   pub place : List ℕ
   pub call : HasNoRoom g place
@@ -66,7 +66,7 @@ pub record FillsPartWithin (g : Setting) (part : PartValue) (limit : ℕ) : Type
   pub few :
       HasMoreThan (λ s. (x : OutcomeValue) × BeforeInPart g part (place ++ call.cpu ∷ []) s x) limit → ⊥
 
--- the cause of a fault of such a search
+-- the cause of a fault of a search with a limit
 abbrev pub IsCauseWithin : Setting → (limit : ℕ) → ExploreFault → Type 0
 IsCauseWithin g limit HistoryFull = FillsWithin g limit
 IsCauseWithin g limit OutOfMemory = Unit {0}
@@ -77,7 +77,7 @@ IsCausePartWithin g part limit OutOfMemory = Unit {0}
 
 -- ---- for one call
 
--- a call's fault as one of the exploration
+-- the exploration's fault for a call's fault
 abbrev pub fault_of : CallFault → ExploreFault
 fault_of CallFull = HistoryFull
 fault_of CallMemory = OutOfMemory

@@ -31,8 +31,9 @@ pub record FillsPass (g : Setting) (wanted : List Wanted) (budget : Option ℕ) 
 abbrev pub FillsFirst : Setting → List Wanted → Type 0
 FillsFirst g wanted = FillsPass g wanted None
 
--- the history has no room for a call that fewer than `below` changes lead to. No schedule that ends
--- as wanted has fewer changes than lead to this call, and none before it has as many
+-- the history has no room for a call, and the schedule up to and with this call has fewer than `below`
+-- changes. No schedule that ends as wanted has fewer changes than that, and none before the call has
+-- equally many
 pub record FillsNear (g : Setting) (wanted : List Wanted) (below : ℕ) : Type 0 where
   pub place : List ℕ
   pub call : HasNoRoom g place
@@ -45,12 +46,13 @@ pub record FillsNear (g : Setting) (wanted : List Wanted) (below : ℕ) : Type 0
 abbrev pub FillsNearer : Setting → List Wanted → Type 0
 FillsNearer g wanted = (known : List ℕ) × ReachesFirst g wanted known × FillsNear g wanted (changes known)
 
--- the causes of the faults of one pass and of several
+-- the cause of a fault of one pass
 abbrev pub IsPassCause : Setting → List Wanted → (budget : Option ℕ) → FindFault → Type 0
 IsPassCause g wanted budget HistoryFull = FillsPass g wanted budget
 IsPassCause g wanted budget OutOfMemory = Unit {0}
 IsPassCause g wanted budget Stopped = Unit {0}
 
+-- the cause of a fault of several passes, one after another, below this number of changes
 abbrev pub IsNearCause : Setting → List Wanted → (below : ℕ) → FindFault → Type 0
 IsNearCause g wanted below HistoryFull = FillsNear g wanted below
 IsNearCause g wanted below OutOfMemory = Unit {0}
@@ -58,9 +60,10 @@ IsNearCause g wanted below Stopped = Unit {0}
 
 -- ---- for the whole search
 
--- the cause of a fault. `HistoryFull` comes if there is no room for a call with few changes. It also
--- comes if no schedule with few changes ends as wanted, and there is no room for one of two calls: one
--- before each schedule that ends as wanted, or one with fewer changes than the first of these
+-- the cause of a fault. `HistoryFull` has one of three causes. There is no room for a call with few
+-- changes. Or no schedule with few changes ends as wanted, and there is no room for a call before all
+-- schedules that do. Or none with few changes does, and there is no room for a call with fewer changes
+-- than the first schedule that does
 abbrev pub IsFindCause : Setting → List Wanted → FindFault → Type 0
 IsFindCause g wanted HistoryFull =
     FillsNear g wanted few_changes
@@ -78,7 +81,7 @@ abbrev pub IsRecorded : Setting → Found → Type 0
 IsRecorded g (Nearest schedule) = HasRoomAlong g schedule.items
 IsRecorded g Absent = Unit {0}
 
--- a fault of the exploration as one of the search
+-- the search's fault for a fault of the exploration
 abbrev pub find_fault_from : ExploreFault → FindFault
 find_fault_from explore.HistoryFull = HistoryFull
 find_fault_from explore.OutOfMemory = OutOfMemory

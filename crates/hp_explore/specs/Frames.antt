@@ -1,5 +1,4 @@
--- The stack of a walk: what it knows of each place from the beginning of the
--- scripts to where it is.
+-- The stack of a walk: what the walk knows of each place on its path.
 use Rattle.std.specs.Prelude.{◌≡◌, ℕ, ◌+◌, ◌-◌, ◌*◌, ◌^◌, ◌<◌, ◌≤◌, ◌⊎◌, Bool, true, false, List, [], ◌∷◌, ◌++◌, Some, length, reverse}
 use Rattle.hp_units.specs.declared.events.Event.{Event}
 use Rattle.hp_units.specs.declared.replies.Record.{Record}
@@ -25,9 +24,9 @@ pub record AreTurns (g : Setting) (part : PartValue) (news : List Record) (ends 
   pub over : IsOverBelow g news frame.next frame.is_over
   pub within : frame.next ≤ length g.scripts
 
--- the levels below one on the stack, latest first. At each, the processor before its next made a call,
--- and the history had room for it. The trail was at most as long there as at the level above, where it
--- was `most` long
+-- the levels below the top of the stack, latest first. At each, the processor before its next one made
+-- a call, and the history had room for it. The trail did not get shorter from one level to the level
+-- above it; above the first of these levels it was `most` long
 abbrev pub AreBelow : Setting → PartValue → TallyValue → (most : ℕ) → List Record → List Level → Type 0
 AreBelow g part tally most news [] = news ≡ []
 AreBelow g part tally most news (frame ∷ frames) =
@@ -46,7 +45,7 @@ AreWalked g part tally news (frame ∷ frames) =
 
 -- ---- the walk
 
--- what holds of a walk whose levels, latest first, are these
+-- the invariant of a walk whose levels, latest first, are `frames`
 pub record IsWalking (w : Walk) (frames : List Level) : Type 0 where
   pub walked : AreWalked w.path.setting w.part w.tally w.path.news frames
   pub memo : IsMemo w.path.setting w.tally.ends w.memo
@@ -69,8 +68,8 @@ left_of n most frames = digits n frames * (n + 2) ^ (most + 1 - length frames)
 abbrev pub left : Walk → List Level → ℕ
 left w frames = left_of w.processors w.path.setting.layout.history frames
 
--- how much of a walk is left when it has reached a place that has no level yet, and these are the
--- levels below
+-- how much of a walk is left when it has reached a place that has no level yet; `frames` are the levels
+-- below
 abbrev pub left_before : Walk → List Level → ℕ
 left_before w frames =
     (digits w.processors frames + 1)
@@ -81,8 +80,8 @@ abbrev pub IsSameWalk : Walk → Walk → Type 0
 IsSameWalk old new =
     (new.path.setting ≡ old.path.setting) × (new.tally.limit ≡ old.tally.limit) × (new.part ≡ old.part)
 
--- the walk has just reached a place by a call, or begins: all before it is walked, and these are the
--- levels below, latest first
+-- the walk begins, or has just reached a place by a call: all before the place is walked. `frames` are
+-- the levels below, latest first
 pub record IsComing (w : Walk) (frames : List Level) : Type 0 where
   pub walked : IsPartWalkedBefore w.path.setting w.part (schedule_of w.path.news) w.tally.ends
   pub on : IsOn (length w.path.setting.scripts) w.part (schedule_of w.path.news)
@@ -93,16 +92,16 @@ pub record IsComing (w : Walk) (frames : List Level) : Type 0 where
   pub few : w.processors < 2 ^ 32
   pub short : length w.path.news ≤ w.path.setting.layout.history
 
--- a walk that has stopped was ended: this is known of its watch
+-- if the walk has stopped, its watch has ended it
 abbrev pub IsEndedBy : (ended : Type 0) → Walk → Type 0
 IsEndedBy ended w = w.reach.is_stopped ≡ true → ended
 
--- the walk is before a further schedule; and the limit is reached, or the walk has stopped
+-- there is another schedule to count, but the limit is reached, or the walk has stopped
 pub record IsHalted (w : Walk) : Type 0 where
   pub first : AreFirstInPart w.path.setting w.part (counted w.tally.ends) w.tally.ends
   pub cause : (counted w.tally.ends ≡ w.tally.limit) ⊎ (w.reach.is_stopped ≡ true)
 
--- the result of a step: less is left; all is walked; or there is a schedule that is not to be counted
+-- the result of a step: less is left; all is walked; or there is another schedule, which is not counted
 abbrev pub IsTurnedTo : (old new : Walk) → Turned → Type 0
 IsTurnedTo old new On =
     IsWalking new (frames_of new) × (left new (frames_of new) < left old (frames_of old))

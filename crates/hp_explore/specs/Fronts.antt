@@ -24,9 +24,10 @@ pub record AreFirstInPart (g : Setting) (part : PartValue) (many : ℕ) (ends : 
   pub walked : IsPartWalkedBefore g part place ends
   pub full : counted ends ≡ many
 
--- P holds of the ends if all schedules were counted; and if only the first ones were
+-- P holds of the ends if all schedules were counted
 abbrev pub IfWhole : Exploration → (List Ending → Type 0) → Type 0
 IfWhole x P = x.is_whole ≡ true → P x.ends.items
 
+-- P holds of the ends if only the first schedules were counted
 abbrev pub IfFirst : Exploration → (List Ending → Type 0) → Type 0
 IfFirst x P = x.is_whole ≡ false → P x.ends.items

@@ -1,4 +1,4 @@
--- The place of a walk over schedules, and how its calls are taken back.
+-- A walk's place among the schedules, and how its calls are taken back.
 use Rattle.std.specs.Prelude.{◌≡◌, ℕ, ◌<◌, Bool, true, false, List, [], ◌∷◌, ◌++◌, Option, Some, None, length, reverse, slice_set}
 use Rattle.hp_units.specs.History.{value_of}
 use Rattle.hp_units.specs.Memory.{Memory}
@@ -14,7 +14,7 @@ use Rattle.hp_explore.specs.declared.ways.Turn.{Turn}
 use Rattle.hp_explore.specs.declared.ways.Way.{Way}
 use Rattle.hp_explore.specs.declared.ways.Way.TheVariants.{Mark, Kept}
 
--- scripts with where they begin, and the new records so far
+-- the setting, which is the scripts and where they begin, and the new records so far
 pub record PathValue : Type 0 where
   pub setting : Setting
   pub news : List Record

@@ -30,13 +30,13 @@ abbrev pub Exceeds : (budget : Option ℕ) → List ℕ → Type 0
 Exceeds None s = ⊥
 Exceeds (Some budget) s = budget < changes s
 
--- if there is no budget, this holds
+-- P holds if there is no budget
 abbrev pub IfUnbounded : (budget : Option ℕ) → Type 0 → Type 0
 IfUnbounded None P = P
 IfUnbounded (Some budget) P = Unit {0}
 
--- each schedule that ends as wanted and is before the place has more changes than the budget; without
--- a budget, there is none
+-- each schedule that ends as wanted and is before the place has more changes than the budget; without a
+-- budget, there is no such schedule
 abbrev pub IsPassed : Setting → List Wanted → (budget : Option ℕ) → (place : List ℕ) → Type 0
 IsPassed g wanted budget place =
     (s : List ℕ) → Reaches g wanted s → IsBefore s place → Exceeds budget s
@@ -68,8 +68,8 @@ IsNearestBelow g wanted below None = NeedsChanges g wanted below
 IsNearestBelow g wanted below (Some s) = IsNearest g wanted s × (changes s < below) × HasRoomAlong g s
 
 -- the first schedule that ends as wanted within the budget; the history has room for all its calls.
--- None: every schedule that ends as wanted exceeds the budget. Without a budget, no schedule does, and
--- the history has room for each call
+-- None: every schedule that ends as wanted exceeds the budget. If there is no budget, None means that
+-- no schedule ends as wanted, and that the history has room for each call
 abbrev pub IsFirstWithin : Setting → List Wanted → (budget : Option ℕ) → Option (List ℕ) → Type 0
 IsFirstWithin g wanted budget None =
     ((s : List ℕ) → Reaches g wanted s → Exceeds budget s) × IfUnbounded budget (FillsHistory g → ⊥)

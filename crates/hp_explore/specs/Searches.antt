@@ -1,4 +1,4 @@
--- How far a search is.
+-- How far a search has come.
 use Rattle.std.specs.Prelude.{◌≡◌, ℕ, zero, suc, ◌+◌, ◌-◌, ◌*◌, ◌<◌, ◌≤◌, true, List, [], ◌∷◌, ◌++◌, None, Some, length}
 use Rattle.hp_units.specs.declared.replies.Record.{Record}
 use Rattle.hp_schedules.specs.Alike.{AreMergeable}
@@ -91,7 +91,7 @@ pub record IsArriving (aim : AimValue) (v : SearchValue) : Type 0 where
   pub visited : AreVisited v.path.setting aim call.before v.visited
   pub way : AreFollowed v.path.setting v.path.news v.visited
 
--- the search goes on from another with fewer steps left
+-- the search has gone on from `v` to `w`, which has fewer steps left
 pub record IsCloser (aim : AimValue) (v w : SearchValue) : Type 0 where
   pub searching : IsSearching aim w
   pub same : w.path.setting ≡ v.path.setting
@@ -104,8 +104,8 @@ IsTurned aim v w New = IsCloser aim v w
 IsTurned aim v w Found = IsFirstSought v.path.setting aim (Some w.schedule)
 IsTurned aim v w Over = IsFirstSought v.path.setting aim None
 
--- the result of coming to a place: the search goes on, with no more steps left than from the place's
--- first continuation on
+-- the search has gone on from the place that it came to. It has no more steps left than from the
+-- place's first continuation on
 pub record IsNear (aim : AimValue) (v w : SearchValue) : Type 0 where
   pub searching : IsSearching aim w
   pub same : w.path.setting ≡ v.path.setting

@@ -8,7 +8,7 @@ use Rattle.hp_schedules.specs.Schedules.{Setting}
 use Rattle.hp_schedules.proofs.Steering.{parts_apart}
 use Rattle.hp_explore.specs.Aims.{AreSteered}
 
--- lists of two parts with what follows, taken apart after the first
+-- two equal lists, each made of two parts and a rest, split after the first part
 regrouped : (xs ys a b c d rest more : List ℕ) → xs ≡ a ++ b → ys ≡ c ++ d → xs ++ rest ≡ ys ++ more
     → a ++ (b ++ rest) ≡ c ++ (d ++ more)
 regrouped xs ys a b c d rest more first second is =
@@ -16,7 +16,8 @@ regrouped xs ys a b c d rest more first second is =
     ∙ (ap (λ (zs : List ℕ). zs ++ rest) (sym first)
     ∙ (is ∙ (ap (λ (zs : List ℕ). zs ++ more) second ∙ append_assoc c d more)))
 
--- two keys that are one with what follows steer alike, and what follows is one
+-- if the steering of two places, each with a rest, is the same list, then the steering is equal, and so
+-- is the rest
 pub steered_apart : (g : Setting) (h k : List Record) (n : ℕ) (xs ys rest more : List ℕ) → n ≤ length g.scripts
     → AreSteered g n h xs → AreSteered g n k ys → xs ++ rest ≡ ys ++ more → (xs ≡ ys) × (rest ≡ more)
 steered_apart g h k zero xs ys rest more within a b is =
@@ -33,7 +34,7 @@ steered_apart g h k (suc n) xs ys rest more within a b is =
           last.1,
         )
 
--- the same steering
+-- two places with equal steering have equal steering for each processor
 steered_below : (g : Setting) (h k : List Record) (n : ℕ) (xs ys : List ℕ) → n ≤ length g.scripts → xs ≡ ys
     → AreSteered g n h xs → AreSteered g n k ys → (cpu : ℕ) → cpu < n
     → (part : List ℕ) × IsSteered g cpu h part × IsSteered g cpu k part

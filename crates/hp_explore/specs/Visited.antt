@@ -38,7 +38,7 @@ pub record AreVisited (g : Setting) (aim : AimValue) (schedule : List ℕ) (v : 
   pub each : (i : ℕ) (key : List ℕ) → slice_get v.keys i ≡ Some key
       → IsVisited g aim schedule v.stops key
 
--- if places are kept, the numbers are those of the place after the new records
+-- if places are kept, the numbers in `stops` are those of the place after these records
 abbrev pub AreFollowed : Setting → List Record → Visited → Type 0
 AreFollowed g news v = v.is_on ≡ true → AreStopsAt g news v.stops
 
@@ -52,7 +52,7 @@ pub record IsKnown (g : Setting) (aim : AimValue) (news : List Record) (v : Visi
   pub here : slice_get v.keys at ≡ Some key
   pub key_is : IsPlaceKey g aim v.stops news key
 
--- the key of the place is added, or none
+-- the key of the place is added, or no key is
 abbrev pub IsKept : Setting → AimValue → List Record → Visited → Visited → Type 0
 IsKept g aim news old new =
     (new.keys ≡ old.keys)

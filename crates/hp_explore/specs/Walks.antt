@@ -10,13 +10,15 @@ use Rattle.hp_states.specs.Rooms.{HasNoRoom}
 use Rattle.hp_states.specs.Walks.{IsAt}
 use Rattle.hp_schedules.specs.Schedules.{Setting, next_call, plays, schedule_of}
 
--- the records of a machine since another, those since the scripts began, and the schedule of these
+-- the machine's records since `start`
 abbrev pub news_since : MachineValue → MachineValue → List Record
 news_since start m = drop (length start.history) m.history
 
+-- the machine's records since the scripts began
 abbrev pub news_in : Setting → MachineValue → List Record
 news_in g m = drop (length g.start) m.history
 
+-- the schedule of these records
 abbrev pub place_of : Setting → MachineValue → List ℕ
 place_of g m = schedule_of (news_in g m)
 
@@ -57,7 +59,7 @@ IsNextSerial start news serial =
     (serial ≡ start.before + length (start.history ++ news) + 1)
     × (length (start.history ++ news) < start.layout.history)
 
--- the event undoes the steps above a serial that is not used yet, by a processor of the layout
+-- the event is an undo above a serial that no step has yet, by a processor of the layout
 abbrev pub IsGone : (start : MachineValue) → (cpu serial : ℕ) → Event → Type 0
 IsGone start cpu serial event =
     (kept : ℕ) × (event ≡ UndoAfter kept) × (serial ≤ kept) × (cpu < start.layout.cpus)

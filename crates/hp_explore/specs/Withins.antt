@@ -71,7 +71,7 @@ spent_long None s t xs ys a b = ap (λ (zs : List ℕ). length zs) (a ∙ sym b)
 spent_long (Some n) s t xs ys a b =
     ap (λ (zs : List ℕ). length zs) a.3 ∙ sym (ap (λ (zs : List ℕ). length zs) b.3)
 
--- the parts of the same marks
+-- the same marks have the same parts at both places
 record SameParts (g : Setting) (wanted : List Wanted) (budget : Option ℕ) (h k : List Record)
     (marks : List ℕ) (a : IsMarked g wanted budget h marks) (b : IsMarked g wanted budget k marks)
     : Type 0 where
@@ -139,7 +139,7 @@ within_alike (Some n) s t rest xs ys is a b within =
 
 -- ---- ends of plans
 
--- after a schedule they are among the answers
+-- after a schedule, the ends of a processor's plans are those among its answers
 ends_at : (g : Setting) (schedule : List ℕ) (news : List Record) (cpu : ℕ) → plays g schedule ≡ Some news
     → cpu < length g.scripts
     → plan_ends_of g.layout.cpus g.scripts (replies_below (length g.scripts) news) cpu
@@ -181,7 +181,7 @@ plans_if false g h k more rest xs ys is causes same a b first second =
 
 -- ---- ends as wanted
 
--- what ends as wanted from the one does so from the other
+-- a continuation that ends as wanted from one place does so from the other
 reaches_alike : (g : Setting) (wanted : List Wanted) (h k : List Record) (met rest xs ys : List ℕ)
     → HaveSameKey g h k → AreMarks g.layout.cpus g.scripts wanted (length g.scripts) h met
     → AreMarks g.layout.cpus g.scripts wanted (length g.scripts) k met → xs ≡ ys
@@ -235,7 +235,7 @@ within_lawful g wanted budget = record {
       within_continued g wanted budget h k marks rest same a b sought;
 }
 
--- the same wanted lines and budget are no wider aim
+-- an aim with the same wanted lines and the same budget is no wider
 pub within_narrower : (g : Setting) (wanted new : List Wanted) (budget later : Option ℕ) → new ≡ wanted
     → later ≡ budget → IsNarrower (aim_within g wanted budget) (aim_within g new later)
 within_narrower g wanted new budget later lines spent =

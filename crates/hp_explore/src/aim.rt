@@ -20,11 +20,11 @@ use std::alloc::{AllocError, Global};
 /// If the aim is whole, the search covers every place. If it then finds nothing, the history also
 /// has room for every call.
 pub trait Aim {
-    /// What the aim is in a setting: which schedules are sought, which places are admitted, which calls
-    /// may be tried there, which numbers are marks, and whether the aim is whole.
+    /// What the aim is in a setting: which schedules are sought, which places are admitted, which
+    /// calls may be tried there, which numbers are marks, and whether the aim is whole.
     ghost shows: { Self → Setting → AimValue };
 
-    /// What `is_met` makes of the aim.
+    /// What `is_met` may make of the aim.
     ghost becomes: { Self → Setting → Self → Type 0 };
 
     /// Returns whether the processor's next call may be tried. If not, no sought schedule makes it
@@ -36,8 +36,8 @@ pub trait Aim {
         ensures skipped { result ≡ false
             → MayBeSkipped (shows self.now path.now.setting) (schedule.now ++ cpu ∷ []) };
 
-    /// Returns whether the search goes on from the place that the latest call led to. If not, no sought
-    /// schedule continues from it.
+    /// Returns whether the search goes on from the place that the latest call led to. If not, no
+    /// sought schedule continues from it.
     fn admits(&self, path: &Path<'_>, schedule: &[Cpu], processors: u32) -> bool
         requires processors { processors ≡ length path.now.setting.scripts }
         requires schedule { schedule.now ≡ schedule_of path.now.news }
@@ -62,8 +62,8 @@ pub trait Aim {
             × (numbers.new.items ≡ numbers.old.items ++ marks)
             × (shows self.now path.now.setting).marks path.now.news marks) };
 
-    /// Returns whether the schedule is one that is sought. May make the aim narrower; the search then
-    /// goes on by the new aim.
+    /// Returns whether the schedule is one that is sought. May make the aim narrower; the search
+    /// then goes on by the new aim.
     fn is_met(
         &mut self,
         alloc: Global,
@@ -80,7 +80,7 @@ pub trait Aim {
         ensures missed { IfOk result (λ met.
             met ≡ false → (shows self.new path.now.setting).sought schedule.now → ⊥) };
 
-    /// An aim that was not asked stays as it is.
+    /// The aim may stay as it is.
     ghost stays: { (aim : Self) (g : Setting) → becomes aim g aim };
 
     /// Two changes of the aim, one after the other, are one change.

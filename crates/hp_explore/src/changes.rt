@@ -17,7 +17,8 @@ pub fn changes_of(schedule: &[Cpu]) -> usize
     count
 }
 
-/// Returns whether the schedule with one more call has more changes than the budget, if there is one.
+/// Returns whether the schedule with one more call has more changes than the budget, if there is
+/// one.
 pub(crate) fn exceeds(budget: Option<u64>, schedule: &[Cpu], next: Cpu) -> bool
     ensures more { IsTrue result → Exceeds budget (schedule.now ++ next ∷ []) }
     ensures within { result ≡ false → IsWithin budget (schedule.now ++ next ∷ []) }

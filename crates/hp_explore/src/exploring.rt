@@ -67,10 +67,9 @@ impl From<CallFault> for ExploreFault {
 /// Explores all complete schedules of the scripts on a machine, and returns how they end. Script k
 /// is that of processor k.
 ///
-/// An end holds the replies to each processor, the number of schedules that end so, and the first
-/// of them in the order of the walk, which tries processor 0 first. If there are more schedules
-/// than `limit`, exactly the first `limit` schedules in that order are counted. The machine is not
-/// changed.
+/// An end holds its outcome, the number of schedules that end like this, and the first of them in
+/// the order of the walk, which tries processor 0 first. If there are more schedules than `limit`,
+/// exactly the first `limit` schedules in that order are counted. The machine is not changed.
 ///
 /// `watch` gets the progress, and at each place decides whether the search goes on. Once it
 /// declines, the search stops before the next schedule that it would count. The schedules counted

@@ -39,13 +39,14 @@ pub enum Found {
 /// number of changes. If none of these ends as wanted, it tries all, up to the first that does.
 /// Then it tries the schedules with fewer changes than that one. A pass skips a place that is
 /// equivalent to one that it has tried, unless a script undoes steps by their serials, or works on
-/// an operation other than the latest.
+/// an operation that it began before its latest one (`OwnWork::Nth`).
 ///
 /// # Errors
 ///
 /// `HistoryFull` if the search reaches a call for which the layout's history has no room. In the
-/// first and the third step, no schedule with fewer changes than lead to that call ends as wanted,
-/// and none before it with as many. In the second step, none before it does.
+/// first and the third step, no schedule that ends as wanted has fewer changes than the schedule up
+/// to that call, and none before the call has equally many. In the second step, no schedule before
+/// the call ends as wanted.
 ///
 /// `Stopped` if the watch ended the search, `OutOfMemory` if memory allocation fails.
 pub fn find<W: Watch>(
@@ -114,7 +115,7 @@ fn nearest_to<W: Watch>(
 }
 
 /// Returns the first schedule with the fewest changes among those that end as wanted, if it has
-/// fewer than `below`. None has fewer than `from`.
+/// fewer than `below`. Every schedule that ends as wanted must have at least `from` changes.
 #[tactic(auto, using(crate::proofs::Levels::nearest_found))]
 fn nearest_below<W: Watch>(
     alloc: Global,

@@ -1,4 +1,5 @@
-//! The search for the first schedule that an aim seeks: depth first, processor 0 first, each place once.
+//! The search for the first schedule that an aim seeks: depth first, processor 0 first, each place
+//! once.
 ghost use Rattle.std.specs.Prelude.{◌≡◌, ◌<◌, ◌+◌, ◌++◌, ◌∷◌, ◌^◌, ℕ, List, [], IfErr, IfOk, OnOk, false, length, option_map, true};
 ghost use Rattle.hp_schedules.specs.Schedules.{schedule_of};
 ghost use Rattle.hp_explore.specs.Aims.{IsDone, IsFirstSought, IsSearchCause, IsTurnCause};
@@ -59,8 +60,9 @@ impl<'a> Model for Search<'a> {
 /// that of processor k. The machine is not changed.
 ///
 /// The search skips a place that is equivalent to a visited one, unless a script undoes steps by
-/// their serials, or works on an operation other than the latest. Adds the number of places that it
-/// comes to to `places`. `watch` is called for each, and may end the search.
+/// their serials, or works on an operation that it began before its latest one (`OwnWork::Nth`).
+/// Adds to `places` the number of places that it comes to. `watch` is called for each, and may end
+/// the search.
 ///
 /// # Errors
 ///

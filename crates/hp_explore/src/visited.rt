@@ -24,8 +24,8 @@ use std::alloc::{AllocError, Global};
 /// The keys of the places that a search has visited, and the numbers of the place where it is.
 ///
 /// Two places with the same key continue alike: with the same calls, and the aim seeks the same
-/// continuations. So a place is tried once. `key` is the key written last. With `is_on` false no place
-/// is ever kept.
+/// continuations. So a place is tried once. `key` is the key written last. With `is_on` false no
+/// place is ever kept.
 pub(crate) struct Visited {
     is_on: bool,
     stops: Stops,
@@ -46,7 +46,7 @@ impl Drop for Visited {
 }
 
 impl Visited {
-    /// Creates the table for a search before any call, where the memory is this one.
+    /// Creates the table for a search before any call. `memory` is that of the machine.
     pub(crate) fn start(
         alloc: Global,
         machine: &Machine,
@@ -69,7 +69,7 @@ impl Visited {
         })
     }
 
-    /// Follows a call.
+    /// Moves on to the place after the latest call.
     pub(crate) fn go_on(&mut self, latest: &Record) -> Result<(), AllocError>
         requires { (g : Setting) × (news : List NewRecord) × AreFollowed g news self.old }
         ensures same { (self.new.is_on ≡ self.old.is_on) × (self.new.keys ≡ self.old.keys) }
@@ -85,7 +85,7 @@ impl Visited {
         Ok(())
     }
 
-    /// Takes back the latest call.
+    /// Moves back to the place before the latest call.
     pub(crate) fn go_back(&mut self)
         ensures same { (self.new.is_on ≡ self.old.is_on) × (self.new.keys ≡ self.old.keys) }
         ensures kept { AreSameStops self.old.stops self.new.stops }
@@ -97,9 +97,9 @@ impl Visited {
         }
     }
 
-    /// Returns whether a place with the same key as this one was visited. If not, keeps the key of
-    /// this place, unless it has none: it is then unknown which operations a Cancel can take back, or
-    /// a number does not fit 32 bits.
+    /// Returns whether a place with the same key as this one was visited. If not, keeps the key,
+    /// unless the place has none. A place has no key if it is unknown which operations a Cancel can
+    /// take back there, or if a number does not fit 32 bits.
     pub(crate) fn look_up<A: Aim>(
         &mut self,
         alloc: Global,

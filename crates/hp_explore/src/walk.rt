@@ -314,7 +314,8 @@ fn memo_at(alloc: Global, machine: &Machine, scripts: &[CallScript]) -> Result<M
 }
 
 /// Returns whether walked places are worth keeping: there are several scripts, and none of them
-/// undoes steps by their serials or works on an operation other than the latest.
+/// undoes steps by their serials, or works on an operation that it began before its latest one
+/// (`OwnWork::Nth`).
 pub(crate) fn keeps_places(scripts: &[CallScript]) -> bool
     ensures { result ≡ true → AreMergeable scripts.now }
 {

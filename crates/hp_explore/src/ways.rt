@@ -15,7 +15,7 @@ pub(crate) enum Way {
     /// Undo the step, down to this mark.
     Mark(usize),
     /// Restore these earlier steps, because the call may itself go back to an earlier state. Boxed,
-    /// since most calls need none.
+    /// because most calls have none.
     Kept(Box<Steps>),
 }
 

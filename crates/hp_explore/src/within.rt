@@ -1,4 +1,5 @@
-//! The aim of one pass of the search for a nearest schedule: an end as wanted, within a budget of changes.
+//! The aim of one pass of the search for a nearest schedule: an end as wanted, within a budget of
+//! changes.
 ghost use Rattle.std.specs.Prelude.{◌≡◌, ◌<◌, ◌^◌, ◌++◌, ℕ, IfErr, IfOk, List, OnOk, length, option_map, true};
 ghost use Rattle.hp_questions.specs.Marks.{AreMarks, asks_no_plans};
 ghost use Rattle.hp_explore.specs.FindFaults.{IsPassCause};
@@ -41,8 +42,8 @@ impl<'a> Aim for Within<'a> {
         !exceeds(self.budget, schedule, Cpu(cpu))
     }
 
-    /// Without a budget, no place is lost: the search then also finds whether the history has room for
-    /// each call.
+    /// Without a budget, no place is given up, so that the search also finds whether the history
+    /// has room for each call.
     fn admits(&self, path: &Path<'_>, _schedule: &[Cpu], processors: u32) -> bool {
         path.is_played();
         if self.budget.is_some() && is_lost(self.wanted, processors, path.records()) {
@@ -125,7 +126,7 @@ pub(crate) fn first_within<W: Watch>(
     first_sought(alloc, machine, scripts, &mut aim, watch, places)
 }
 
-/// Appends what of the wanted lines is met at the place. Returns whether each number fits 32 bits.
+/// Appends which wanted lines are met at the place. Returns whether each number fits 32 bits.
 fn push_met(
     alloc: Global,
     wanted: &[Wanted],

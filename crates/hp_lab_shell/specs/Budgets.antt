@@ -5,10 +5,11 @@ use Rattle.hp_lab_shell.specs.declared.budgets.Budget.TheVariants.{Memory, Secon
 use Rattle.hp_lab_shell.specs.declared.budgets.Budgets.{Budgets}
 use Rattle.hp_lab_shell.specs.declared.budgets.Reached.{Reached}
 
--- there is a limit, and a number is above it, or has reached it
+-- there is a limit, and the number is above it
 abbrev pub IsAbove : (number : ℕ) → (limit : Option ℕ) → Type 0
 IsAbove number limit = (most : ℕ) × (limit ≡ Some most) × (most < number)
 
+-- there is a limit, and the number has reached it
 abbrev pub HasReached : (number : ℕ) → (limit : Option ℕ) → Type 0
 HasReached number limit = (most : ℕ) × (limit ≡ Some most) × (most ≤ number)
 
@@ -19,10 +20,10 @@ IsOver States b r = IsAbove r.states b.limit
 IsOver Memory b r = b.memory < r.bytes
 IsOver Seconds b r = HasReached r.seconds b.seconds
 
--- it has used up none
+-- a search has used up no budget
 abbrev pub HasLeft : Budgets → Reached → Type 0
 HasLeft b r = (budget : Budget) → IsOver budget b r → ⊥
 
--- it has used up one
+-- a search has used up a budget
 abbrev pub IsUsedUp : Budgets → Reached → Type 0
 IsUsedUp b r = (budget : Budget) × IsOver budget b r

@@ -8,17 +8,18 @@ use Rattle.hp_starts.specs.Counting.{IsCountTold}
 abbrev pub usual_limit : ℕ
 usual_limit = 2 ^ 64 - 1
 
--- the line with how many interleavings the scripts after the setup have; empty if the bytes are no
--- scenario, or if all lines are the setup
+-- the line that reports how many interleavings the scripts after the setup have; empty if the bytes are
+-- not a scenario
 abbrev pub IsCountIn : (setup : ℕ) → Result NamedValue ScenarioFault → (text : List ℕ) → Type 0
 IsCountIn setup (Ok s) text = IsCountTold s.scenario.layout.cpus setup s.scenario.lines usual_limit text
 IsCountIn setup (Err fault) text = text ≡ []
 
+-- the same line; empty if all lines are the setup
 abbrev pub IsCountOf : (all : Bool) → (setup : ℕ) → (input text : List ℕ) → Type 0
 IsCountOf true setup input text = text ≡ []
 IsCountOf false setup input text = IsCountIn setup (named_in input) text
 
--- the status is 0 if the bytes are a scenario, and otherwise 1
+-- the exit status: 0 if the bytes are a scenario, and otherwise 1
 abbrev pub status_of : Result NamedValue ScenarioFault → ℕ
 status_of (Ok s) = 0
 status_of (Err fault) = 1

@@ -6,7 +6,7 @@ use Rattle.hp_search.specs.declared.lab_fault.LabFault.TheVariants.{OutOfMemory}
 use Rattle.hp_search.specs.declared.program_fault.LabProgramFault.{LabProgramFault}
 use Rattle.hp_search.specs.declared.program_fault.LabProgramFault.TheVariants.{Lab, Scenario}
 
--- the bytes are no scenario, for this reason; or memory ran out
+-- the bytes are not a scenario, for this reason; or memory ran out
 abbrev pub IsUnread : (input : List ℕ) → LabProgramFault → Type 0
 IsUnread input (Lab fault) = fault ≡ OutOfMemory
 IsUnread input (Scenario fault) = Fails fault (named_in input)

@@ -11,8 +11,8 @@ use Rattle.hp_search.specs.declared.program_fault.LabProgramFault.TheVariants.{L
 use Rattle.hp_lab_shell.specs.declared.words.Word.{Word}
 use Rattle.hp_lab_shell.specs.declared.words.Word.TheVariants.{Check, Explore, Find, Log, Never, Part, Picture, Sum, Told, Trace}
 
--- the lines that work on operation 0 although their processor has begun none, of the scripts that a
--- command searches
+-- of the scripts that a command searches, the lines that work on operation 0 although their processor
+-- has begun none
 abbrev pub unbegun_of : Word → Result NamedValue ScenarioFault → List Unbegun
 unbegun_of (Check setup) read = []
 unbegun_of (Explore asked form by jobs) read = unbegun_in asked.setup read
@@ -25,11 +25,11 @@ unbegun_of (Picture drawing) read = []
 unbegun_of Log read = []
 unbegun_of (Told form) read = []
 
--- the first line that is shown; 0 if none is asked for by its number
+-- the first line that is shown; 0 if that is the first of all
 abbrev pub first_shown : View → ℕ
 first_shown view = if nat_le view.from 1 then 0 else view.from
 
--- the setup of a check; 0 if it is all of the scenario
+-- the number of setup lines of a check; 0 if the whole scenario is the setup
 abbrev pub setup_named : (setup : ℕ) → ℕ
 setup_named setup = if setup == 2 ^ 64 - 1 then 0 else setup
 

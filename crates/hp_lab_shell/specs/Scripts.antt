@@ -10,7 +10,7 @@ abbrev pub unbegun_in : (setup : ℕ) → Result NamedValue ScenarioFault → Li
 unbegun_in setup (Ok s) = unbegun_lines s.scenario.layout.cpus setup s.scenario.lines
 unbegun_in setup (Err fault) = []
 
--- how many lines the scenario has; none if the bytes are no scenario
+-- how many lines the scenario has; None if the bytes are not a scenario
 abbrev pub count_of : Result NamedValue ScenarioFault → Option ℕ
 count_of (Ok s) = Some (length s.scenario.lines)
 count_of (Err fault) = None

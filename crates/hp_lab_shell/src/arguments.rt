@@ -6,7 +6,7 @@ use std::alloc::{AllocError, Global};
 /// The option that searches for an end.
 pub(crate) const FIND: &str = "find";
 
-/// The option that expects no such end.
+/// The option that searches for an end that must not occur.
 pub(crate) const NEVER: &str = "never";
 
 /// The option that writes an interleaving as a scenario.
@@ -21,10 +21,10 @@ pub(crate) const JSON: &str = "json";
 /// The option that writes a page.
 pub(crate) const HTML: &str = "html";
 
-/// The option that searches one part.
+/// The option that searches one part of the interleavings.
 pub(crate) const PART: &str = "part";
 
-/// The option that puts ends together.
+/// The option that groups ends.
 pub(crate) const GROUP: &str = "group";
 
 /// The option that writes one line per end.
@@ -71,7 +71,7 @@ pub(crate) enum Takes {
     Number,
     /// A part's number and the number of parts.
     Part,
-    /// A part of an end's outcome.
+    /// The part of an outcome by which ends are grouped.
     Group,
     /// A range of memory blocks.
     Blocks,

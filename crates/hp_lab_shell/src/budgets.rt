@@ -2,14 +2,14 @@
 ghost use Rattle.std.specs.Prelude.{◌↔◌, IfNone, IfSome, IsTrue};
 ghost use Rattle.hp_lab_shell.specs.Budgets.{HasLeft, HasReached, IsAbove, IsOver};
 
-/// What ends a search before it is over.
+/// A budget of a search. The search is ended when a budget is used up.
 #[derive(Clone, Copy, PartialEq, Eq, Drop)]
 pub(crate) enum Budget {
-    /// The number of states that it reaches.
+    /// How many states it reaches.
     States,
-    /// The memory for what it keeps.
+    /// How much memory it keeps.
     Memory,
-    /// The time.
+    /// How much time it takes.
     Seconds,
 }
 
@@ -55,7 +55,7 @@ impl Budgets {
         }
     }
 
-    /// Returns the first of the budgets that a search has used up, if it has one.
+    /// Returns the first budget that a search has used up, if it has used up one.
     pub(crate) fn used_up(&self, reached: Reached) -> Option<Budget>
         ensures some { IfSome result (λ budget. IsOver budget self.now reached) }
         ensures none { IfNone result (HasLeft self.now reached) }

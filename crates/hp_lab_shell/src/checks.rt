@@ -43,8 +43,8 @@ fn status_of(faults: usize) -> u8
     if faults == 0 { 0 } else { 1 }
 }
 
-/// Returns the line that reports how many interleavings the scripts after the setup have. There is
-/// none if all lines are the setup, or if the bytes are no scenario.
+/// Returns the line that reports how many interleavings the scripts after the setup have. The text
+/// is empty if all lines are the setup, or if the bytes are not a scenario.
 #[tactic(auto, using(crate::proofs::Counted::none_asked, crate::proofs::Counted::some_asked))]
 fn count_line(alloc: Global, input: &[u8], setup: u64) -> Result<String, AllocError>
     ensures { IfOk result (λ text. IsCountOf (setup == 2 ^ 64 - 1) setup input.now (string_bytes text)) }
@@ -69,7 +69,8 @@ fn count_in(alloc: Global, input: &[u8], setup: u64) -> Result<String, AllocErro
     }
 }
 
-/// Returns no line, since the bytes are no scenario.
+/// Returns an empty text, because the bytes are not a scenario. Fails if the fault is out of
+/// memory.
 fn no_count(alloc: Global, fault: ScenarioFault) -> Result<String, AllocError>
     ensures none { IfOk result (λ text. string_bytes text ≡ []) }
     ensures read { OnOk result (fault ≢ ScenarioFault.OutOfMemory) }

@@ -1,4 +1,4 @@
-//! The command line: the words of the program, each with what it does and its arguments.
+//! The command line: the program's subcommands, each with its help and its arguments.
 
 use crate::arguments::{Argument, arg_of};
 use crate::explain_words::EXPLAIN;
@@ -79,8 +79,8 @@ fn without_words<'a>(alloc: Global) -> Command<'a> {
         .subcommand_required(true)
 }
 
-/// Adds a word, unless making it ran out of memory. Takes the word's `Result` as it is, so that a
-/// command is never owned where something else can return early.
+/// Adds a subcommand, or fails if creating it ran out of memory. Takes the `Result` as it is, so
+/// that callers own no command where they may return early.
 fn with_word<'a>(
     program: Command<'a>,
     word: Result<Command<'a>, AllocError>,
@@ -88,7 +88,7 @@ fn with_word<'a>(
     program.subcommand(word?)
 }
 
-/// Returns a word with its arguments.
+/// Returns a subcommand with its arguments.
 fn command_of<'a>(alloc: Global, word: &CommandWord) -> Result<Command<'a>, AllocError> {
     let mut command = Command::new(alloc, word.name).about(word.about);
     for argument in word.arguments {
@@ -97,7 +97,7 @@ fn command_of<'a>(alloc: Global, word: &CommandWord) -> Result<Command<'a>, Allo
     Ok(command)
 }
 
-/// Adds an argument, unless making it ran out of memory.
+/// Adds an argument, or fails if creating it ran out of memory.
 fn with_argument<'a>(
     command: Command<'a>,
     arg: Result<Arg<'a>, AllocError>,

@@ -1,4 +1,4 @@
-//! The arguments of the word that explains answers.
+//! The arguments of the command `explain`.
 
 use crate::arguments::{Argument, JSON, MEMORY, PROGRESS, SCENARIO, SECONDS, Takes};
 

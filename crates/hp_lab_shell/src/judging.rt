@@ -44,7 +44,7 @@ fn options_from(words: &ArgMatches<'_>) -> Result<JudgeOptions, &'static str> {
     }
 }
 
-/// Returns the memory blocks that the command line names, if it does.
+/// Returns the memory blocks that the command line names, if it names any.
 fn range_from(words: &ArgMatches<'_>) -> Result<Option<BlockRange>, &'static str> {
     let Some(text) = words.get_str(BLOCKS) else {
         return Ok(None);

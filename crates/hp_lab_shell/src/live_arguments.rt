@@ -1,4 +1,4 @@
-//! The arguments of the word that replies to lines.
+//! The arguments of the command `live`.
 
 use crate::arguments::{Argument, FILE, JSON, Takes};
 

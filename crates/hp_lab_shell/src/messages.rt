@@ -22,7 +22,8 @@ const LINE_FORMS: &str =
      `0: plan: done`, or a memory block, as `block 1 offline`; `not ` \
      before it wants an end without it";
 
-/// Prints on standard error that no end can have this text as a line, and which forms lines have.
+/// Prints on standard error that no end can have this text as a line, and which forms a line may
+/// have.
 pub(crate) fn say_no_line(rt: &HostRuntime, text: &str) -> Result<(), AllocError> {
     let mut shown = String::new(rt.alloc());
     write_escaped(&mut shown, text, Brackets::Kept)?;
@@ -41,7 +42,7 @@ pub(crate) fn file_name(name: &str) -> Option<&str> {
 }
 
 /// Prints a fault on standard error, with the name of the file if it could not be read. If the
-/// input is no scenario, also prints which command shows what is wrong.
+/// input is not a scenario, also prints which command shows what is wrong.
 pub(crate) fn say_fault(rt: &HostRuntime, file: Option<&str>, fault: LabProgramFault) {
     let _ = match unread_name(rt.alloc(), file, fault) {
         Some(name) => eprintln!(rt; "hotplug_lab: {name}: {fault}"),
@@ -52,8 +53,8 @@ pub(crate) fn say_fault(rt: &HostRuntime, file: Option<&str>, fault: LabProgramF
     }
 }
 
-/// Returns the name of the file that could not be read, escaped as in JSON, or `None` if memory runs
-/// out.
+/// Returns the name of the file that could not be read, escaped as in JSON, or `None` if memory
+/// runs out.
 fn unread_name(alloc: Global, file: Option<&str>, fault: LabProgramFault) -> Option<String> {
     if !fault.is_of_input() {
         return None;

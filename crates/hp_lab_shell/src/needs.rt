@@ -30,7 +30,7 @@ pub fn unbegun_of(alloc: Global, input: &[u8], word: Word<'_>) -> Result<Vec<Unb
     }
 }
 
-/// Checks that the scenario has the line that a command names. Bytes that are no scenario pass.
+/// Checks that the scenario has the line that a command names. Bytes that are not a scenario pass.
 #[tactic(auto, using(crate::proofs::Named::none_needed))]
 pub fn look_for_line(alloc: Global, input: &[u8], word: Word<'_>) -> Result<(), LabProgramFault>
     ensures ok { OnOk result (HasLines word.entry input.now) }
@@ -84,7 +84,7 @@ fn setup_named(setup: u64) -> u64
     if setup == ALL { 0 } else { setup }
 }
 
-/// Returns the first line to show; 0 if none was asked for.
+/// Returns the first line that is shown, or 0 if that is the first of all.
 fn first_shown(view: View) -> u64
     ensures { result ≡ first_shown view }
 {

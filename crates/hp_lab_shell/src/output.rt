@@ -6,7 +6,7 @@ use hp_streams::{Failed, Sink};
 use std::io::{ErrorKind, Result as IoResult, Write};
 
 /// A writer that counts its failed calls, and stores whether the last failure came from a closed
-/// pipe. A pipe is closed if its reader has gone, as `head` does when it has its lines.
+/// pipe. A pipe is closed if its reader has gone, as `head` does when it has enough lines.
 #[derive(Drop)]
 pub(crate) struct Output<W> {
     inner: W,

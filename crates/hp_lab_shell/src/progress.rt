@@ -7,8 +7,9 @@ use hp_states::Watch;
 use std::io::{self, Write};
 use std::time::{Clock, Duration, Instant};
 
-/// How many reports of progress are skipped after one that is shown in place, and 64 times as many
-/// after one on a line of its own. A search makes some hundred thousand reports per second.
+/// How many reports of progress are skipped after one that is shown in place. After one on a line
+/// of its own, 64 times as many are skipped. A search makes some hundred thousand reports per
+/// second.
 const SILENT: u32 = 1024;
 
 /// How many states a search reaches between two looks at the clock.
@@ -25,7 +26,7 @@ pub(crate) enum Shown {
     InLines,
 }
 
-/// Returns where progress is shown. If standard error is no terminal, it is shown only if
+/// Returns where progress is shown. If standard error is not a terminal, it is shown only if
 /// `is_wanted`.
 pub(crate) fn shown_on(is_terminal: bool, is_wanted: bool) -> Shown {
     if is_terminal {
@@ -63,7 +64,7 @@ pub(crate) struct Progress<W: Write + Drop, C: Clock + Drop> {
 }
 
 impl<W: Write + Drop, C: Clock + Drop> Progress<W, C> {
-    /// Creates a progress that has shown nothing yet. The time begins now.
+    /// Creates the progress of a search that begins now.
     pub(crate) fn new(out: W, clock: C, watching: Watching) -> Progress<W, C> {
         let started = match Instant::now(&clock) {
             Ok(now) => Some(now),
@@ -98,7 +99,7 @@ impl<W: Write + Drop, C: Clock + Drop> Progress<W, C> {
         }
     }
 
-    /// Returns whether a report is due. The caller then makes it.
+    /// Returns whether a report is due. If so, the caller must make it.
     fn is_due(&mut self) -> bool
         ensures budgets { self.new.budgets ≡ self.old.budgets }
         ensures reached { self.new.reached ≡ self.old.reached }

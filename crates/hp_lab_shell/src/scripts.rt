@@ -8,7 +8,7 @@ use hp_starts::{Unbegun, unbegun_lines};
 use hp_scenario::ScenarioFault;
 use std::alloc::{AllocError, Global};
 
-/// Returns the number of lines of the scenario, or `None` if the bytes are no scenario.
+/// Returns the number of lines of the scenario, or `None` if the bytes are not a scenario.
 pub(crate) fn line_count(alloc: Global, input: &[u8]) -> Result<Option<u64>, AllocError>
     ensures { IfOk result (λ count. count ≡ count_of (named_in input.now)) }
 {
@@ -20,7 +20,7 @@ pub(crate) fn line_count(alloc: Global, input: &[u8]) -> Result<Option<u64>, All
 }
 
 /// Returns the lines after the setup that work on operation 0 although their processor has begun
-/// none; empty if the bytes are no scenario.
+/// none. Empty if the bytes are not a scenario.
 pub(crate) fn unbegun_in(
     alloc: Global,
     input: &[u8],

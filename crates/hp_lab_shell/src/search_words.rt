@@ -1,4 +1,4 @@
-//! The arguments of the words that search: `explore`, and `sum` of its parts.
+//! The arguments of the commands that search: `explore`, and `sum` of its parts.
 
 use crate::arguments::{
     Argument, FILE, FIND, GROUP, JOBS, JSON, MEMORY, NEVER, PART, PROGRESS, SCENARIO,
@@ -21,7 +21,7 @@ const AS_JSON: Argument = Argument {
     against: &[SCENARIO],
 };
 
-/// What the flag does that writes one line per end.
+/// The help of the flag that writes one line per end.
 const SUMMARY_HELP: &str =
     "Writes one line per end: its count, its share, its refused calls, and its blocks";
 

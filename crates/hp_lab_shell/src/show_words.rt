@@ -1,4 +1,5 @@
-//! The arguments of the words that show: `check` and `trace` of a scenario, and `judge` of a log.
+//! The arguments of the commands that show: `check` and `trace` of a scenario, and `judge` of a
+//! log.
 
 use crate::arguments::{
     ALLOW, Argument, BLOCK_FRAMES, BLOCKS, FILE, FTRACE, HTML, JSON, LOG, MOST, SCENARIO_FILE, SVG,

@@ -31,7 +31,7 @@ const MEMORY_MIB: u64 = 2048;
 /// The default width of a trace's rows in columns.
 pub(crate) const WIDTH: u64 = 200;
 
-/// Printed if there is no such subcommand, which clap reports before.
+/// Printed if there is no such subcommand. clap reports that before this program can.
 const NO_WORD: &str = "there is no such word";
 
 /// Printed if `--scenario` names an interleaving past the one that a search finds.
@@ -63,7 +63,7 @@ pub struct Drawing {
 /// How a trace is written as JSON.
 #[derive(Clone, Copy)]
 pub enum JsonForm {
-    /// An object a line.
+    /// One object per line.
     Lines,
     /// These lines in a page, which steps through them.
     Page,
@@ -72,11 +72,11 @@ pub enum JsonForm {
 /// A command on a scenario.
 #[derive(Clone, Copy)]
 pub enum Word<'a> {
-    /// Report what is wrong with it and where. This many lines are the setup; later ones are in
+    /// Report what is wrong with it and where. This many lines are the setup; later lines are in
     /// scripts.
     Check(u64),
-    /// Explore every interleaving of its scripts, in `jobs` threads, and put ends together `by` a
-    /// part of their outcome.
+    /// Explore every interleaving of its scripts, in `jobs` threads, and group the ends by the part
+    /// `by` of their outcome.
     Explore {
         asked: ExploreOptions,
         form: EndsForm,
@@ -96,19 +96,19 @@ pub enum Word<'a> {
         wanted: &'a [Wanted],
         form: ScheduleForm,
     },
-    /// Expect that no interleaving has such an end.
+    /// Expect that no interleaving has an end with each of these lines, after `setup` lines.
     Never {
         setup: u64,
         wanted: &'a [Wanted],
         form: ScheduleForm,
     },
-    /// Trace what each line replies, with the memory after each call.
+    /// Trace the reply to each line, with the memory after each call.
     Trace(View),
     /// Draw the trace as one picture, with all memory blocks in each row.
     Picture(Drawing),
     /// Log what happens to frames and memory blocks, in the form that `judge` reads.
     Log,
-    /// Trace it as JSON.
+    /// Write the trace as JSON.
     Told(JsonForm),
 }
 
@@ -119,7 +119,7 @@ pub(crate) struct Request<'m, 'a, 'w> {
     pub word: Word<'w>,
     /// The names of the files, in order; empty for standard input.
     pub files: &'m [&'a str],
-    /// Whether progress is printed even if standard error is no terminal.
+    /// Whether progress is printed even if standard error is not a terminal.
     pub progress: bool,
     /// Whether it is a search for an end.
     pub is_search: bool,
@@ -202,7 +202,7 @@ fn is_search(name: &str, words: &ArgMatches<'_>) -> bool {
     name == "explore" && (words.get_strs(FIND).is_some() || words.get_strs(NEVER).is_some())
 }
 
-/// Returns how far a search may go. The limit is on the states of a search for an end.
+/// Returns how far a search may go. `--limit` bounds the states only of a search for an end.
 fn budgets_from(name: &str, words: &ArgMatches<'_>) -> Budgets {
     if name != "explore" {
         return Budgets {
@@ -245,7 +245,7 @@ fn word_from<'a>(
     }
 }
 
-/// Returns the command of `explore`: a search, a part, or all.
+/// Returns the command of `explore`: a search for an end, one part, or the whole exploration.
 fn exploring_word<'a>(
     words: &ArgMatches<'_>,
     wanted: &'a [Wanted],
@@ -291,7 +291,7 @@ fn whole_word<'a>(asked: ExploreOptions, words: &ArgMatches<'_>) -> Result<Word<
     })
 }
 
-/// Returns the part of the outcome by which ends are put together, if they are.
+/// Returns the part of the outcome by which ends are grouped, if they are.
 fn group_from(words: &ArgMatches<'_>) -> Result<Option<GroupBy>, &'static str> {
     match words.get_str(GROUP) {
         Some("blocks") => Ok(Some(GroupBy::Blocks)),

@@ -50,7 +50,7 @@ told d calls = record { text = did_text d; calls = calls; did = d }
 
 -- ---- what an answer is made of
 
--- an event left a record, with this serial and this reply; or it left none, for this reason
+-- an event left a record with this serial and this reply; or it left none, for this reason
 abbrev pub IsEventTold : MachineValue → (cpu : ℕ) → Event → Did → (new : MachineValue) → Type 0
 IsEventTold m cpu event d new =
     ((serial : ℕ) × (reply : Reply) × (d ≡ did.Event serial reply)
@@ -75,7 +75,7 @@ IsTold m cpu asks.seal a new = a ≡ told (did.Sealed (length m.history)) []
 abbrev pub Answers : MachineValue → (cpu : ℕ) → asks.Meaning → AnswerValue → (new : MachineValue) → Type 0
 Answers m cpu meaning a new = WritesAsked m cpu meaning a.text new × IsTold m cpu meaning a new
 
--- this is what a line's event did; of other lines it is not known
+-- if the line calls an event, `d` is what that event did; nothing is claimed of other lines
 abbrev pub IsDid : MachineValue → (cpu : ℕ) → asks.Meaning → Did → (new : MachineValue) → Type 0
 IsDid m cpu (asks.event event) d new = IsEventTold m cpu event d new
 IsDid m cpu meaning d new = Unit {0}
@@ -87,12 +87,12 @@ IsDone m cpu meaning d new =
 
 -- ---- steps of an answer
 
--- an event was called; `d` is what this did
+-- an event was called, and `d` is what it did
 abbrev pub IsEventDone : MachineValue → (cpu : ℕ) → Event → Did → (new : MachineValue) → Type 0
 IsEventDone m cpu event d new =
     WritesEvent m cpu event (did_text d) new × IsEventTold m cpu event d new
 
--- a plan was run to this end, and the answer has the receipts of its calls, and nothing else yet
+-- a plan was run to this end; the answer has the receipts of its calls, and nothing else yet
 abbrev pub IsPlanKept : MachineValue → (cpu turns : ℕ) → List Item → OpEnd → AnswerValue → (new : MachineValue)
     → Type 0
 IsPlanKept m cpu turns items end a new =

@@ -23,14 +23,15 @@ pub record Adds (old new : Written) (ts : List Token) : Type 0 where
 abbrev pub pair : (name text : List ℕ) → List Token
 pair name text = key name ∷ string text ∷ []
 
--- the serial of a call, and its reply
+-- the key for the serial of a call
 abbrev pub serial_keys : (serial : ℕ) → List Token
 serial_keys serial = key (codes "serial") ∷ number (decimal serial) ∷ []
 
+-- the key for a reply
 abbrev pub reply_keys : Reply → List Token
 reply_keys reply = pair (codes "answer") (reply_text reply)
 
--- the keys for a text that is no line
+-- the keys for a text that is not a line
 abbrev pub fault_keys : (hint : List ℕ) → List Token
 fault_keys hint = pair (codes "fault") (codes "no line") ++ pair (codes "hint") hint
 
@@ -40,7 +41,7 @@ call_object r call =
     begin_object ∷ (serial_keys r.serial ++ (pair (codes "call") call ++ (reply_keys r.reply
     ++ end_object ∷ [])))
 
--- objects for receipts, one after another
+-- the objects of receipts, one after another
 abbrev pub TellsCalls : List Receipt → List Token → Type 0
 TellsCalls [] ts = ts ≡ []
 TellsCalls (r ∷ rs) ts =
@@ -48,8 +49,8 @@ TellsCalls (r ∷ rs) ts =
     × (ts ≡ call_object r call ++ rest)
     × TellsCalls rs rest
 
--- the keys for what a line did: the serial and the reply of an event, the calls of a plan, the number
--- of records of a seal, or that the text is no line
+-- the keys for what a line did: the serial and the reply of an event, the calls and the end of a plan,
+-- or the number of records of a seal; or for a text that is not a line
 abbrev pub TellsDid : Did → List Receipt → List Token → Type 0
 TellsDid did.NoLine calls ts = (hint : List ℕ) × (ts ≡ fault_keys hint)
 TellsDid (did.Event serial reply) calls ts = ts ≡ serial_keys serial ++ reply_keys reply

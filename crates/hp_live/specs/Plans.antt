@@ -1,4 +1,4 @@
--- What calls do to a port that stores their receipts.
+-- A port that stores the receipts of its calls: what calls do to it.
 use Rattle.std.specs.Prelude.{◌≡◌, ℕ, Bool, false, List, [], ◌++◌}
 use Rattle.std.proofs.Common.{ap, sym, ◌∙◌, append-nil, append_assoc}
 use Rattle.hp_units.specs.declared.plans.Item.{Item}

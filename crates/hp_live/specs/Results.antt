@@ -17,7 +17,7 @@ use Rattle.hp_live.specs.declared.answers.Did.TheVariants as did
 
 -- ---- a text
 
--- a line with plain numbers, the owners' names after it, and the name of its result
+-- a line with plain numbers and the owners' names after it, and the name of its result
 pub record Typed : Type 0 where
   pub numbered : Numbered
   pub naming : Option Naming
@@ -34,33 +34,34 @@ typed_in names bound text = typed_by names (plain_in bound text)
 
 -- ---- the number of a result
 
--- of what an event did
+-- the number of the result of an event that did this
 abbrev pub number_did : Event → Did → ℕ
 number_did e (did.Event serial reply) = result_number e serial reply
 number_did e d = missing_number e
 
--- of what a line did; only an event has one
+-- the number of the result of a line that did this; 0 if the line calls no event
 abbrev pub number_asked : asks.Meaning → Did → ℕ
 number_asked (asks.event e) d = number_did e d
 number_asked m d = 0
 
--- of the record that an event left, if it left one
+-- the number of the result of an event, by the record that it left, if it left one
 abbrev pub number_record : Event → Option Record → ℕ
 number_record e None = missing_number e
 number_record e (Some r) = result_number e r.serial r.reply
 
--- of the record that a line left after `before` others
+-- the number of the result of a line, by the record that the machine has after `before` others
 abbrev pub number_after : asks.Meaning → (before : ℕ) → (after : MachineValue) → ℕ
 number_after (asks.event e) before after = number_record e (slice_get after.history before)
 number_after m before after = 0
 
--- by the machines before and after the line
+-- the number of the result of a line, by the machines before and after it
 abbrev pub number_left : asks.Meaning → (before after : MachineValue) → ℕ
 number_left m before after = number_after m (length before.history) after
 
--- ---- without memory
+-- ---- when memory runs out
 
--- the result of a line has its name; or no result has it, since there was no memory for a new name
+-- the result of a line has its name; or no result has this name, because there was no memory for a new
+-- name
 abbrev pub IsKnown : Bound → Option Naming → (line number : ℕ) → (new : Bound) → Type 0
 IsKnown old None line number new = new ≡ old
 IsKnown old (Some naming) line number new =

@@ -43,7 +43,7 @@ pub record RowsBegun (s : NamedValue) (width : ℕ) (orders : Bool) (new : RowsS
   pub bound : new.bound ≡ plain.bound
   pub begun : IsBegun (later_view plain.scenario width orders) plain.scenario new.trace
 
--- before a reply: no row and no text
+-- the session before a reply: no rows and no text
 abbrev pub cleared : RowsSession → RowsSession
 cleared s = record {
   names = s.names;
@@ -53,7 +53,7 @@ cleared s = record {
   text = [];
 }
 
--- nothing was run
+-- nothing was run: all stays but the text of the reply
 pub record Stays (s new : RowsSession) : Type 0 where
   pub names : new.names ≡ s.names
   pub lines : new.lines ≡ s.lines
@@ -76,12 +76,12 @@ pub record RowsRun (s : RowsSession) (t : Typed) (reply : List ℕ) (new : RowsS
   pub is : reply ≡ new.trace.rows.text
   pub bound : new.bound ≡ bound_after s.bound t.naming (length s.lines) (number_run s t new)
 
--- a text that is no line changes nothing; a line is run and kept, and its rows are the reply
+-- a text that is not a line changes nothing; a line is run and kept, and its rows are the reply
 abbrev pub RowsRead : Option Typed → RowsSession → (reply : List ℕ) → (new : RowsSession) → Type 0
 RowsRead None s reply new = Stays s new
 RowsRead (Some t) s reply new = RowsRun s t reply new
 
--- the reply to a text, by what it is; a command word changes nothing
+-- the reply to a text, by which word it is; a command word changes nothing
 abbrev pub RowsWord : LiveWord → RowsSession → (text reply : List ℕ) → (new : RowsSession) → Type 0
 RowsWord word.Nothing s text reply new = (reply ≡ []) × Stays s new
 RowsWord word.Help s text reply new = Stays s new
@@ -95,7 +95,7 @@ RowsWord word.Line s text reply new = RowsRead (typed_in s.names s.bound text) s
 abbrev pub RowsText : RowsSession → (line reply : List ℕ) → (new : RowsSession) → Type 0
 RowsText s line reply new = (IsUnread line × Stays s new) ⊎ RowsWord (word_of line) s line reply new
 
--- there was no memory: nothing was run; or the line is kept, of which a part may have been run
+-- memory ran out: nothing was run; or the line is kept, and a part of it may have been run
 abbrev pub IsLostTyped : RowsSession → Option Typed → (new : RowsSession) → Type 0
 IsLostTyped s typed new =
     Stays s new
@@ -119,8 +119,8 @@ RepliesRows s line reply new =
 abbrev pub HasRows : List ℕ × List ℕ → Type 0
 HasRows pair = (pair.1 ≡ pair.0) ⊎ (pair.1 ≡ [])
 
--- the first row of a talk after a scenario, and below it the rows in its replies, are the trace of the
--- scenario with the lines that came
+-- the first row of a talk after a scenario, and below it the rows in its replies, are the trace of a
+-- scenario: the talk's scenario, followed by the lines of the talk
 pub record DrawsTrace (s : ScenarioValue) (width : ℕ) (orders : Bool) (first text : List ℕ)
     (new : RowsSession) : Type 0 where
   pub told : List (List ℕ × List ℕ)

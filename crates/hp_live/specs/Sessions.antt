@@ -60,7 +60,7 @@ pub record IsResumed (s : NamedValue) (new : SessionValue) : Type 0 where
 
 -- ---- one text
 
--- the answer to what may be a line; a text that is no line gets an empty answer, and changes nothing
+-- the answer to what may be a line; a text that is not a line gets an empty answer, and changes nothing
 abbrev pub AnswersRead : SessionValue → Option Typed → AnswerValue → (new : SessionValue) → Type 0
 AnswersRead s None a new = (a ≡ untold) × (new ≡ s)
 AnswersRead s (Some t) a new =
@@ -71,14 +71,14 @@ AnswersRead s (Some t) a new =
 abbrev pub AnswersText : SessionValue → (text : List ℕ) → AnswerValue → (new : SessionValue) → Type 0
 AnswersText s text a new = AnswersRead s (typed_in s.names s.bound text) a new
 
--- the session after what may be a line, for which memory ran out: as before; or it is a line, which
--- was run and is kept
+-- the session if memory ran out for what may be a line: the same as before; or the text is a line,
+-- which was run and is kept
 abbrev pub IsLostTyped : Lack → SessionValue → Option Typed → (new : SessionValue) → Type 0
 IsLostTyped lack.Line s typed new = new ≡ s
 IsLostTyped lack.Answer s typed new =
     (t : Typed) × (written : List ℕ) × (typed ≡ Some t) × RunsLine s t written new
 
--- the same after a text
+-- the same for a text
 abbrev pub IsLost : Lack → SessionValue → (text : List ℕ) → (new : SessionValue) → Type 0
 IsLost given s text new = IsLostTyped given s (typed_in s.names s.bound text) new
 
@@ -92,11 +92,12 @@ AnswersAll s (text ∷ texts) written new =
     (a : AnswerValue) × (next : SessionValue) × (rest : List ℕ) × AnswersText s text a next
     × (written ≡ a.text ++ rest) × AnswersAll next texts rest new
 
--- the texts that are lines, with plain numbers
+-- adds the text with plain numbers, if it is a line
 abbrev pub took : Option Typed → (plain : List ℕ) → (more : List (List ℕ)) → List (List ℕ)
 took None plain more = more
 took (Some t) plain more = plain ∷ more
 
+-- those of the texts that are lines, with plain numbers
 unfoldable pub taken : (s : SessionValue) → (texts : List (List ℕ)) → (written : List ℕ)
     → (new : SessionValue) → AnswersAll s texts written new → List (List ℕ)
 unfolding AnswersAll

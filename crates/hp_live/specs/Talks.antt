@@ -23,7 +23,7 @@ use Rattle.hp_live.specs.declared.answers.Did.TheVariants as did
 use Rattle.hp_live.specs.declared.live_words.LiveWord.{LiveWord}
 use Rattle.hp_live.specs.declared.live_words.LiveWord.TheVariants as word
 
--- what a text is
+-- which word a text is
 abbrev pub word_of : (text : List ℕ) → LiveWord
 word_of text =
     cond (bytes_eq text (codes "")) word.Nothing
@@ -45,7 +45,7 @@ line_of tokens = print tokens ++ 10 ∷ []
 abbrev pub word_object : (name text : List ℕ) → List ℕ
 word_object name text = line_of (begin_object ∷ key name ∷ string text ∷ end_object ∷ [])
 
--- an object for a text that is no line
+-- the object for a text that is not a line
 abbrev pub fault_tokens : (line : ℕ) → (hint : List ℕ) → List Token
 fault_tokens line hint = object_of line [] (fault_keys hint)
 
@@ -55,7 +55,8 @@ fault_object line hint = line_of (fault_tokens line hint)
 abbrev pub lost_object : List ℕ
 lost_object = codes "{\"fault\":\"OutOfMemory\",\"hint\":\"out of memory: see state\"}\n"
 
--- the number of the line that was answered; for a text that is no line, that of the next line
+-- the number of the line that was answered; after a text that is not a line, the number of the next
+-- line
 abbrev pub number_of : Did → (lines : List Line) → ℕ
 number_of did.NoLine lines = length lines + 1
 number_of (did.Event serial reply) lines = length lines
@@ -82,7 +83,7 @@ TellsIn front change reply =
 
 -- ---- the states that objects show
 
--- whether objects show the state, and the state that the last of them led to
+-- whether objects show the state, and the last state that was shown
 pub record StatesValue : Type 0 where
   pub is_shown : Bool
   pub last : Option Pictured
@@ -97,7 +98,7 @@ ShowsIf false last now shown front reply = (shown ≡ None) × (reply ≡ front 
 ShowsIf true last now shown front reply =
     (shown ≡ Some now) × (change : ChangeValue) × IsChange last now change × TellsIn front change reply
 
--- the states after an object
+-- what is kept of the states after an object
 abbrev pub kept_states : StatesValue → (shown : Option Pictured) → StatesValue
 kept_states states None = states
 kept_states states (Some image) = record { is_shown = states.is_shown; last = Some image }
@@ -140,7 +141,7 @@ RepliesWord word.Line s text reply new =
     (a : AnswerValue) × AnswersText s.session text a new.session
     × ShowsObject (number_of a.did new.session.lines) a s.states new.session.machine reply new.states
 
--- a text that is a word, or perhaps a line
+-- the reply to a text, which is a word or may be a line
 abbrev pub RepliesText : ObjectsValue → (text reply : List ℕ) → (new : ObjectsValue) → Type 0
 RepliesText s text reply new = RepliesWord (word_of text) s text reply new
 
@@ -149,7 +150,7 @@ abbrev pub IsRun : SessionValue → (text : List ℕ) → (new : SessionValue) �
 IsRun s text new =
     (t : Typed) × (written : List ℕ) × (typed_in s.names s.bound text ≡ Some t) × RunsLine s t written new
 
--- there was no memory: nothing was run; or the line was run and is kept
+-- memory ran out: nothing was run; or the line was run and is kept
 abbrev pub IsLostLine : SessionValue → (text : List ℕ) → (new : SessionValue) → Type 0
 IsLostLine s text new = (new ≡ s) ⊎ IsRun s text new
 
@@ -176,8 +177,8 @@ HasText pair =
     ((number : ℕ) × (a : AnswerValue) × (pair.1 ≡ a.text) × IsObjectOf number a pair.0)
     ⊎ ((pair.1 ≡ []) ⊎ (pair.0 ≡ lost_object))
 
--- the replies to a scenario's talk, with the texts in them: joined they are what `hotplug serial` writes
--- for the lines so far
+-- the replies of a talk after a scenario have texts in them. Joined, these are what `hotplug serial`
+-- writes for the lines so far
 pub record TellsLines (s : ScenarioValue) (before text : List ℕ) (new : SessionValue) : Type 0 where
   pub told : List (List ℕ × List ℕ)
   pub replies : text ≡ flat_map (λ pair. pair.0) told

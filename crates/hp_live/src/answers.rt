@@ -11,13 +11,13 @@ use std::marker::Model;
 /// What a line did.
 #[derive(Clone, Copy, Drop)]
 pub enum Did {
-    /// Nothing: the text is no line.
+    /// Nothing: the text is not a line.
     NoLine,
     /// Its event left a record with this serial and this reply.
     Event { serial: Serial, reply: Reply },
     /// Its event left no record.
     Unrecorded(CallFault),
-    /// Its plan ended so.
+    /// Its plan ended like this.
     Plan(OpEnd),
     /// Nothing: the control file of its `echo` does not take the word.
     NotTaken(ControlFault),
@@ -57,7 +57,8 @@ impl LiveAnswer {
         }
     }
 
-    /// Returns the text that `hotplug serial` writes for the line; the empty text for no line.
+    /// Returns the text that `hotplug serial` writes for the line. Empty if the text was not a
+    /// line.
     pub fn text(&self) -> &str
         ensures { result.now ≡ self.now.text }
     {

@@ -1,4 +1,4 @@
-//! What a sequence of answers amounts to, as contracts of functions that do nothing else.
+//! What a sequence of answers amounts to, as contracts of functions with empty bodies.
 ghost use Rattle.std.specs.Prelude.{◌≡◌, ◌++◌, [], Bool, ℕ, List, Ok};
 ghost use Rattle.hp_units.specs.LayoutParts.{LayoutParts};
 ghost use Rattle.hp_machine.specs.Machine.{booted};
@@ -35,8 +35,8 @@ pub fn answers_are_what_serial_writes()
 {}
 
 /// In a talk in objects, the texts in the replies, one after another, are what `hotplug serial`
-/// writes for the lines so far: those of the scenario, and those that came, with plain numbers in
-/// place of names for results. Command words, and texts that are no lines, add nothing. A reply
+/// writes for the lines so far: those of the scenario and those of the talk, with plain numbers in
+/// place of names for results. Command words, and texts that are not lines, add nothing. A reply
 /// that was lost has no text, but its line was run if it is among the lines.
 pub fn talks_tell_their_lines()
     ensures { (scenario : NamedValue) (first s : ObjectsValue) (lines : List (List ℕ))
@@ -46,8 +46,8 @@ pub fn talks_tell_their_lines()
 {}
 
 /// In a talk in rows, the first row and the rows in the replies, one after another, are what
-/// `hotplug_lab trace` draws of the scenario with the lines so far, from the first that came on,
-/// all with plain numbers. This is for a talk that had memory for each reply.
+/// `hotplug_lab trace` draws of the scenario with the lines so far, from the first line of the talk
+/// on, all with plain numbers. This holds for a talk that had memory for each reply.
 pub fn talks_draw_the_trace()
     ensures { (scenario : NamedValue) (width : ℕ) (orders : Bool) (first s : RowsSession)
         (lines : List (List ℕ)) (text : List ℕ) → (begun : RowsBegun scenario width orders first)

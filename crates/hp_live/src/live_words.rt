@@ -17,7 +17,7 @@ pub(crate) enum LiveWord {
     Line,
 }
 
-/// Returns what a text is.
+/// Returns which word a text is.
 pub(crate) fn word_of(text: &str) -> LiveWord
     ensures { result ≡ word_of text.now }
 {

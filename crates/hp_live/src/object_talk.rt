@@ -34,8 +34,8 @@ pub struct ObjectTalk {
 }
 
 impl ObjectTalk {
-    /// Begins a session after a scenario's lines. With `is_state_shown` each answer also has how
-    /// the state differs from that of the answer before it.
+    /// Begins a talk after a scenario's lines. With `is_state_shown`, each answer also has how the
+    /// state differs from that of the answer before it.
     pub fn begin(
         alloc: Global,
         named: NamedScenario,
@@ -142,7 +142,7 @@ impl ObjectTalk {
         Ok(())
     }
 
-    /// Writes what was expected of a text that is no line.
+    /// Writes what was expected of a text that is not a line.
     fn write_hint(&mut self, alloc: Global, text: &str) -> Result<(), AllocError>
         ensures session { self.new.session ≡ self.old.session }
         ensures states { self.new.states ≡ self.old.states }
@@ -173,8 +173,8 @@ impl ObjectTalk {
         )
     }
 
-    /// Returns the number of the line that was answered. If the text was no line, returns the
-    /// number of the next line.
+    /// Returns the number of the line that was answered. After a text that is not a line, returns
+    /// the number of the next line.
     fn number(&self) -> u64
         ensures { result ≡ number_of self.now.answer.did self.now.session.lines }
     {

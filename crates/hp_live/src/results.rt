@@ -20,7 +20,7 @@ pub(crate) struct Ran {
     pub(crate) is_answered: bool,
 }
 
-/// Returns the number of the result of a line that did this; 0 if it is no event.
+/// Returns the number of the result of a line that did this, or 0 if the line calls no event.
 pub(crate) fn number_asked(work: &Work, did: Did) -> u64
     ensures { result ≡ spec.number_asked (asked_by work.now) did }
 {
@@ -43,8 +43,8 @@ fn number_did(event: &Event, did: Did) -> u64
     }
 }
 
-/// Returns the number of the result of a line, of which the machine has the record, if it left one,
-/// after `before` others; 0 if it is no event.
+/// Returns the number of the result of a line, or 0 if the line calls no event. If the event left a
+/// record, the machine has it after `before` others.
 pub(crate) fn number_left(work: &Work, machine: &Machine, before: usize) -> u64
     ensures { result ≡ spec.number_after (asked_by work.now) before machine.now }
 {
@@ -67,8 +67,8 @@ fn number_record(event: &Event, record: Option<&Record>) -> u64
     }
 }
 
-/// Gives a line's result its name, if it has one. Returns whether there was memory for it; if not, no
-/// result has the name.
+/// Binds the name of a line's result, if the line gives one. Returns whether there was memory for
+/// that; if not, no result has the name.
 pub(crate) fn note(bound: &mut Bindings, naming: Option<Naming>, line: usize, number: u64) -> bool
     ensures noted { result ≡ true → bound.new ≡ bound_after bound.old naming line number }
     ensures known { IsKnown bound.old naming line number bound.new }

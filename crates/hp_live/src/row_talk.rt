@@ -26,8 +26,8 @@ use std::alloc::{AllocError, Global};
 use std::marker::Model;
 use std::str;
 
-/// Replies to each line with its rows: what it answers, and the memory after each of its calls. To
-/// a word it replies with a text. An empty line has no reply.
+/// Replies to each line with its rows: the answer, and the memory after each of its calls. Replies
+/// to a word with a text. An empty line has no reply.
 #[derive(Drop)]
 pub struct RowTalk {
     names: IndexSet<Text>,
@@ -54,7 +54,7 @@ impl Model for RowTalk {
 }
 
 impl RowTalk {
-    /// Begins after a scenario's lines.
+    /// Begins a talk after a scenario's lines.
     pub fn begin(
         alloc: Global,
         named: NamedScenario,
@@ -84,7 +84,7 @@ impl RowTalk {
         })
     }
 
-    /// Returns the row of the memory before the first line that comes.
+    /// Returns the row of the memory before the first line of the talk.
     pub fn first_row(&self) -> &str
         ensures { result.now ≡ self.now.trace.rows.text }
     {
@@ -155,7 +155,7 @@ impl RowTalk {
         self.write_to_plain(alloc, text, plain)
     }
 
-    /// Runs what may be a line in the same way. Its names for results were taken out of the text.
+    /// Does the same for a text whose names for results were taken out.
     fn write_to_plain(
         &mut self,
         alloc: Global,
@@ -230,7 +230,7 @@ fn write_rows(out: &mut String, trace: &LiveTrace, are_drawn: bool) -> Result<()
     out.push_str(trace.text())
 }
 
-/// Writes what was expected of a text that is no line, after lines with these names.
+/// Writes what was expected of a text that is not a line, after lines with these names.
 fn write_no_line(
     out: &mut String,
     alloc: Global,

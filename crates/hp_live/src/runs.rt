@@ -17,8 +17,8 @@ use std::alloc::{AllocError, Global};
 
 /// Does what a line asks for, and answers it.
 ///
-/// If memory runs out while the answer is made, the line has still been run, and the answer has what
-/// its event did.
+/// If memory runs out while the answer is made, the line has still been run, and the answer has
+/// what its event did.
 #[inline(always)]
 pub(crate) fn answer_line(
     out: &mut LiveAnswer,

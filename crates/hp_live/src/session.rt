@@ -18,17 +18,18 @@ use indexmap::IndexSet;
 use std::alloc::{AllocError, Global};
 use std::marker::Model;
 
-/// What there was no memory for.
+/// What memory ran out for.
 #[derive(Clone, Copy, Drop)]
 pub enum Lack {
-    /// To keep another line. Nothing was run, and nothing changed.
+    /// Keeping another line. Nothing was run, and nothing changed.
     Line,
-    /// To write the answer of a line that was run. The session has kept it.
+    /// Writing the answer of a line that was run, or binding the name of its result. The session
+    /// has kept the line.
     Answer,
 }
 
-/// A machine that answers lines one at a time, all lines so far with plain numbers, and the names of
-/// owners and of results in them.
+/// A machine that answers lines one at a time, all lines so far with plain numbers, and the names
+/// of owners and of results in them.
 #[derive(Drop)]
 pub struct Session {
     pub(crate) names: IndexSet<Text>,
@@ -51,7 +52,7 @@ impl Model for Session {
 }
 
 impl Session {
-    /// Boots a machine, which no line has run on yet.
+    /// Creates a session on a machine just booted.
     pub fn start(alloc: Global, layout: &Layout) -> Result<Session, AllocError>
         ensures { IfOk result (λ session. session ≡ started layout.now) }
     {
@@ -103,11 +104,11 @@ impl Session {
         self.lines.len() as u64 + 1
     }
 
-    /// Reads a line, runs it, and answers it in `out` as `hotplug serial` would answer the line with
-    /// plain numbers, which is kept. A text that is no line changes nothing.
+    /// Reads a line, runs it, and answers it in `out` as `hotplug serial` would. The session keeps
+    /// the line, with plain numbers. A text that is not a line changes nothing.
     ///
-    /// Whether there is memory to keep the line is known before it is run. After an error, `out` has
-    /// no meaning, and no result may have the name that the line gave its own.
+    /// Memory to keep the line is reserved before it is run. After an error, `out` has no meaning,
+    /// and no result may have the name that the line gives its own.
     pub fn answer(&mut self, alloc: Global, text: &str, out: &mut LiveAnswer) -> Result<(), Lack>
         ensures ok { OnOk result (AnswersText self.old text.now out.new self.new) }
         ensures err { IfErr result (λ lack. IsLost lack self.old text.now self.new) }
@@ -118,7 +119,7 @@ impl Session {
         }
     }
 
-    /// Answers a line in the same way, whose names for results were taken out.
+    /// Does the same for a line whose names for results were taken out.
     fn answer_plain(
         &mut self,
         alloc: Global,

@@ -12,7 +12,7 @@ use indexmap::IndexSet;
 use std::alloc::{AllocError, Global};
 use std::marker::Model;
 
-/// Whether objects show the state, and the one that the last of them led to.
+/// Whether objects show the state, and the last state that was shown.
 #[derive(Drop)]
 pub(crate) struct ShownStates {
     is_shown: bool,

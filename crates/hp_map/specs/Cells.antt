@@ -19,7 +19,7 @@ cell_at l number = number + number / pageblock_size l
 abbrev pub cell_text : (is_later : Bool) → (sign : ℕ) → List ℕ
 cell_text is_later sign = (if is_later then codes "|" else []) ++ sign ∷ []
 
--- the place of a frame of the layout, which has one (ArePlacesOf)
+-- the place of a frame; each frame of the layout has one (ArePlacesOf)
 abbrev pub place_at : List Place → (frame : ℕ) → Place
 place_at places frame = unwrap_or (slice_get places frame) Absent
 

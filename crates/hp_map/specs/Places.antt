@@ -31,8 +31,8 @@ pub record ArePlacesOf (l : LayoutParts) (s : Memory) (places : List Place) : Ty
   pub count : length places ≡ frame_count l
   pub each : (frame : ℕ) → IfSome (slice_get places frame) (IsPlaceOf l s frame)
 
--- the sign of a place: a space, `-`, `.`, `:`, `K`, the last digit of a processor's number, and a letter
--- from `a` to `z` for an owner, which begin again after 26
+-- the sign of a place: a space, `-`, `.`, `:`, `K`, the last digit of a processor's number, and a
+-- letter from `a` to `z` for an owner; after 26 owners the letters begin again
 abbrev pub place_sign : Place → ℕ
 place_sign Absent = 32
 place_sign Offline = 45

@@ -13,7 +13,7 @@ use Rattle.hp_map.specs.Rows.{RowValue, row_with}
 abbrev pub begins_round : RowValue → Bool
 begins_round row = starts_with nat_eq row.asked (codes "     migrate ")
 
--- it goes on with drains and a commit
+-- after its first row, a round has drains and a commit
 abbrev pub continues_round : RowValue → Bool
 continues_round row =
     starts_with nat_eq row.asked (codes "     drainfor ") || starts_with nat_eq row.asked (codes "     commit ")
@@ -22,16 +22,16 @@ abbrev pub is_round : List RowValue → Bool
 is_round [] = false
 is_round (first ∷ rest) = begins_round first
 
--- whether a row is of the round that the rows begin
+-- the row belongs to the round that the rows begin
 abbrev pub goes_on : List RowValue → RowValue → Bool
 goes_on rows row = is_round rows && continues_round row
 
--- a round, or a row of anything else
+-- the rows are a round, or a single row of another kind
 abbrev pub is_whole : List RowValue → Bool
 is_whole [] = false
 is_whole (first ∷ rest) = list_all (λ row. goes_on (first ∷ []) row) rest
 
--- ---- a round that is like another
+-- ---- a round that repeats another
 
 -- the texts before and after the first colon
 unfoldable pub halves_of : List ℕ → Option (List ℕ × List ℕ)
@@ -64,17 +64,18 @@ blocks_in (Some row) = row.blocks
 abbrev pub memory_after : List RowValue → List BlockValue
 memory_after rows = blocks_in (slice_get rows (length rows - 1))
 
--- the same call, which got the same reply and left the memory as it was
+-- the row of the same call, n serials later: it got the same reply and left the memory as it was
 abbrev pub next_row : (n : ℕ) → (memory : List BlockValue) → RowValue → RowValue
 next_row n memory row = row_with row.asked (counted_on n row.answer) None memory
 
--- the n-th round after one like which it is
+-- the n-th repetition of a round
 abbrev pub next_round : (n : ℕ) → List RowValue → List RowValue
 next_round n rows = map (next_row (n * length rows) (memory_after rows)) rows
 
 -- ---- rows in which equal rounds are joined
 
--- a round, and how many more are like it; or another row, of which there are no more
+-- a round, and how many rounds right after it repeat it; or a single row of another kind, where `more`
+-- is 0
 pub record RoundsValue : Type 0 where
   pub rows : List RowValue
   pub more : ℕ
@@ -89,7 +90,7 @@ more_rows rows (suc n) = more_rows rows n ++ next_round (suc n) rows
 abbrev pub all_rows : RoundsValue → List RowValue
 all_rows r = r.rows ++ more_rows r.rows r.more
 
--- whether the rows are one more round
+-- the rows repeat the round once more
 abbrev pub IsOneMore : RoundsValue → List RowValue → Type 0
 IsOneMore r rows = (is_round r.rows ≡ true) × (rows ≡ next_round (suc r.more) r.rows)
 
@@ -102,7 +103,7 @@ abbrev pub goes_on_with : List RowValue → List RowValue → Bool
 goes_on_with rows [] = false
 goes_on_with rows (next ∷ rest) = goes_on rows next
 
--- no row after an entry belongs to it
+-- the rows of the next entry neither continue this entry's round nor repeat it
 pub record IsApart (r next : RoundsValue) : Type 0 where
   pub ended : goes_on_with r.rows next.rows ≡ false
   pub other : IsOneMore r next.rows → ⊥
@@ -111,17 +112,17 @@ abbrev pub IsBefore : RoundsValue → List RoundsValue → Type 0
 IsBefore r [] = ⊤
 IsBefore r (next ∷ rest) = IsApart r next
 
--- all equal rounds are joined that come one right after another
+-- each round is joined with all repetitions that come right after it
 abbrev pub AreJoined : List RoundsValue → Type 0
 AreJoined [] = ⊤
 AreJoined (r ∷ rest) = IsEntry r × IsBefore r rest × AreJoined rest
 
--- the entries are of these rows: each row, and no other
+-- the entries have exactly these rows, in this order
 pub record IsJoinOf (rows : List RowValue) (entries : List RoundsValue) : Type 0 where
   pub all : flat_map all_rows entries ≡ rows
   pub joined : AreJoined entries
 
--- ---- rows that come one after another
+-- ---- joining row by row
 
 -- the last entry so far, and the rows after it, to which more may come
 pub record JoinerValue : Type 0 where
@@ -131,7 +132,7 @@ pub record JoinerValue : Type 0 where
 abbrev pub nothing_read : JoinerValue
 nothing_read = record { last = None; rest = [] }
 
--- these rows came: those of entries to which none is joined any more, of the last one, and those after it
+-- the rows read so far are those of the finished entries `done`, those of the entry `last`, and `left`
 abbrev pub HasRead : (done : List RoundsValue) → (last : Option RoundsValue) → (left rows : List RowValue)
     → Type 0
 HasRead done last [] rows = (done ≡ []) × (last ≡ None) × (rows ≡ [])
@@ -144,18 +145,18 @@ HasRead done (Some last) (row ∷ left) rows =
 abbrev pub Reads : (done : List RoundsValue) → JoinerValue → (rows : List RowValue) → Type 0
 Reads done j rows = HasRead done j.last j.rest rows
 
--- a row more came, after which no row is joined to `gone` any more
+-- one more row was read; the entry `gone`, if there is one, is now finished
 abbrev pub Takes : RowValue → (gone : Option RoundsValue) → (old new : JoinerValue) → Type 0
 Takes row gone old new =
     (done : List RoundsValue) (rows : List RowValue) → Reads done old rows
     → Reads (done ++ option_to_list gone) new (rows ++ row ∷ [])
 
--- no row comes any more
+-- all rows have been read; `ends` are the entries after the finished ones
 abbrev pub Ends : JoinerValue → (ends : List RoundsValue) → Type 0
 Ends j ends =
     (done : List RoundsValue) (rows : List RowValue) → Reads done j rows → IsJoinOf rows (done ++ ends)
 
--- the rows are joined to the last entry, or make one of their own
+-- the rows are joined to the last entry if they repeat it; otherwise they make a new entry
 abbrev pub JoinsTo : (last : Option RoundsValue) → (rows : List RowValue) → (gone : Option RoundsValue)
     → (now : RoundsValue) → Type 0
 JoinsTo None rows gone now = (gone ≡ None) × (now ≡ once rows)
@@ -172,7 +173,7 @@ first_serial (first ∷ rest) = unwrap_or (serial_of first.answer) 0
 abbrev pub rounds_word : (more : ℕ) → List ℕ
 rounds_word more = if more == 1 then codes " more round like this, serials " else codes " more rounds like this, serials "
 
--- how many there are, and the serials of their calls
+-- how many more rounds there are, and the serials of their calls
 abbrev pub more_text : RoundsValue → List ℕ
 more_text r =
     codes "(" ++ decimal r.more ++ rounds_word r.more

@@ -52,7 +52,7 @@ impl Model for BlockPicture {
 }
 
 impl BlockPicture {
-    /// Makes a memory block of these parts.
+    /// Creates a picture from these parts.
     pub fn new(
         head: Text,
         cells: Text,
@@ -73,7 +73,7 @@ impl BlockPicture {
         }
     }
 
-    /// Returns what comes before its cells.
+    /// Returns the text before its cells.
     pub fn head(&self) -> &str
         ensures { result.now ≡ self.now.head }
     {

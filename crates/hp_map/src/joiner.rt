@@ -1,4 +1,4 @@
-//! Rows that come one after another, of which equal rounds are joined.
+//! Joins equal rounds of rows, row by row.
 ghost use Rattle.std.specs.Prelude.{◌≡◌, ◌++◌, IfOk, OnOk};
 ghost use Rattle.std.specs.Option.{option_to_list};
 ghost use Rattle.hp_map.specs.Rounds.{Ends, IsJoinOf, JoinsTo, Takes, nothing_read};
@@ -9,8 +9,7 @@ use std::alloc::{AllocError, Global};
 use std::marker::Model;
 use std::mem::replace;
 
-/// Joins the equal rounds of rows that come one after another. It keeps one round and the rows of
-/// the next.
+/// Joins equal rounds, row by row. Keeps only one round and the rows after it.
 #[derive(Drop)]
 pub struct RoundJoiner {
     last: Option<Rounds>,
@@ -28,14 +27,14 @@ impl Model for RoundJoiner {
 
 /// What became of the last entry when rows came after it.
 struct LastEntry {
-    /// The last entry, if the rows are no round like it.
+    /// The entry that was last, if the rows do not repeat it.
     gone: Option<Rounds>,
-    /// The last entry now.
+    /// The entry that is last now.
     last: Rounds,
 }
 
 impl RoundJoiner {
-    /// Makes a joiner to which no row has come.
+    /// Creates a joiner before any row.
     pub fn new(alloc: Global) -> RoundJoiner
         ensures { result ≡ nothing_read }
     {
@@ -45,10 +44,9 @@ impl RoundJoiner {
         }
     }
 
-    /// Takes the next row. Returns an entry to which no more rounds can be joined, if there is one
-    /// now.
+    /// Takes the next row. Returns the last entry once no more rounds can be joined to it.
     ///
-    /// After an error rows are lost.
+    /// After an error, rows are lost.
     pub fn push(&mut self, alloc: Global, row: RowPicture) -> Result<Option<Rounds>, AllocError>
         ensures { IfOk result (λ gone. Takes row gone self.old self.new) }
     {
@@ -63,7 +61,7 @@ impl RoundJoiner {
         Ok(gone)
     }
 
-    /// Returns the last two entries, when no row comes any more.
+    /// Returns the last entries, at most two, once all rows have been taken.
     pub fn finish(self, alloc: Global) -> Result<(Option<Rounds>, Option<Rounds>), AllocError>
         ensures { IfOk result (λ ends. Ends self (option_to_list ends.0 ++ option_to_list ends.1)) }
     {
@@ -76,7 +74,7 @@ impl RoundJoiner {
     }
 }
 
-/// Joins rows to the last entry if they are one more round like it. Otherwise they make a new one.
+/// Joins rows to the last entry if they repeat it. Otherwise makes a new entry of them.
 fn join(alloc: Global, last: Option<Rounds>, rows: Vec<RowPicture>) -> Result<LastEntry, AllocError>
     ensures { IfOk result (λ entry. JoinsTo last rows.items entry.gone entry.last) }
 {

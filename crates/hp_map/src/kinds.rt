@@ -26,7 +26,8 @@ pub(crate) fn draw_kinds(alloc: Global, machine: &Machine, block: Block) -> Resu
     Ok(Text::new(out))
 }
 
-/// Returns the letter of a frame in a pageblock of this kind, a space if it is not in use.
+/// Returns the letter of a frame in a pageblock of this kind, or a space if its memory block is not
+/// in use.
 fn letter(is_used: bool, kind: Option<Kind>) -> char
     ensures { result < 128 }
 {

@@ -9,9 +9,9 @@ use hp_machine::Machine;
 use hp_units::{Block, Class, Frame, Order, Text};
 use std::alloc::{AllocError, Global};
 
-/// Returns the cells of a memory block of the layout with each free block by its order, if orders
-/// are shown, and an empty text if not. A block of order 0 is drawn as `.`, a larger one as its
-/// order in brackets, such as `(3.....)`; isolated ones as `:` and `{3:::::}`.
+/// Returns the cells of a memory block of the layout with each free block drawn by its order, or an
+/// empty text if orders are not shown. A block of order 0 is drawn as `.`, a larger one as its
+/// order in brackets, such as `(3.....)`. Isolated blocks are drawn as `:` and `{3:::::}`.
 pub(crate) fn draw_orders(
     alloc: Global,
     machine: &Machine,
@@ -75,7 +75,7 @@ fn order_of(machine: &Machine, frame: Frame) -> Option<Order>
     None
 }
 
-/// Returns whether a free block has an order.
+/// Returns whether the free block has this order.
 fn has_order(place: Option<(Class, Order)>, order: Order) -> bool {
     match place {
         Some(place) => place.1 == order,
@@ -99,8 +99,8 @@ fn ordered_sign(is_isolated: bool, order: Order, offset: u32) -> char
     }
 }
 
-/// Returns the character of a frame between the brackets of a free block: a digit of its order
-/// right after the first bracket, and then as if it were alone.
+/// Returns the character of a frame between the brackets of a free block: right after the first
+/// bracket a digit of the order, and then the character of a free frame.
 fn inner_sign(is_isolated: bool, order: Order, offset: u32) -> char
     requires { order ≤ 10 }
     ensures { result < 128 }
@@ -116,7 +116,7 @@ fn inner_sign(is_isolated: bool, order: Order, offset: u32) -> char
     }
 }
 
-/// Returns the character of a free frame that is alone.
+/// Returns the character of a free frame, without the order of its block.
 fn plain_sign(is_isolated: bool) -> char
     ensures { result < 128 }
 {

@@ -14,8 +14,8 @@ use hp_units::{Block, Row, State, Text, Wish, Zone};
 use std::alloc::{AllocError, Global};
 
 /// Draws each memory block of a machine, by rising number. A head such as `2:M>off` has the number,
-/// the zone or the state, and the wish of the operation that holds the block. The cells by orders
-/// are left empty unless `shows_orders`.
+/// the zone or the state, and the wish of the operation that holds the block. Without
+/// `shows_orders`, the cells with orders are empty.
 pub fn picture_of(
     alloc: Global,
     machine: &Machine,
@@ -75,7 +75,8 @@ fn draw_head(alloc: Global, row: Option<Row>, block: Block) -> Result<Text, Allo
     Ok(Text::new(text))
 }
 
-/// Returns the letter of the zone of a memory block in use, and the state of another.
+/// Returns the letter of the zone if the memory block is in use, and a word for its state
+/// otherwise.
 fn place_word(row: &Option<Row>) -> &'static str {
     match row {
         Some(row) => match row.state {

@@ -24,8 +24,8 @@ pub enum Place {
 }
 
 impl Place {
-    /// Returns its character in a memory block's cells: the last digit of a processor's number,
-    /// and `a` to `z` for owners, which begin again after 26.
+    /// Returns its character in a memory block's cells: the last digit of a processor's number, and
+    /// `a` to `z` for owners. After 26 owners the letters begin again.
     pub(crate) fn sign(&self) -> char
         ensures ascii { result < 128 }
         ensures is { result ≡ place_sign self.now }

@@ -10,8 +10,9 @@ use hp_numbers::number64;
 use std::alloc::{AllocError, Global};
 use std::marker::Model;
 
-/// A round of a plan's calls, and how many more rounds after it are like it: the same calls got the
-/// same replies and left the memory as it was. Any other row has no more rows like it.
+/// A round of a plan's calls, and how many rounds right after it repeat it: the same calls got the
+/// same replies and left the memory as it was. Or a single row of another kind, for which there are
+/// no such rounds.
 #[derive(Drop)]
 pub struct Rounds {
     rows: Vec<RowPicture>,
@@ -27,7 +28,7 @@ impl Model for Rounds {
 }
 
 impl Rounds {
-    /// Makes an entry of rows without any more like them.
+    /// Creates an entry of rows without repetitions.
     pub(crate) fn once(rows: Vec<RowPicture>) -> Rounds
         ensures { result ≡ once rows.items }
     {
@@ -41,7 +42,7 @@ impl Rounds {
         self.rows.as_slice()
     }
 
-    /// Returns how many more rounds there are.
+    /// Returns how many more rounds there are after the first.
     pub fn more(&self) -> u64
         ensures { result ≡ self.now.more }
     {
@@ -56,7 +57,7 @@ impl Rounds {
         all
     }
 
-    /// Returns the same with one more round. More than 2^64 rounds are out of memory.
+    /// Returns the entry with one more round. Fails as if out of memory if 2^64 is reached.
     pub(crate) fn with_one_more(self) -> Result<Rounds, AllocError>
         ensures { IfOk result (λ now. now ≡ record self { more = suc self.more }) }
     {
@@ -67,7 +68,7 @@ impl Rounds {
         }
     }
 
-    /// Returns whether rows are one more round like these.
+    /// Returns whether rows repeat this round once more.
     pub(crate) fn is_one_more(&self, alloc: Global, rows: &[RowPicture]) -> Result<bool, AllocError>
         ensures { IfOk result (λ is. IsTrue is ↔ IsOneMore self.now rows.now) }
     {
@@ -144,7 +145,7 @@ fn is_round(rows: &[RowPicture]) -> bool
     }
 }
 
-/// Returns whether a row is of the round that the rows begin.
+/// Returns whether a row belongs to the round that the rows begin.
 pub(crate) fn goes_on(rows: &[RowPicture], row: &RowPicture) -> bool
     ensures { result ≡ goes_on rows.now row.now }
 {

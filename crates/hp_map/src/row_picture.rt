@@ -34,7 +34,7 @@ impl Model for RowPicture {
 }
 
 impl RowPicture {
-    /// Makes a row of these texts, this move and these memory blocks.
+    /// Creates a row of these texts, this move and these memory blocks.
     pub fn new(
         asked: Text,
         answer: Text,

@@ -6,24 +6,24 @@ use Rattle.indexmap.specs.IndexMap.{insert_entry}
 use Rattle.hp_names.specs.declared.bindings.Naming.{Naming}
 use Rattle.hp_names.specs.declared.results.NamedResult.{NamedResult}
 
--- a processor's word and a name, with a space between, and the latest result of the processor with
--- this name
+-- what names are bound to. A key is a processor's word, a space and a name; its value is the latest
+-- result of the processor with this name
 abbrev pub Bound : Type 0
 Bound = List (List ℕ × NamedResult)
 
 abbrev pub key_of : (cpu name : List ℕ) → List ℕ
 key_of cpu name = cpu ++ 32 ∷ name
 
--- the latest result of a processor with a name
+-- the processor's latest result that has this name
 abbrev pub result_at : Bound → (cpu name : List ℕ) → Option NamedResult
 result_at bound cpu name = lookup (bytes_eq (key_of cpu name)) bound
 
--- the result of a line gets its name; an earlier result of the processor loses it
+-- binds a name to the result of line `line`; an earlier result of the processor loses the name
 abbrev pub bound_to : Bound → Naming → (line number : ℕ) → Bound
 bound_to bound naming line number =
     insert_entry bytes_eq bound naming.key (record { kind = naming.kind; line = line; number = number })
 
--- the numbers of the results of the first lines become known
+-- fills in the numbers that are known: `numbers` has those of the results of the first lines
 abbrev pub numbered_result : List ℕ → NamedResult → NamedResult
 numbered_result numbers r =
     record { kind = r.kind; line = r.line; number = unwrap_or (slice_get numbers r.line) r.number }
@@ -34,7 +34,7 @@ numbered_entry numbers entry = (entry.0, numbered_result numbers entry.1)
 abbrev pub numbered : List ℕ → Bound → Bound
 numbered numbers bound = map (numbered_entry numbers) bound
 
--- the same if the line names its result
+-- the bindings after a line, which may name its result
 abbrev pub bound_after : Bound → Option Naming → (line number : ℕ) → Bound
 bound_after bound None line number = bound
 bound_after bound (Some naming) line number = bound_to bound naming line number

@@ -14,9 +14,9 @@ use Rattle.hp_names.specs.Bindings.{Bound, bound_after}
 use Rattle.hp_names.specs.Plain.{plain_in}
 use Rattle.hp_names.specs.declared.plain.PlainLine.{PlainLine}
 
--- a scenario, and for each line the place of the line whose result it works on, counted from 0. The
--- scenario's line has the number 0 where the result's number is to be. Then what names are bound to
--- after the last line
+-- a scenario with names. `sources` has for each line the index of the line whose result it works on;
+-- such a line has the number 0 in place of the result's. `bound` is what names are bound to after the
+-- last line
 pub record NamedValue : Type 0 where
   pub scenario : ScenarioValue
   pub sources : List (Option ℕ)
@@ -36,7 +36,7 @@ pub record ReadingValue : Type 0 where
 abbrev pub nothing : ReadingValue
 nothing = record { names = []; lines = []; sources = []; bound = [] }
 
--- one more line; the number of its result is not known
+-- the reading after one more line; the number of the line's result is not known yet
 abbrev pub with_line : ReadingValue → PlainLine → Numbered → ReadingValue
 with_line r plain n = record {
   names = n.names;
@@ -48,7 +48,7 @@ with_line r plain n = record {
 abbrev pub with_plain : ReadingValue → PlainLine → Option ReadingValue
 with_plain r plain = option_map (with_line r plain) (line_in r.names plain.text)
 
--- one more text, if it is a line without its names
+-- the reading after one more text, if the text without its names is a line
 abbrev pub with_text : ReadingValue → List ℕ → Option ReadingValue
 with_text r text = with_plain r (plain_in r.bound text)
 
@@ -69,11 +69,12 @@ named_with form = do
     bound = r.bound;
   })
 
--- the scenario of parts and texts; a bad shape if one is missing
+-- the scenario of a layout's parts and the lines' texts; BadShape if either is missing
 abbrev pub named_if : Option LayoutParts → Option (List (List ℕ)) → Result NamedValue ScenarioFault
 named_if parts calls = or_fault BadShape (form_with parts calls) >>= named_with
 
--- the scenario in a JSON value, or the first fault: the shape's before all others
+-- the scenario in a JSON value, or its first fault: the shape is checked before the layout and the
+-- lines
 unfoldable pub named_of : Data → Result NamedValue ScenarioFault
 named_of d = or_fault BadShape (form_of d) >>= named_with
 

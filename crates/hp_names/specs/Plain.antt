@@ -1,5 +1,5 @@
--- A line's text without names: `as NAME` is taken off, and the number that a name stands for is in
--- the place of `$NAME`. A text with names that are not understood stays as it is, and is no line.
+-- A line's text without names: `as NAME` is taken off, and `$NAME` is replaced by the number that it
+-- stands for. A text whose names are not understood is left unchanged, and is not a line.
 use Rattle.std.specs.Prelude.{ℕ, List, [], ◌∷◌, Option, Some, None, if◌then◌else◌, option_and_then}
 use Rattle.std.specs.Fmt.{decimal}
 use Rattle.hp_scenario.specs.Words.{words_of}
@@ -16,7 +16,7 @@ unchanged text = record { text = text; source = None; naming = None }
 
 -- ---- `begin` and `kalloc`
 
--- a text whose result gets a name, if it ends in one
+-- the text of a line whose result may have a name; ` as NAME` is taken off, if the text ends in it
 abbrev pub naming_line : (text : List ℕ) → (words : List (List ℕ)) → (cpu : List ℕ) → ResultKind
     → Option (List ℕ) → PlainLine
 naming_line text words cpu kind None = unchanged text
@@ -28,12 +28,11 @@ naming_line text words cpu kind (Some name) = record {
 
 -- ---- `drainfor`, `migrate`, `commit`, `cancel` and `kfree`
 
--- a result of this kind
+-- the result, if it is of this kind
 abbrev pub of_kind : ResultKind → NamedResult → Option NamedResult
 of_kind kind r = if same_kind r.kind kind then Some r else None
 
--- the result that a word names: the latest of the processor with the name after `$`, if its kind is
--- the one that is wanted
+-- the result that the word `$NAME` names: the processor's latest with that name, if it is of this kind
 abbrev pub result_named : Bound → (cpu : List ℕ) → ResultKind → (word : List ℕ) → Option NamedResult
 result_named bound cpu kind word =
     option_and_then (of_kind kind) (option_and_then (result_at bound cpu) (after_dollar word))

@@ -17,7 +17,7 @@ result_of_verb verb =
     else (if bytes_eq verb (codes "kalloc") then Some Frame
     else None)
 
--- what the word after this verb is the number of, if a name may stand in its place
+-- the kind of result whose number follows this verb, if a name may take the number's place
 unfoldable pub wanted_by_verb : List ℕ → Option ResultKind
 wanted_by_verb verb =
     if bytes_eq verb (codes "drainfor") then Some Operation
@@ -46,14 +46,14 @@ abbrev pub frame_number : Reply → ℕ
 frame_number (reply.Frame frame) = frame
 frame_number r = no_frame
 
--- the number of a call's result: the operation that it began, which has the call's serial, refused or
--- not; or the frame that it got, which a refused call has not
+-- the number of a call's result: for a Begin its serial, which is the operation's number, even if the
+-- Begin was refused; for a KernelAlloc the frame, or `no_frame` if it was refused; otherwise 0
 abbrev pub result_number : Event → (serial : ℕ) → Reply → ℕ
 result_number (Begin plan) serial r = serial
 result_number (KernelAlloc order) serial r = frame_number r
 result_number e serial r = 0
 
--- the same of a call that made no record, since the history was full
+-- the number of the result of a call that made no record because the history was full
 abbrev pub missing_number : Event → ℕ
 missing_number (Begin plan) = no_operation
 missing_number (KernelAlloc order) = no_frame

@@ -19,7 +19,7 @@ pub struct Naming {
     pub kind: ResultKind,
 }
 
-/// The latest result of each processor and name. A contract sees the list of these.
+/// The latest result for each processor and name. A contract sees a list.
 #[derive(Drop)]
 pub struct Bindings {
     results: IndexMap<Text, NamedResult>,
@@ -34,7 +34,7 @@ impl Model for Bindings {
 }
 
 impl Bindings {
-    /// Makes bindings without names.
+    /// Creates bindings without names.
     pub fn new(alloc: Global) -> Bindings
         ensures { result ≡ [] }
     {
@@ -43,7 +43,8 @@ impl Bindings {
         }
     }
 
-    /// Binds a name to the result of the line at a place, whose number is 0 while it is not known.
+    /// Binds a name to the result of the line at index `line`. `number` is the result's number, or
+    /// 0 while that is not known.
     pub fn bind(&mut self, naming: Naming, line: usize, number: u64) -> Result<(), AllocError>
         ensures ok { OnOk result (self.new ≡ spec.bound_to self.old naming line number) }
         ensures err { OnErr result (self.new ≡ self.old) }
@@ -69,7 +70,7 @@ impl Bindings {
         self.results.len()
     }
 
-    /// Returns the word of a processor, a space, and one of its names.
+    /// Returns the key at `index`: a processor's word, a space, and a name.
     pub fn key_at(&self, index: usize) -> Option<&str>
         ensures { option_map (λ key. key.now) result
             ≡ option_map (λ entry. entry.0) (slice_get self.now index) }
@@ -78,7 +79,7 @@ impl Bindings {
         Some(key.as_str())
     }
 
-    /// Notes the numbers of the results of the first lines.
+    /// Fills in the numbers of the results of the first lines: `numbers[n]` is that of line `n`.
     pub(crate) fn number(&mut self, numbers: &[u64])
         ensures { self.new ≡ spec.numbered numbers.now self.old }
     {
@@ -89,7 +90,7 @@ impl Bindings {
         }
     }
 
-    /// Returns the latest result of a processor with a name.
+    /// Returns the processor's latest result that has this name.
     pub(crate) fn result_at(
         &self,
         alloc: Global,
@@ -103,7 +104,7 @@ impl Bindings {
     }
 }
 
-/// Returns a result with its number, if it is known.
+/// Returns a result with its number filled in, if `numbers` has it.
 fn numbered(found: NamedResult, numbers: &[u64]) -> NamedResult
     ensures { result ≡ spec.numbered_result numbers.now found }
 {

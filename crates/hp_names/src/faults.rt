@@ -8,24 +8,24 @@ use crate::results::{ResultKind, result_of_verb, wanted_by_verb};
 use crate::words::{after_dollar, last_two, name_at_end, words_in};
 use std::alloc::{AllocError, Global};
 
-/// Why the names in a text that is no line are not understood.
+/// Why the names in a text that is not a line are not understood.
 #[derive(Clone, Copy, Debug, PartialEq, Eq, Drop)]
 pub enum NameFault {
     /// No earlier line of the processor gives its result the name after `$`.
     UnknownName,
-    /// The result with the name after `$` is no operation, or no frame.
+    /// The name after `$` is that of a frame where an operation is needed, or the other way round.
     WrongKind,
     /// A word begins with `$`, and is not the one after `drainfor`, `migrate`, `commit`, `cancel`
     /// or `kfree`.
     ReferenceNotHere,
-    /// The line ends in `as` and a word, and is no `begin` and no `kalloc`.
+    /// The line ends in `as` and a word, but its verb is neither `begin` nor `kalloc`.
     NameNotHere,
-    /// The word after `as` has not the form of a name.
+    /// The word after `as` does not have the form of a name.
     BadName,
 }
 
-/// Returns why the names of a text are not understood, given what names are bound to before it. It
-/// is to be asked of a text that is no line: an `echo` may have words that look like names.
+/// Returns why the names in a text are not understood, given what names are bound to before it.
+/// Call this only for a text that is not a line: the words of an `echo` may look like names.
 pub fn name_fault(
     alloc: Global,
     text: &str,
@@ -111,7 +111,7 @@ fn reference_fault(
     })
 }
 
-/// Returns the fault of words that may not begin with `$`, or of a name that may not be there.
+/// Returns `ReferenceNotHere` if a word begins with `$`; if not, `fault` if there is a name.
 fn stray_fault(has_reference: bool, has_name: bool, fault: NameFault) -> Option<NameFault>
     ensures { result ≡ spec.stray_fault has_reference has_name fault }
 {

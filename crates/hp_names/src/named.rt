@@ -17,7 +17,7 @@ use serde_json::Value;
 use std::alloc::{AllocError, Global};
 use std::marker::Model;
 
-/// For each line of a scenario the place of the line whose result it works on, counted from 0. A
+/// For each line of a scenario, the index of the line whose result it works on, if there is one. A
 /// contract sees a list.
 #[derive(Drop)]
 pub struct Sources {
@@ -56,8 +56,8 @@ impl Sources {
     }
 }
 
-/// A scenario, and the lines that work on the results of earlier ones. These lines have the number
-/// 0 where the number of the result is to be.
+/// A scenario, and the lines that work on the results of earlier ones. Such a line has 0 in place
+/// of the result's number.
 #[derive(Drop)]
 pub struct NamedScenario {
     /// The scenario.
@@ -70,9 +70,9 @@ pub struct NamedScenario {
 
 impl NamedScenario {
     /// Reads a scenario whose lines may have names for their results. A text without names is read
-    /// as [`Scenario::read`] reads it, and as fast, if none of its bytes is a `$`.
+    /// as by [`Scenario::read`], and just as fast if it has no `$` byte.
     ///
-    /// A line whose names are not understood is no line.
+    /// A line whose names are not understood is not a line.
     pub fn read(alloc: Global, bytes: &[u8]) -> Result<NamedScenario, ScenarioFault>
         ensures { Gives named_seen result (named_in bytes.now) }
     {
@@ -110,7 +110,7 @@ fn read_named(alloc: Global, bytes: &[u8]) -> Result<NamedScenario, ScenarioFaul
     named_from(alloc, &value)
 }
 
-/// Returns the scenario in a JSON value. Checks the shape before the layout and the lines.
+/// Returns the scenario in a JSON value. Checks its shape before the layout and the lines.
 #[tactic(auto, unfolding(crate::specs::Named::named_of, hp_scenario::specs::Form::form_of, hp_scenario::specs::Form::parts_of))]
 fn named_from(alloc: Global, value: &Value) -> Result<NamedScenario, ScenarioFault>
     ensures { Gives named_seen result (named_of (view value.now)) }

@@ -10,11 +10,11 @@ use crate::words::{after_dollar, joined, name_at_end, words_in};
 use hp_units::Text;
 use std::alloc::{AllocError, Global};
 
-/// A line's text without names, and what its names say.
+/// A line's text without names, and what its names stood for.
 #[derive(Drop)]
 pub struct PlainLine {
-    /// The text, without ` as NAME`, and with a number in the place of `$NAME`. It is left as it was
-    /// if there is no name, or if the name is not understood; in the second case it is no line.
+    /// The text, without ` as NAME`, and with a number in place of `$NAME`. Unchanged if there is
+    /// no name, or if the name is not understood; in the second case the text is not a line.
     pub text: Text,
     /// The place of the line whose result the name after `$` stands for.
     pub source: Option<usize>,
@@ -95,8 +95,7 @@ fn before_name<'a, 'b>(words: &'b [&'a str]) -> &'b [&'a str]
     &words[..words.len().saturating_sub(2)]
 }
 
-/// Puts the number of a result into the place of its name, if the first of the words after the verb
-/// is the name of one of this kind.
+/// Replaces the first word after the verb by a number, if it names a result of this kind.
 fn working_line(
     alloc: Global,
     text: &str,
@@ -163,7 +162,7 @@ fn numbered_line(
     })
 }
 
-/// Returns words with one space between them, the third of which is a number's.
+/// Joins words with one space between them. The third word is a number.
 fn numbered_text(
     alloc: Global,
     cpu: &str,

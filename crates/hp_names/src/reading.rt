@@ -37,7 +37,7 @@ impl Model for Reading {
 }
 
 impl Reading {
-    /// Begins without lines.
+    /// Creates a reading without lines.
     pub(crate) fn new(alloc: Global) -> Reading
         ensures { result ≡ nothing }
     {
@@ -67,7 +67,7 @@ impl Reading {
         Ok(())
     }
 
-    /// Appends the line in a text. Returns whether it is one without its names.
+    /// Appends the line in a text. Returns `false` if the text without its names is not a line.
     fn add(&mut self, alloc: Global, text: &str) -> Result<bool, AllocError>
         ensures { IfOk result
             (λ is_line. with_text self.old text.now ≡ (if is_line then Some self.new else None)) }

@@ -14,9 +14,10 @@ use hp_scenario::{Line, Lines, Scenario, Work};
 use hp_units::{Event, Frame, Layout, Serial};
 use std::alloc::{AllocError, Global};
 
-/// Runs the first `count` lines in order on a machine just booted, as `hotplug serial` does. Puts the
-/// number of each result into the lines that work on it, which then have no source, and into the
-/// names that later lines may use. Runs nothing if no result has a name.
+/// Runs the first `count` lines in order on a machine just booted, as `hotplug serial` does. Puts
+/// the number of each result into the lines that work on it, which then have no source, and into
+/// the names that later lines may use. Runs nothing if no result has a name and no line works on a
+/// result of the first `count` lines.
 pub fn resolve_front(
     alloc: Global,
     named: NamedScenario,
@@ -100,8 +101,8 @@ fn is_below(source: Option<usize>, count: u64) -> bool
     }
 }
 
-/// Runs the first `front` lines on a machine just booted, each with the number of its source in it.
-/// Returns the numbers of their results.
+/// Runs the first `front` lines on a machine just booted, after putting the number of its source
+/// into each. Returns the numbers of their results.
 fn run_front(
     alloc: Global,
     layout: &Layout,
@@ -137,7 +138,7 @@ fn put_numbers(lines: &mut [Line], sources: &[Option<usize>], from: usize, numbe
     }
 }
 
-/// Takes the sources away whose numbers are known.
+/// Takes away each source whose number is known.
 fn take_away(sources: &mut [Option<usize>], numbers: &[u64])
     ensures { sources.new ≡ spec.sources_after numbers.now sources.old }
 {
@@ -148,7 +149,7 @@ fn take_away(sources: &mut [Option<usize>], numbers: &[u64])
     }
 }
 
-/// Returns the source of the line at a place; none past the last source.
+/// Returns the source of the line at `index`, or `None` if it has none.
 fn source_at(sources: &[Option<usize>], index: usize) -> Option<usize>
     ensures { result ≡ spec.first_source (drop index sources.now) }
 {
@@ -195,8 +196,8 @@ fn set_number(event: &mut Event, number: u64)
     }
 }
 
-/// Returns the frame with a number. A number that is too large becomes the greatest one, which no
-/// layout has.
+/// Returns the frame with this number. A number that is too large becomes the greatest one, which
+/// no layout has.
 fn frame_of(number: u64) -> Frame
     ensures { result ≡ spec.frame_of number }
 {

@@ -60,7 +60,8 @@ pub(crate) fn result_of_verb(verb: &str) -> Option<ResultKind>
     }
 }
 
-/// Returns what the word after this verb is the number of, if a name may stand in its place.
+/// Returns the kind of result whose number follows this verb, if a name may take the number's
+/// place.
 #[tactic(auto, unfolding(crate::specs::Results::wanted_by_verb))]
 pub(crate) fn wanted_by_verb(verb: &str) -> Option<ResultKind>
     ensures { result ≡ spec.wanted_by_verb verb.now }
@@ -75,8 +76,8 @@ pub(crate) fn wanted_by_verb(verb: &str) -> Option<ResultKind>
     }
 }
 
-/// Returns the number of a call's result: of a `Begin` the operation, also if it was refused; of a
-/// `KernelAlloc` the frame, or 4294967295, which no layout has, if it was refused; otherwise 0.
+/// Returns the number of a call's result: for a `Begin` its operation, even if it was refused; for
+/// a `KernelAlloc` its frame, or 4294967295, which no layout has, if it was refused; otherwise 0.
 pub fn result_number(event: &Event, serial: Serial, reply: &Reply) -> u64
     ensures { result ≡ spec.result_number event.now serial reply.now }
 {
@@ -87,7 +88,7 @@ pub fn result_number(event: &Event, serial: Serial, reply: &Reply) -> u64
     }
 }
 
-/// Returns the frame of a reply.
+/// Returns the number of the frame in a reply, or `NO_FRAME` if the reply is another.
 fn frame_number(reply: &Reply) -> u64
     ensures { result ≡ spec.frame_number reply.now }
 {

@@ -7,7 +7,7 @@ use hp_scenario::{is_name, split_words};
 use hp_units::Text;
 use std::alloc::{AllocError, Global};
 
-/// Returns the words of a text, which are between single spaces.
+/// Returns the words of a text, which single spaces separate.
 pub(crate) fn words_in<'a>(alloc: Global, text: &'a str) -> Result<Vec<&'a str>, AllocError>
     ensures { IfOk result (λ words. map (λ w. w.now) words.items ≡ words_of text.now) }
 {

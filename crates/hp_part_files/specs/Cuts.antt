@@ -2,7 +2,7 @@
 use Rattle.std.specs.Prelude.{◌≡◌, ℕ, ◌+◌, ◌==◌, List, ◌∷◌, ◌++◌, count_by, drop, length, take, Some, None}
 use Rattle.memchr.specs.Find.{IsFirstByte, is_byte}
 
--- `text` is the line at `place`: it goes up to the next newline (memchr)
+-- `text` is the line at `place`: the bytes up to the next newline (memchr)
 abbrev pub IsLineAt : (input : List ℕ) → (place : ℕ) → (text : List ℕ) → Type 0
 IsLineAt input place text =
     (drop place input ≡ text ++ 10 ∷ drop (place + length text + 1) input)

@@ -10,7 +10,7 @@ abbrev pub IsEndOf : Setting → PartValue → (schedule : List ℕ) → Option 
 IsEndOf g part schedule None = (x : OutcomeValue) → EndsInPart g part schedule x → ⊥
 IsEndOf g part schedule (Some x) = EndsInPart g part schedule x
 
--- the schedule led to the path; or one of its processors has no call to make in its turn
+-- the schedule led to the path; or one of its processors had no call to make when its turn came
 abbrev pub IsFollowed : Setting → (schedule : List ℕ) → (led : Bool) → PathValue → Type 0
 IsFollowed g schedule true path = (path.setting ≡ g) × (schedule_of path.news ≡ schedule)
 IsFollowed g schedule false path = plays g schedule ≡ None

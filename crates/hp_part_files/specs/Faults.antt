@@ -40,29 +40,29 @@ fault_of_line Stopped line = part.Stopped line
 fault_of_line (OtherCount number) line = part.OtherCount number
 fault_of_line (Lab fault) line = part.Lab fault
 
--- the head of part `number` of the search, which names `ends` ends
+-- `text` is the head of part `number` of the search, and names `ends` ends
 abbrev pub IsOwnHead : SearchValue → (text : List ℕ) → (number ends : ℕ) → Type 0
 IsOwnHead s text number ends = IsNumber s number × (text ≡ head_line s number ends)
 
--- a head, but not of a part of the search
+-- `text` is a head, but not that of a part of the search
 abbrev pub IsOtherHead : SearchValue → (text : List ℕ) → Type 0
 IsOtherHead s text =
     (number : ℕ) × (ends : ℕ) × IsLine text (Head number ends) × (IsOwnHead s text number ends → ⊥)
 
--- the head of a part of the search, but the part before it has another number of ends than its own head
--- names
+-- `text` is the head of a part of the search, but the part before it does not have as many ends as that
+-- part's own head names
 abbrev pub IsAfterOther : SearchValue → GatheringValue → (text : List ℕ) → (before : ℕ) → Type 0
 IsAfterOther s v text before =
     IsLastOther v before × (number : ℕ) × (ends : ℕ) × IsOwnHead s text number ends
 
--- an end whose schedule is not a complete schedule of the part
+-- `text` is the line of an end, but its schedule is not a complete schedule of the part
 pub record IsOfNoPart (g : Setting) (s : SearchValue) (v : GatheringValue) (text : List ℕ) : Type 0 where
   pub count : ℕ
   pub schedule : Vec ℕ
   pub line : IsLine text (End count schedule)
   pub none : (x : OutcomeValue) → EndsInPart g (part_in s v.last.number) schedule.items x → ⊥
 
--- an end whose line the search writes differently
+-- `text` is the line of an end, but the search writes that line differently
 pub record IsChanged (names : List (List ℕ)) (g : Setting) (s : SearchValue) (v : GatheringValue)
     (text : List ℕ) : Type 0 where
   pub end : Ending
@@ -70,7 +70,7 @@ pub record IsChanged (names : List (List ℕ)) (g : Setting) (s : SearchValue) (
   pub own : EndsInPart g (part_in s v.last.number) end.first.items end.outcome
   pub other : text ≡ end_line names g (length v.last.ends + 1) end → ⊥
 
--- why playing a schedule fails: the history has no room for a call of this very schedule
+-- why playing a schedule fails: the history has no room for one of the schedule's own calls
 abbrev pub IsCauseAlong : (schedule : List ℕ) → Setting → ExploreFault → Type 0
 IsCauseAlong schedule g explore.HistoryFull = FillsAlong g schedule
 IsCauseAlong schedule g explore.OutOfMemory = Unit {0}
@@ -110,7 +110,7 @@ fault_of_order (order.Missing number) = part.Missing number
 fault_of_order (order.Twice number) = part.Twice number
 fault_of_order order.OutOfMemory = part.Lab OutOfMemory
 
--- some part is missing or there twice
+-- a part is missing, or comes twice
 abbrev pub IsMisplaced : List PartEndsValue → (of : ℕ) → PartFault → Type 0
 IsMisplaced parts of fault = (why : OrderFault) × (fault ≡ fault_of_order why) × IsOrderFault parts of why
 
@@ -131,7 +131,7 @@ IsUnended input names g s fault =
     × (fault ≡ part.NotPart (line_number input place)) × HasNoNewline input place
     × IsGathering names g s (take place input) v
 
--- the last part has another number of ends than its head names
+-- the last part does not have as many ends as its head names
 abbrev pub IsLastCut : (input : List ℕ) → (names : List (List ℕ)) → Setting → SearchValue → PartFault
     → Type 0
 IsLastCut input names g s fault =
@@ -144,7 +144,7 @@ IsTooMany lists part.TooMany = 2 ^ 64 ≤ counted_by lists
 IsTooMany lists (part.Lab fault) = fault ≡ OutOfMemory
 IsTooMany lists fault = ⊥
 
--- some part is missing or there twice, or there are too many interleavings
+-- a part is missing or comes twice, or there are too many interleavings
 pub record IsUnsummed (input : List ℕ) (names : List (List ℕ)) (g : Setting) (s : SearchValue)
     (fault : PartFault) : Type 0 where
   pub parts : List PartEndsValue
@@ -152,7 +152,7 @@ pub record IsUnsummed (input : List ℕ) (names : List (List ℕ)) (g : Setting)
   pub cause : IsMisplaced parts s.of fault
       ⊎ ((lists : List (List Ending)) × AreAll parts s.of lists × IsTooMany lists fault)
 
--- why parts of a prepared scenario cannot be added up, after a first head
+-- why the parts of a prepared scenario cannot be added up; the first head has been read
 abbrev pub IsUntoldSum : (input : List ℕ) → (names : List (List ℕ)) → Setting → SearchValue → PartFault
     → Type 0
 IsUntoldSum input names g s fault =
@@ -161,12 +161,12 @@ IsUntoldSum input names g s fault =
     ⊎ (IsUnended input names g s fault
     ⊎ (IsLastCut input names g s fault ⊎ IsUnsummed input names g s fault)))
 
--- the scenario that the head of part `number` names cannot be explored
+-- the fault if the scenario that the head of part `number` names cannot be explored
 abbrev pub fault_of_head : (number : ℕ) → LabFault → PartFault
 fault_of_head number OutOfMemory = part.Lab OutOfMemory
 fault_of_head number why = part.Head number why
 
--- that scenario cannot be prepared, or its parts cannot be added up
+-- the scenario that the head names cannot be prepared, or the parts cannot be added up
 abbrev pub IsUnsummedIn : (input : List ℕ) → HeadValue → PartFault → Type 0
 IsUnsummedIn input h fault =
     ((why : LabFault) × (fault ≡ fault_of_head h.number why)

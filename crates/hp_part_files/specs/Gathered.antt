@@ -1,4 +1,4 @@
--- The parts in a text: the text is that of the parts, and their ends belong to them.
+-- The parts in a text: the text is theirs, and their ends belong to them.
 use Rattle.std.specs.Prelude.{◌≡◌, ℕ, ◌≤◌, List, ◌++◌, length}
 use Rattle.std.specs.List.{All, flat_map}
 use Rattle.hp_schedules.specs.Schedules.{Setting}
@@ -7,8 +7,8 @@ use Rattle.hp_part_files.specs.Gathering.{GatheringValue, PartEndsValue}
 use Rattle.hp_part_files.specs.Heads.{SearchValue, part_in}
 use Rattle.hp_part_files.specs.Texts.{begun_lines, part_lines}
 
--- the search has the part, and each of its ends is that of its first schedule, which is complete
--- and the part's
+-- the search has this part, and each of the part's ends is that of its first schedule, which is a
+-- complete schedule of the part
 pub record IsOwn (g : Setting) (s : SearchValue) (p : PartEndsValue) : Type 0 where
   pub some : 1 ≤ p.number
   pub within : p.number ≤ s.of
@@ -28,7 +28,7 @@ pub record IsGathering (names : List (List ℕ)) (g : Setting) (s : SearchValue)
   pub done : AreOwn g s v.done
   pub last : IsOwn g s v.last
 
--- the last part, `number`, has another number of ends than its head names
+-- the last part, `number`, does not have as many ends as its head names
 abbrev pub IsLastOther : GatheringValue → (number : ℕ) → Type 0
 IsLastOther v number = (number ≡ v.last.number) × (v.named ≡ length v.last.ends → ⊥)
 

@@ -62,10 +62,11 @@ pub record HeadValue : Type 0 where
   pub ends : ℕ
   pub search : SearchValue
 
--- there is a part `number`, of at most 1,000,000; the head with these numbers; the head in a value
+-- there is a part `number` of `of` parts; there are at most 1,000,000 parts
 abbrev pub is_number : (number of : ℕ) → Bool
 is_number number of = nat_le 1 number && (nat_le number of && nat_le of 1000000)
 
+-- the head with these numbers, if there is such a part
 abbrev pub head_with : (number of calls setup ends : ℕ) → (scenario : List ℕ) → Option HeadValue
 head_with number of calls setup ends scenario =
     if is_number number of
@@ -76,6 +77,7 @@ head_with number of calls setup ends scenario =
     })
     else None
 
+-- the head in a JSON value, if it has one
 unfoldable pub head_from : Data → Option HeadValue
 head_from d = do
   number ← number_at (codes "part") d
@@ -87,7 +89,7 @@ head_from d = do
   scenario ← text_at (codes "scenario") d
   head_with number of calls setup ends scenario
 
--- the text is a head: JSON that has one, and written byte for byte as the search writes it
+-- the text is a head: its JSON has one, and the search writes that head byte for byte like this
 abbrev pub IsHead : (text : List ℕ) → HeadValue → Type 0
 IsHead text h =
     (option_and_then head_from (json_of text) ≡ Some h) × (text ≡ head_line h.search h.number h.ends)

@@ -1,4 +1,4 @@
--- The parts in the order of their numbers, and why they are not all there once.
+-- The parts in the order of their numbers, and what is wrong if a part is missing or comes twice.
 use Rattle.std.specs.Prelude.{◌≡◌, ℕ, ◌+◌, ◌-◌, ◌≤◌, ◌<◌, List, length, map, slice_index_or}
 use Rattle.std.specs.Global.{Vec}
 use Rattle.std.specs.List.{All}
@@ -25,7 +25,7 @@ abbrev pub ArePlacedBelow : (below : ℕ) → List PartEndsValue → Type 0
 ArePlacedBelow below parts =
     (k : ℕ) (d : PartEndsValue) → k < below → (slice_index_or parts k d).number ≡ k + 1
 
--- each part is there once: in some order they have the numbers 1 to `of`
+-- each part comes once: in this order, the parts have the numbers 1 to `of`
 pub record AreInPlace (of : ℕ) (ordered : List PartEndsValue) : Type 0 where
   pub count : length ordered ≡ of
   pub numbers : ArePlacedBelow of ordered
@@ -36,10 +36,10 @@ pub record AreAll (parts : List PartEndsValue) (of : ℕ) (lists : List (List En
   pub placed : AreInPlace of ordered
   pub are : lists ≡ map (λ p. p.ends) ordered
 
--- ---- why they are not
+-- ---- a part that is missing or comes twice
 
--- the first number that is missing: each one below is there once, and the other parts have greater
--- ones
+-- `number` is the first that is missing: each lower number comes once, and all other parts have higher
+-- numbers
 pub record IsMissing (parts : List PartEndsValue) (of number : ℕ) : Type 0 where
   pub some : 1 ≤ number
   pub within : number ≤ of
@@ -47,8 +47,8 @@ pub record IsMissing (parts : List PartEndsValue) (of number : ℕ) : Type 0 whe
   pub beyond : (k : ℕ) (d : PartEndsValue) → number ≤ k + 1 → k < length parts
       → number < (slice_index_or parts k d).number
 
--- the first number that comes twice: each one below is there once, and the other parts have no
--- lower one
+-- `number` is the first that comes twice: each lower number comes once, and all other parts have this
+-- number or a higher one
 pub record IsTwice (parts : List PartEndsValue) (number : ℕ) : Type 0 where
   pub some : 1 ≤ number
   pub before : ArePlacedBelow number parts

@@ -21,9 +21,9 @@ use Rattle.hp_schedules.specs.PartNumbers.{NumberValue, part_by}
 use Rattle.hp_part_files.specs.Heads.{SearchValue}
 use Rattle.hp_part_files.specs.Texts.{part_text}
 
--- the ends are those of all complete schedules of the part, at most `limit`, and none fills the
--- history; or they are those of the first ones, and there are more: they are as many as the limit, or
--- the watch has ended the search
+-- None: the ends are those of all complete schedules of the part, these are at most `limit`, and none
+-- fills the history. Otherwise the ends are those of the part's first schedules, and there are more;
+-- either they count `limit` schedules, or the watch has ended the search
 abbrev pub ArePartEnds : Setting → PartValue → (limit : ℕ) → (ended : Type 0) → List Ending → Option HowMany
     → Type 0
 ArePartEnds g part limit ended ends None =
@@ -66,7 +66,7 @@ IsToldPart names g s number x text found =
     (more : Option HowMany) × IsMore g.scripts x.is_whole more
     × (text ≡ part_text names g s number x.ends.items more) × (found ≡ is_none more)
 
--- a schedule of the part fills the history, within the limit
+-- within the limit, a schedule of the part fills the history
 abbrev pub FillsPartOf : NumberValue → (limit : ℕ) → Setting → Type 0
 FillsPartOf n limit g =
     (calls : ℕ) × IsCallsFor (length g.scripts) n.of calls × FillsPartWithin g (part_by n calls) limit
@@ -82,7 +82,7 @@ abbrev pub IsPartOf : NumberValue → (input : List ℕ) → (setup limit : ℕ)
 IsPartOf n input setup limit ended text found =
     HoldsIn (λ names before g. IsPartOn n setup input limit ended text found names g) input setup
 
--- if the history is full, a schedule of the part fills it, within the limit
+-- if the fault is a full history, a schedule of the part fills it within the limit
 abbrev pub IsFullPart : NumberValue → (input : List ℕ) → (setup limit : ℕ) → LabFault → Type 0
 IsFullPart n input setup limit (HistoryFull needed) =
     InScenario input setup (HoldsAfter (FillsPartOf n limit) setup)

@@ -11,10 +11,11 @@ use Rattle.hp_part_files.specs.declared.reading.PartLine.TheVariants.{Head, End,
 unfoldable pub text_at : List ℕ → Data → Option (List ℕ)
 text_at key d = option_and_then as_str (get key d)
 
--- a number of 32 bits; the processor with the number that a value is
+-- the number, if it fits 32 bits
 abbrev pub narrow : ℕ → Option ℕ
 narrow n = if nat_lt n (2 ^ 32) then Some n else None
 
+-- the processor whose number the value is
 abbrev pub processor_of : Data → Option ℕ
 processor_of d = option_and_then narrow (option_and_then as_u64 (as_number d))
 

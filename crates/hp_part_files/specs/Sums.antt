@@ -15,9 +15,9 @@ use Rattle.hp_part_files.specs.Heads.{HeadValue, SearchValue}
 use Rattle.hp_part_files.specs.Faults.{BeginsWith}
 use Rattle.hp_part_files.specs.Gathered.{IsGathered}
 
--- the ends are sorted, with the lists' counts added up and no outcome twice; if the lists are all
--- parts of a search, the ends are those of the whole, in the order of their first schedules
--- (see Adding)
+-- the ends are sorted, no two have the same outcome, and the counts are those of the lists added up. If
+-- the lists are those of all parts of a search, the ends are those of the whole, in the order of their
+-- first schedules (see Adding)
 pub record IsSum (lists : List (List Ending)) (ends : List Ending) : Type 0 where
   pub are : (g : Setting) (calls : ℕ) → 0 < length lists → AreParts g calls lists → AreEnds g ends
   pub ordered : (g : Setting) (calls : ℕ) → 0 < length lists → AreParts g calls lists → AreInOrder ends
@@ -25,8 +25,9 @@ pub record IsSum (lists : List (List Ending)) (ends : List Ending) : Type 0 wher
   pub apart : AreApart ends
   pub total : sum_by (λ e. e.count) ends ≡ counted_by lists
 
--- the input is, byte for byte, what the search writes for its parts, each there once. Each end has the
--- outcome of its own schedule, which is complete and the part's. The text has the sum of the ends
+-- the input is, byte for byte, what the search writes for its parts, and each part comes once. Each end
+-- has the outcome of its own schedule, which is a complete schedule of its part. The text has the
+-- merged ends
 pub record IsSumOn (form : EndsForm) (input : List ℕ) (s : SearchValue) (text : List ℕ) (found : Bool)
     (names : List (List ℕ)) (before : List Line) (g : Setting) : Type 0 where
   pub parts : List PartEndsValue

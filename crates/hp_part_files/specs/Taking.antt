@@ -8,7 +8,7 @@ use Rattle.hp_part_files.specs.Heads.{HeadValue, SearchValue}
 use Rattle.hp_part_files.specs.Gathered.{IsGathering}
 use Rattle.hp_part_files.specs.Texts.{end_line}
 
--- a line and its newline were taken after the lines before it
+-- taking the line `text` and its newline leads from `old` to `new`
 abbrev pub IsTaken : (names : List (List ℕ)) → Setting → SearchValue → (old : GatheringValue)
     → (text : List ℕ) → (new : GatheringValue) → Type 0
 IsTaken names g s old text new =

@@ -18,8 +18,8 @@ pub fn line_at(input: &[u8], place: usize) -> Option<&[u8]>
     }
 }
 
-/// Returns the number, from 1, of the line at `place`. Counts all newlines before it: meant for
-/// messages.
+/// Returns the number, from 1, of the line at `place`. Counts all newlines before it, so use it
+/// only for messages.
 pub fn line_number(input: &[u8], place: usize) -> u64
     requires { place ≤ length input.now }
     ensures { result ≡ line_number input.now place }

@@ -13,7 +13,7 @@ use hp_units::Cpu;
 use std::alloc::{AllocError, Global};
 
 /// Returns how a schedule of `part` ends, or `None` if it is not a complete schedule of the part.
-/// Its calls start from the state of `machine`; script k is processor k's.
+/// Its calls start from the state of `machine`. Script k is that of processor k.
 ///
 /// Errors: `HistoryFull` if the layout's history has no room for one of the schedule's calls;
 /// `OutOfMemory`.
@@ -39,8 +39,8 @@ pub(crate) fn end_of(
     Ok(outcome)
 }
 
-/// Makes the calls of a schedule. Returns whether each of its processors had a call to make in its
-/// turn.
+/// Makes the calls of a schedule. Returns whether each of its processors had a call to make when
+/// its turn came.
 fn follow(alloc: Global, path: &mut Path<'_>, schedule: &[Cpu]) -> Result<bool, ExploreFault>
     requires { path.old.news ≡ [] }
     ensures ok { IfOk result (λ led. IsFollowed path.old.setting schedule.now led path.new) }

@@ -38,8 +38,8 @@ impl PartEnds {
     }
 }
 
-/// The parts of a text while it is read line by line. The last part's head names how many ends it
-/// has; some of them may still be to come.
+/// The parts of a text while it is read line by line. The head of the last part names how many ends
+/// that part has; some of them may still be to come.
 #[derive(Drop)]
 pub struct Gathering {
     done: Vec<PartEnds>,
@@ -61,7 +61,7 @@ impl Model for Gathering {
 }
 
 impl Gathering {
-    /// Starts with part `number`, whose head names `named` ends; none has been read yet.
+    /// Creates the value for part `number`, whose head names `named` ends, before any end is read.
     pub fn new(alloc: Global, number: u32, named: u64) -> Gathering
         ensures { result ≡ record {
           done = [];

@@ -1,13 +1,14 @@
 //! Searches one part of a scenario's interleavings, and adds up parts that ran on any machines.
 //!
 //! A part's file is JSON, one object per line. A head names the search and the part. Then comes
-//! each end that the part's interleavings lead to, as `explore --json` writes it, with the first of
-//! them. The sum plays each of these schedules again on the scenario that the heads name, so it
-//! finds a line that does not match its own schedule. It reports the whole as `explore` does. The
-//! crate owns that form, and when each fault comes; it opens no file and no stream.
+//! each end that the part's interleavings lead to, as `explore --json` writes it, with the
+//! processors of its first interleaving. `sum_text` plays each of these interleavings again on the
+//! scenario that the heads name. So it finds a line that does not match its own interleaving. It
+//! reports the whole as `explore` does. The crate owns the form of these files, and when each fault
+//! comes; it opens no file and no stream.
 //!
-//! Read specs/Heads, specs/Reading and specs/Ordering first, then specs/Texts, specs/Parts and
-//! specs/Sums: what the two functions promise.
+//! Read specs/Heads, specs/Reading and specs/Ordering first, then specs/Texts, and specs/Parts and
+//! specs/Sums (what `part_text` and `sum_text` promise).
 #![tactic(auto)]
 
 mod cuts;

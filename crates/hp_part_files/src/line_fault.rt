@@ -5,22 +5,23 @@ ghost use Rattle.hp_part_files.specs.Faults.{fault_of_line};
 use hp_search::{LabFault, PartFault};
 use std::alloc::AllocError;
 
-/// Why a line is refused after the lines before it.
+/// Why a line is refused, given the lines before it.
 #[derive(Drop)]
 pub(crate) enum LineFault {
-    /// It is not a line of a part.
+    /// The line is not a line of a part.
     NotPart,
-    /// It is a head, but not of a part of this search.
+    /// The line is a head, but not of a part of this search.
     OtherSearch,
-    /// Its processors are not a complete interleaving of its part.
+    /// The processors in the line are not a complete interleaving of the part.
     NotOfPart,
-    /// It is not what the search writes for its interleaving.
+    /// The line is not what the search writes for its interleaving.
     Changed,
-    /// The part stopped at its limit.
+    /// The line reports that the part stopped at its limit.
     Stopped,
-    /// It begins a part, and the part before it has another number of ends than its head names.
+    /// The line is a head, but part `part`, which comes before it, does not have as many ends as
+    /// its own head names.
     OtherCount { part: u32 },
-    /// Its interleaving could not be played.
+    /// The interleaving in the line could not be played.
     Lab(LabFault),
 }
 

@@ -1,4 +1,4 @@
-//! Sorts the parts, and checks that each is there once.
+//! Sorts the parts, and checks that each comes once.
 ghost use Rattle.std.specs.Prelude.{◌≡◌, ◌<◌, ◌+◌, IfErr, IfOk, OnOk, length, map};
 ghost use Rattle.std.specs.List.Sorted.{IsPermutation};
 ghost use Rattle.hp_part_files.specs.Ordering.{AreAll, AreInPlace, ArePlacedBelow, AreRising, AreWithin, IsMisplaced, IsOrderFault, lists_of};
@@ -7,7 +7,7 @@ use crate::gathering::PartEnds;
 use hp_schedules::Ending;
 use std::alloc::{AllocError, Global};
 
-/// Why the parts are not all there once. Parts are counted from 1.
+/// What is wrong if a part is missing or comes twice. Parts are counted from 1.
 #[derive(Clone, Copy, Drop)]
 pub enum OrderFault {
     /// A part is missing.
@@ -79,7 +79,7 @@ fn check_numbers(parts: &[PartEnds], of: u32) -> Result<(), OrderFault>
     Ok(())
 }
 
-/// Checks that the part at `index` has the next number; those before it have theirs.
+/// Checks that the part at `index` has the next number. The parts before it have been checked.
 fn check_number(parts: &[PartEnds], index: usize, of: u32) -> Result<(), OrderFault>
     requires index { index < length parts.now }
     requires within { AreWithin of parts.now }

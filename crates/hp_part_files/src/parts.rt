@@ -20,8 +20,8 @@ use std::alloc::Global;
 /// part without interleavings has only its head.
 ///
 /// If the part has more interleavings than `limit`, its ends are those of the first `limit`, a last
-/// object reports that, and nothing is found. The same holds if `watch` ends the search: the ends
-/// are then those of the first ones up to that point.
+/// object reports that, and `is_found` is false. The same holds if `watch` ends the search: the
+/// ends are then those of the interleavings up to that point.
 ///
 /// While the search runs, `watch` gets its progress, and may end it.
 ///

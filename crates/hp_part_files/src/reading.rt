@@ -39,7 +39,7 @@ pub fn json_in(alloc: Global, text: &[u8]) -> Result<Option<Value>, AllocError>
     }
 }
 
-/// Reads a line, whose keys decide what it is. A line that is not JSON is `Other`.
+/// Reads a line. Its keys decide what it is; a line that is not JSON is `Other`.
 #[tactic(auto, using(crate::proofs::Values::in_none))]
 pub fn line_in(alloc: Global, text: &[u8]) -> Result<PartLine, AllocError>
     ensures { IfOk result (IsLine text.now) }
@@ -68,7 +68,7 @@ fn line_of(alloc: Global, value: &Value) -> Result<PartLine, AllocError>
     }
 }
 
-/// Reads a head from a value with a part's number.
+/// Reads a head from a value that has the number of a part.
 fn head_of(value: &Value, part: u64) -> PartLine
     requires { number (codes "part") (view value.now) ≡ Some part }
     ensures { IsLineOf (view value.now) result }
@@ -132,7 +132,7 @@ fn processors_of(alloc: Global, values: &Vec<Value>) -> Result<Option<Vec<Cpu>>,
     Ok(Some(processors))
 }
 
-/// Returns the processor with the number that a value is.
+/// Returns the processor whose number the value is.
 fn processor_of(value: &Value) -> Option<Cpu>
     ensures { result ≡ processor (view value.now) }
 {

@@ -28,8 +28,8 @@ use std::alloc::Global;
 ///
 /// Takes the count and the schedule of each end, and plays the schedule again on the scenario. So
 /// it finds a line that does not match its own schedule, but not a count that was changed.
-/// `explore_text` returns the same text if its limit allows for all interleavings. That `sum_text`
-/// accepts whatever `part_text` writes is tested, not proved.
+/// `explore_text` returns the same text if its limit allows for all interleavings. It is tested,
+/// not proved, that `sum_text` accepts whatever `part_text` writes.
 ///
 /// Errors: that of the first line that belongs to no part, was changed, begins a part of another
 /// search, or reports that a part stopped at its limit; `OtherCount` with the number, from 1, of a
@@ -144,7 +144,7 @@ fn fault_of_head(part: u32, fault: LabFault) -> PartFault
     }
 }
 
-/// Returns the fault of the sum if the parts are not all there once.
+/// Returns the fault of the sum if a part is missing or comes twice.
 fn fault_of_order(fault: OrderFault) -> PartFault
     ensures { result ≡ fault_of_order fault }
 {
@@ -167,7 +167,7 @@ fn summed(alloc: Global, lists: &[Vec<Ending>]) -> Result<Vec<Ending>, PartFault
     }
 }
 
-/// Returns the text of all ends in a form. Their schedules have been played.
+/// Returns the text of all ends in a form. Their schedules must have been played.
 fn told(
     alloc: Global,
     prepared: &Prepared,

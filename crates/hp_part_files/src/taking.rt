@@ -196,7 +196,7 @@ fn push_end(
     Ok(())
 }
 
-/// Returns whether `text` is the line of end `number`, whose schedule has been played.
+/// Returns whether `text` is the line of end `number`. The end's schedule must have been played.
 fn is_end(
     alloc: Global,
     prepared: &Prepared,

@@ -13,8 +13,8 @@ use hp_schedules::Ending;
 use hp_search::Prepared;
 use std::alloc::{AllocError, Global};
 
-/// Writes the head and the ends of part `number`, counted from 1. Plays the first schedule of each
-/// end once more, and fails like its calls.
+/// Writes the head and the ends of part `number`, counted from 1. Replays the first schedule of
+/// each end, and fails if that cannot be done.
 pub(crate) fn write_part(
     out: &mut String,
     alloc: Global,
@@ -79,7 +79,7 @@ fn write_end_line(
     Ok(())
 }
 
-/// Writes the line of end `number`. Plays its first schedule once more, and fails like its calls.
+/// Writes the line of end `number`. Replays its first schedule, and fails if that cannot be done.
 pub(crate) fn write_end(
     out: &mut String,
     alloc: Global,

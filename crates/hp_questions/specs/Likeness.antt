@@ -13,9 +13,10 @@ end_number (Cancelled why false) = 4
 end_number Undone = 5
 end_number (Left op fault) = 6
 
--- those of one processor, and of all
+-- the hash of the ends of one processor's plans
 abbrev pub ends_digest : List OpEnd → ℕ
 ends_digest ends = fold (λ digest end. mixed digest (end_number end)) 0 ends
 
+-- the hash of the ends of all processors' plans
 abbrev pub plans_digest : List (List OpEnd) → ℕ
 plans_digest all = fold (λ digest ends. mixed digest (ends_digest ends)) 0 all

@@ -32,26 +32,27 @@ IsReplyPast l (Moved from to) = (frame_count l ≤ from) ⊎ (frame_count l ≤ 
 IsReplyPast l (Refused refusal) = IsRefusalPast l refusal
 IsReplyPast l reply = ⊥
 
--- the pattern does; a kind of refusals names nothing
+-- the pattern names something outside the layout; a pattern for a kind of refusals names nothing
 abbrev pub IsPatternPast : LayoutParts → Pattern → Type 0
 IsPatternPast l (Exactly reply) = IsReplyPast l reply
 IsPatternPast l (AnyOf refusal) = ⊥
 
--- a reply to this processor does, or the layout has no such processor
+-- the layout has no such processor, or the pattern names something outside the layout
 abbrev pub IsAnswerPast : LayoutParts → (cpu : ℕ) → Pattern → Type 0
 IsAnswerPast l cpu reply = (l.cpus ≤ cpu) ⊎ IsPatternPast l reply
 
--- the end of a plan does; the end of a plan of this processor, or of any, does
+-- a pattern for the end of a plan names something outside the layout
 abbrev pub IsEndPast : LayoutParts → EndPattern → Type 0
 IsEndPast l (RefusedAs refusal) = IsPatternPast l refusal
 IsEndPast l (CancelledAs (Some refusal) restored) = IsPatternPast l refusal
 IsEndPast l end = ⊥
 
+-- the same for the end of a plan of this processor, or of any; or the layout has no such processor
 abbrev pub IsPlanPast : LayoutParts → (cpu : Option ℕ) → EndPattern → Type 0
 IsPlanPast l None end = IsEndPast l end
 IsPlanPast l (Some cpu) end = (l.cpus ≤ cpu) ⊎ IsEndPast l end
 
--- the line does, or names a memory block outside the layout
+-- the line names something outside the layout
 abbrev pub IsLinePast : LayoutParts → EndLine → Type 0
 IsLinePast l (Answer None reply) = IsPatternPast l reply
 IsLinePast l (Answer (Some cpu) reply) = IsAnswerPast l cpu reply
@@ -59,16 +60,16 @@ IsLinePast l (AnswerAt cpu earlier reply) = IsAnswerPast l cpu reply
 IsLinePast l (Plan cpu end) = IsPlanPast l cpu end
 IsLinePast l (Block block row) = l.blocks ≤ block
 
--- a line that an end is to have or to lack does
+-- the line that an end is to have or to lack names something outside the layout
 abbrev pub IsPast : LayoutParts → Wanted → Type 0
 IsPast l (Has line) = IsLinePast l line
 IsPast l (Lacks line) = IsLinePast l line
 
--- none of the lines does
+-- no line names anything outside the layout
 abbrev pub AreWithin : LayoutParts → List Wanted → Type 0
 AreWithin l wanted = (k : ℕ) (line : Wanted) → slice_get wanted k ≡ Some line → IsPast l line → ⊥
 
--- the line with this number, counted from 1, is the first that does
+-- the line with this number, counted from 1, is the first that names something outside the layout
 pub record IsFirstPast (l : LayoutParts) (wanted : List Wanted) (number : ℕ) : Type 0 where
   pub place : ℕ
   pub line : Wanted

@@ -1,4 +1,4 @@
--- What of the wanted lines is met so far, as numbers, and when no end can meet them any more.
+-- Which wanted lines are met so far, as numbers, and when no end can meet all of them any more.
 use Rattle.std.specs.Prelude.{◌≡◌, ◌⊎◌, ◌↔◌, ℕ, ◌+◌, ◌<◌, Bool, true, false, List, ◌++◌, Some, length, slice_get}
 use Rattle.std.specs.List.{list_all}
 use Rattle.hp_units.specs.LayoutParts.{LayoutParts}
@@ -17,20 +17,21 @@ use Rattle.hp_questions.specs.declared.wanted.EndLine.TheVariants.{Answer, Answe
 use Rattle.hp_questions.specs.declared.wanted.Wanted.{Wanted}
 use Rattle.hp_questions.specs.declared.wanted.Wanted.TheVariants.{Has, Lacks}
 
--- the line that is to be had or to be lacked
+-- the line that an end is to have or to lack
 abbrev pub line_of : Wanted → EndLine
 line_of (Has line) = line
 line_of (Lacks line) = line
 
--- no wanted line is about plans
+-- the line is not about plans
 abbrev pub leaves_plans : EndLine → Bool
 leaves_plans (Plan cpu end) = false
 leaves_plans line = true
 
+-- no wanted line is about plans
 abbrev pub asks_no_plans : List Wanted → Bool
 asks_no_plans wanted = list_all (λ one. leaves_plans (line_of one)) wanted
 
--- a reply so far is as the line names it, whatever is replied later
+-- a reply so far meets the line, so that every later end has the line
 abbrev pub HasReplySoFar : (processors : ℕ) → List Record → EndLine → Type 0
 HasReplySoFar processors news (Plan cpu end) = ⊥
 HasReplySoFar processors news (Block block row) = ⊥
@@ -38,15 +39,14 @@ HasReplySoFar processors news (Answer cpu reply) = HasAnswer reply (replies_belo
 HasReplySoFar processors news (AnswerAt cpu earlier reply) =
     HasAnswerAt reply (replies_below processors news) cpu earlier
 
--- the replies so far have the line, or a plan that is over ended as it says
+-- a reply so far meets the line, or a finished plan ended as the line wants
 abbrev pub HasLineSoFar : (cpus : ℕ) → (scripts : List (List Step)) → (processors : ℕ) → List Record → EndLine
     → Type 0
 HasLineSoFar cpus scripts processors news (Plan cpu end) =
     HasPlanEnd end (all_plan_ends cpus scripts (replies_below processors news)) cpu
 HasLineSoFar cpus scripts processors news line = HasReplySoFar processors news line
 
--- the numbers are 1 for each of the first `lines` wanted lines that the replies so far have, and 0 for
--- each other of them
+-- `met` has a number for each of the first `lines` wanted lines: 1 if the line is met so far, else 0
 abbrev pub AreMet : (cpus : ℕ) → (scripts : List (List Step)) → List Wanted → (processors : ℕ) → List Record
     → (lines : ℕ) → List ℕ → Type 0
 AreMet cpus scripts wanted processors news lines met =
@@ -55,8 +55,8 @@ AreMet cpus scripts wanted processors news lines met =
     → (n : ℕ) × (slice_get met k ≡ Some n)
     × ((n ≡ 1) ↔ HasLineSoFar cpus scripts processors news (line_of one)) × ((n ≡ 0) ⊎ (n ≡ 1)))
 
--- the marks: for each processor how many replies it got, and for each wanted line 1 if the replies so
--- far have it, else 0
+-- the marks: for each processor its number of replies, and for each wanted line 1 if the line is met so
+-- far, else 0
 pub record AreMarks (cpus : ℕ) (scripts : List (List Step)) (wanted : List Wanted) (processors : ℕ)
     (news : List Record) (marks : List ℕ) : Type 0 where
   pub many : length marks ≡ processors + length wanted
@@ -65,7 +65,7 @@ pub record AreMarks (cpus : ℕ) (scripts : List (List Step)) (wanted : List Wan
       → (n : ℕ) × (slice_get marks (processors + k) ≡ Some n)
       × ((n ≡ 1) ↔ HasLineSoFar cpus scripts processors news (line_of one)) × ((n ≡ 0) ⊎ (n ≡ 1))
 
--- the same further records end further plans alike after both
+-- after `first` and after `second`, the records `more` make the same plans end in the same way
 abbrev pub PlansGoOn : (cpus : ℕ) → (scripts : List (List Step)) → (processors : ℕ)
     → (first second more : List Record) → Type 0
 PlansGoOn cpus scripts processors first second more =
@@ -75,7 +75,7 @@ PlansGoOn cpus scripts processors first second more =
     × (plan_ends_of cpus scripts (replies_below processors (second ++ more)) cpu
     ≡ plan_ends_of cpus scripts (replies_below processors second) cpu ++ later)
 
--- the line names a reply at its place, and that one is another
+-- the line wants a reply at a place, and the reply there does not match
 abbrev pub IsMissed : List Record → EndLine → Type 0
 IsMissed news (Answer cpu reply) = ⊥
 IsMissed news (AnswerAt cpu earlier reply) =
@@ -83,12 +83,12 @@ IsMissed news (AnswerAt cpu earlier reply) =
 IsMissed news (Plan cpu end) = ⊥
 IsMissed news (Block block row) = ⊥
 
--- no end that these records lead to is as this wants
+-- the records show that no end after them can meet this
 abbrev pub IsRuledOut : (processors : ℕ) → List Record → Wanted → Type 0
 IsRuledOut processors news (Has line) = IsMissed news line
 IsRuledOut processors news (Lacks line) = HasReplySoFar processors news line
 
--- no end that these records lead to is as wanted
+-- no end after these records meets all that is wanted
 abbrev pub IsLost : (cpus : ℕ) → (scripts : List (List Step)) → List Wanted → (processors : ℕ) → List Record
     → Type 0
 IsLost cpus scripts wanted processors news =

@@ -1,4 +1,4 @@
--- How the plans of a script ended, by the replies to its processor alone.
+-- How the plans of a script ended, computed from the replies to its processor alone.
 use Rattle.std.specs.Prelude.{ℕ, List, [], ◌∷◌, ◌++◌, Option, Some, None, fold, length, map, slice_index_or}
 use Rattle.std.specs.List.{range_with_len}
 use Rattle.std.specs.Option.{option_and_then, option_map_or, option_to_list}
@@ -12,7 +12,8 @@ use Rattle.hp_schedules.specs.declared.line_answers.LineAnswer.{LineAnswer}
 use Rattle.hp_schedules.specs.declared.line_answers.LineAnswer.TheVariants.{Plan as Carried}
 use Rattle.hp_schedules.specs.declared.scripts.Step.{Step}
 
--- a reply is that to the script's next call; one past the script's end is none
+-- the receipts after one more reply, which is to the script's next call; unchanged if the script is
+-- over
 abbrev pub with_reply : (cpus : ℕ) → List Step → List Receipt → Reply → List Receipt
 with_reply cpus lines receipts reply =
     option_map_or (λ event. receipts ++ record { serial = 0; event = event; reply = reply } ∷ [])
@@ -22,27 +23,29 @@ with_reply cpus lines receipts reply =
 abbrev pub receipts_by : (cpus : ℕ) → List Step → List Reply → List Receipt
 receipts_by cpus lines replies = fold (with_reply cpus lines) [] replies
 
--- the end of a plan that is an answer; the end that a finished line was answered; all of these among
--- answers, in their order
+-- the end of a plan, if the answer is one
 abbrev pub end_answered : Option LineAnswer → Option OpEnd
 end_answered (Some (Carried end)) = Some end
 end_answered answer = None
 
+-- the end of the plan that a call finished, if it finished one
 abbrev pub end_finished : Option FinishedLine → Option OpEnd
 end_finished f = option_and_then (λ line. end_answered line.answer) f
 
+-- the ends of plans among answers, in their order
 abbrev pub ends_answered : List (Option LineAnswer) → List OpEnd
 ends_answered [] = []
 ends_answered (answer ∷ answers) = option_to_list (end_answered answer) ++ ends_answered answers
 
--- how the plans of a script ended that are over, in the order of its lines
+-- the ends of a script's finished plans, in the order of its lines
 unfoldable pub plan_ends : (cpus : ℕ) → List Step → List Reply → List OpEnd
 plan_ends cpus lines replies = ends_answered (answers_in cpus lines (receipts_by cpus lines replies))
 
--- the same for each script, from processor 0 on, by the replies to each processor
+-- the ends of the plans of this processor's script, by the replies to each processor
 abbrev pub plan_ends_of : (cpus : ℕ) → List (List Step) → List (List Reply) → (cpu : ℕ) → List OpEnd
 plan_ends_of cpus scripts all cpu =
     plan_ends cpus (slice_index_or scripts cpu []) (slice_index_or all cpu [])
 
+-- the same for each script, from processor 0 on
 abbrev pub all_plan_ends : (cpus : ℕ) → List (List Step) → List (List Reply) → List (List OpEnd)
 all_plan_ends cpus scripts all = map (plan_ends_of cpus scripts all) (range_with_len 0 (length scripts))

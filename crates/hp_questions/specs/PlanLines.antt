@@ -1,4 +1,4 @@
--- What is wanted of the end of a plan.
+-- Patterns for the end of a plan, and what matches them.
 use Rattle.std.specs.Prelude.{◌≡◌, ℕ, Bool, List, Option, Some, None, slice_get}
 use Rattle.hp_units.specs.declared.replies.OpEnd.{OpEnd}
 use Rattle.hp_units.specs.declared.replies.OpEnd.TheVariants.{Done as EndsDone, Refused as EndsRefused, Cancelled as EndsCancelled, Undone as EndsUndone}
@@ -16,16 +16,17 @@ IsCauseAsWanted None (Some seen) = ⊥
 IsCauseAsWanted (Some wanted) None = ⊥
 IsCauseAsWanted (Some wanted) (Some seen) = IsAsWanted wanted (RefusedReply seen)
 
--- the Begin was refused like this
+-- the Begin was refused, and the refusal matches
 abbrev pub IsRefusedAs : Pattern → OpEnd → Type 0
 IsRefusedAs wanted (EndsRefused refusal) = IsAsWanted wanted (RefusedReply refusal)
 IsRefusedAs wanted end = ⊥
 
--- the plan was cancelled; and with such a last refusal, and its steps were dropped or not, as wanted
+-- the plan was cancelled
 abbrev pub IsCancelled : OpEnd → Type 0
 IsCancelled (EndsCancelled why restored) = Unit {0}
 IsCancelled end = ⊥
 
+-- the plan was cancelled, its last refusal matches, and its steps were dropped or not, as wanted
 abbrev pub IsCancelledAs : (why : Option Pattern) → (restored : Bool) → OpEnd → Type 0
 IsCancelledAs wanted restored (EndsCancelled why dropped) =
     (dropped ≡ restored) × IsCauseAsWanted wanted why
@@ -39,11 +40,11 @@ IsEndAsWanted (Refused refusal) end = IsRefusedAs refusal end
 IsEndAsWanted Cancelled end = IsCancelled end
 IsEndAsWanted (CancelledAs why restored) end = IsCancelledAs why restored end
 
--- one of a processor's plans ended so
+-- one of a processor's plans ended as wanted
 abbrev pub HasEnd : EndPattern → List OpEnd → Type 0
 HasEnd wanted ends = (at : ℕ) × (end : OpEnd) × (slice_get ends at ≡ Some end) × IsEndAsWanted wanted end
 
--- one of this processor's plans ended so, or one of any processor's if none is named
+-- one of this processor's plans ended as wanted, or one of any processor's if none is named
 abbrev pub HasPlanEnd : EndPattern → List (List OpEnd) → (cpu : Option ℕ) → Type 0
 HasPlanEnd wanted all None =
     (cpu : ℕ) × (ends : List OpEnd) × (slice_get all cpu ≡ Some ends) × HasEnd wanted ends

@@ -1,4 +1,4 @@
--- What is wanted of an end, and which ends are so.
+-- What is wanted of an end, and which ends meet it.
 use Rattle.std.specs.Prelude.{◌≡◌, ℕ, List, Option, Some, None, slice_get}
 use Rattle.hp_units.specs.declared.replies.Reply.{Reply}
 use Rattle.hp_questions.specs.PlanEnds.{all_plan_ends}
@@ -24,11 +24,12 @@ HasAnswer wanted all None =
 HasAnswer wanted all (Some cpu) =
     (replies : List Reply) × (slice_get all cpu ≡ Some replies) × HasReply wanted replies
 
--- the reply after `earlier` others matches; a processor's reply does
+-- the reply after `earlier` others matches
 abbrev pub HasReplyAt : Pattern → List Reply → (earlier : ℕ) → Type 0
 HasReplyAt wanted replies earlier =
     (reply : Reply) × (slice_get replies earlier ≡ Some reply) × IsAsWanted wanted reply
 
+-- this processor's reply after `earlier` others matches
 abbrev pub HasAnswerAt : Pattern → List (List Reply) → (cpu earlier : ℕ) → Type 0
 HasAnswerAt wanted all cpu earlier =
     (replies : List Reply) × (slice_get all cpu ≡ Some replies) × HasReplyAt wanted replies earlier
@@ -45,7 +46,7 @@ abbrev pub IsMetBy : (cpus : ℕ) → (scripts : List (List Step)) → OutcomeVa
 IsMetBy cpus scripts x (Has line) = HasLine cpus scripts x line
 IsMetBy cpus scripts x (Lacks line) = HasLine cpus scripts x line → ⊥
 
--- the outcome is as all of this wants
+-- the outcome meets all that is wanted
 abbrev pub Meets : (cpus : ℕ) → (scripts : List (List Step)) → List Wanted → OutcomeValue → Type 0
 Meets cpus scripts wanted x =
     (k : ℕ) (one : Wanted) → slice_get wanted k ≡ Some one → IsMetBy cpus scripts x one

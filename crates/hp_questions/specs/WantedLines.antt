@@ -133,8 +133,8 @@ cancelled_end (name ∷ number ∷ what ∷ []) = do
   cancelled_as (Some refusal) what
 cancelled_end _ = None
 
--- the end of a plan from its first word and the other words. One that was left is none: a full history
--- ends the search
+-- the end of a plan from its first word and the other words. There is none for a plan that was left: a
+-- full history ends the search
 unfoldable pub end_of : List ℕ → List (List ℕ) → Option EndPattern
 end_of word args =
     if bytes_eq word (codes "done") then bare_end DoneSo args
@@ -235,7 +235,7 @@ own_plan who mark said =
       plan_line (Some cpu) (words_of said))
     else None
 
--- `plan` and the end of one, or a processor and its reply
+-- a line with one colon: `plan` and the end of one, or a processor and a reply to it
 unfoldable pub said_by : (who said : List ℕ) → Option EndLine
 said_by who said =
     if bytes_eq who (codes "plan") then plan_line None (words_of said)

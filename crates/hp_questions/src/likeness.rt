@@ -6,7 +6,7 @@ use crate::plan_ends::PlanEnds;
 use hp_schedules::{LineAnswer, mixed};
 use hp_units::OpEnd;
 
-/// Returns whether the plans of each processor ended alike in both.
+/// Returns whether each processor's plans ended alike in both lists.
 pub fn same_plan_ends(all: &[PlanEnds], others: &[PlanEnds]) -> bool
     ensures { IsTrue result ↔ (all.now ≡ others.now) }
 {

@@ -7,7 +7,7 @@ use crate::wanted::{EndLine, Pattern, Wanted};
 use hp_units::{Cpu, Layout, Refusal, Reply};
 
 /// Returns the number, from 1, of the first line that names a processor, a memory block or a frame
-/// outside the layout. No end can have such a line, so that it is no use to ask for one.
+/// outside the layout. No end can have such a line, so asking for it is a mistake.
 pub fn first_past(wanted: &[Wanted], layout: &Layout) -> Option<u64>
     ensures some { IfSome result (IsFirstPast layout.now wanted.now) }
     ensures none { IfNone result (AreWithin layout.now wanted.now) }
@@ -54,14 +54,16 @@ impl EndLine {
     }
 }
 
-/// Returns whether a reply to this processor names something outside the layout.
+/// Returns whether the layout has no such processor, or the pattern names something outside the
+/// layout.
 fn is_answer_past(cpu: Cpu, reply: &Pattern, layout: &Layout) -> bool
     ensures { IsTrue result ↔ IsAnswerPast layout.now cpu reply.now }
 {
     cpu.0 >= layout.cpus() || reply.is_past(layout)
 }
 
-/// Returns whether the end of a plan names something outside the layout, or the processor does.
+/// Returns whether the layout has no such processor, or the pattern for a plan's end names
+/// something outside the layout.
 fn is_plan_past(cpu: &Option<Cpu>, end: &EndPattern, layout: &Layout) -> bool
     ensures { IsTrue result ↔ IsPlanPast layout.now cpu.now end.now }
 {

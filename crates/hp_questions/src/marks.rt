@@ -1,4 +1,4 @@
-//! What of the wanted lines is met before a schedule is complete.
+//! Which wanted lines are met before a schedule is complete.
 ghost use Rattle.std.specs.Prelude.{◌≡◌, ◌↔◌, ◌<◌, ◌^◌, ◌++◌, ℕ, List, IfOk, IsTrue, None, OnOk, length, map, slice_get, true};
 ghost use Rattle.std.specs.List.{range_with_len};
 ghost use Rattle.hp_schedules.specs.declared.scripts.Step.{Step};
@@ -11,13 +11,13 @@ use hp_schedules::{CallScript, all_answers};
 use hp_units::{Cpu, Record, Reply, Serial};
 use std::alloc::{AllocError, Global};
 
-/// Appends what of the wanted lines the records have met: for each processor how many replies it
-/// got, and for each wanted line whether some reply has it, or some plan ended so. Returns whether
-/// each number fits 32 bits. If not, `numbers` holds a part of them.
+/// Appends the marks after these records: for each processor its number of replies, and for each
+/// wanted line 1 if a reply meets it or a plan ended as it wants, else 0. Returns whether each
+/// number fits 32 bits. If not, `numbers` holds only a part of them.
 ///
-/// From two places with the same marks, equal further calls with equal replies lead to ends that
-/// meet the same wanted lines, provided that the rows at the end are equal, and that further plans
-/// end alike. Allocates only for `numbers` and for lines about plans.
+/// Places with the same marks can be merged: equal further calls with equal replies lead both to
+/// ends that meet the same wanted lines, if the rows at the end are equal and further plans end
+/// alike. Allocates only for `numbers` and for lines about plans.
 pub fn push_marks(
     alloc: Global,
     wanted: &[Wanted],
@@ -51,8 +51,9 @@ pub fn asks_no_plans(wanted: &[Wanted]) -> bool
     true
 }
 
-/// Returns whether no end can meet the wanted lines any more: a reply that is wanted at its place
-/// was another one, or a line that is to be lacked is there.
+/// Returns `true` if no end can meet the wanted lines any more: the reply at a wanted place is
+/// another one, or a reply that is to be lacked has come. `false` promises nothing, because the
+/// ends of plans and the rows of blocks are not looked at.
 pub fn is_lost(wanted: &[Wanted], processors: u32, records: &[Record]) -> bool
     ensures { IsTrue result → (cpus : ℕ) (scripts : List (List Step))
         → IsLost cpus scripts wanted.now processors records.now }
@@ -105,7 +106,7 @@ fn push_met(
     Ok(())
 }
 
-/// Returns the line that is to be had or to be lacked.
+/// Returns the line that an end is to have or to lack.
 fn line_of(one: &Wanted) -> &EndLine
     ensures { result.now ≡ line_of one.now }
 {
@@ -114,7 +115,7 @@ fn line_of(one: &Wanted) -> &EndLine
     }
 }
 
-/// Returns whether no end that the records lead to is as this wants.
+/// Returns `true` if the records show that no end after them can meet this.
 fn is_ruled_out(one: &Wanted, processors: u32, records: &[Record]) -> bool
     ensures { IsTrue result → IsRuledOut processors records.now one.now }
 {
@@ -124,7 +125,7 @@ fn is_ruled_out(one: &Wanted, processors: u32, records: &[Record]) -> bool
     }
 }
 
-/// Returns whether the line names a reply at its place, and that one was another.
+/// Returns `true` if the line wants a reply at a place, and the reply there does not match.
 fn is_missed(line: &EndLine, records: &[Record]) -> bool
     ensures { IsTrue result → IsMissed records.now line.now }
 {
@@ -148,7 +149,7 @@ fn leaves_plans(line: &EndLine) -> bool
     !matches!(line, EndLine::Plan { .. })
 }
 
-/// Returns whether the replies so far have the line, or a plan that is over ended so.
+/// Returns whether a reply so far meets the line, or a finished plan ended as the line wants.
 fn has_line_so_far(
     alloc: Global,
     line: &EndLine,
@@ -170,7 +171,7 @@ fn has_line_so_far(
     }
 }
 
-/// Returns whether a reply so far is as the line names it.
+/// Returns whether a reply so far meets the line. False for lines about plans and blocks.
 fn has_reply_so_far(line: &EndLine, processors: u32, records: &[Record]) -> bool
     ensures { IsTrue result ↔ HasReplySoFar processors records.now line.now }
 {

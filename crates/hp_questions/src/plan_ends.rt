@@ -7,8 +7,7 @@ use hp_units::{Cpu, OpEnd, Record, Reply, Serial};
 use std::alloc::{AllocError, Global};
 use std::marker::Model;
 
-/// How the plans of one processor ended that are over, in the order of its lines. A contract sees
-/// them as a list.
+/// The ends of one processor's finished plans, in the order of its lines. A contract sees a list.
 #[derive(Drop)]
 pub struct PlanEnds {
     ends: Vec<OpEnd>,
@@ -65,7 +64,7 @@ fn replies_of(all: &[Replies], cpu: u32) -> &[Reply]
 
 /// Returns how the plans of the processor ended, given the replies to it.
 ///
-/// The script makes its calls again, without a machine: each gets the next reply.
+/// Runs the script again without a machine: each call gets the next of the replies.
 fn plan_ends(
     alloc: Global,
     cpus: u32,
@@ -109,7 +108,7 @@ fn end_of(finished: &Option<FinishedLine>) -> Option<OpEnd>
     }
 }
 
-/// Returns the end of a plan that is the answer.
+/// Returns the end of the plan, if the answer is one.
 fn end_in(answer: &Option<LineAnswer>) -> Option<OpEnd>
     ensures { result ≡ end_answered answer.now }
 {

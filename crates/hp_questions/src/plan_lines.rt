@@ -16,11 +16,12 @@ pub enum EndPattern {
     Done,
     /// Another call ended the plan's operation.
     Undone,
-    /// The Begin was refused like this.
+    /// The Begin was refused, and the refusal matches.
     Refused(Pattern),
     /// The plan was cancelled, for any reason.
     Cancelled,
-    /// The plan was cancelled after such a last refusal, or after none if `why` is `None`.
+    /// The plan was cancelled, and its last refusal matches; if `why` is `None`, there was none.
+    /// `restored` is whether its steps were dropped.
     CancelledAs {
         why: Option<Pattern>,
         restored: bool,
@@ -41,8 +42,8 @@ impl EndPattern {
         }
     }
 
-    /// Returns whether some plan of this processor ended so by these replies, or some plan of any
-    /// processor if `cpu` is `None`.
+    /// Returns whether, by these replies, one of this processor's plans has a matching end, or one
+    /// of any processor's if `cpu` is `None`.
     pub(crate) fn is_end_of(
         &self,
         alloc: Global,
@@ -108,7 +109,8 @@ fn is_refused_as(refusal: &Pattern, end: &OpEnd) -> bool
     }
 }
 
-/// Returns whether the plan was cancelled, with such a last refusal, and so.
+/// Returns whether the plan was cancelled, its last refusal matches, and its steps were dropped or
+/// not, as `restored` wants.
 fn is_cancelled_as(why: &Option<Pattern>, restored: bool, end: &OpEnd) -> bool
     ensures { IsTrue result ↔ IsCancelledAs why.now restored end.now }
 {

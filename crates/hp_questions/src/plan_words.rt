@@ -28,7 +28,7 @@ pub(crate) fn own_plan_line(
     }
 }
 
-/// Parses the end of a plan of this processor, or of any if `cpu` is `None`, from what is after
+/// Parses the end of a plan of this processor, or of any if `cpu` is `None`, from the text after
 /// the last colon.
 #[tactic(auto, unfolding(crate::specs::WantedLines::plan_line))]
 pub(crate) fn plan_line(
@@ -87,7 +87,7 @@ fn end_pattern(word: &str, args: &[&str]) -> Option<EndPattern>
     }
 }
 
-/// Returns an end without arguments.
+/// Returns `end` if there are no arguments.
 #[tactic(auto, unfolding(crate::specs::WantedLines::bare_end))]
 fn bare_end(end: EndPattern, args: &[&str]) -> Option<EndPattern>
     ensures { result ≡ says.bare_end end (map (λ w. w.now) args.now) }

@@ -1,4 +1,4 @@
-//! What is wanted of an end, and which ends are so.
+//! What is wanted of an end, and which ends meet it.
 ghost use Rattle.std.specs.Prelude.{◌≡◌, ◌↔◌, ◌<◌, ◌^◌, IfOk, IsTrue, None, Some, length, slice_get};
 ghost use Rattle.hp_questions.specs.Patterns.{IsAsWanted, IsKindOf, kind_of};
 ghost use Rattle.hp_questions.specs.Wanted.{HasAnswer, HasAnswerAt, HasLine, HasReply, HasReplyAt, IsMetBy, Meets};
@@ -20,18 +20,18 @@ pub enum Pattern {
 /// A line of an end.
 #[derive(Clone, Copy, PartialEq, Eq, Drop)]
 pub enum EndLine {
-    /// This processor got such a reply at some time; any processor did, if `cpu` is `None`.
+    /// A reply to this processor matches; a reply to any processor, if `cpu` is `None`.
     Answer {
         cpu: Option<Cpu>,
         reply: Pattern,
     },
-    /// This processor got such a reply after `earlier` others.
+    /// The reply to this processor after `earlier` others matches.
     AnswerAt {
         cpu: Cpu,
         earlier: u64,
         reply: Pattern,
     },
-    /// A plan of this processor ended so; a plan of any processor did, if `cpu` is `None`.
+    /// A plan of this processor ended as wanted; a plan of any processor, if `cpu` is `None`.
     Plan {
         cpu: Option<Cpu>,
         end: EndPattern,
@@ -150,7 +150,7 @@ impl EndLine {
 }
 
 impl Wanted {
-    /// Returns whether the end is as wanted.
+    /// Returns whether the end meets this.
     fn is_met_by(
         &self,
         alloc: Global,

@@ -18,10 +18,10 @@ use std::alloc::{AllocError, Global};
 ///
 /// A line is a reply to any processor, such as `refused NotFree 3`; a reply to one processor, such
 /// as `0: done`; the n-th reply to one processor, such as `cpu 0 answer 2: done`; the end of a plan
-/// of any processor, such as `plan: cancelled NoFrame restored`, or of one, such as `0: plan: done`;
-/// or a memory block, such as `block 1 offline`. A refusal without its frame or block, such as
-/// `refused NotFree`, matches every refusal of its kind, and `plan: cancelled` every cancelled plan.
-/// After `not `, an end without the line is wanted.
+/// of any processor, such as `plan: cancelled NoFrame restored`, or of one, such as `0: plan:
+/// done`; or a memory block, such as `block 1 offline`. A refusal without its frame or block, such
+/// as `refused NotFree`, matches every refusal of its kind, and `plan: cancelled` every cancelled
+/// plan. After `not `, an end without the line is wanted.
 pub fn wanted_line(alloc: Global, text: &str) -> Result<Option<Wanted>, AllocError>
     ensures { IfOk result (λ line. line ≡ says.wanted_line text.now) }
 {
@@ -237,7 +237,8 @@ fn numbered_answer(cpu: &str, number: &str, reply: Pattern) -> Option<EndLine>
     })
 }
 
-/// Parses a reply as `explore` prints it, such as `frame 4`, from its first word and the other words.
+/// Parses a reply as `explore` prints it, such as `frame 4`, from its first word and the other
+/// words.
 #[tactic(auto, unfolding(crate::specs::WantedLines::reply_of))]
 pub fn reply_pattern(word: &str, args: &[&str]) -> Option<Pattern>
     ensures { result ≡ says.reply_of word.now (map (λ w. w.now) args.now) }
@@ -258,7 +259,7 @@ pub fn reply_pattern(word: &str, args: &[&str]) -> Option<Pattern>
     }
 }
 
-/// Returns a pattern for a reply without arguments.
+/// Returns a pattern for exactly this reply, if there are no arguments.
 #[tactic(auto, unfolding(crate::specs::WantedLines::bare_reply))]
 fn bare_reply(reply: Reply, args: &[&str]) -> Option<Pattern>
     ensures { result ≡ says.bare_reply reply (map (λ w. w.now) args.now) }

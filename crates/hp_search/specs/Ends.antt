@@ -13,12 +13,13 @@ use Rattle.hp_search.specs.declared.forms.EndsForm.TheVariants.{Words, Objects, 
 use Rattle.hp_search.specs.Summaries.{IsSummary}
 use Rattle.hp_search.specs.Texts.{all_objects_text, exploration_text, replay_text}
 
--- the end with a number, counted from 1; no end has the number
+-- `e` is the end with this number, counted from 1
 pub record IsNumbered (ends : List Ending) (number : ℕ) (e : Ending) : Type 0 where
   pub place : ℕ
   pub counted : number ≡ place + 1
   pub here : slice_get ends place ≡ Some e
 
+-- no end has this number
 abbrev pub HasNoEnd : List Ending → (number : ℕ) → Type 0
 HasNoEnd ends number = (number ≡ 0) ⊎ (length ends < number)
 
@@ -35,8 +36,8 @@ IsEndTold names before g ends number text true =
     (e : Ending) × IsNumbered ends number e × (text ≡ replay_text names before g e.first.items)
 IsEndTold names before g ends number text false = HasNoEnd ends number × (text ≡ [])
 
--- the text of ends in a form; found if all interleavings were counted, or if there is the end whose
--- number was asked for
+-- the text of ends in a form. `found` is true if all interleavings were counted, or if there is an end
+-- with the number that was asked for
 abbrev pub AreEndsTold : EndsForm → (names : List (List ℕ)) → (before : List Line) → Setting → List Ending
     → Option HowMany → (text : List ℕ) → (found : Bool) → Type 0
 AreEndsTold Words names before g ends more text found =

@@ -19,9 +19,9 @@ use Rattle.hp_search.specs.Holding.{HoldsIn}
 
 -- ---- on a machine
 
--- the ends are those of all complete schedules, at most `limit`, and none fills the history; or they
--- are those of the first ones, and there are more: they are as many as the limit, or the watch has
--- ended the search
+-- None: the ends are those of all complete schedules, these are at most `limit`, and none fills the
+-- history. Otherwise the ends are those of the first schedules, and there are more; either they count
+-- `limit` schedules, or the watch has ended the search
 abbrev pub AreExplored : Setting → (limit : ℕ) → (ended : Type 0) → List Ending → Option HowMany → Type 0
 AreExplored g limit ended ends None =
     AreEnds g ends × (HasMoreThan (IsComplete g) limit → ⊥) × (FillsHistory g → ⊥)
@@ -50,7 +50,7 @@ abbrev pub IsExplorationOf : EndsForm → Option GroupBy → (input : List ℕ) 
 IsExplorationOf form by input setup limit ended text found =
     HoldsIn (λ names before g. IsExploredOn form by names before g limit ended text found) input setup
 
--- the cause of each fault; for a full history, a call that the search makes within its limit
+-- the cause of each fault; for `HistoryFull`, a call that the search makes within its limit
 abbrev pub IsFaultWithin : (input : List ℕ) → (setup limit : ℕ) → LabFault → Type 0
 IsFaultWithin input setup limit fault =
     IsFaultWith (λ g. IsCauseWithin g limit) input setup fault

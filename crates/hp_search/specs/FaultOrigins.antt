@@ -11,8 +11,8 @@ use Rattle.hp_search.specs.declared.lab_fault.LabFault.TheVariants.{NotJson, Bad
 use Rattle.hp_search.specs.declared.program_fault.LabProgramFault.{LabProgramFault}
 use Rattle.hp_search.specs.declared.program_fault.LabProgramFault.TheVariants.{Lab, NotOpened, ReadFailed, Scenario, TooLong}
 
--- a scenario cannot be read; `NotForRun` comes only from making workers' scripts, never from
--- reading
+-- the fault of a scenario that cannot be read. `NotForRun` never comes from reading, only from making
+-- workers' scripts
 abbrev pub fault_from : ScenarioFault → LabFault
 fault_from scenario.NotJson = NotJson
 fault_from scenario.BadShape = BadShape
@@ -21,12 +21,12 @@ fault_from (scenario.BadLine line) = BadLine line
 fault_from (scenario.NotForRun line) = BadLine line
 fault_from scenario.OutOfMemory = OutOfMemory
 
--- a search cannot start
+-- the fault of a search that cannot start
 abbrev pub start_fault_from : StartFault → LabFault
 start_fault_from (start.NotForScript line why) = NotForScript line why
 start_fault_from start.OutOfMemory = OutOfMemory
 
--- the input cannot be read
+-- the fault of an input that cannot be read
 abbrev pub read_fault_from : ReadFault → LabProgramFault
 read_fault_from reading.ReadFailed = ReadFailed
 read_fault_from reading.TooLong = TooLong
@@ -41,7 +41,7 @@ is_of_input ReadFailed = true
 is_of_input TooLong = true
 is_of_input fault = false
 
--- the input is not a scenario, by an exploration's fault and by any fault
+-- an exploration failed because the input is not a scenario
 abbrev pub is_of_text : LabFault → Bool
 is_of_text NotJson = true
 is_of_text BadShape = true
@@ -49,6 +49,7 @@ is_of_text (Layout fault) = true
 is_of_text (BadLine line) = true
 is_of_text fault = false
 
+-- any command failed because the input is not a scenario
 abbrev pub is_of_scenario : LabProgramFault → Bool
 is_of_scenario (Scenario scenario.OutOfMemory) = false
 is_of_scenario (Scenario fault) = true

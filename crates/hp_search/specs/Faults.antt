@@ -21,17 +21,18 @@ abbrev pub FillsAlongSome : Setting → List Ending → Type 0
 FillsAlongSome g ends =
     (place : ℕ) × (e : Ending) × (slice_get ends place ≡ Some e) × FillsAlong g e.first.items
 
--- `C` gives a full history as the cause; it needs room for `needed` records, if that is known
+-- `C` is a cause of a full history, which needs room for `needed` records, if that is known
 abbrev pub IsFull : (C : Setting → ExploreFault → Type 0) → (needed : Option ℕ) → Setting → Type 0
 IsFull C needed g = C g explore.HistoryFull × IsRoomNeeded g needed
 
--- the laboratory's fault for a fault of a call; a full history gets the room it needs, or memory
--- runs out while that is computed
+-- the laboratory's fault for a full history: the room that is needed, or out of memory if computing it
+-- failed
 abbrev pub IsFullTold : Setting → LabFault → Type 0
 IsFullTold g (HistoryFull needed) = IsRoomNeeded g needed
 IsFullTold g OutOfMemory = Unit {0}
 IsFullTold g fault = ⊥
 
+-- the laboratory's fault for a fault of a call
 abbrev pub IsToldAs : Setting → ExploreFault → LabFault → Type 0
 IsToldAs g explore.HistoryFull fault = IsFullTold g fault
 IsToldAs g explore.OutOfMemory fault = fault ≡ OutOfMemory

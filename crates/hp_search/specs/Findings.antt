@@ -30,7 +30,7 @@ IsFoundTold form names before g sought.Absent text result = (text ≡ absent_tol
 
 -- the text has the first schedule with the fewest changes of processor whose end has each wanted line.
 -- Or it reports that there is none, and then the history has room for all calls; or that this is not
--- known. No wanted line is past the layout
+-- known. No wanted line names anything past the layout
 abbrev pub IsFoundOn : ScheduleForm → (names : List (List ℕ)) → (before : List Line) → Setting
     → List Wanted → (text : List ℕ) → FindResult → Type 0
 IsFoundOn form names before g wanted text Found =
@@ -58,7 +58,7 @@ IsPastLayout wanted number g = IsFirstPast g.layout wanted number
 abbrev pub IsSearchCause : List Wanted → Setting → ExploreFault → Type 0
 IsSearchCause wanted g fault = AreWithin g.layout wanted × IsFindCause g wanted (find_fault_from fault)
 
--- when each fault comes; a full history only from a call that the search makes
+-- when each fault comes; `HistoryFull` comes only from a call that the search makes
 abbrev pub IsFindFaultOf : (input : List ℕ) → (setup : ℕ) → List Wanted → LabFault → Type 0
 IsFindFaultOf input setup wanted (PastLayout number) =
     InScenario input setup (HoldsAfter (IsPastLayout wanted number) setup)

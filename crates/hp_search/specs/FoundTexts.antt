@@ -1,4 +1,4 @@
--- The text of a schedule that was found, or that there is none, or that it is not known.
+-- The text for a schedule that was found, for none, and for a search that was ended.
 use Rattle.std.specs.Prelude.{ℕ, List, [], Option, codes}
 use Rattle.hp_units.specs.LayoutParts.{LayoutParts}
 use Rattle.hp_units.specs.declared.replies.Record.{Record}
@@ -23,13 +23,13 @@ abbrev pub found_text : ScheduleForm → (names : List (List ℕ)) → (before :
 found_text form names before g schedule =
     schedule_text form names before g.layout schedule (plays g schedule)
 
--- the text if no interleaving ends as wanted, or if it is not known whether one does; there is no
--- scenario then
+-- the text if no interleaving ends as wanted; as a scenario it is empty
 abbrev pub absent_told : ScheduleForm → List ℕ
 absent_told Words = codes "ends so: 0\n"
 absent_told Object = codes "{\"found\": false}\n"
 absent_told Scenario = []
 
+-- the text if it is not known whether one does; as a scenario it is empty
 abbrev pub unknown_told : ScheduleForm → List ℕ
 unknown_told Words = codes "ends so: unknown\n"
 unknown_told Object = codes "{\"found\": null}\n"

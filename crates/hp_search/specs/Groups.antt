@@ -1,4 +1,4 @@
--- Ends put together by a part of their outcome.
+-- Ends grouped by a part of their outcome.
 use Rattle.std.specs.Prelude.{◌≡◌, ◌⊎◌, ℕ, ◌+◌, ◌≤◌, true, List, [], ◌∷◌, ◌++◌, Option, Some, None, codes, fold, nat_eq, slice_get, sum_by}
 use Rattle.indexmap.specs.IndexMap.{ContainsKey, IndexMap}
 use Rattle.hp_text.specs.Separated.{separated}
@@ -15,13 +15,14 @@ use Rattle.hp_search.specs.Objects.{answer_list, block_string}
 use Rattle.hp_search.specs.declared.groups.GroupBy.{GroupBy}
 use Rattle.hp_search.specs.declared.groups.GroupBy.TheVariants.{Answers, Blocks, Plans}
 
--- a part of the outcomes of these scripts, on a layout with this many processors
+-- the part of an outcome by which ends are grouped, for these scripts on a layout with `cpus`
+-- processors
 pub record GroupingValue : Type 0 where
   pub by : GroupBy
   pub cpus : ℕ
   pub scripts : List (List Step)
 
--- in a setting
+-- the grouping in a setting
 abbrev pub grouping_of : Setting → GroupBy → GroupingValue
 grouping_of g by = record { by = by; cpus = g.layout.cpus; scripts = g.scripts }
 
@@ -80,11 +81,12 @@ pub record GroupsValue : Type 0 where
   pub by : GroupingValue
   pub ends : List Ending
 
--- the group at this index is that of an outcome; no group is
+-- the group at index `place` is that of an outcome
 abbrev pub HasGroupAt : GroupingValue → List Ending → OutcomeValue → (place : ℕ) → Type 0
 HasGroupAt by groups x place =
     (g : Ending) × (slice_get groups place ≡ Some g) × Agree by g.outcome x
 
+-- no group is that of an outcome
 abbrev pub HasNoGroup : GroupingValue → List Ending → OutcomeValue → Type 0
 HasNoGroup by groups x = (j : ℕ) (g : Ending) → slice_get groups j ≡ Some g → Agree by g.outcome x → ⊥
 
@@ -108,7 +110,7 @@ AddsEnd by old e new = Joins by old e new ⊎ Begins by old e new
 
 -- ---- hashes
 
--- the hash of a part
+-- the hash of the part of an outcome
 abbrev pub digest_in : GroupBy → (cpus : ℕ) → (scripts : List (List Step)) → OutcomeValue → ℕ
 digest_in Blocks cpus scripts x = fold mixed 0 (separated (codes ", ") block_string true x.blocks)
 digest_in Answers cpus scripts x = fold mixed 0 (separated (codes ", ") answer_list true x.replies)

@@ -14,10 +14,11 @@ use Rattle.hp_text.specs.Separated.{separated}
 
 -- ---- an end
 
--- a reply between quotation marks; the replies of a processor
+-- a reply between quotation marks
 abbrev pub reply_string : Reply → List ℕ
 reply_string reply = codes "\"" ++ reply_text reply ++ codes "\""
 
+-- the list of a processor's replies
 abbrev pub answer_list : List Reply → List ℕ
 answer_list replies = codes "[" ++ separated (codes ", ") reply_string true replies ++ codes "]"
 

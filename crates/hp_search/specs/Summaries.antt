@@ -6,7 +6,7 @@ use Rattle.hp_schedules.specs.declared.multinomials.HowMany.{HowMany}
 use Rattle.hp_schedules.specs.declared.tally.Ending.{Ending}
 use Rattle.hp_search.specs.Words.{counts_text}
 
--- a text begins with another
+-- `new` begins with `old`
 abbrev pub Continues : (old new : List ℕ) → Type 0
 Continues old new = (rest : List ℕ) × (new ≡ old ++ rest)
 

@@ -27,21 +27,24 @@ exploration_text names g ends more =
 
 -- ---- ends as objects
 
--- an end without its object's closing bracket, and with it
+-- an end without its object's closing bracket
 abbrev pub end_keys : (names : List (List ℕ)) → Setting → (number : ℕ) → Ending → List ℕ
 end_keys names g number e = keys_text names number e (plays g e.first.items)
 
+-- an end with its object's closing bracket
 abbrev pub end_object : (names : List (List ℕ)) → Setting → (number : ℕ) → Ending → List ℕ
 end_object names g number e = end_keys names g number e ++ codes "}\n"
 
--- the end at index `place`, counted from 1; all ends in order
+-- end `number`, if there is one
 abbrev pub numbered_object : (names : List (List ℕ)) → Setting → (number : ℕ) → Option Ending → List ℕ
 numbered_object names g number None = []
 numbered_object names g number (Some e) = end_object names g number e
 
+-- the end at index `place`; ends are counted from 1
 abbrev pub object_at : (names : List (List ℕ)) → Setting → List Ending → (place : ℕ) → List ℕ
 object_at names g ends place = numbered_object names g (place + 1) (slice_get ends place)
 
+-- all ends in order
 abbrev pub objects_text : (names : List (List ℕ)) → Setting → List Ending → List ℕ
 objects_text names g ends = texts_below (object_at names g ends) (length ends)
 

@@ -38,7 +38,8 @@ impl Prepared {
     /// Returns `ends` as `explore_text` prints them. `more` is `None` if they are all the ends, and
     /// otherwise what is known of the number of interleavings.
     ///
-    /// Replays the first interleaving of each end it prints: `HistoryFull` if a replay has no room.
+    /// Replays the first interleaving of each end that it prints. The error is `HistoryFull` if the
+    /// history has no room for one of these.
     pub fn ends_told(
         &self,
         alloc: Global,

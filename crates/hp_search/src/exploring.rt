@@ -21,15 +21,15 @@ use std::alloc::Global;
 /// As words, the text has the number of interleavings. For each different end, it has how many lead
 /// to it, the processors' replies, the states of the memory blocks, and the calls of the first
 /// interleaving that leads to it. As objects, it has one line of JSON per end, and as a summary one
-/// line of words. In these forms nothing is found if there are more interleavings than those that
-/// were counted, and the text reports that.
+/// line of words. In these forms the text reports if not all interleavings were counted, and
+/// `is_found` is then false.
 ///
 /// As a scenario, the text has the layout, the lines of the setup, and the calls of the first
-/// interleaving that leads to the end with the number. If no end has that number, there is no text,
-/// and nothing is found.
+/// interleaving that leads to the end with the number. If no end has that number, the text is
+/// empty, and `is_found` is false.
 ///
-/// With `by`, ends that agree in this part of their outcome are put together, and the text has
-/// their groups in place of the ends.
+/// With `by`, ends that agree in this part of their outcome are grouped, and the text has the
+/// groups in place of the ends.
 ///
 /// While the search runs, `watch` gets its progress, and may end it.
 ///

@@ -168,7 +168,7 @@ fn text_of(
     }
 }
 
-/// Returns, as text in `form`, that no interleaving ends as wanted. As a scenario there is no text.
+/// Returns the text, in `form`, if no interleaving ends as wanted. As a scenario the text is empty.
 fn absent_told(form: ScheduleForm) -> &'static str
     ensures { result.now ≡ absent_told form }
 {
@@ -179,8 +179,8 @@ fn absent_told(form: ScheduleForm) -> &'static str
     }
 }
 
-/// Returns, as text in `form`, that it is not known whether one does. As a scenario there is no
-/// text.
+/// Returns the text, in `form`, of a search that was ended before it knew. As a scenario the text
+/// is empty.
 fn unknown_told(form: ScheduleForm) -> &'static str
     ensures { result.now ≡ unknown_told form }
 {

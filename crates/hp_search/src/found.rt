@@ -23,8 +23,8 @@ pub enum FindResult {
 /// The result of a search for an end, with its text.
 #[derive(Drop)]
 pub struct FindText {
-    /// The interleaving that was found, or a text that reports that there is none, or that it is not
-    /// known.
+    /// The interleaving that was found, or a text that reports that there is none, or that it is
+    /// not known.
     pub text: String,
     /// Whether an interleaving was found.
     pub result: FindResult,

@@ -1,4 +1,4 @@
-//! A part of an outcome by which ends are put together.
+//! The part of an outcome by which ends are grouped.
 ghost use Rattle.std.specs.Prelude.{◌≡◌, ◌↔◌, ◌<◌, ◌^◌, IfOk, IsTrue, codes, fold, length, true};
 ghost use Rattle.hp_questions.specs.PlanEnds.{all_plan_ends};
 ghost use Rattle.hp_schedules.specs.Digests.{mixed};
@@ -14,7 +14,7 @@ use hp_units::{Reply, Row};
 use std::alloc::{AllocError, Global};
 use std::marker::Model;
 
-/// A part of the outcomes of these scripts.
+/// The part of the outcomes of these scripts by which ends are grouped.
 #[derive(Drop)]
 pub struct Grouping<'a> {
     by: GroupBy,
@@ -34,7 +34,8 @@ impl<'a> Model for Grouping<'a> {
 }
 
 impl<'a> Grouping<'a> {
-    /// Creates a grouping by a part of the outcomes of `scripts`, on a layout with `cpus` processors.
+    /// Creates a grouping by the part `by` of the outcomes of `scripts`, on a layout with `cpus`
+    /// processors.
     pub fn new(by: GroupBy, cpus: u32, scripts: &'a [CallScript]) -> Grouping<'a>
         requires { length scripts.now < 2 ^ 32 }
         ensures { result ≡ record { by = by; cpus = cpus; scripts = scripts.now } }
@@ -58,7 +59,7 @@ impl<'a> Grouping<'a> {
     }
 }
 
-/// Returns whether two outcomes agree in a part.
+/// Returns whether two outcomes agree in the part.
 pub(crate) fn agree(
     alloc: Global,
     by: &Grouping<'_>,
@@ -74,7 +75,7 @@ pub(crate) fn agree(
     }
 }
 
-/// Returns whether the plans of each processor ended alike in both.
+/// Returns whether the plans of each processor ended alike in both outcomes.
 fn plans_agree(
     alloc: Global,
     by: &Grouping<'_>,
@@ -112,7 +113,7 @@ pub(crate) fn same_row(row: &Row, other: &Row) -> bool
     *row == *other
 }
 
-/// Returns whether each processor has the same replies in both.
+/// Returns whether each processor has the same replies in both lists.
 fn same_answers(all: &[Replies], others: &[Replies]) -> bool
     ensures { IsTrue result ↔ (all.now ≡ others.now) }
 {

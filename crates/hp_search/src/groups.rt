@@ -1,4 +1,4 @@
-//! Ends put together by a part of their outcome.
+//! Ends grouped by a part of their outcome.
 ghost use Rattle.std.specs.Prelude.{◌≡◌, ◌+◌, ◌<◌, ◌^◌, [], IfNone, IfOk, IfSome, IsTrue, OnErr, OnOk, length, option_map, sum_by};
 ghost use Rattle.hp_schedules.specs.Shares.{AddsAt};
 ghost use Rattle.hp_search.specs.Groups.{AddsEnd, AreGroups, AreKnown, AreShown, Begins, HasGroupAt, HasNoGroup, part_digest};
@@ -14,15 +14,15 @@ use std::marker::Model;
 /// The part of an outcome in which the ends of a group agree.
 #[derive(Clone, Copy, Drop)]
 pub enum GroupBy {
-    /// What became of the memory blocks.
+    /// The states of the memory blocks.
     Blocks,
-    /// What each processor was answered.
+    /// The replies to each processor.
     Answers,
     /// How the plans of each processor ended.
     Plans,
 }
 
-/// Puts ends together that agree in a part of their outcome.
+/// Groups the ends that agree in a part of their outcome.
 ///
 /// A group has the outcome and the first interleaving of its first end, and counts the
 /// interleavings of all its ends. The groups are in the order of their first ends.
@@ -41,7 +41,7 @@ pub fn groups_of(
     Ok(groups.into_ends())
 }
 
-/// Puts the ends of an exploration together, or leaves them as they are if no part is given.
+/// Groups the ends of an exploration, or leaves them as they are if `by` is `None`.
 pub(crate) fn grouped(
     alloc: Global,
     explored: Exploration,
@@ -69,7 +69,7 @@ pub(crate) fn grouped(
     }
 }
 
-/// Groups of the ends so far.
+/// The groups of the ends so far.
 ///
 /// `latest` maps a hash to the index of the newest group that has it.
 struct Groups<'a> {
@@ -100,7 +100,7 @@ impl<'a> Drop for Groups<'a> {
 }
 
 impl<'a> Groups<'a> {
-    /// Starts with no group.
+    /// Creates an empty list of groups.
     fn new(alloc: Global, by: &'a Grouping<'a>) -> Groups<'a>
         ensures { result ≡ record { by = by.now; ends = [] } }
     {
@@ -148,8 +148,8 @@ impl<'a> Groups<'a> {
         group.count += count;
     }
 
-    /// Begins a group with an end. `digest` is the hash of its part. If memory runs out, the groups
-    /// stay as they were.
+    /// Begins a group with an end. `digest` is the hash of the part of its outcome. If memory runs
+    /// out, the groups stay as they were.
     fn begin(&mut self, alloc: Global, digest: u64, end: &Ending) -> Result<(), AllocError>
         requires digest { digest ≡ part_digest self.old.by end.now.outcome }
         requires none { HasNoGroup self.old.by self.old.ends end.now.outcome }
@@ -193,7 +193,7 @@ fn copy_of(alloc: Global, end: &Ending) -> Result<Ending, AllocError>
 }
 
 /// Returns the index of the group that an end with this outcome belongs to. `digest` is the hash of
-/// its part.
+/// the part of the outcome.
 ///
 /// It is nearly always the newest group with this hash. If not, all groups are compared.
 fn place_of(

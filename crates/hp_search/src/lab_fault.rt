@@ -27,7 +27,8 @@ pub enum LabFault {
     /// lines are counted from 1.
     PastLayout { number: u64 },
     /// The layout's history has no room for all calls of an interleaving. It needs room for
-    /// `needed` records; `None` if a script holds a plan, since its calls are not known before.
+    /// `needed` records. This is `None` if a script holds a plan, whose calls only a search can
+    /// count, or if it is 2^64 or more.
     HistoryFull { needed: Option<u64> },
     /// Out of memory.
     OutOfMemory,

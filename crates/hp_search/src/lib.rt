@@ -4,12 +4,12 @@
 //! hp_questions runs a scenario's setup and makes the scripts, and hp_explore searches. This crate
 //! joins them (`prepared`), returns what each search found (`exploring`, `threads`, `finding`), and
 //! writes ends and schedules as words, as JSON and as a scenario (`words`, `objects`, `replays`).
-//! It owns the conditions on a scenario's bytes, and when each fault of a search comes. It also
-//! owns the faults of the program and of a sum of parts; when these come is in the crates that
-//! return them. It opens no file and no stream.
+//! It owns the conditions on a scenario's bytes, and states when each fault of a search comes. It
+//! also defines the faults of the program and of adding up parts; the crates that return these
+//! state when they come. It opens no file and no stream.
 //!
-//! Read specs/Prepared and specs/Holding first, then specs/Explorations: what `explore_text`
-//! promises; specs/Findings; specs/Words; specs/FaultTexts and specs/FaultOrigins.
+//! Read specs/Prepared and specs/Holding first, then specs/Explorations (what `explore_text`
+//! promises), specs/Findings, specs/Words, specs/FaultTexts and specs/FaultOrigins.
 #![tactic(auto)]
 
 mod ends;

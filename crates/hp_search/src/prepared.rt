@@ -43,8 +43,8 @@ impl Drop for Prepared {
 
 /// Reads a scenario and makes it ready for a search: runs its first `setup` lines in order on one
 /// machine, and puts each later line into the script of its processor. In a script, operation 0 is
-/// the one that the processor began last. A name for a result of the setup becomes its number; one
-/// for a result of a script is looked up there.
+/// the one that the processor began last. A name for a result of the setup becomes the result's
+/// number. A name for a result of a script line is looked up during the search.
 ///
 /// Errors: those of reading the scenario; `NotForScript` with the first line after the setup that
 /// may not be in a script; `OutOfMemory`, which may come in place of any other result.
@@ -127,8 +127,8 @@ impl Prepared {
         )
     }
 
-    /// Returns the laboratory's fault for a fault of the scripts. For a full history it computes
-    /// how many records are needed.
+    /// Returns the laboratory's fault for a fault of a call. For a full history it computes how
+    /// many records are needed.
     pub fn told_fault(&self, alloc: Global, fault: ExploreFault) -> LabFault
         ensures { IsToldAs (setting_of self.now) fault result }
     {

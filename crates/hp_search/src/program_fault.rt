@@ -24,7 +24,7 @@ pub enum LabProgramFault {
     ReadFailed,
     /// The input is longer than 16,777,216 bytes.
     TooLong,
-    /// The exploration or the search failed, or memory ran out: in any command, also while reading.
+    /// The exploration or the search failed; or memory ran out, in any command or while reading.
     Lab(LabFault),
     /// The parts cannot be added up.
     Parts(PartFault),

@@ -8,7 +8,7 @@ use hp_schedules::{Ending, HowMany, Replies, total_of};
 use hp_units::{Reply, Row, State, Zone};
 use std::alloc::{AllocError, Global};
 
-/// The most bytes of a line, without its newline, if the counts leave room for any block.
+/// The most bytes of a line, without its newline. Only a line without blocks may be longer.
 const WIDTH: usize = 100;
 
 /// Written in a line in place of the blocks that have no room.
@@ -125,7 +125,7 @@ fn write_blocks(
     Ok(())
 }
 
-/// Returns whether a text may be appended, and `CUT` after it.
+/// Returns whether `more`, and `CUT` after it, fit into `most` bytes.
 fn has_room(out: &str, more: &str, most: usize) -> bool {
     let long = out.len().saturating_add(more.len());
     long.saturating_add(CUT.len()) <= most
@@ -149,7 +149,7 @@ fn run_text(alloc: Global, first: usize, last: usize, row: &Row) -> Result<Strin
     }
 }
 
-/// Returns the state of a memory block in short.
+/// Returns the short word for a memory block's state.
 fn state_word(row: &Row) -> &'static str {
     match row.state {
         State::Offline => "off",

@@ -15,7 +15,7 @@ use std::thread::Threads;
 /// Explores a scenario like `explore_text`, in `jobs` threads, with the same result and the same
 /// errors.
 ///
-/// While the searches run, `watch` gets what is known of their progress.
+/// While the searches run, `watch` is called as by `explore_with_jobs` of hp_explore.
 pub fn explore_text_with_jobs<W: Watch>(
     rt: &(impl Threads + Sync),
     alloc: Global,

@@ -16,8 +16,8 @@ abbrev pub IsLineFault : (cpus place : ℕ) → Line → StartFault → Type 0
 IsLineFault cpus place line (NotForScript at why) = (at ≡ place) × (unfit cpus line ≡ Some why)
 IsLineFault cpus place line OutOfMemory = ⊥
 
--- the first line that may not be in a script; `before` lines come first, and lines are counted from
--- 1
+-- line number `place`, counted from 1, is the first that may not be in a script; `before` lines precede
+-- `lines`
 pub record IsFirstUnfit (cpus before : ℕ) (lines : List Line) (place : ℕ) (why : Unfit) : Type 0 where
   pub at : ℕ
   pub line : Line

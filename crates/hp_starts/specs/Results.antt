@@ -1,5 +1,5 @@
--- The results of earlier lines: what a line of a script does with the operation that an earlier line
--- of the same script began, or with the frame that one got.
+-- The results of earlier lines: what a line of a script does with the operation that an earlier line of
+-- the same script began, or with the frame that such a line got.
 use Rattle.std.specs.Prelude.{ℕ, ◌+◌, ◌-◌, ◌==◌, nat_lt, ◌&&◌, Bool, true, false, if◌then◌else◌, List, Option, Some, None, drop, take, map, option_and_then, slice_get}
 use Rattle.std.specs.List.{count_by}
 use Rattle.std.specs.Option.{option_flatten, option_map}
@@ -24,44 +24,48 @@ work_in (event.Commit op) = Some Commit
 work_in (event.Cancel op) = Some Cancel
 work_in e = None
 
--- an event asks for a block for the kernel; an event gives one back
+-- an event asks for a block for the kernel
 abbrev pub is_alloc : Event → Bool
 is_alloc (event.KernelAlloc order) = true
 is_alloc e = false
 
+-- an event gives a kernel block back
 abbrev pub is_free : Event → Bool
 is_free (event.KernelFree frame) = true
 is_free e = false
 
 -- ---- lines with a result
 
--- a line's work is a Begin, and not a plan that begins its operation itself; it asks for a block
+-- a line's work is a Begin; a plan, which begins its operation itself, is not one
 abbrev pub asked_opens : asks.Meaning → Bool
 asked_opens (asks.event e) = is_opening (mark_of e)
 asked_opens m = false
 
+-- a line's work asks for a block
 abbrev pub asked_allocs : asks.Meaning → Bool
 asked_allocs (asks.event e) = is_alloc e
 asked_allocs m = false
 
--- the same of a line of the processor
+-- a line is the processor's, and its work is a Begin
 abbrev pub line_opens : (cpu : ℕ) → Line → Bool
 line_opens cpu line = (line.cpu == cpu) && asked_opens (asks.asked_by line.work)
 
+-- a line is the processor's, and its work asks for a block
 abbrev pub line_allocs : (cpu : ℕ) → Line → Bool
 line_allocs cpu line = (line.cpu == cpu) && asked_allocs (asks.asked_by line.work)
 
--- how many operations a processor begins in lines, by a Begin or a plan; how many blocks it asks for
+-- how many operations a processor begins in lines, by a Begin or a plan
 abbrev pub begun_in : (cpu : ℕ) → List Line → ℕ
 begun_in cpu lines = count_by (line_begins cpu) lines
 
+-- how many blocks a processor asks for in lines
 abbrev pub allocs_in : (cpu : ℕ) → List Line → ℕ
 allocs_in cpu lines = count_by (line_allocs cpu) lines
 
 -- ---- work on a result
 
 -- work on the operation that the line at `place` began. It is the processor's latest one if no line
--- since then begins another; else it is named by how many the script began before it
+-- since then begins another. Otherwise its number is how many the script began before it
 abbrev pub on_begun : (cpu : ℕ) → (earlier : List Line) → (place : ℕ) → StepWork → OwnWork
 on_begun cpu earlier place w =
     if begun_in cpu (drop (place + 1) earlier) == 0 then Latest w
@@ -80,8 +84,8 @@ abbrev pub asked_on : (cpu : ℕ) → (earlier : List Line) → (place : ℕ) �
 asked_on cpu earlier place line (asks.event e) = on_result cpu earlier place line e
 asked_on cpu earlier place line m = None
 
--- the work of the line at `place` on the result of an earlier line, its source; `None` if it has no
--- source, or none of this processor before it that has such a result
+-- the work of the line at `place` on the result of its source. `None` if it has no source, or if the
+-- source is not an earlier line of this processor that has such a result
 abbrev pub named_at : (cpu : ℕ) → List Line → (sources : List (Option ℕ)) → (place : ℕ) → asks.Meaning
     → Option OwnWork
 named_at cpu lines sources place m =

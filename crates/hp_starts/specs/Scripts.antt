@@ -17,8 +17,8 @@ use Rattle.hp_starts.specs.Begins.{last_begun, line_begins}
 use Rattle.hp_starts.specs.Results.{named_at}
 use Rattle.hp_starts.specs.declared.begins.Begin.{Begin}
 
--- the work of an event on operation 0, which in a script is the one that its processor began last;
--- `None` for any other operation
+-- the work of an event on operation 0, which in a script is the operation that its processor began
+-- last; `None` for any other operation
 abbrev pub own_if_last : (op : ℕ) → own.StepWork → Option own.StepWork
 own_if_last op w = if op == 0 then Some w else None
 
@@ -37,12 +37,12 @@ own_step op begun w = if begun then Own (Latest w) else Ask (step_work_of op w)
 abbrev pub called : (op : ℕ) → (begun : Bool) → Event → step.Step
 called op begun e = option_map_or (own_step op begun) (own_work e) (Ask e)
 
--- the same where the event may work on the result of an earlier line: `named` is then this work
+-- an event as a step. If the event works on the result of an earlier line, `named` is this work
 abbrev pub named_or_called : (op : ℕ) → (begun : Bool) → (named : Option OwnWork) → Event → step.Step
 named_or_called op begun None e = called op begun e
 named_or_called op begun (Some w) e = Own w
 
--- a line's work as a step; reading a file, a seal and a text that a file refuses make no call
+-- a line's work as a step; `None` for `cat`, a seal, and a text that a control file does not take
 abbrev pub explored : (op : ℕ) → (begun : Bool) → (named : Option OwnWork) → asks.Meaning → Option step.Step
 explored op begun named (asks.event e) = Some (named_or_called op begun named e)
 explored op begun named (asks.plan items turns) = Some (Carry items turns)
@@ -61,8 +61,8 @@ abbrev pub steps_of : Option step.Step → List step.Step
 steps_of None = []
 steps_of (Some s) = s ∷ []
 
--- the steps that lines add to a processor's script. They are what is left of `lines` from `place` on,
--- and `sources` has, for each line that works on the result of an earlier one, the place of that one
+-- the steps that `left`, which is `lines` from `place` on, adds to a processor's script. `sources` has,
+-- for each line that works on the result of an earlier one, the index of that line
 abbrev pub steps_in : (cpu : ℕ) → (op : ℕ) → (begun : Bool) → (lines : List Line)
     → (sources : List (Option ℕ)) → (place : ℕ) → (left : List Line) → List step.Step
 steps_in cpu op begun lines sources place [] = []

@@ -7,16 +7,17 @@ use Rattle.hp_starts.specs.Begins.{line_begins}
 use Rattle.hp_starts.specs.Scripts.{own_work}
 use Rattle.hp_starts.specs.declared.unbegun.Unbegun.{Unbegun}
 
--- a line's work is on operation 0; a line is the processor's and works on operation 0
+-- a line's work is on operation 0
 abbrev pub asked_names_last : asks.Meaning → Bool
 asked_names_last (asks.event e) = is_some (own_work e)
 asked_names_last m = false
 
+-- a line is the processor's and works on operation 0
 abbrev pub line_names_last : (cpu : ℕ) → Line → Bool
 line_names_last cpu line = (line.cpu == cpu) && asked_names_last (asks.asked_by line.work)
 
--- the number, from 1, of a processor's first line after the setup that works on operation 0 with no
--- line before it that begins an operation; `before` lines come before these
+-- the number, from 1, of the first line after the setup in which a processor works on operation 0
+-- before it begins an operation; `before` lines precede `lines`
 abbrev pub unbegun_at : (cpu setup before : ℕ) → List Line → Option ℕ
 unbegun_at cpu setup before [] = None
 unbegun_at cpu setup before (line ∷ lines) =

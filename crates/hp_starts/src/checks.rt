@@ -6,8 +6,8 @@ ghost use Rattle.hp_starts.specs.Checks.{AreFit, IsLineFault, IsUnfit};
 use crate::start_fault::StartFault;
 use hp_scenario::Line;
 
-/// Checks that every line may be in a script; `before` lines come before these. The error names the
-/// first line that may not.
+/// Checks that every line may be in a script. The error names the first line that may not; `before`
+/// lines precede `lines`.
 pub(crate) fn check_lines(cpus: u32, before: u64, lines: &[Line]) -> Result<(), StartFault>
     requires { before + length lines.now < 2 ^ 64 }
     ensures ok { OnOk result (AreFit cpus lines.now (length lines.now)) }

@@ -11,8 +11,8 @@ use hp_schedules::{OwnWork, StepWork};
 use hp_units::{Cpu, Event, mark_of};
 use std::alloc::{AllocError, Global};
 
-/// Returns the sources of the lines after the setup, as places among these lines. Those in the
-/// setup are left out.
+/// Returns the sources of the lines after the setup, as indices of these lines. A source in the
+/// setup becomes `None`.
 pub(crate) fn sources_after(
     alloc: Global,
     sources: &[Option<usize>],
@@ -27,7 +27,7 @@ pub(crate) fn sources_after(
     Ok(later)
 }
 
-/// Returns a source as a place among the lines after the setup, or `None` if it is in the setup.
+/// Returns a source as an index among the lines after the setup, or `None` if it is in the setup.
 fn place_after(source: Option<usize>, setup: u64) -> Option<usize>
     ensures { result ≡ option_and_then (source_after setup) source }
 {
@@ -43,10 +43,11 @@ fn place_after(source: Option<usize>, setup: u64) -> Option<usize>
     }
 }
 
-/// Returns the work of the line at `place` on the result of its source, or `None` if it has no
-/// source, or none of the processor before it that has such a result.
+/// Returns the work of the line at `place` on the result of its source. `None` if it has no source,
+/// or if the source is not an earlier line of the processor that has such a result.
 ///
-/// More than `u32::MAX` lines with results before the source are out of memory.
+/// Fails as if out of memory if there are more than `u32::MAX` lines with results before the
+/// source.
 pub(crate) fn named_at(
     cpu: Cpu,
     lines: &[Line],
@@ -77,7 +78,7 @@ fn source_at(sources: &[Option<usize>], place: usize) -> Option<usize>
     }
 }
 
-/// Returns a line's work on the result of the line at `place`, or `None` if that one has no such
+/// Returns a line's work on the result of the line at `place`, or `None` if the latter has no such
 /// result.
 fn asked_on(
     cpu: Cpu,
@@ -162,7 +163,7 @@ fn allocs_in(cpu: Cpu, lines: &[Line]) -> Result<u32, AllocError>
     number_of(count)
 }
 
-/// Returns a count of lines as the number of a result. A count above `u32::MAX` is out of memory.
+/// Returns a count of lines as the number of a result. Fails as if out of memory above `u32::MAX`.
 fn number_of(count: usize) -> Result<u32, AllocError>
     ensures { IfOk result (λ number. number ≡ count) }
 {

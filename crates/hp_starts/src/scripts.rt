@@ -14,8 +14,8 @@ use hp_units::{Cpu, Event, Plan, Serial};
 use std::alloc::{AllocError, Global};
 
 /// Returns the script of each processor, from processor 0. `begins` are the Begins before the
-/// scripts, and `sources` has the place among `lines` of the line whose result a line works on.
-/// Lines that may not be in a script are left out.
+/// scripts. `sources` has, for each line that works on the result of another, the index of that
+/// line in `lines`. Lines that may not be in a script are left out.
 pub(crate) fn scripts_of(
     alloc: Global,
     cpus: u32,

@@ -37,11 +37,11 @@ impl Drop for Start {
 /// and puts each later line into the script of its processor. In a script, operation 0 is the one
 /// that the processor began last.
 ///
-/// `sources` has an entry for each line, from line 0; an empty slice means none. `Some(i)` at a line
-/// means that its first argument is the result of line `i`: the operation that this line began, or
-/// the frame that it got, in whichever order the calls are made. An entry counts if both lines are
-/// after the setup, line `i` is the earlier one, of the same processor, and has such a result;
-/// others are as if they were not there.
+/// `sources` has an entry for each line, from line 0; an empty slice means none. `Some(i)` at a
+/// line means that its first argument is the result of line `i`: the operation that line `i` began,
+/// or the frame that it got, in whichever order the calls are made. An entry counts if both lines
+/// are after the setup and line `i` is an earlier line of the same processor that has such a
+/// result. Other entries are ignored.
 ///
 /// Errors: `NotForScript` with the first line after the setup that may not be in a script;
 /// `OutOfMemory`, which may come in place of any other result.
@@ -65,8 +65,9 @@ pub fn start_of(
     Ok(start_after(alloc, &scenario.layout, before, after, &sources)?)
 }
 
-/// Runs `before` on a machine just booted, and returns it with the scripts of `after`. `sources`
-/// has the place among `after` of the line whose result a line works on.
+/// Runs `before` on a machine just booted, and returns the machine with the scripts of `after`.
+/// `sources` has, for each line of `after` that works on the result of another, the index of that
+/// line in `after`.
 fn start_after(
     alloc: Global,
     layout: &Layout,

@@ -18,8 +18,9 @@ pub struct Unbegun {
     pub line: u64,
 }
 
-/// Returns, per processor, the first script line that names operation 0 before the processor's
-/// first Begin. The first `setup` lines are the setup; the later ones are in scripts.
+/// Returns, per processor, the first script line that names operation 0 before any line of the
+/// processor begins an operation. The first `setup` lines are the setup; the later ones are in
+/// scripts.
 ///
 /// Meant for warnings: these lines work on no operation.
 pub fn unbegun_lines(

@@ -11,10 +11,11 @@ use Rattle.hp_svg.specs.declared.viewer.words.TheConstants.{WORDS}
 unfoldable pub viewer_before : List ℕ
 viewer_before = HEAD.now ++ STYLE.now ++ BODY.now
 
--- from there on: what reads the lines, and what draws them
+-- the viewer's code that reads the lines
 unfoldable pub viewer_rules : List ℕ
 viewer_rules = MIDDLE.now ++ TRACE.now ++ WORDS.now
 
+-- the viewer's code that draws them, and its end
 unfoldable pub viewer_drawing : List ℕ
 viewer_drawing = MACHINE.now ++ PANELS.now ++ END.now
 

@@ -11,7 +11,7 @@ more_row r = if r.more == 0 then [] else row_with (more_text r) [] None [] ∷ [
 abbrev pub shown_of : RoundsValue → List RowValue
 shown_of r = r.rows ++ more_row r
 
--- each row is shown, or is in a round like the one right above
+-- each row is shown, or is in a round that repeats the round right above
 pub record AreShown (rows shown : List RowValue) : Type 0 where
   pub entries : List RoundsValue
   pub joined : IsJoinOf rows entries

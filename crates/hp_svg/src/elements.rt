@@ -69,7 +69,7 @@ fn write_box(
     )
 }
 
-/// Writes the character of cells on them, in a colour that is readable there.
+/// Writes the character of cells on top of them, in a colour that is readable there.
 fn write_letter(out: &mut String, x: u128, y: u128, mark: u8) -> Result<(), AllocError> {
     let ink = ink_of(mark);
     let letter = char::from(mark);
@@ -97,7 +97,7 @@ pub(crate) fn write_cell(
     write_letter(out, x + 2, y + 9, mark)
 }
 
-/// Draws the mobility of pageblocks as a strip; nothing if their memory block is not in use.
+/// Draws the mobility of pageblocks as a strip. Draws nothing if their memory block is not in use.
 pub(crate) fn write_strip(
     out: &mut String,
     x: u128,

@@ -8,13 +8,13 @@ use hp_numbers::Text;
 use indexmap::IndexSet;
 use std::alloc::{AllocError, Global};
 
-/// The characters that are written in white, since their colours are dark.
+/// The characters that are written in white, because their colours are dark.
 const DARK: &str = "Kacfhijmpqsvxyz";
 
-/// The colour of each character that has a meaning: of a frame that is free, isolated, offline,
-/// absent or the kernel's, of the lists of processors 0 to 9, and of the owners a to z. The owners'
-/// are seven of M. Okabe and K. Ito, "Color Universal Design", without black, and then P. Tol's,
-/// "Colour Schemes": muted, bright and vibrant.
+/// The colour of each character that has a meaning: frames that are free, isolated, offline, absent
+/// or the kernel's, the lists of processors 0 to 9, and the owners a to z. The first seven owners
+/// have the colours of M. Okabe and K. Ito, "Color Universal Design", without black. The others
+/// have those of P. Tol, "Colour Schemes": muted, bright and vibrant.
 pub const FILLS: &[(u8, &str)] = &[
     (b'.', "#7fbf7b"),
     (b':', "url(#isolated)"),
@@ -64,14 +64,14 @@ pub(crate) fn is_lettered(mark: u8) -> bool {
     matches!(mark, b'K' | b'0'..=b'9' | b'a'..=b'z')
 }
 
-/// Returns the colour of a character; white for one without a meaning.
+/// Returns the colour of the cells of a character, or white for a character without a meaning.
 pub(crate) fn fill_of(mark: u8) -> &'static str
     ensures { result.now ≡ fill_in (map (λ entry. (entry.0, entry.1.now)) FILLS.now) mark }
 {
     fill_in(FILLS, mark)
 }
 
-/// Returns the colour of a character by a table; white without an entry.
+/// Returns the colour of a character in a table, or white if the table does not have the character.
 fn fill_in(fills: &[(u8, &'static str)], mark: u8) -> &'static str
     ensures { result.now ≡ fill_in (map (λ entry. (entry.0, entry.1.now)) fills.now) mark }
 {
@@ -83,7 +83,7 @@ fn fill_in(fills: &[(u8, &'static str)], mark: u8) -> &'static str
     "#ffffff"
 }
 
-/// Returns the colour of a character on its cells.
+/// Returns the colour in which a character is written on its cells.
 pub(crate) fn ink_of(mark: u8) -> &'static str {
     if DARK.as_bytes().contains(&mark) {
         "#ffffff"

@@ -28,7 +28,8 @@ fn write_move(
     write_path(out, left, top, to_left, to_top, "")
 }
 
-/// Returns where the blocks begin in the last row that has any, down to this one.
+/// Returns where the blocks of a row begin, or `above` if it has none. `top` is where the row
+/// begins.
 fn last_blocks(above: u128, top: u128, row: &RowPicture) -> u128
     requires low { top < 2 ^ 105 }
     requires near { above ≤ top + 28 }
@@ -41,8 +42,8 @@ fn last_blocks(above: u128, top: u128, row: &RowPicture) -> u128
     }
 }
 
-/// Draws the lines of all moves of rows that begin at `start`: each twice, the lower one in white,
-/// so that the other is seen on cells of any colour.
+/// Draws the lines of all moves of rows that begin at `start`. Each is drawn twice, first in white,
+/// so that it is seen on cells of any colour.
 pub(crate) fn write_moves(
     out: &mut String,
     sheet: Sheet,

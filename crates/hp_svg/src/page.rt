@@ -5,9 +5,9 @@ ghost use Rattle.hp_svg.specs.Pages.{viewer_after, viewer_before, viewer_drawing
 use crate::viewer::{BODY, END, HEAD, MACHINE, MIDDLE, PANELS, STYLE, TRACE, WORDS};
 use std::alloc::{AllocError, Global};
 
-/// Returns the page that steps through a trace: the viewer, and in it the lines of JSON as they are.
-/// It asks no network and uses no library. No line may have a `<`: it could end the element that the
-/// lines are in.
+/// Returns the page that steps through a trace: the viewer, and in it the lines of JSON as they
+/// are. The page uses no network and no library. No line may contain `<`, which could end the
+/// element that holds the lines.
 pub fn page_of(alloc: Global, lines: &str) -> Result<String, AllocError>
     ensures { IfOk result (λ page. string_bytes page ≡ viewer_before ++ lines.now ++ viewer_after) }
 {
@@ -35,7 +35,7 @@ fn write_after(page: &mut String) -> Result<(), AllocError>
     write_drawing(page)
 }
 
-/// Writes what reads the lines.
+/// Writes the viewer's code that reads the lines.
 #[tactic(auto, unfolding(crate::specs::Pages::viewer_rules))]
 fn write_rules(page: &mut String) -> Result<(), AllocError>
     ensures { OnOk result (string_bytes page.new ≡ string_bytes page.old ++ viewer_rules) }
@@ -43,7 +43,7 @@ fn write_rules(page: &mut String) -> Result<(), AllocError>
     write_three(page, MIDDLE, TRACE, WORDS)
 }
 
-/// Writes what draws them.
+/// Writes the viewer's code that draws them, and its end.
 #[tactic(auto, unfolding(crate::specs::Pages::viewer_drawing))]
 fn write_drawing(page: &mut String) -> Result<(), AllocError>
     ensures { OnOk result (string_bytes page.new ≡ string_bytes page.old ++ viewer_drawing) }

@@ -15,7 +15,7 @@ use hp_numbers::Text;
 use indexmap::IndexSet;
 use std::alloc::{AllocError, Global};
 
-/// The title, and that spaces count in texts.
+/// The title, and a style that keeps spaces in texts.
 const TITLE: &str = "<title>Trace of a memory</title><style>text{white-space:pre}</style>";
 
 /// How isolated cells are hatched.
@@ -25,21 +25,21 @@ const HATCHING: &str = "<pattern id='isolated' width='4' height='4' patternUnits
 
 /// Returns rows as SVG, with cells `cell` pixels wide, shown at `scale` percent.
 ///
-/// Rows are one under another. Of equal rounds of a plan's calls the first is shown, and below it a
-/// line of text about the others. Each row has its texts and the heads of its memory blocks as text, a
-/// rectangle for each run of equal characters of a block's cells ([`runs_of`](crate::runs_of)), an
-/// outline with its order for each free block and each block of the kernel, and below the cells a
-/// strip for the mobility of pageblocks. A line goes from where a page was, in the row above, to
-/// where it moved.
+/// Rows are one below another. Only the first of equal rounds of a plan's calls is shown, and below
+/// it a line of text about the others. Each row has its texts and the heads of its memory blocks as
+/// text. It has a rectangle for each run of equal characters of a block's cells
+/// ([`runs_of`](crate::runs_of)), an outline with its order for each free block and each block of
+/// the kernel, and below the cells a strip for the mobility of pageblocks. A line goes from where a
+/// page was, in the row above, to where it moved.
 ///
 /// Above the rows are a legend and the numbers of the blocks and of frames: of each frame if its
 /// cell has room, otherwise of the first in each pageblock, or at least in each block. The legend
 /// has all characters that occur, outlines, strips and lines, and the owners' names.
 ///
-/// The first row with blocks decides how wide a block is and how many there are; blocks that have
-/// no room in 1,600 pixels go on below the first. Each row has all blocks, or none if it is text
-/// alone, which is drawn where answers are. A text that has no room before what comes next has a
-/// line of its own.
+/// The first row with blocks decides how wide a block is and how many there are. Blocks that do not
+/// fit into 1,600 pixels continue below the first. Each row has all blocks or none; a row of text
+/// alone is drawn in the column of the answers. A text that is too long for its column has a line
+/// of its own.
 pub fn picture_of(
     alloc: Global,
     names: &IndexSet<Text>,
@@ -59,7 +59,7 @@ pub fn picture_of(
     Ok(out)
 }
 
-/// Returns whether a row has a block of the kernel.
+/// Returns whether any row has a block of the kernel.
 fn has_kernel_blocks(rows: &[RowPicture]) -> bool {
     for row in rows {
         for block in row.blocks() {
@@ -71,7 +71,7 @@ fn has_kernel_blocks(rows: &[RowPicture]) -> bool {
     false
 }
 
-/// Writes all below a legend of `entries`.
+/// Writes everything below a legend of this many entries.
 fn write_body(
     out: &mut String,
     alloc: Global,
@@ -93,8 +93,8 @@ fn scaled(length: u128, scale: u16) -> u128
     (length * scale as u128 + 99) / 100
 }
 
-/// Writes how a picture of this height begins, and what all rows use: how cells are hatched, lines
-/// between them, and a white ground.
+/// Writes the beginning of a picture of this height, and what all rows use: the hatching of cells,
+/// the lines between cells, and a white background.
 fn write_front(out: &mut String, sheet: Sheet, scale: u16, height: u128) -> Result<(), AllocError>
     requires { height < 2 ^ 106 }
 {
@@ -140,7 +140,7 @@ fn write_legend(
     write_notes(out, marks.len(), has_kernel)
 }
 
-/// Draws the signs of the legend from a place on; that of the kernel's blocks only if some occur.
+/// Draws the signs of the legend from a place on; the kernel's only if it has blocks.
 fn write_notes(out: &mut String, place: usize, has_kernel: bool) -> Result<(), AllocError>
     requires { place < 2 ^ 63 }
 {

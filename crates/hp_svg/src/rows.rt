@@ -27,7 +27,7 @@ pub(crate) fn write_rows(
     out.push_str("\n</g>\n")
 }
 
-/// Draws a row. A row of text alone is drawn where answers are.
+/// Draws a row. A row of text alone is drawn in the column of the answers.
 fn write_row(
     out: &mut String,
     alloc: Global,

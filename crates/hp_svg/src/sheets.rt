@@ -21,7 +21,7 @@ pub(crate) struct Sheet {
     pub(crate) blocks: u32,
     /// The number of characters of a block's cells.
     pub(crate) cells: u32,
-    /// The number of frames among them.
+    /// The number of frames of a block.
     pub(crate) frames: u32,
     /// The width of a cell.
     pub(crate) cell: u8,
@@ -136,14 +136,14 @@ impl Sheet {
         if strips == 1 { 14 } else { 14 * strips + 6 }
     }
 
-    /// Returns where the head of a block begins.
+    /// Returns the x coordinate at which the head of a block begins.
     pub(crate) fn head_at(&self, block: usize) -> u128
         ensures { result < 2 ^ 106 }
     {
         336 + self.blocks_width(self.place_of(block))
     }
 
-    /// Returns where the cells of a block begin.
+    /// Returns the x coordinate at which the cells of a block begin.
     pub(crate) fn cells_at(&self, block: usize) -> u128
         ensures { result < 2 ^ 107 }
     {
@@ -184,7 +184,7 @@ impl Sheet {
         (self.frames as u64 / (bars + 1)).max(1)
     }
 
-    /// Returns where the cell of the frame at `offset` in its block begins.
+    /// Returns the x coordinate at which the cell of the frame at `offset` in its block begins.
     pub(crate) fn cell_left(&self, block: usize, offset: u64) -> u128
         requires { offset < 2 ^ 32 }
         ensures { result < 2 ^ 108 }
@@ -193,9 +193,9 @@ impl Sheet {
         self.cells_at(block) + cells_of(self.cell, (offset + bars) as usize)
     }
 
-    /// Returns the step from one frame number above the cells of a block to the next, if the
-    /// longest number has this many digits of 5 pixels: 1 if a cell has room for its number, a
-    /// pageblock if that has, and otherwise a whole block.
+    /// Returns how many frames there are from one frame number above a block's cells to the next,
+    /// if the longest number has this many digits of 5 pixels. This is 1 if a cell has room for a
+    /// number, a pageblock if that has room, and otherwise the whole block.
     pub(crate) fn number_step(&self, digits: usize) -> u64
         ensures { 0 < result }
     {
@@ -233,14 +233,14 @@ impl Sheet {
         end.max(820)
     }
 
-    /// Returns where the number of a block is, below a legend of `entries`.
+    /// Returns the y coordinate of a block's number, below a legend of `entries` entries.
     pub(crate) fn number_at(&self, entries: usize, block: usize) -> u128
         ensures { result < 2 ^ 91 }
     {
         numbers_at(entries) + 24 * self.strip_of(block)
     }
 
-    /// Returns where the rows begin, below a legend of `entries`.
+    /// Returns the y coordinate at which the rows begin, below a legend of `entries` entries.
     pub(crate) fn rows_at(&self, entries: usize) -> u128
         ensures { result < 2 ^ 91 }
     {
@@ -297,7 +297,7 @@ pub(crate) fn legend_top(place: usize) -> u128
     8 + 16 * (place as u128 / 5)
 }
 
-/// Returns where the numbers of the blocks are, below a legend of `entries`.
+/// Returns the y coordinate of the blocks' numbers, below a legend of `entries` entries.
 fn numbers_at(entries: usize) -> u128
     ensures { result < 2 ^ 90 }
 {

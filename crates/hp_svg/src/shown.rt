@@ -7,8 +7,8 @@ use hp_map::{Rounds, RowPicture, join_rounds};
 use hp_numbers::Text;
 use std::alloc::{AllocError, Global};
 
-/// Returns the rows that a picture shows: of equal rounds of a plan's calls those of the first, and
-/// below them a line of text about the others.
+/// Returns the rows that a picture shows: only the first of equal rounds of a plan's calls, and
+/// below it a line of text about the others.
 pub(crate) fn shown_rows(
     alloc: Global,
     rows: Vec<RowPicture>,

@@ -34,16 +34,16 @@ remark_text (Sealed count) = sealed_line count
 
 -- ---- one call
 
--- its serial and its reply
+-- a call's serial and its reply
 abbrev pub answer_text : Receipt → List ℕ
 answer_text r = decimal r.serial ++ codes ": " ++ reply_text r.reply
 
--- which page moved by it
+-- the page that a call moved, if it moved one
 abbrev pub moved_of : Reply → Option Move
 moved_of (Moved from to) = Some (record { from = from; to = to })
 moved_of _ = None
 
--- an event was called; or the history is full, which is said
+-- an event was called; or the history is full, and a text below the row reports that
 abbrev pub MakesEvent : MachineValue → (cpu : ℕ) → Event → (asked : List ℕ) → (rows : List Row)
     → (after : MachineValue) → Type 0
 MakesEvent m cpu event asked rows after =
@@ -53,7 +53,7 @@ MakesEvent m cpu event asked rows after =
 
 -- ---- a plan
 
--- an event of a plan's driver, which accesses no page, in the place of a line
+-- an event of a plan's driver, in place of a line. It accesses no page, so it needs no owners' names
 abbrev pub step_text : Event → List ℕ
 step_text event = codes "     " ++ event_text [] event
 
@@ -72,7 +72,7 @@ IsStop None m = ⊤
 IsStop (Some HistoryFull) m = is_full m ≡ true
 IsStop (Some OutOfMemory) m = ⊥
 
--- a run of a plan's driver with this end was carried out
+-- a plan's driver ran, and ended like this
 pub record IsDriven (m : MachineValue) (cpu turns : ℕ) (plan : List Item) (end : OpEnd) (rows : List Row)
     (after : MachineValue) : Type 0 where
   pub receipts : List Receipt
@@ -91,21 +91,22 @@ pub record MakesPlan (m : MachineValue) (cpu turns : ℕ) (plan : List Item) (as
 
 -- ---- control files
 
--- a control file's text as it is, or why there is none
+-- the text of a control file, or why there is none
 abbrev pub file_rows : MachineValue → Result (List ℕ) ControlFault → (asked : List ℕ) → List Row
 file_rows m (Ok text) asked = noted m asked text
 file_rows m (Err fault) asked = noted m asked (read_fault_line fault)
 
 -- ---- a seal
 
--- the records were handed out, and how many there were is said
+-- the records were handed out, and a text below the row reports how many
 abbrev pub MakesSeal : MachineValue → (asked : List ℕ) → (rows : List Row) → (after : MachineValue) → Type 0
 MakesSeal m asked rows after =
     (after ≡ sealed m) × (rows ≡ noted after asked (sealed_line (length m.history)))
 
 -- ---- what a line asks for
 
--- it was done; where a control file does not take the word that is said
+-- what a line asks for was done; if a control file does not take the word, a text below the row reports
+-- that
 abbrev pub MakesWork : MachineValue → (cpu : ℕ) → asks.Meaning → (asked : List ℕ) → (rows : List Row)
     → (after : MachineValue) → Type 0
 MakesWork m cpu (asks.event e) asked rows after = MakesEvent m cpu e asked rows after

@@ -1,4 +1,4 @@
--- A machine that lives on after a scenario, and the rows of the lines that come.
+-- A machine that goes on after a scenario, and the rows of the lines that follow.
 use Rattle.std.specs.Prelude.{ℕ, ◌≡◌, ◌+◌, List, [], ◌∷◌, ◌++◌, length, map, Some}
 use Rattle.hp_machine.specs.Machine.{MachineValue, booted}
 use Rattle.hp_scenario.specs.Names.{Numbered, line_in}
@@ -26,7 +26,7 @@ pub record LivesOn (names : List (List ℕ)) (number : ℕ) (line : Line) (old n
   pub same : new.view ≡ old.view
   pub traced : TracesLine old.view names number old.machine line old.rows new.rows new.machine
 
--- the same with no text
+-- the same trace with an empty text
 abbrev pub without_text : LiveValue → LiveValue
 without_text t = record {
   machine = t.machine;
@@ -48,21 +48,21 @@ abbrev pub AreRead : (names : List (List ℕ)) → List Numbered → (last : Lis
 AreRead names [] last = last ≡ names
 AreRead names (n ∷ read) last = (text : List ℕ) × (line_in names text ≡ Some n) × AreRead n.names read last
 
--- lines were run one after another, of which the first has this number. The text was emptied before each,
--- and what it was after each is shown.
+-- lines were run one after another; the first has this number. The text was emptied before each.
+-- `shown` is the text after each, one after another
 abbrev pub LivesThrough : (number : ℕ) → List Numbered → (shown : List ℕ) → (old new : LiveValue) → Type 0
 LivesThrough number [] shown old new = (shown ≡ []) × (new ≡ old)
 LivesThrough number (n ∷ read) shown old new =
     (next : LiveValue) × (later : List ℕ) × LivesOn n.names number n.line (without_text old) next
     × (shown ≡ next.rows.text ++ later) × LivesThrough (number + 1) read later next new
 
--- a scenario with more lines below its own, and the names after them
+-- a scenario with more lines after its own; `last` are the names after these lines
 abbrev pub with_lines : ScenarioValue → List Numbered → (last : List (List ℕ)) → ScenarioValue
 with_lines s read last =
     record { layout = s.layout; names = last; lines = s.lines ++ map (λ n. n.line) read }
 
--- the first row, and below it what was shown for the lines that came after a scenario's, are the trace of
--- the scenario with these lines, from the first of them on
+-- the first row, and after it the rows shown for the lines that follow a scenario, are a trace: that of
+-- the scenario with these lines at its end, from the first of them on
 abbrev pub ShowTheTrace : Type 0
 ShowTheTrace =
     (v : View) (s : ScenarioValue) (read : List Numbered) (last : List (List ℕ)) (shown : List ℕ)

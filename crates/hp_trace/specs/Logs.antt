@@ -21,8 +21,8 @@ RunsLines m (line ∷ lines) rows after =
     × (rows ≡ now ++ later)
     × RunsLines next lines later after
 
--- the records of a machine, and those of the machines of rows below it, one list a history. More records
--- were sealed, and so a history ended, exactly if the number of sealed records is another
+-- the histories of a machine and of the rows after it, one list per history. A history has ended, by a
+-- seal, if and only if the number of sealed records has changed
 abbrev pub histories : MachineValue → List Row → List (List Record)
 histories m [] = m.history ∷ []
 histories m (words text ∷ rows) = histories m rows
@@ -37,7 +37,7 @@ pub record IsLogOfScenario (s : ScenarioValue) (block_frames : ℕ) (events : Li
   pub size : block_frames ≡ block_size s.layout
   pub is : events ≡ log_of_all s.layout (boot_memory s.layout) (histories (booted s.layout) rows)
 
--- lines were done, and their rows drawn
+-- lines were run, and their rows were drawn
 pub record AreLinesDrawn (m : MachineValue) (lines : List Line) (old new : RowsValue) (after : MachineValue)
     : Type 0 where
   pub rows : List Row

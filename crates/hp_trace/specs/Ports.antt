@@ -1,4 +1,4 @@
--- What calls of a port that draws them make of it.
+-- What a port that draws its calls does to the rows and to the machine.
 use Rattle.std.specs.Prelude.{ℕ, ◌≡◌, Bool, true, false, List, [], ◌∷◌, ◌++◌, Some, refl}
 use Rattle.std.proofs.Common.{ap, subst, sym}
 use Rattle.hp_units.specs.declared.replies.CallFault.{CallFault}
@@ -22,12 +22,12 @@ IsTraced cpu old was_lost m receipts new is_lost after =
 abbrev pub LeavesOff : MachineValue → (was_lost : Bool) → CallFault → (is_lost : Bool) → Type 0
 LeavesOff m was_lost fault is_lost = is_lost ≡ false → (was_lost ≡ false) × IsStop (Some fault) m
 
--- no call
+-- without a call nothing changes
 pub traced_nothing : (cpu : ℕ) (rows : RowsValue) (lost : Bool) (m : MachineValue)
     → IsTraced cpu rows lost m [] rows lost m
 traced_nothing cpu rows lost m = λ none. (none, record { rows = []; drawn = refl; is = (refl, refl) })
 
--- calls after calls
+-- calls and further calls are calls one after another
 steps_joined : (cpu : ℕ) (xs ys : List Receipt) (m n after : MachineValue) (rows others : List Row)
     → MakesSteps cpu m xs rows n → MakesSteps cpu n ys others after
     → MakesSteps cpu m (xs ++ ys) (rows ++ others) after

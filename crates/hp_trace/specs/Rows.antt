@@ -16,7 +16,7 @@ use Rattle.hp_trace_json.specs.Traces.{TraceValue, no_trace}
 use Rattle.hp_trace.specs.declared.rows.Form.{Form}
 use Rattle.hp_trace.specs.declared.rows.Form.TheVariants.{Joined, Kept, Logged, Told, Unseen, Written}
 
--- what becomes of rows; the text so far, the rows that are kept, the log, the rows as JSON, and those of
+-- the rows so far: their form; the text, the kept rows, the log, and the rows as JSON; and the rows in
 -- which equal rounds are joined
 pub record RowsValue : Type 0 where
   pub form : Form
@@ -40,7 +40,7 @@ no_rows form = record {
 abbrev pub line_rows : (texts : List (List ℕ)) → List RowValue
 line_rows texts = map (λ text. row_with text [] None []) texts
 
--- a line of JSON more, for a text: it has no state
+-- one more line of JSON, for a text; it has no state
 pub record IsTextTold (old new : RowsValue) : Type 0 where
   pub json : TraceValue
   pub line : AddsLine old.json.text json.text
@@ -49,14 +49,14 @@ pub record IsTextTold (old new : RowsValue) : Type 0 where
 
 -- ---- a text in which equal rounds are joined
 
--- a row more in a text: what was asked, what was answered, and the memory, up to the end of a line. The
--- layout and the memory as text are tested, and not said here.
+-- one more row in a text: what was asked, what was answered, and the memory, up to the end of a line.
+-- How the row is laid out, and the memory as text, are tested, not stated here
 pub record IsRowIn (asked answer old new : List ℕ) : Type 0 where
   pub gap : List ℕ
   pub memory : List ℕ
   pub is : new ≡ old ++ asked ++ gap ++ answer ++ memory ++ newline
 
--- a line without memory blocks is as it is
+-- one more row in a text; a row without memory blocks is a line of text as it is
 abbrev pub IsShownIn : (asked answer : List ℕ) → List BlockValue → (old new : List ℕ) → Type 0
 IsShownIn asked answer [] old new = new ≡ old ++ asked ++ newline
 IsShownIn asked answer (block ∷ blocks) old new = IsRowIn asked answer old new
@@ -75,26 +75,26 @@ AreEntriesShown [] old new = new ≡ old
 AreEntriesShown (r ∷ rest) old new =
     (mid : List ℕ) × AreShown r.rows old mid × AreEntriesShown rest (mid ++ more_line r) new
 
--- the text is of these rows, and each of them is shown, or is in a round like the one right above
+-- the text shows these rows: each row is shown, or is in a round that repeats the round right above
 pub record IsJoinedText (rows : List RowValue) (text : List ℕ) : Type 0 where
   pub entries : List RoundsValue
   pub joined : IsJoinOf rows entries
   pub shown : AreEntriesShown entries [] text
 
--- these rows were added so far
+-- these are the rows that were added so far
 pub record IsJoinedSoFar (rows : List RowValue) (r : RowsValue) : Type 0 where
   pub done : List RoundsValue
   pub read : Reads done r.joiner rows
   pub shown : AreEntriesShown done [] r.text
 
--- rows more
+-- these rows were added
 pub record AreJoinedTo (more : List RowValue) (old new : RowsValue) : Type 0 where
   pub form : new.form ≡ old.form
   pub all : (rows : List RowValue) → IsJoinedSoFar rows old → IsJoinedSoFar (rows ++ more) new
 
 -- ---- texts
 
--- a text of lines more
+-- a text of lines was added, in this form
 abbrev pub SaysAs : Form → (text : List ℕ) → (old new : RowsValue) → Type 0
 SaysAs Unseen text old new = new ≡ old
 SaysAs Written text old new = new ≡ record old { text = old.text ++ text }
@@ -108,28 +108,28 @@ Says text old new = SaysAs old.form text old new
 
 -- ---- a row
 
--- a row more in the text; of the rows those are kept that the next one is written by
+-- one more row in the text; `kept` has what is needed to write the next row
 pub record IsWritten (row : RowValue) (old new : RowsValue) : Type 0 where
   pub text : List ℕ
   pub kept : List RowValue
   pub written : IsRowIn row.asked row.answer old.text text
   pub is : new ≡ record old { text = text; kept = kept }
 
--- a row or a line more in the text
+-- one more row in the text, with or without memory blocks
 pub record IsRowShown (row : RowValue) (old new : RowsValue) : Type 0 where
   pub text : List ℕ
   pub kept : List RowValue
   pub shown : IsShownIn row.asked row.answer row.blocks old.text text
   pub is : new ≡ record old { text = text; kept = kept }
 
--- rows and lines more in the text
+-- more rows in the text, with or without memory blocks
 pub record AreRowsShown (rows : List RowValue) (old new : RowsValue) : Type 0 where
   pub text : List ℕ
   pub kept : List RowValue
   pub shown : AreShown rows old.text text
   pub is : new ≡ record old { text = text; kept = kept }
 
--- entries more in the text
+-- more entries in the text
 pub record AreMoreShown (entries : List RoundsValue) (old new : RowsValue) : Type 0 where
   pub text : List ℕ
   pub kept : List RowValue
@@ -144,27 +144,27 @@ AddsRow Kept row old new = new ≡ record old { kept = old.kept ++ row ∷ [] }
 AddsRow Logged row old new = new ≡ old
 AddsRow Told row old new = new ≡ old
 
--- a row more, with the page that moved and a picture of the machine's memory
+-- one more row, with the page that moved and a picture of the machine's memory
 pub record IsRow (form : Form) (m : MachineValue) (asked answer : List ℕ) (moved : Option Move)
     (old new : RowsValue) : Type 0 where
   pub blocks : List BlockValue
   pub picture : IsPicture m.layout m.state blocks
   pub added : AddsRow form (row_with asked answer moved blocks) old new
 
--- the events to the machine's state more
+-- the events that lead to the machine's state were added to the log
 pub record IsRowLogged (m : MachineValue) (old new : RowsValue) : Type 0 where
   pub log : LogValue
   pub logged : IsLogged m old.log log
   pub is : new ≡ record old { log = log }
 
--- a line of JSON more, for a row: a reader of the rows has seen the machine's state
+-- one more line of JSON, for a row; a reader of the rows has then seen the machine's state
 pub record IsRowTold (m : MachineValue) (old new : RowsValue) : Type 0 where
   pub json : TraceValue
   pub line : AddsLine old.json.text json.text
   pub seen : json.seen ≡ Some (state_of m)
   pub is : new ≡ record old { json = json }
 
--- a row more in its form, and none where it is not seen
+-- one more row in this form; no row if the form is `Unseen`
 abbrev pub DrawsIf : Form → MachineValue → (asked answer : List ℕ) → (moved : Option Move)
     → (old new : RowsValue) → Type 0
 DrawsIf Unseen m asked answer moved old new = new ≡ old
@@ -176,8 +176,8 @@ DrawsIf Told m asked answer moved old new = IsRowTold m old new
 
 -- ---- rows one under another
 
--- a row: what was asked and answered, which page moved by it, and the machine whose memory is drawn; or a
--- text of lines below one
+-- a row: what was asked and answered, the page that moved, and the machine whose memory is drawn; or a
+-- text of lines below a row
 pub data Row : Type 0 where
   drawing : (asked answer : List ℕ) → (moved : Option Move) → MachineValue → Row
   words : (text : List ℕ) → Row
@@ -200,7 +200,7 @@ pub record Adds (old new : RowsValue) (P : List Row → Type 0) : Type 0 where
   pub drawn : AreDrawn rows old new
   pub is : P rows
 
--- rows after rows
+-- rows that were drawn after other rows are drawn with them
 pub drawn_joined : (xs ys : List Row) (old mid new : RowsValue) → AreDrawn xs old mid → AreDrawn ys mid new
     → AreDrawn (xs ++ ys) old new
 drawn_joined [] ys old mid new first second = subst (λ (r : RowsValue). AreDrawn ys r new) first second

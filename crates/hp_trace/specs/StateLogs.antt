@@ -6,7 +6,7 @@ use Rattle.hp_lawful.specs.Logs.{step_log}
 use Rattle.hp_machine.specs.Machine.{MachineValue}
 use Rattle.hp_step_logs.specs.Snapshots.{Shows, SnapshotValue, snapshot_of}
 
--- the events so far, and what is kept of the state that they lead to; nothing before the first state
+-- the events so far, and a snapshot of the state that they lead to; no snapshot before the first state
 pub record LogValue : Type 0 where
   pub seen : Option SnapshotValue
   pub events : List LogEvent
@@ -14,7 +14,7 @@ pub record LogValue : Type 0 where
 abbrev pub no_log : LogValue
 no_log = record { seen = None; events = [] }
 
--- the log of the step from the state that was seen to the machine's; the first state has none
+-- the log of the step from the last state that was seen to the machine's; empty for the first state
 abbrev pub IsStepFrom : MachineValue → Option SnapshotValue → List LogEvent → Type 0
 IsStepFrom m None events = events ≡ []
 IsStepFrom m (Some seen) events =

@@ -1,4 +1,4 @@
--- A scenario traced.
+-- The trace of a scenario.
 use Rattle.std.specs.Prelude.{ℕ, ◌≡◌, ◌+◌, ◌-◌, ◌^◌, nat_le, nat_lt, Bool, List, [], ◌∷◌, ◌++◌, codes, drop, length, take, None, if◌then◌else◌}
 use Rattle.std.specs.Fmt.{decimal, format_spec, styled_decimal}
 use Rattle.hp_text.specs.declared.escapes.Brackets.TheVariants.{Escaped}
@@ -21,7 +21,7 @@ abbrev pub numbered_text : (names : List (List ℕ)) → (number : ℕ) → Line
 numbered_text names number line =
     styled_decimal (format_spec 32 3 0 4 (2 ^ 64 - 1)) number ++ codes " " ++ shown_line Escaped names line
 
--- the rows that lines make, one list a line; the first line has this number
+-- the rows that lines make, one list per line; the first line has this number
 abbrev pub MakesLines : (names : List (List ℕ)) → (number : ℕ) → MachineValue → List Line
     → (lists : List (List Row)) → (after : MachineValue) → Type 0
 MakesLines names number m [] lists after = (after ≡ m) × (lists ≡ [])
@@ -31,7 +31,7 @@ MakesLines names number m (line ∷ lines) lists after =
     × (lists ≡ rows ∷ rest)
     × MakesLines names (number + 1) next lines rest after
 
--- the rows of a line, where it is shown
+-- the rows of a line, if it is shown
 abbrev pub rows_if : (is_shown : Bool) → List Row → List Row
 rows_if is_shown rows = if is_shown then rows else []
 
@@ -51,22 +51,22 @@ IsStart form v m rows = DrawsIf form m (start_text v) [] None (no_rows form) row
 abbrev pub skipped : View → (n : ℕ) → ℕ
 skipped v n = if nat_lt (v.from - 1) n then v.from - 1 else n
 
--- a line was done, and its rows drawn where it is shown
+-- a line was run, and its rows were drawn if it is shown
 pub record TracesLine (v : View) (names : List (List ℕ)) (number : ℕ) (m : MachineValue) (line : Line)
     (old new : RowsValue) (after : MachineValue) : Type 0 where
   pub rows : List Row
   pub made : MakesWork m line.cpu (asked_by line.work) (numbered_text names number line) rows after
   pub drawn : AreDrawn (rows_if (shows v number) rows) old new
 
--- lines were done, which this many come before, and the rows of those that are shown drawn
+-- lines were run, after `before` earlier ones, and the rows of those that are shown were drawn
 pub record TracesLines (v : View) (names : List (List ℕ)) (before : ℕ) (m : MachineValue) (lines : List Line)
     (old new : RowsValue) (after : MachineValue) : Type 0 where
   pub lists : List (List Row)
   pub made : MakesLines names (before + 1) m lines lists after
   pub drawn : AreDrawn (shown_rows v (before + 1) lists) old new
 
--- the lines before the first that may be shown were done from boot on; then the row of the memory, and
--- below it the other lines, in a form
+-- the lines before the first that may be shown were run from boot on; then comes the row of the memory,
+-- and below it the other lines, in a form
 pub record IsScenarioTraced (form : Form) (v : View) (s : ScenarioValue) (rows : RowsValue) : Type 0 where
   pub unseen : List (List Row)
   pub first : MachineValue
@@ -79,25 +79,25 @@ pub record IsScenarioTraced (form : Form) (v : View) (s : ScenarioValue) (rows :
       TracesLines v s.names (skipped v (length s.lines)) first (drop (skipped v (length s.lines)) s.lines)
       start rows machine
 
--- all rows of a scenario's trace as text
+-- the text has all rows of a scenario's trace
 pub record IsTraceOf (v : View) (s : ScenarioValue) (text : List ℕ) : Type 0 where
   pub rows : RowsValue
   pub traced : IsScenarioTraced Written v s rows
   pub written : text ≡ rows.text
 
--- its rows as values
+-- these are the rows of a scenario's trace, as values
 pub record AreRowsOf (v : View) (s : ScenarioValue) (list : List RowValue) : Type 0 where
   pub rows : RowsValue
   pub traced : IsScenarioTraced Kept v s rows
   pub kept : list ≡ rows.kept
 
--- the text of its rows, in which equal rounds are joined
+-- the text has the rows of a scenario's trace, in which equal rounds are joined
 pub record IsJoinedTraceOf (v : View) (s : ScenarioValue) (text : List ℕ) : Type 0 where
   pub list : List RowValue
   pub rows : AreRowsOf v s list
   pub joined : IsJoinedText list text
 
--- its rows as JSON: a line about the scenario, and then theirs, of all lines
+-- the text is a scenario's trace as JSON: a line about the scenario, and then the rows of all lines
 pub record IsJsonOf (s : ScenarioValue) (text : List ℕ) : Type 0 where
   pub head : List ℕ
   pub begins : AddsLine [] head

@@ -1,4 +1,4 @@
-//! What a line asks for, done and drawn.
+//! Does what a line asks for, and draws it.
 ghost use Rattle.std.specs.Prelude.{◌≡◌, ◌++◌, OnOk, string_bytes};
 ghost use Rattle.hp_scenario.specs.Asked.{asked_by};
 ghost use Rattle.hp_control.specs.Reads.{file_text};
@@ -49,7 +49,7 @@ pub(crate) fn trace_work(
     }
 }
 
-/// Calls the machine with an event, and draws its row, or that the history is full.
+/// Calls the machine with an event and draws its row, or a row with a text if the history is full.
 fn trace_event(
     rows: &mut Rows,
     alloc: Global,

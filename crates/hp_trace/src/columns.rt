@@ -23,8 +23,8 @@ pub(crate) fn write_row(
     writeln!(out, "{asked}{below} {answer}{beside}{memory}")
 }
 
-/// Returns what comes after a text in its columns: spaces, or if it takes more, a line end and as
-/// many spaces as the next text is to have before it.
+/// Returns the gap after a text that has `columns` columns: spaces, or if the text is wider, a
+/// newline and `next` spaces.
 fn gap_after(alloc: Global, text: &str, columns: usize, next: usize) -> Result<String, AllocError> {
     let mut gap = String::new(alloc);
     if text.len() > columns {

@@ -20,9 +20,9 @@ pub(crate) struct JsonRows {
     names: IndexSet<Text>,
     /// The number of the line; 0 before the first.
     number: u64,
-    /// The line, until a row has it.
+    /// The line, until its first row is added.
     text: Option<String>,
-    /// The processor that asks.
+    /// The processor of the line.
     cpu: Option<Cpu>,
     /// How many records the line sealed.
     sealed: Option<u64>,
@@ -37,7 +37,7 @@ impl Model for JsonRows {
 }
 
 impl JsonRows {
-    /// Makes an empty list of rows. The next one is that of the memory at boot.
+    /// Creates an empty list of rows. The next row is that of the memory at boot.
     pub(crate) fn new(alloc: Global) -> JsonRows
         ensures { result ≡ no_trace }
     {
@@ -151,7 +151,7 @@ fn row_text(number: u64, text: &Option<String>) -> Option<&str> {
     }
 }
 
-/// Returns the same names.
+/// Returns a copy of the names.
 fn names_of(alloc: Global, names: &IndexSet<Text>) -> Result<IndexSet<Text>, AllocError> {
     let mut same = IndexSet::new(alloc);
     for name in names.as_slice() {

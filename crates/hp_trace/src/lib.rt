@@ -1,11 +1,12 @@
-//! Scenarios traced: what each line answers, and a picture of the memory after each call.
+//! Traces scenarios: the reply to each line, and a picture of the memory after each call.
 //!
 //! The crate owns the rows of a trace, which of them are shown, and the port that draws one for
 //! each call of a plan. It returns them as text, as values to draw, or as the log of what happened
-//! to the memory between them. It runs a scenario's lines on a machine as `hotplug serial` does, but
-//! returns nothing once it is out of memory. It knows nothing of streams or command lines. Read
-//! specs/Traces first, then specs/Calls and specs/Rows, and for the log specs/Logs. How a row is laid
-//! out as text is tested, not proved: `columns` and `folds`.
+//! to the memory between them. It runs a scenario's lines on a machine as `hotplug serial` does,
+//! but returns nothing if memory runs out. It knows nothing of streams or command lines.
+//!
+//! Read specs/Traces first, then specs/Calls and specs/Rows, and for the log specs/Logs. How a row
+//! is laid out as text (`columns`, `folds`) is tested, not proved.
 #![tactic(auto)]
 
 mod calls;

@@ -1,4 +1,4 @@
-//! A scenario traced line by line.
+//! Traces a scenario line by line.
 ghost use Rattle.std.specs.Prelude.{◌≡◌, ◌+◌, ◌^◌, ◌<◌, ◌≤◌, IfOk, OnOk, length, string_bytes};
 ghost use Rattle.hp_scenario.specs.Seen.{scenario_seen};
 ghost use Rattle.hp_trace.specs.declared.rows.Form.TheVariants.{Joined, Kept};
@@ -16,15 +16,17 @@ use hp_units::Text;
 use indexmap::IndexSet;
 use std::alloc::{AllocError, Global};
 
-/// Returns the trace of a scenario as text: a row of the memory at boot, or before the first line
-/// that may be shown, and for each line that is shown its number, the line, what it answers, and the
-/// memory after each of its calls. A line that makes no record has a row of the memory, and below it
-/// the text that `hotplug serial` writes for it. So has a plan when it begins, and below the rows of
-/// its calls its end.
+/// Returns the trace of a scenario as text. The first row has the memory at boot, or before the
+/// first line that may be shown. Each line that is shown then has its number, the line, the reply,
+/// and the memory after each of its calls.
 ///
-/// Of equal rounds of a plan's calls the first is shown, and below it how many more there are. The
-/// contract fixes what each row asks and answers, in which order they come, and which are not shown.
-/// How they are laid out is tested.
+/// A line that makes no record has a row of the memory, and below it the text that `hotplug serial`
+/// writes for it. A plan has a row of the memory when it begins, a row for each of its calls, and
+/// below them how it ended. Only the first of equal rounds of a plan's calls is shown, and below it
+/// how many more there are.
+///
+/// The contract fixes what each row asks and answers, in which order the rows come, and which are
+/// not shown. How they are laid out is tested.
 pub fn trace(alloc: Global, scenario: &Scenario, view: View) -> Result<String, AllocError>
     ensures { IfOk result (λ text. IsJoinedTraceOf view (scenario_seen scenario.now) (string_bytes text)) }
 {
@@ -32,8 +34,8 @@ pub fn trace(alloc: Global, scenario: &Scenario, view: View) -> Result<String, A
     rows.into_joined_text(alloc)
 }
 
-/// Returns the rows of that trace as values, each with all memory blocks, whatever the width of the
-/// view. A text below a row is a row for each of its lines, without memory blocks.
+/// Returns the rows of a scenario's trace as values, each with all memory blocks, whatever the
+/// width of the view. A text below a row is a row for each of its lines, without memory blocks.
 pub fn trace_rows(
     alloc: Global,
     scenario: &Scenario,
@@ -45,9 +47,9 @@ pub fn trace_rows(
     Ok(rows.into_kept())
 }
 
-/// Returns the trace of a scenario as JSON: a line that says what the scenario is, and then the rows of
-/// `trace_rows`, of all lines, a line each. docs/LAB.md has the keys. Each row tells how the state
-/// differs from that of the row above it; a text below a row is a row without a state.
+/// Returns the trace of a scenario as JSON: a line about the scenario, and then the rows of
+/// `trace_rows` for all lines, one per line. docs/LAB.md has the keys. Each row has the changes of
+/// the state since the row above it; a text below a row is a row without a state.
 pub fn trace_json(alloc: Global, scenario: &Scenario) -> Result<String, AllocError>
     ensures { IfOk result (λ text. IsJsonOf (scenario_seen scenario.now) (string_bytes text)) }
 {
@@ -59,7 +61,7 @@ pub fn trace_json(alloc: Global, scenario: &Scenario) -> Result<String, AllocErr
     Ok(text)
 }
 
-/// Returns the rows of a scenario, in a form.
+/// Returns the rows of a scenario's trace, in a form.
 fn trace_scenario(
     alloc: Global,
     scenario: &Scenario,
@@ -117,7 +119,7 @@ pub(crate) fn start(
     Ok(rows)
 }
 
-/// Returns what the first row asks.
+/// Returns the text of the first row.
 fn start_text(alloc: Global, view: View) -> Result<String, AllocError>
     ensures { IfOk result (λ text. string_bytes text ≡ start_text view) }
 {
@@ -128,7 +130,7 @@ fn start_text(alloc: Global, view: View) -> Result<String, AllocError>
     format!(in alloc; "     before line {from}")
 }
 
-/// Does all lines, and draws the rows of those that are shown. `before` lines come before them.
+/// Runs all lines, and draws the rows of those that are shown. `before` lines come before them.
 pub(crate) fn trace_lines(
     rows: &mut Rows,
     alloc: Global,
@@ -149,7 +151,7 @@ pub(crate) fn trace_lines(
     Ok(())
 }
 
-/// Does a line, and draws its rows if it is shown.
+/// Runs a line, and draws its rows if it is shown.
 pub(crate) fn trace_line(
     rows: &mut Rows,
     alloc: Global,

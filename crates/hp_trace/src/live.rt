@@ -1,4 +1,4 @@
-//! A machine that lives on after a scenario, and draws the lines that come.
+//! A machine that goes on after a scenario, and draws the lines that follow.
 ghost use Rattle.std.specs.Prelude.{◌≡◌, IfOk, OnOk};
 ghost use Rattle.hp_scenario.specs.Seen.{scenario_seen};
 ghost use Rattle.hp_trace.specs.Lives.{IsBegun, LivesOn, ShowTheTrace, without_text};
@@ -99,9 +99,10 @@ impl LiveTrace {
     }
 }
 
-/// Called for its contract: the first row and the rows of lines that came after a scenario's, each
-/// read after the names of the lines before it, are all rows of the trace of the scenario with these
-/// lines, in a view from the first of them on. `trace` joins equal rounds of these rows.
+/// Called for its contract: the first row, and the rows of the lines that follow a scenario, are
+/// all rows of the trace of the scenario with these lines at its end, in a view from the first of
+/// them on. Each line is read after the names of the lines before it. `trace` joins equal rounds of
+/// these rows.
 pub fn live_rows_are_the_trace()
     ensures { ShowTheTrace }
 {}

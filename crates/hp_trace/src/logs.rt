@@ -36,7 +36,7 @@ pub fn trace_log(alloc: Global, scenario: &Scenario) -> Result<ScenarioLog, Allo
     })
 }
 
-/// Does all lines, and draws all their rows.
+/// Runs all lines, and draws all their rows.
 fn draw_lines(
     rows: &mut Rows,
     alloc: Global,

@@ -14,8 +14,8 @@ use hp_units::{CallFault, Cpu, Event, OpEnd, Plan, Receipt, Reply};
 use indexmap::IndexSet;
 use std::alloc::{AllocError, Global};
 
-/// A processor of a machine, and the rows of its calls. It shows the processor's records of the
-/// machine as its receipts.
+/// A processor of a machine, and the rows of its calls. The port's receipts are the processor's
+/// records of the machine.
 #[derive(Drop)]
 struct TracePort<'a> {
     machine: &'a mut Machine,
@@ -27,7 +27,7 @@ struct TracePort<'a> {
 }
 
 impl<'a> TracePort<'a> {
-    /// Makes a processor's port, with no call made yet.
+    /// Creates a processor's port, with no call made yet.
     fn new(machine: &'a mut Machine, cpu: Cpu, rows: &'a mut Rows) -> TracePort<'a>
         ensures same_machine { result.machine.ghost_name ≡ machine.entry.ghost_name }
         ensures same_rows { result.rows.ghost_name ≡ rows.entry.ghost_name }
@@ -95,7 +95,7 @@ impl<'a> Port for TracePort<'a> {
     ) };
 }
 
-/// Returns whether a call or a row was out of memory, if `was_lost` says so of earlier ones.
+/// Returns whether an earlier call or row was out of memory, or this row could not be drawn.
 fn is_lost(was_lost: bool, is_drawn: bool) -> bool
     ensures { result ≡ (was_lost || not is_drawn) }
 {
@@ -157,7 +157,7 @@ pub(crate) fn draw_receipt(
     )
 }
 
-/// Returns which page moved by a call, if one did.
+/// Returns the page that a call moved, if it moved one.
 fn moved_of(reply: Reply) -> Option<Move>
     ensures { result ≡ moved_of reply }
 {

@@ -31,7 +31,7 @@ pub(crate) enum Form {
     Joined,
     /// Values, each with all memory blocks.
     Kept,
-    /// The events between the states of the memory that they show.
+    /// The events that lead from each state of the memory to the next.
     Logged,
     /// Lines of JSON.
     Told,
@@ -67,7 +67,7 @@ impl Model for Rows {
 }
 
 impl Rows {
-    /// Makes an empty list of rows.
+    /// Creates an empty list of rows.
     pub(crate) fn new(alloc: Global, form: Form, view: View) -> Rows
         ensures { result ≡ no_rows form }
     {
@@ -126,8 +126,8 @@ impl Rows {
         self.json.set_sealed(count);
     }
 
-    /// Adds a row with the machine's memory: what was asked, what was answered, which page moved by
-    /// it, and the call if it was made.
+    /// Adds a row with the machine's memory: what was asked, what was answered, the page that
+    /// moved, and the call if one was made.
     pub(crate) fn draw(
         &mut self,
         alloc: Global,
@@ -196,7 +196,7 @@ impl Rows {
         Ok(())
     }
 
-    /// Adds a row, and shows the entry to which no more rows can be joined.
+    /// Adds a row, and shows the last entry if no more rows can be joined to it.
     fn join(&mut self, alloc: Global, row: RowPicture) -> Result<(), AllocError>
         ensures { OnOk result (AreJoinedTo (row ∷ []) self.old self.new) }
     {
@@ -263,7 +263,7 @@ impl Rows {
         }
     }
 
-    /// Adds the events to the memory of a row.
+    /// Adds the events that lead to the memory of a row.
     fn log_row(&mut self, alloc: Global, machine: &Machine) -> Result<(), AllocError>
         ensures { OnOk result (IsRowLogged machine.now self.old self.new) }
     {
@@ -304,7 +304,7 @@ impl Rows {
         self.text.as_str()
     }
 
-    /// Empties the text. The next row is written by the last one, as before.
+    /// Empties the text. The next row is still written by the last one.
     pub(crate) fn clear_text(&mut self)
         ensures { self.new ≡ record self.old { text = [] } }
     {
@@ -416,7 +416,7 @@ fn row_with(
     Ok(RowPicture::new(asked, answer, moved, blocks))
 }
 
-/// Returns the line about the rounds that are not shown; nothing if there are none.
+/// Returns the line about the rounds that are not shown, or an empty text if there are none.
 fn more_line(alloc: Global, entry: &Rounds) -> Result<String, AllocError>
     ensures { IfOk result (λ text. string_bytes text ≡ more_line entry.now) }
 {

@@ -10,7 +10,8 @@ use hp_step_logs::{Snapshot, step_log};
 use std::alloc::{AllocError, Global};
 use std::marker::Model;
 
-/// The events so far, and the state that they lead to; none before the first state.
+/// The events so far, and a snapshot of the state that they lead to; no snapshot before the first
+/// state.
 #[derive(Drop)]
 pub(crate) struct StateLog {
     seen: Option<Snapshot>,
@@ -26,7 +27,7 @@ impl Model for StateLog {
 }
 
 impl StateLog {
-    /// Makes a log with no state seen.
+    /// Creates a log before any state.
     pub(crate) fn new(alloc: Global) -> StateLog
         ensures { result ≡ no_log }
     {
@@ -36,7 +37,8 @@ impl StateLog {
         }
     }
 
-    /// Adds the events from the state that was seen last to a machine's. The first state has none.
+    /// Adds the events that lead from the last state that was seen to the machine's; none for the
+    /// first state.
     pub(crate) fn observe(&mut self, alloc: Global, machine: &Machine) -> Result<(), AllocError>
         ensures { OnOk result (IsLogged machine.now self.old self.new) }
     {
@@ -60,7 +62,7 @@ impl StateLog {
     }
 }
 
-/// Returns the events from a state that was seen to a machine's.
+/// Returns the events that lead from the last state that was seen to the machine's.
 fn step_from(
     alloc: Global,
     machine: &Machine,

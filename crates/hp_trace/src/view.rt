@@ -6,15 +6,15 @@ ghost use Rattle.hp_trace.specs.Views.{shows, whole_view};
 /// by the orders of their blocks.
 #[derive(Clone, Copy)]
 pub struct View {
-    /// The first line that is shown, below the memory before it.
+    /// The first line that is shown. The memory before it is shown above it.
     pub from: u64,
     /// The last line that is shown.
     pub to: u64,
-    /// Shows the first line and each n-th after it; 0 is as 1.
+    /// Shows the first line and every n-th after it; 0 counts as 1.
     pub every: u64,
-    /// The columns of a line. A row that takes more goes on below, and a memory block that has no
-    /// room in a line is counted. If the first row takes more, each later row has only the memory
-    /// blocks that changed since the row above it.
+    /// The width of the text, in columns. A row that is wider continues on the next line, and a
+    /// memory block that is wider than a line is written as counts of its frames. If the first row
+    /// is wider, each later row has only the memory blocks that changed since the row above it.
     pub width: u64,
     /// Whether free frames are shown by the orders of their blocks.
     pub orders: bool,
