@@ -40,6 +40,7 @@ pub fn name_slip(
     };
     let meant = match fault {
         NameFault::UnknownName => meant_in(alloc, text, bound)?,
+        NameFault::ReferenceNotHere if names_a_file(text) => return Ok(None),
         _ => Meant::Nothing,
     };
     Ok(Some(NameSlip { fault, meant }))
@@ -165,7 +166,7 @@ fn word_in(text: &str, fault: NameFault) -> &str {
     match fault {
         NameFault::UnknownName => reference_in(text),
         NameFault::WrongKind => reference_in(text),
-        NameFault::ReferenceNotHere => reference_in(text),
+        NameFault::ReferenceNotHere => last_reference_in(text),
         NameFault::NameNotHere => last_word(text),
         NameFault::BadName => last_word(text),
     }
@@ -201,6 +202,27 @@ fn reference_in(text: &str) -> &str {
         }
     }
     ""
+}
+
+/// Returns the last word that begins with a dollar sign, or the empty text if there is none. If a
+/// reference is not allowed where it is, the last one is not.
+fn last_reference_in(text: &str) -> &str {
+    let mut last = "";
+    for word in text.split(' ') {
+        if word.starts_with('$') {
+            last = word;
+        }
+    }
+    last
+}
+
+/// Returns whether a text has the words of files, in which a dollar sign means nothing.
+fn names_a_file(text: &str) -> bool {
+    match text.split(' ').nth(1) {
+        Some("echo") => true,
+        Some("cat") => true,
+        _ => false,
+    }
 }
 
 /// Returns what comes before the first space.

@@ -79,7 +79,7 @@ pub(crate) const EXPLORE: [Argument; 14] = [
     Argument {
         name: GROUP,
         takes: Takes::Group,
-        help: "Puts ends together that agree in what became of the blocks, or in the answers",
+        help: "Puts ends together that agree in the blocks, in the answers, or in how plans ended",
         against: &[FIND, NEVER, PART, SCENARIO],
     },
     AS_SCENARIO,

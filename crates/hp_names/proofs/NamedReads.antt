@@ -232,7 +232,7 @@ json_lost None f h other = let same : NotJson ≡ f = cc in ap Err same
 json_lost (Some d) f h other = form_lost (form_of d) f h other
 
 -- a fault that is no line's is the same with names
-lost : (bytes : List ℕ) (f : ScenarioFault) → scenario_in bytes ≡ Err f → (IsOfLine f → ⊥)
+pub lost : (bytes : List ℕ) (f : ScenarioFault) → scenario_in bytes ≡ Err f → (IsOfLine f → ⊥)
     → named_in bytes ≡ Err f
 unfolding scenario_in named_in
 lost bytes f h other = json_lost (json_of bytes) f h other

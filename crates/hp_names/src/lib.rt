@@ -11,6 +11,7 @@
 
 mod bindings;
 mod faults;
+mod laws;
 mod named;
 mod plain;
 mod reading;
@@ -21,6 +22,7 @@ mod words;
 
 pub use bindings::{Bindings, Naming};
 pub use faults::{NameFault, name_fault};
+pub use laws::scenarios_without_names_are_read_alike;
 pub use named::{NamedScenario, Sources};
 pub use plain::{PlainLine, plain_line};
 pub use resolve::resolve_front;

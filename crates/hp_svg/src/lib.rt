@@ -5,9 +5,10 @@
 //! legend. It also owns the page's text around the lines, which viewer/build.py writes from the
 //! files of viewer/. It knows nothing of machines or scenarios.
 //!
-//! What picture and page look like is tested. It is proved that each row is shown or is in a round
-//! that repeats the round right above (specs/Shown), that the runs of a picture cover each cell
-//! once, that no two characters share a colour, and that a page has the lines as they are.
+//! What picture and page look like is tested. It is proved that each row is in the list of rows to
+//! draw or is in a round that repeats the round right above (specs/Shown), that the runs of a picture
+//! cover each cell once, that no two characters share a colour, and that a page has the lines as
+//! they are.
 //!
 //! Read pictures.rt first, then rows.rt and runs.rt. page.rt needs none of these.
 #![tactic(auto)]
