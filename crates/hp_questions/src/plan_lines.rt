@@ -3,8 +3,8 @@ ghost use Rattle.std.specs.Prelude.{◌≡◌, ◌↔◌, ◌<◌, ◌^◌, IfOk
 ghost use Rattle.hp_questions.specs.PlanEnds.{all_plan_ends};
 ghost use Rattle.hp_questions.specs.PlanLines.{HasEnd, HasPlanEnd, IsCauseAsWanted, IsCancelledAs, IsEndAsWanted, IsRefusedAs};
 
+use crate::plan_ends::{PlanEnds, all_plan_ends};
 use crate::wanted::Pattern;
-use hp_questions::{PlanEnds, all_plan_ends};
 use hp_schedules::{CallScript, Replies};
 use hp_units::{Cpu, OpEnd, Refusal, Reply};
 use std::alloc::{AllocError, Global};
