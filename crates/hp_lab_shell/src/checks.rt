@@ -8,9 +8,9 @@ ghost use Rattle.hp_lab_shell.specs.Checks.{IsCheckOf, IsCountIn, IsCountOf};
 use crate::text_and_status::TextAndStatus;
 use hp_check::{check, fault_count, write_report};
 use hp_names::NamedScenario;
-use hp_starts::interleavings_line;
 use hp_scenario::ScenarioFault;
 use hp_search::LabProgramFault;
+use hp_starts::interleavings_line;
 use std::alloc::{AllocError, Global};
 
 /// The most interleavings that are counted.

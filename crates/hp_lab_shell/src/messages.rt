@@ -1,7 +1,7 @@
 //! The faults and warnings that are printed on standard error.
 
-use hp_starts::Unbegun;
 use hp_search::LabProgramFault;
+use hp_starts::Unbegun;
 use hp_text::{Brackets, write_escaped};
 use std::alloc::{AllocError, Global};
 

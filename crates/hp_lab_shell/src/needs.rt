@@ -6,8 +6,8 @@ ghost use Rattle.hp_lab_shell.specs.Needs.{HasLines, IsLineFault, IsPast, first_
 use crate::checks::ALL;
 use crate::scripts::{line_count, unbegun_in};
 use crate::words::Word;
-use hp_starts::Unbegun;
 use hp_search::LabProgramFault;
+use hp_starts::Unbegun;
 use hp_trace::View;
 use std::alloc::{AllocError, Global};
 

@@ -4,8 +4,8 @@ ghost use Rattle.hp_names.specs.Named.{named_in};
 ghost use Rattle.hp_lab_shell.specs.Scripts.{count_of, unbegun_in};
 
 use hp_names::NamedScenario;
-use hp_starts::{Unbegun, unbegun_lines};
 use hp_scenario::ScenarioFault;
+use hp_starts::{Unbegun, unbegun_lines};
 use std::alloc::{AllocError, Global};
 
 /// Returns the number of lines of the scenario, or `None` if the bytes are not a scenario.

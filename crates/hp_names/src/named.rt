@@ -10,7 +10,8 @@ ghost use Rattle.hp_names.specs.Seen.{named_seen};
 use crate::bindings::Bindings;
 use crate::reading::Reading;
 use hp_scenario::{
-    Scenario, ScenarioFault, Texts, boots_at, has_keys, json_from, layout_from, parts_with, texts_at,
+    Scenario, ScenarioFault, Texts, boots_at, has_keys, json_from, layout_from, parts_with,
+    texts_at,
 };
 use hp_units::Parts;
 use serde_json::Value;

@@ -50,11 +50,7 @@ impl Reading {
     }
 
     /// Appends the lines in the texts. No line was appended before.
-    pub(crate) fn add_all(
-        &mut self,
-        alloc: Global,
-        texts: &Texts<'_>,
-    ) -> Result<(), ScenarioFault>
+    pub(crate) fn add_all(&mut self, alloc: Global, texts: &Texts<'_>) -> Result<(), ScenarioFault>
         requires { self.old ≡ nothing }
         ensures { Gives (λ _. self.new) result (lines_from 1 nothing texts.now) }
     {

@@ -2,8 +2,8 @@
 ghost use Rattle.std.specs.Prelude.{◌≡◌, Some};
 ghost use Rattle.hp_search.specs.declared.lab_fault.LabFault.TheVariants.{OutOfMemory};
 
-use hp_starts::StartFault;
 use hp_scenario::{ScenarioFault, Unfit};
+use hp_starts::StartFault;
 use hp_units::LayoutFault;
 use std::alloc::AllocError;
 use std::error::Error;

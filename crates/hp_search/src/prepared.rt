@@ -14,9 +14,9 @@ use crate::replay_text;
 use hp_explore::{ExploreFault, play, room_needed};
 use hp_machine::Machine;
 use hp_names::{NamedScenario, resolve_front};
-use hp_starts::{Start, front_of, start_of};
 use hp_scenario::{Line, Scenario};
 use hp_schedules::{HowMany, interleavings_of};
+use hp_starts::{Start, front_of, start_of};
 use hp_units::{Cpu, Record};
 use std::alloc::{AllocError, Global};
 

@@ -1,7 +1,7 @@
 //! Where a search begins, and how many interleavings there are, without making a call.
 use super::explorations::scenario;
-use hp_starts::{front_of, interleavings_line, start_of};
 use hp_scenario::Scenario;
+use hp_starts::{front_of, interleavings_line, start_of};
 use std::alloc::{AllocError, Global};
 use std::test::Fail;
 

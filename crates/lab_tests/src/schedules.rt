@@ -4,8 +4,8 @@ ghost use Rattle.std.specs.Prelude.{◌≡◌, IfOk, length};
 
 use hp_schedules::{
     CallScript, Change, Exchanges, Outcome, Positions, Rows, Shard, Share, Step, Tally,
-    all_answers, call_count, change_of, fit_in, is_closed, key_digest, learn, mixed, schedule_of,
-    are_mergeable,
+    all_answers, are_mergeable, call_count, change_of, fit_in, is_closed, key_digest, learn, mixed,
+    schedule_of,
 };
 use hp_units::{Cpu, Event, Frame, Order, Record, Reply, Serial};
 use indexmap::IndexMap;
@@ -49,7 +49,9 @@ fn goes_on_and_back(alloc: Global, scripts: &[CallScript]) -> Result<bool, Alloc
     let is_over = positions.request(alloc, 1, scripts, &calls, 0)?.is_none();
     let began = positions.operation(0);
     positions.go_back(Cpu(0), former);
-    let asks_again = positions.request(alloc, 1, scripts, &calls[..0], 0)?.is_some();
+    let asks_again = positions
+        .request(alloc, 1, scripts, &calls[..0], 0)?
+        .is_some();
     Ok(is_over && began == Serial(0) && asks_again)
 }
 

@@ -1,7 +1,7 @@
 //! Scenarios that are written as the text that they are read from.
 use super::replays::LAST;
-use hp_starts::{Unbegun, unbegun_lines};
 use hp_scenario::{Line, Scenario};
+use hp_starts::{Unbegun, unbegun_lines};
 use hp_text::{write_calls, write_line, write_mark, write_scenario};
 use hp_units::{Cpu, Event, Record, Reply, Serial, Text};
 use indexmap::IndexSet;
