@@ -1,6 +1,6 @@
 -- Lists of words: the last two, and words with spaces between.
-use Rattle.std.proofs.Common.{◌≡◌, ℕ, ◌+◌, ◌<◌, Bool, true, false, ◌||◌, List, [], ◌∷◌, ◌++◌, Bor, length, get_or, map, Some, None, refl, sym, ap, ◌∙◌, append_assoc, arith, subst, suc, zero}
-use Rattle.std.specs.List.{flat_map, join_by, list_any}
+use Rattle.std.proofs.Common.{◌≡◌, ℕ, ◌+◌, ◌<◌, List, [], ◌∷◌, ◌++◌, Bor, length, get_or, map, Some, None, refl, sym, ap, ◌∙◌, append_assoc, arith, subst, suc, zero}
+use Rattle.std.specs.List.{flat_map, join_by}
 use Rattle.std.proofs.lemmas.Grind.{flat_map-append}
 use Rattle.std.proofs.lemmas.List.Folds.{flat_map-map}
 use Rattle.std.proofs.lemmas.List.{append-nil}
@@ -41,25 +41,6 @@ joined_more w ws x =
     ap (λ (t : List ℕ). w ++ t)
     (flat_map-append f ws (x ∷ []) ∙ ap (λ (t : List ℕ). flat_map f ws ++ t) (append-nil (f x)))
     ∙ (sym (append_assoc w (flat_map f ws) (32 ∷ x)) ∙ sym (append_assoc (w ++ flat_map f ws) (32 ∷ []) x))
-
--- ---- tests of some of the words
-
-pub any_seen : (p : List ℕ → Bool) (ws : List (Bor (List ℕ)))
-    → list_any (λ (w : Bor (List ℕ)). p w.now) ws ≡ list_any p (map (λ w. w.now) ws)
-any_seen p [] = refl
-any_seen p (w ∷ ws) = ap (λ (b : Bool). p w.now || b) (any_seen p ws)
-
--- one of the words passes
-pub any_here : (p : List ℕ → Bool) (ws : List (Bor (List ℕ))) (i : ℕ) (d : Bor (List ℕ)) → i < length ws
-    → p (get_or ws i d).now ≡ true → list_any p (map (λ w. w.now) ws) ≡ true
-any_here p [] i d lt h = absurd (omega arith)
-any_here p (w ∷ ws) zero d lt h = rw h refl
-any_here p (w ∷ ws) (suc i) d lt h =
-    or_true (p w.now) (list_any p (map (λ w. w.now) ws)) (any_here p ws i d (omega arith) h)
-  where
-    or_true : (a b : Bool) → b ≡ true → (a || b) ≡ true
-    or_true true b e = refl
-    or_true false b e = e
 
 -- ---- a `$` in front
 

@@ -1,5 +1,4 @@
 pub mod Bindings
-pub mod Faults
 pub mod Named
 pub mod NamedWords
 pub mod Plain

@@ -1,7 +1,4 @@
-//! Why names are not understood.
-ghost use Rattle.std.specs.Prelude.{◌≡◌, IfOk, map, option_map, is_some};
-ghost use Rattle.std.specs.List.{list_any};
-ghost use Rattle.hp_names.specs.Faults as spec;
+//! Why names are not understood: hints, whose texts and reasons are tested (lab_tests).
 
 use crate::bindings::Bindings;
 use crate::results::{ResultKind, result_of_verb, wanted_by_verb};
@@ -30,22 +27,17 @@ pub fn name_fault(
     alloc: Global,
     text: &str,
     bound: &Bindings,
-) -> Result<Option<NameFault>, AllocError>
-    ensures { IfOk result (λ fault. fault ≡ spec.fault_in bound.now text.now) }
-{
+) -> Result<Option<NameFault>, AllocError> {
     let words = words_in(alloc, text)?;
     fault_of(alloc, words.as_slice(), bound)
 }
 
 /// Returns why the names among words are not understood.
-#[tactic(auto, unfolding(crate::specs::Faults::name_fault))]
 fn fault_of(
     alloc: Global,
     words: &[&str],
     bound: &Bindings,
-) -> Result<Option<NameFault>, AllocError>
-    ensures { IfOk result (λ fault. fault ≡ spec.name_fault bound.now (map (λ w. w.now) words.now)) }
-{
+) -> Result<Option<NameFault>, AllocError> {
     let [cpu, verb, args @ ..] = words else {
         return Ok(None);
     };
@@ -70,10 +62,7 @@ fn fault_of_work(
     cpu: &str,
     kind: ResultKind,
     args: &[&str],
-) -> Result<Option<NameFault>, AllocError>
-    ensures { IfOk result
-        (λ fault. fault ≡ spec.fault_of_work bound.now cpu.now kind (map (λ w. w.now) args.now)) }
-{
+) -> Result<Option<NameFault>, AllocError> {
     let [word, rest @ ..] = args else {
         return Ok(None);
     };
@@ -95,9 +84,7 @@ fn reference_fault(
     cpu: &str,
     kind: ResultKind,
     word: &str,
-) -> Result<Option<NameFault>, AllocError>
-    ensures { IfOk result (λ fault. fault ≡ spec.reference_fault bound.now cpu.now kind word.now) }
-{
+) -> Result<Option<NameFault>, AllocError> {
     let Some(name) = after_dollar(word) else {
         return Ok(None);
     };
@@ -112,9 +99,7 @@ fn reference_fault(
 }
 
 /// Returns `ReferenceNotHere` if a word begins with `$`; if not, `fault` if there is a name.
-fn stray_fault(has_reference: bool, has_name: bool, fault: NameFault) -> Option<NameFault>
-    ensures { result ≡ spec.stray_fault has_reference has_name fault }
-{
+fn stray_fault(has_reference: bool, has_name: bool, fault: NameFault) -> Option<NameFault> {
     if has_reference {
         Some(NameFault::ReferenceNotHere)
     } else if has_name {
@@ -125,9 +110,7 @@ fn stray_fault(has_reference: bool, has_name: bool, fault: NameFault) -> Option<
 }
 
 /// Returns whether one of the words begins with `$`.
-fn has_reference(words: &[&str]) -> bool
-    ensures { result ≡ list_any spec.is_reference (map (λ w. w.now) words.now) }
-{
+fn has_reference(words: &[&str]) -> bool {
     for word in words {
         if is_reference(word) {
             return true;
@@ -136,16 +119,12 @@ fn has_reference(words: &[&str]) -> bool
     false
 }
 
-fn is_reference(word: &str) -> bool
-    ensures { result ≡ spec.is_reference word.now }
-{
+fn is_reference(word: &str) -> bool {
     after_dollar(word).is_some()
 }
 
 /// Returns whether `as` is the last word but one.
-fn has_mark_at_end(words: &[&str]) -> bool
-    ensures { result ≡ spec.has_mark_at_end (map (λ w. w.now) words.now) }
-{
+fn has_mark_at_end(words: &[&str]) -> bool {
     match last_two(words) {
         Some((mark, _word)) => mark == "as",
         None => false,
