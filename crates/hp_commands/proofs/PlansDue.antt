@@ -179,7 +179,7 @@ calls_due (r ∷ rs) (suc room) turns plan cpu earlier m new fault end fits call
 fits_all : (limit count : ℕ) → limit ≤ (limit - count) + count
 fits_all limit count = omega arith
 
-run_due : (m : MachineValue) (cpu turns : ℕ) (plan : List Item) (end : OpEnd) (new : MachineValue)
+pub run_due : (m : MachineValue) (cpu turns : ℕ) (plan : List Item) (end : OpEnd) (new : MachineValue)
     (ran : IsPlanRun m cpu turns plan end new)
     → IsNotOutOfMemory ran.fault → plan_run m cpu turns plan ≡ run_with ran.receipts new ran.fault
 run_due m cpu turns plan end new ran given =

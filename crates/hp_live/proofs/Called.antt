@@ -5,6 +5,7 @@ use Rattle.hp_units.specs.Memory.{Memory}
 use Rattle.hp_units.specs.declared.events.Event.{Event}
 use Rattle.hp_units.specs.declared.replies.CallFault.{CallFault}
 use Rattle.hp_units.specs.declared.replies.CallFault.TheVariants.{HistoryFull}
+use Rattle.hp_units.specs.declared.replies.Receipt.{Receipt}
 use Rattle.hp_units.specs.declared.replies.Record.{Record}
 use Rattle.hp_units.specs.declared.replies.Reply.{Reply}
 use Rattle.hp_history.specs.Course.{receipt_for}
@@ -25,6 +26,10 @@ machine_is : (m new : MachineValue) (cpu : ℕ) (event : Event) (answer : ℕ ×
     → IsCalled m cpu event (receipt_for event answer) new → new ≡ with_record m (next_record m cpu event)
 machine_is m new cpu event answer called = grind arith
 
+pub machine_of : (m new : MachineValue) (cpu : ℕ) (event : Event) (r : Receipt) → IsCalled m cpu event r new
+    → new ≡ with_record m (next_record m cpu event)
+machine_of m new cpu event r called = grind arith
+
 -- its text is that of the next record
 line_is : (m new : MachineValue) (cpu : ℕ) (event : Event) (answer : ℕ × Reply)
     → IsCalled m cpu event (receipt_for event answer) new
@@ -33,13 +38,13 @@ line_is : (m new : MachineValue) (cpu : ℕ) (event : Event) (answer : ℕ × Re
 line_is m new cpu event answer called = rw (called.serial, called.reply)
 
 -- where there is room, both are due
-due_with_room : (m : MachineValue) (cpu : ℕ) (event : Event) → is_full m ≡ false
+pub due_with_room : (m : MachineValue) (cpu : ℕ) (event : Event) → is_full m ≡ false
     → (event_text m cpu event ≡ reply_line (next_record m cpu event).serial (next_record m cpu event).reply)
     × (machine_after_event m cpu event ≡ with_record m (next_record m cpu event))
 unfolding event_text machine_after_event
 due_with_room m cpu event room = grind arith
 
-due_when_full : (m : MachineValue) (cpu : ℕ) (event : Event) → is_full m ≡ true
+pub due_when_full : (m : MachineValue) (cpu : ℕ) (event : Event) → is_full m ≡ true
     → (event_text m cpu event ≡ unrecorded_line HistoryFull) × (machine_after_event m cpu event ≡ m)
 unfolding event_text machine_after_event
 due_when_full m cpu event full = grind arith

@@ -1,6 +1,7 @@
 pub mod Called
 pub mod Drawn
 pub mod Kept
+pub mod Numbered
 pub mod Resumed
 pub mod Rowed
 pub mod Shown

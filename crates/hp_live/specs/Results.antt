@@ -1,10 +1,11 @@
 -- The names of results in a session.
-use Rattle.std.specs.Prelude.{◌≡◌, ◌⊎◌, ℕ, List, length, Option, Some, None, option_map, slice_get}
+use Rattle.std.specs.Prelude.{◌≡◌, ◌⊎◌, ℕ, List, length, Option, Some, None, option_map, slice_get, if◌then◌else◌}
 use Rattle.std.specs.Map.{lookup}
 use Rattle.std.specs.Str.{bytes_eq}
 use Rattle.hp_units.specs.declared.events.Event.{Event}
 use Rattle.hp_units.specs.declared.replies.Record.{Record}
-use Rattle.hp_machine.specs.Machine.{MachineValue}
+use Rattle.hp_machine.specs.Machine.{MachineValue, is_full}
+use Rattle.hp_commands.specs.Events.{next_record}
 use Rattle.hp_names.specs.Bindings.{Bound, bound_to}
 use Rattle.hp_names.specs.Plain.{plain_in}
 use Rattle.hp_names.specs.Results.{missing_number, result_number}
@@ -12,6 +13,7 @@ use Rattle.hp_names.specs.declared.bindings.Naming.{Naming}
 use Rattle.hp_names.specs.declared.plain.PlainLine.{PlainLine}
 use Rattle.hp_scenario.specs.Asked as asks
 use Rattle.hp_scenario.specs.Names.{Numbered, line_in}
+use Rattle.hp_scenario.specs.declared.lines.Line.{Line}
 use Rattle.hp_live.specs.declared.answers.Did.{Did}
 use Rattle.hp_live.specs.declared.answers.Did.TheVariants as did
 
@@ -57,6 +59,19 @@ number_after m before after = 0
 -- the number of the result of a line, by the machines before and after it
 abbrev pub number_left : asks.Meaning → (before after : MachineValue) → ℕ
 number_left m before after = number_after m (length before.history) after
+
+-- the number of the result of an event or a line that `serial` runs on this machine
+abbrev pub event_number : MachineValue → (cpu : ℕ) → Event → ℕ
+event_number m cpu e =
+    if is_full m then missing_number e
+    else result_number e (next_record m cpu e).serial (next_record m cpu e).reply
+
+abbrev pub asked_number : MachineValue → (cpu : ℕ) → asks.Meaning → ℕ
+asked_number m cpu (asks.event e) = event_number m cpu e
+asked_number m cpu meaning = 0
+
+abbrev pub line_number : MachineValue → Line → ℕ
+line_number m line = asked_number m line.cpu (asks.asked_by line.work)
 
 -- ---- when memory runs out
 

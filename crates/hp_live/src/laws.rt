@@ -1,13 +1,17 @@
 //! What a sequence of answers amounts to, as contracts of functions with empty bodies.
-ghost use Rattle.std.specs.Prelude.{◌≡◌, ◌++◌, [], Bool, ℕ, List, Ok};
+ghost use Rattle.std.specs.Prelude.{◌≡◌, ◌++◌, [], Bool, ℕ, List, Ok, Option};
 ghost use Rattle.hp_units.specs.LayoutParts.{LayoutParts};
-ghost use Rattle.hp_machine.specs.Machine.{booted};
+ghost use Rattle.hp_machine.specs.Machine.{MachineValue, booted};
 ghost use Rattle.hp_scenario.specs.Scenario.{lines_from, nothing, scenario_in};
+ghost use Rattle.hp_scenario.specs.declared.lines.Line.{Line};
 ghost use Rattle.hp_names.specs.Named.{NamedValue};
-ghost use Rattle.hp_commands.specs.Serial.{WritesLines};
+ghost use Rattle.hp_names.specs.Resolved.{RunsFront};
+ghost use Rattle.hp_names.specs.Runs.{RunsLine};
+ghost use Rattle.hp_commands.specs.Serial.{WritesLines, machine_after, machine_after_lines};
 ghost use Rattle.hp_commands.specs.Served.{IsTextOf};
 ghost use Rattle.hp_text.specs.State.{state_text};
 ghost use Rattle.hp_talk.specs.Talks.{AreReplies};
+ghost use Rattle.hp_live.specs.Results.{line_number};
 ghost use Rattle.hp_live.specs.RowTalks.{DrawsTrace, RepliesWhole, RowsBegun, RowsSession};
 ghost use Rattle.hp_live.specs.Sessions.{AnswersAll, IsResumed, SessionValue, script_of, started, taken};
 ghost use Rattle.hp_live.specs.Talks.{ObjectsValue, RepliesObject, TellsLines};
@@ -56,3 +60,15 @@ pub fn talks_draw_the_trace()
 {
     live_rows_are_the_trace();
 }
+
+/// Lines that are run for the numbers of their results run as `hotplug serial` runs them. A line
+/// leads to the machine that is due after it. The number of a Begin's result is the serial that is
+/// due, and that of a KernelAlloc's is the frame in the reply that is due. Lines in order, each with
+/// the numbers of earlier results in it, lead to the machine that is due after all of them.
+pub fn results_have_the_numbers_of_serial()
+    ensures line { (m : MachineValue) (line : Line) (next : MachineValue) (number : ℕ)
+        → RunsLine m line next number → (next ≡ machine_after m line) × (number ≡ line_number m line) }
+    ensures front { (m new : MachineValue) (before after : List ℕ) (sources : List (Option ℕ))
+        (lines ran : List Line) → RunsFront m before sources lines ran new after
+        → new ≡ machine_after_lines m ran }
+{}

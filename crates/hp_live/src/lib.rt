@@ -23,7 +23,10 @@ mod word_objects;
 mod words;
 
 pub use answers::{Did, LiveAnswer};
-pub use laws::{answers_are_what_serial_writes, talks_draw_the_trace, talks_tell_their_lines};
+pub use laws::{
+    answers_are_what_serial_writes, results_have_the_numbers_of_serial, talks_draw_the_trace,
+    talks_tell_their_lines,
+};
 pub use object_talk::ObjectTalk;
 pub use objects::write_object;
 pub use row_talk::RowTalk;
