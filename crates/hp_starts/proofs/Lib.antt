@@ -1,3 +1,5 @@
+pub mod LineResults
 pub mod Lists
 pub mod Scripted
 pub mod Started
+pub mod StepResults

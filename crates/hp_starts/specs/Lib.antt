@@ -1,6 +1,7 @@
 pub mod Begins
 pub mod Checks
 pub mod Counting
+pub mod NamedResults
 pub mod Results
 pub mod Scripts
 pub mod Setup

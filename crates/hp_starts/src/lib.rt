@@ -12,6 +12,7 @@
 mod begins;
 mod checks;
 mod counting;
+mod laws;
 mod results;
 mod scripts;
 mod setup;
@@ -20,6 +21,7 @@ mod starts;
 mod unbegun;
 
 pub use counting::interleavings_line;
+pub use laws::names_are_results;
 pub use start_fault::StartFault;
 pub use starts::{Start, front_of, start_of};
 pub use unbegun::{Unbegun, unbegun_lines};

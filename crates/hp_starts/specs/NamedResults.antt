@@ -1,0 +1,45 @@
+-- The call of a line with a name: it works on the result of the call that the named line made.
+use Rattle.std.specs.Prelude.{◌≡◌, ℕ, List, [], ◌∷◌, ◌++◌, Option, Some, false, slice_get, take}
+use Rattle.hp_units.specs.declared.events.Event.{Event}
+use Rattle.hp_units.specs.declared.events.Event.TheVariants.{KernelFree, DrainFor, Migrate, Commit, Cancel}
+use Rattle.hp_units.specs.declared.replies.Receipt.{Receipt}
+use Rattle.hp_scenario.specs.Asked as asks
+use Rattle.hp_scenario.specs.declared.lines.Line.{Line}
+use Rattle.hp_schedules.specs.Scripts.{after_lines, frame_in, nothing_known}
+use Rattle.hp_schedules.specs.declared.scripts.Step.{Step}
+use Rattle.hp_starts.specs.Begins.{last_begun}
+use Rattle.hp_starts.specs.Scripts.{steps_in}
+use Rattle.hp_starts.specs.declared.begins.Begin.{Begin}
+
+-- the steps that the lines before `place` add to a processor's script
+abbrev pub steps_before : List Begin → List Line → (sources : List (Option ℕ)) → (cpu place : ℕ) → List Step
+steps_before begins lines sources cpu place =
+    steps_in cpu (last_begun cpu begins) false lines sources 0 (take place lines)
+
+-- the receipts are those of the processor's calls for the lines before `place`
+abbrev pub AreOfLinesBefore : (cpus : ℕ) → List Begin → List Line → (sources : List (Option ℕ))
+    → (cpu place : ℕ) → List Receipt → Type 0
+AreOfLinesBefore cpus begins lines sources cpu place receipts =
+    after_lines cpus nothing_known (steps_before begins lines sources cpu place) receipts ≡ Some []
+
+-- the call that the processor made for its line at `source`, which is an event
+pub record IsCallOf (cpus : ℕ) (begins : List Begin) (lines : List Line) (sources : List (Option ℕ))
+    (cpu source : ℕ) (receipts : List Receipt) (call : Receipt) : Type 0 where
+  pub line : Line
+  pub here : slice_get lines source ≡ Some line
+  pub own : line.cpu ≡ cpu
+  pub asked : asks.asked_by line.work ≡ asks.event call.event
+  pub before : List Receipt
+  pub later : List Receipt
+  pub whole : receipts ≡ before ++ call ∷ later
+  pub over : AreOfLinesBefore cpus begins lines sources cpu source before
+
+-- an event with the result of a call in the place of its number: the operation that the call began, or
+-- the frame that it took
+abbrev pub event_on : Receipt → Event → Event
+event_on call (DrainFor op cpu) = DrainFor call.serial cpu
+event_on call (Migrate op) = Migrate call.serial
+event_on call (Commit op) = Commit call.serial
+event_on call (Cancel op) = Cancel call.serial
+event_on call (KernelFree frame) = KernelFree (frame_in call.reply)
+event_on call e = e

@@ -1,0 +1,33 @@
+//! What is proved of scripts with names, as contracts of functions with empty bodies.
+ghost use Rattle.std.specs.Prelude.{◌≡◌, ℕ, List, Option, Some, slice_get};
+ghost use Rattle.hp_units.specs.Receipts.{receipts_of};
+ghost use Rattle.hp_units.specs.declared.events.Event.{Event};
+ghost use Rattle.hp_units.specs.declared.replies.Receipt.{Receipt};
+ghost use Rattle.hp_units.specs.declared.replies.Record.{Record};
+ghost use Rattle.hp_scenario.specs.Asked as asks;
+ghost use Rattle.hp_scenario.specs.declared.lines.Line.{Line};
+ghost use Rattle.hp_schedules.specs.Schedules.{Setting, next_call, plays};
+ghost use Rattle.hp_schedules.specs.declared.scripts.OwnWork.{OwnWork};
+ghost use Rattle.hp_starts.specs.NamedResults.{AreOfLinesBefore, IsCallOf, event_on};
+ghost use Rattle.hp_starts.specs.Results.{named_at};
+ghost use Rattle.hp_starts.specs.Scripts.{script_of};
+ghost use Rattle.hp_starts.specs.declared.begins.Begin.{Begin};
+
+/// In each interleaving a line with a name works on the result that the named line got there.
+///
+/// After a schedule, if a processor has made its calls for all its lines before the one at `place`,
+/// its next call is the event of that line, with the result of the call that the processor made for
+/// the line's source in the place of the number.
+pub fn names_are_results()
+    ensures { (g : Setting) (schedule : List ℕ) (news : List Record) (begins : List Begin)
+        (lines : List Line) (sources : List (Option ℕ)) (cpu place source : ℕ) (line : Line)
+        (event : Event) (own : OwnWork) → plays g schedule ≡ Some news
+        → slice_get g.scripts cpu ≡ Some (script_of begins lines sources cpu)
+        → slice_get lines place ≡ Some line → line.cpu ≡ cpu
+        → asks.asked_by line.work ≡ asks.event event → slice_get sources place ≡ Some (Some source)
+        → named_at cpu lines sources place (asks.event event) ≡ Some own
+        → AreOfLinesBefore g.layout.cpus begins lines sources cpu place (receipts_of cpu news)
+        → (call : Receipt)
+        × IsCallOf g.layout.cpus begins lines sources cpu source (receipts_of cpu news) call
+        × (next_call g cpu news ≡ Some (event_on call event)) }
+{}
