@@ -6,7 +6,8 @@
 //! a script, what step each becomes, which operation the number 0 names, and which steps work on the
 //! results of earlier lines. It searches nothing: hp_explore does.
 //!
-//! Read specs/Scripts first, then specs/Results, specs/Setup, specs/Begins and specs/Starts.
+//! Read specs/Scripts first, then specs/Results, specs/NamedResults (what a name means in every
+//! interleaving), specs/Setup, specs/Begins and specs/Starts.
 #![tactic(auto)]
 
 mod begins;
