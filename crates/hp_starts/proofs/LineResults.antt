@@ -68,7 +68,8 @@ called_more g h c e asked cpu lines here before = by_owner (eqb c cpu) refl
         refl) ∙ (ap (λ (n : ℕ). next_call g n h) (sym (eqb-true c cpu own)) ∙ asked)))
     by_owner false other =
         subst (AreCalled g.layout.cpus lines)
-        (sym (receipts_push cpu h (record_of_call g h c e) false other ∙ append-nil (receipts_of cpu h))) before
+        (sym (receipts_push cpu h (record_of_call g h c e) false other
+        ∙ append-nil (receipts_of cpu h))) before
 
 called_on : (g : Setting) (cpu : ℕ) (lines : List Step) → slice_get g.scripts cpu ≡ Some lines
     → (rest : List ℕ) (h end : List Record) → CalledAt g h cpu lines → from_news g h rest ≡ Some end
@@ -378,8 +379,8 @@ laid : (cpus : ℕ) (begins : List Begin) (lines : List Line) (sources : List (O
     → slice_get (take place lines) source ≡ Some first → first.cpu ≡ cpu
     → asks.asked_by first.work ≡ asks.event e → Plainly e
     → Laid cpus begins lines sources cpu place source e own
-laid cpus begins lines sources cpu place source line first event e own at mine asked named there his first_asked
-    plain =
+laid cpus begins lines sources cpu place source line first event e own at mine asked named there his
+    first_asked plain =
     let op = last_begun cpu begins in
     let earlier = take place lines in
     let front = take source earlier in
@@ -391,8 +392,8 @@ laid cpus begins lines sources cpu place source line first event e own at mine a
     (omega (arith, slice_get_within earlier source first there))) in
     let middle_begun = begun_after cpu false front || line_begins cpu first in
     let between = steps_in cpu op middle_begun lines sources (0 + length front + 1) middle in
-    let rest = steps_in cpu op (begun_after cpu false earlier || line_begins cpu line) lines sources (place + 1)
-    later in
+    let rest = steps_in cpu op (begun_after cpu false earlier || line_begins cpu line) lines sources
+    (place + 1) later in
     record {
       between = between;
       rest = rest;
@@ -414,7 +415,8 @@ laid cpus begins lines sources cpu place source line first event e own at mine a
           (named_step cpu op (begun_after cpu false earlier) lines sources place line event own mine asked
           named)));
       many =
-          steps_counted (λ x. is_opening (mark_of x)) step_begins asked_begins begins_lines cpu op middle_begun
+          steps_counted (λ x. is_opening (mark_of x)) step_begins asked_begins begins_lines cpu op
+          middle_begun
           lines sources (0 + length front + 1) middle;
     }
 
@@ -422,7 +424,8 @@ laid cpus begins lines sources cpu place source line first event e own at mine a
 
 on_work : (e : Event) (w : StepWork) (call : Receipt) → work_in e ≡ Some w
     → step_work_of call.serial w ≡ event_on call e
-on_work (event.DrainFor op cpu) w call is = ap (step_work_of call.serial) (sym (same_Some (DrainFor cpu) w is))
+on_work (event.DrainFor op cpu) w call is =
+    ap (step_work_of call.serial) (sym (same_Some (DrainFor cpu) w is))
 on_work (event.Migrate op) w call is = ap (step_work_of call.serial) (sym (same_Some Migrate w is))
 on_work (event.Commit op) w call is = ap (step_work_of call.serial) (sym (same_Some Commit w is))
 on_work (event.Cancel op) w call is = ap (step_work_of call.serial) (sym (same_Some Cancel w is))
@@ -542,14 +545,15 @@ named_call g schedule news begins lines sources cpu place source line event own 
     op : ℕ
     op = last_begun cpu begins
 
-    by_source : (e : Event) → s.first.cpu ≡ cpu → asks.asked_by s.first.work ≡ asks.event e → (plain : Plainly e)
+    by_source : (e : Event) → s.first.cpu ≡ cpu → asks.asked_by s.first.work ≡ asks.event e
+        → (plain : Plainly e)
         → ((l : Laid g.layout.cpus begins lines sources cpu place source e own)
         (f : IsFound g.layout.cpus (steps_before begins lines sources cpu source) l.between e
         (receipts_of cpu news)) → work_of (known_of (receipts_of cpu news)) own ≡ event_on f.first.own event)
         → Called g news begins lines sources cpu source event
     by_source e his first_asked plain works =
-        let l = laid g.layout.cpus begins lines sources cpu place source line s.first event e own at mine asked
-        named s.there his first_asked plain in
+        let l = laid g.layout.cpus begins lines sources cpu place source line s.first event e own at mine
+        asked named s.there his first_asked plain in
         called_by g schedule news begins lines sources cpu place source line s.first event e own played here
         s.there his first_asked over l (works l)
 
@@ -563,8 +567,8 @@ named_call g schedule news begins lines sources cpu place source line event own 
         by_source e.0 (eqb-true s.first.cpu cpu parts.0) e.1 (opening_plainly e.0 e.2)
         (λ l f. ap (work_of (known_of (receipts_of cpu news))) (sym (same_Some (on_begun cpu earlier source w)
         own is))
-        ∙ on_operation g.layout.cpus cpu earlier source (steps_before begins lines sources cpu source) l.between
-        event e.0 w (receipts_of cpu news) f e.2 some
+        ∙ on_operation g.layout.cpus cpu earlier source (steps_before begins lines sources cpu source)
+        l.between event e.0 w (receipts_of cpu news) f e.2 some
         (steps_counted (λ x. is_opening (mark_of x)) step_begins asked_begins begins_lines cpu op false lines
         sources 0 (take source lines) ∙ ap (begun_in cpu) (sym l.front_is))
         l.many)

@@ -88,7 +88,12 @@ record Counts (q : Event → Bool) (s : Step → Bool) : Type 0 where
   works : (event : Event) → is_work event ≡ true → q event ≡ false
 
 begins_count : Counts (λ event. is_opening (mark_of event)) step_begins
-begins_count = record { asks = λ event. refl; owns = λ work. refl; carries = λ plan turns. refl; works = work }
+begins_count = record {
+  asks = λ event. refl;
+  owns = λ work. refl;
+  carries = λ plan turns. refl;
+  works = work;
+}
   where
     work : (event : Event) → is_work event ≡ true → is_opening (mark_of event) ≡ false
     work (DrainFor op cpu) is = refl
@@ -99,7 +104,12 @@ begins_count = record { asks = λ event. refl; owns = λ work. refl; carries = �
     work event is = absurd cc
 
 allocs_count : Counts takes_frame step_allocs
-allocs_count = record { asks = λ event. refl; owns = λ work. refl; carries = λ plan turns. refl; works = work }
+allocs_count = record {
+  asks = λ event. refl;
+  owns = λ work. refl;
+  carries = λ plan turns. refl;
+  works = work;
+}
   where
     work : (event : Event) → is_work event ≡ true → takes_frame event ≡ false
     work (DrainFor op cpu) is = refl
@@ -187,7 +197,8 @@ goes_further cpus line earlier r rs over = by_next (line_next cpus nothing_known
 on_line : (cpus : ℕ) (line : Step) (lines : List Step) (earlier own : List Receipt)
     → ((xs : List Receipt) → after_line cpus nothing_known line [] (earlier ++ xs)
     ≡ after_line cpus nothing_known line earlier xs)
-    → AreCalledAfter cpus (line ∷ lines) earlier own → after_line cpus nothing_known line earlier own ≡ Some []
+    → AreCalledAfter cpus (line ∷ lines) earlier own
+    → after_line cpus nothing_known line earlier own ≡ Some []
     → CalledOn cpus line earlier own
 on_line cpus line lines earlier [] joins called over = tt
 on_line cpus line lines earlier (r ∷ rs) joins called over =
@@ -273,7 +284,8 @@ called_later cpus lines earlier [] later called =
 called_later cpus lines earlier (r ∷ rs) later called =
     let rest = called_later cpus lines (earlier ++ r ∷ []) rs later called.1 in (
       (called.0, rest.0),
-      subst (λ (xs : List Receipt). AreCalledAfter cpus lines xs later) (append_assoc earlier (r ∷ []) rs) rest.1,
+      subst (λ (xs : List Receipt). AreCalledAfter cpus lines xs later)
+          (append_assoc earlier (r ∷ []) rs) rest.1,
     )
 
 -- after the receipts of the first lines, the further ones call
@@ -466,5 +478,6 @@ found cpus front between later event receipts called over =
           (ap takes_frame asked ∙ takes));
     }
   where
-    last_begins : (op : ℕ) (r : Receipt) → is_opening (mark_of r.event) ≡ true → later_operation op r ≡ r.serial
+    last_begins : (op : ℕ) (r : Receipt) → is_opening (mark_of r.event) ≡ true
+        → later_operation op r ≡ r.serial
     last_begins op r is = rw is refl
