@@ -207,13 +207,12 @@ fn reference_in(text: &str) -> &str {
 /// Returns the last word that begins with a dollar sign, or the empty text if there is none. If a
 /// reference is not allowed where it is, the last one is not.
 fn last_reference_in(text: &str) -> &str {
-    let mut last = "";
-    for word in text.split(' ') {
+    for word in text.rsplit(' ') {
         if word.starts_with('$') {
-            last = word;
+            return word;
         }
     }
-    last
+    ""
 }
 
 /// Returns whether a text has the words of files, in which a dollar sign means nothing.
