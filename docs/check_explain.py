@@ -15,8 +15,9 @@ explained beginnings, and of each processor how many of its lines are over, and 
 would be answered or waits for. With a limit of states, no memory or no time the same is printed, or
 that nothing is known.
 
-What `hotplug run` prints of scenarios with more lines is always explained. So is what the program
-of bench/peer prints, where there is cargo, and with the race that it can plant some run is not.
+What `hotplug run` prints of scenarios with more lines is explained. So is what the program of
+bench/peer prints, where there is cargo, and with the race that it can plant some run is not. Only
+if a line is an `undo`, the search may be ended after 30 s; such runs are printed.
 Each answer that a call or a plan can get is read; answers that are none, and each other fault of
 the file, are named by their lines, with status 1 and nothing printed; wrong command lines have
 status 2. Two long runs are explained in time, or in SLACK times that by an unproved build. The last
