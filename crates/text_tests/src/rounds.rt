@@ -7,15 +7,13 @@ use std::alloc::Global;
 use std::test::Fail;
 
 /// A plan that finds no room for the last of four pages, in the eight turns that it has.
-const EIGHT: &[u8] =
-    br#"{"layout":{"order":2,"pageblocks":1,"blocks":3,"cpus":2,"batch":2,"high":2,
+const EIGHT: &[u8] = br#"{"layout":{"order":2,"pageblocks":1,"blocks":3,"cpus":2,"batch":2,"high":2,
 "owners":1,"pages":16,"words":1,"history":100,"boot":["normal","movable","movable"]},
 "calls":["0 kalloc 2","0 map db 0","1 map db 1","0 map db 2","1 map db 3","0 map db 4",
 "0 plan 8 off 1"]}"#;
 
 /// The same with five turns, of which two find no room.
-const FIVE: &[u8] =
-    br#"{"layout":{"order":2,"pageblocks":1,"blocks":3,"cpus":2,"batch":2,"high":2,
+const FIVE: &[u8] = br#"{"layout":{"order":2,"pageblocks":1,"blocks":3,"cpus":2,"batch":2,"high":2,
 "owners":1,"pages":16,"words":1,"history":100,"boot":["normal","movable","movable"]},
 "calls":["0 kalloc 2","0 map db 0","1 map db 1","0 map db 2","1 map db 3","0 map db 4",
 "0 plan 5 off 1"]}"#;
