@@ -3,6 +3,7 @@ drawn at random. The names are read here once more, by other code than that of t
 import re
 
 NO_FRAME = 2**32 - 1
+NO_OPERATION = 2**64 - 1
 NAMES = ("x", "y", "k")
 OF_OPERATIONS = ("drainfor", "migrate", "commit", "cancel")
 
@@ -28,10 +29,10 @@ def result_of(text, serial, reply):
 
 def answer_in(printed):
     """The serial and the reply of the last line in what `hotplug serial` prints; without a record
-    the serial is 0."""
+    the serial is that of no operation."""
     answers, _, _ = printed.rpartition("state\nblock 0 ")
     serial, _, reply = answers.splitlines()[-1].partition(": ")
-    return 0 if serial == "-" else int(serial), reply
+    return NO_OPERATION if serial == "-" else int(serial), reply
 
 
 def made_plain(programs, layout, lines):
