@@ -193,7 +193,7 @@ fn run_and_keep(
 /// Returns `Lack::Answer` if a line was run, but memory ran out for its answer.
 fn or_lack(is_answered: bool) -> Result<(), Lack>
     ensures ok { OnOk result (is_answered ≡ true) }
-    ensures err { IfErr result (λ lack. lack ≡ Lack.Answer) }
+    ensures err { IfErr result (λ lack. (lack ≡ Lack.Answer) × (is_answered ≡ false)) }
 {
     if is_answered {
         Ok(())
