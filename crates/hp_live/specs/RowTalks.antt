@@ -95,7 +95,7 @@ RowsWord word.Line s text reply new = RowsRead (typed_in s.names s.bound text) s
 abbrev pub RowsText : RowsSession → (line reply : List ℕ) → (new : RowsSession) → Type 0
 RowsText s line reply new = (IsUnread line × Stays s new) ⊎ RowsWord (word_of line) s line reply new
 
--- memory ran out: nothing was run; or the line is kept, and a part of it may have been run
+-- memory ran out: either nothing was run, or the line is kept, and a part of it may have been run
 abbrev pub IsLostTyped : RowsSession → Option Typed → (new : RowsSession) → Type 0
 IsLostTyped s typed new =
     Stays s new
@@ -119,8 +119,8 @@ RepliesRows s line reply new =
 abbrev pub HasRows : List ℕ × List ℕ → Type 0
 HasRows pair = (pair.1 ≡ pair.0) ⊎ (pair.1 ≡ [])
 
--- the first row of a talk after a scenario, and below it the rows in its replies, are the trace of a
--- scenario: the talk's scenario, followed by the lines of the talk
+-- the first row of a talk and the rows in its replies, one below another, are the trace of the talk's
+-- scenario followed by the lines of the talk, from these lines on
 pub record DrawsTrace (s : ScenarioValue) (width : ℕ) (orders : Bool) (first text : List ℕ)
     (new : RowsSession) : Type 0 where
   pub told : List (List ℕ × List ℕ)

@@ -71,8 +71,8 @@ AnswersRead s (Some t) a new =
 abbrev pub AnswersText : SessionValue → (text : List ℕ) → AnswerValue → (new : SessionValue) → Type 0
 AnswersText s text a new = AnswersRead s (typed_in s.names s.bound text) a new
 
--- the session if memory ran out for what may be a line: the same as before; or the text is a line,
--- which was run and is kept
+-- the session after memory ran out: the same as before if the line could not be kept; if its answer
+-- could not be made, the text is a line, which was run and is kept
 abbrev pub IsLostTyped : Lack → SessionValue → Option Typed → (new : SessionValue) → Type 0
 IsLostTyped lack.Line s typed new = new ≡ s
 IsLostTyped lack.Answer s typed new =

@@ -98,7 +98,7 @@ ShowsIf false last now shown front reply = (shown ≡ None) × (reply ≡ front 
 ShowsIf true last now shown front reply =
     (shown ≡ Some now) × (change : ChangeValue) × IsChange last now change × TellsIn front change reply
 
--- what is kept of the states after an object
+-- the states after an object: the state that it shows, if any, is now the last one shown
 abbrev pub kept_states : StatesValue → (shown : Option Pictured) → StatesValue
 kept_states states None = states
 kept_states states (Some image) = record { is_shown = states.is_shown; last = Some image }
@@ -150,7 +150,7 @@ abbrev pub IsRun : SessionValue → (text : List ℕ) → (new : SessionValue) �
 IsRun s text new =
     (t : Typed) × (written : List ℕ) × (typed_in s.names s.bound text ≡ Some t) × RunsLine s t written new
 
--- memory ran out: nothing was run; or the line was run and is kept
+-- memory ran out: either nothing was run, or the line was run and is kept
 abbrev pub IsLostLine : SessionValue → (text : List ℕ) → (new : SessionValue) → Type 0
 IsLostLine s text new = (new ≡ s) ⊎ IsRun s text new
 
@@ -171,7 +171,8 @@ IsObjectOf number a reply =
     (front : List ℕ) × WritesObject [] number a (front ++ object_end)
     × ((reply ≡ front ++ object_end) ⊎ ((keys : List ℕ) × HasKeys front keys reply))
 
--- a reply, and a text in it: that of an answer; none, if no line was run; any, if the reply was lost
+-- a reply, and the text of `hotplug serial` that it shows: the answer's text; none, if no line was run;
+-- any text at all, if the reply was lost
 abbrev pub HasText : List ℕ × List ℕ → Type 0
 HasText pair =
     ((number : ℕ) × (a : AnswerValue) × (pair.1 ≡ a.text) × IsObjectOf number a pair.0)

@@ -98,7 +98,8 @@ impl LiveAnswer {
     }
 }
 
-/// Writes what a line did. A control file's text is written when it is read.
+/// Writes what a line did. Writes nothing for a control file, whose text was written when it was
+/// read.
 fn write_did(out: &mut String, did: &Did) -> Result<(), AllocError>
     ensures { OnOk result (string_bytes out.new ≡ string_bytes out.old ++ did_text did.now) }
 {

@@ -38,10 +38,11 @@ pub fn answers_are_what_serial_writes()
         → WritesLines (booted scenario.scenario.layout) s.lines (begun.text ++ written) s.machine }
 {}
 
-/// In a talk in objects, the texts in the replies, one after another, are what `hotplug serial`
-/// writes for the lines so far: those of the scenario and those of the talk, with plain numbers in
-/// place of names for results. Command words, and texts that are not lines, add nothing. A reply
-/// that was lost has no text, but its line was run if it is among the lines.
+/// In a session that replies in objects of JSON, the texts in the replies, one after another, are
+/// what `hotplug serial` writes for the lines so far: those of the scenario and those of the
+/// session, with plain numbers in place of names for results. Command words, and texts that are not
+/// lines, add nothing. A lost reply shows no text: if its line was run, the text of that line is
+/// missing.
 pub fn talks_tell_their_lines()
     ensures { (scenario : NamedValue) (first s : ObjectsValue) (lines : List (List ℕ))
         (text : List ℕ) → (begun : IsResumed scenario first.session)
@@ -49,9 +50,9 @@ pub fn talks_tell_their_lines()
         → TellsLines scenario.scenario begun.text text s.session }
 {}
 
-/// In a talk in rows, the first row and the rows in the replies, one after another, are what
-/// `hotplug_lab trace` draws of the scenario with the lines so far, from the first line of the talk
-/// on, all with plain numbers. This holds for a talk that had memory for each reply.
+/// In a session that replies in rows, the first row and the rows in the replies, one after another,
+/// are what `hotplug_lab trace` draws of the scenario and the lines so far, from the first line of
+/// the session on, all with plain numbers. This holds if there was memory for each reply.
 pub fn talks_draw_the_trace()
     ensures { (scenario : NamedValue) (width : ℕ) (orders : Bool) (first s : RowsSession)
         (lines : List (List ℕ)) (text : List ℕ) → (begun : RowsBegun scenario width orders first)
@@ -61,10 +62,11 @@ pub fn talks_draw_the_trace()
     live_rows_are_the_trace();
 }
 
-/// Lines that are run for the numbers of their results run as `hotplug serial` runs them. A line
-/// leads to the machine that is due after it. The number of a Begin's result is the serial that is
-/// due, and that of a KernelAlloc's is the frame in the reply that is due. Lines in order, each with
-/// the numbers of earlier results in it, lead to the machine that is due after all of them.
+/// Running lines for the numbers of their results has the effect of `hotplug serial`. After a line,
+/// the machine is the one that `serial` has then. The number of a Begin's result is the serial that
+/// `serial` gives it, and that of a KernelAlloc's is the frame in the reply that `serial` gets.
+/// After lines in order, each with the numbers of earlier results in it, the machine is the one
+/// that `serial` has then.
 pub fn results_have_the_numbers_of_serial()
     ensures line { (m : MachineValue) (line : Line) (next : MachineValue) (number : ℕ)
         → RunsLine m line next number → (next ≡ machine_after m line) × (number ≡ line_number m line) }

@@ -7,11 +7,11 @@ ghost use Rattle.hp_live.specs.Talks.{word_of};
 pub(crate) enum LiveWord {
     /// No text at all.
     Nothing,
-    /// The word for the verbs with their arguments.
+    /// `help`, which lists the verbs with their arguments.
     Help,
-    /// The word for the machine's state.
+    /// `state`, which shows the machine's state.
     State,
-    /// The word for the layout and all lines so far.
+    /// `scenario`, which shows the layout and all lines so far.
     Scenario,
     /// No such word: perhaps a line.
     Line,

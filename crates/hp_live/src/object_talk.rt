@@ -34,8 +34,8 @@ pub struct ObjectTalk {
 }
 
 impl ObjectTalk {
-    /// Begins a talk after a scenario's lines. With `is_state_shown`, each answer also has how the
-    /// state differs from that of the answer before it.
+    /// Begins a talk after a scenario's lines. With `is_state_shown`, each answer also reports how
+    /// the state differs from that of the answer before it.
     pub fn begin(
         alloc: Global,
         named: NamedScenario,

@@ -155,7 +155,7 @@ impl RowTalk {
         self.write_to_plain(alloc, text, plain)
     }
 
-    /// Does the same for a text whose names for results were taken out.
+    /// Does the same for a line whose names for results were replaced by numbers.
     fn write_to_plain(
         &mut self,
         alloc: Global,

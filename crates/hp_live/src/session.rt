@@ -28,8 +28,8 @@ pub enum Lack {
     Answer,
 }
 
-/// A machine that answers lines one at a time, all lines so far with plain numbers, and the names
-/// of owners and of results in them.
+/// A machine that answers lines one at a time. The session keeps all lines so far, with plain
+/// numbers in place of names for results, and the names of owners and of results in them.
 #[derive(Drop)]
 pub struct Session {
     pub(crate) names: IndexSet<Text>,
@@ -119,7 +119,7 @@ impl Session {
         }
     }
 
-    /// Does the same for a line whose names for results were taken out.
+    /// Does the same for a line whose names for results were replaced by numbers.
     fn answer_plain(
         &mut self,
         alloc: Global,

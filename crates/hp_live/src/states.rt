@@ -40,7 +40,7 @@ impl ShownStates {
 
     /// If states are shown, adds to an object how the machine's state differs from the last one.
     /// The first state is shown whole. `object` ends with a newline. Returns the state that the
-    /// object leads to.
+    /// object shows, for `keep` to store.
     pub(crate) fn show(
         &self,
         alloc: Global,
@@ -77,7 +77,7 @@ impl ShownStates {
         join_objects(object, shown.as_slice())
     }
 
-    /// Stores the state that an object led to, once the object was written.
+    /// Stores the state that an object shows, once the object was written.
     pub(crate) fn keep(&mut self, shown: Option<Image>)
         ensures { self.new ≡ kept_states self.old shown }
     {
