@@ -56,8 +56,8 @@ abbrev pub first_to : List ObservedLine → ℕ
 first_to [] = 18446744073709551615
 first_to (one ∷ later) = one.to
 
--- the lines, each with the lowest `to` of its own and the later ones, because a line was answered no
--- later than a later line
+-- the lines with their times filled in. No line was answered later than a line after it, so each gets
+-- the lowest `to` of its own and of those after it
 abbrev pub filled : List ObservedLine → List ObservedLine
 filled [] = []
 filled (one ∷ later) = record one { to = min one.to (first_to (filled later)) } ∷ filled later
@@ -76,7 +76,8 @@ IsTaken old o new =
 abbrev pub IsLineTaken : (text : List ℕ) → (old new : List (List ObservedLine)) → Type 0
 IsLineTaken text old new = (o : SeenObject) × IsObjectLine text o × IsTaken old o new
 
--- each processor's lines are those of its objects in their order, and each object is of a processor
+-- each processor's lines are those of its objects in their order, and each object names a processor that
+-- there is
 abbrev pub AreToldBy : List SeenObject → List (List ObservedLine) → Type 0
 AreToldBy objects seen =
     ((cpu : ℕ) (own : List ObservedLine) → slice_get seen cpu ≡ Some own → own ≡ told_of cpu objects)

@@ -31,7 +31,7 @@ seen_lines seen = map (λ one. answer_text one.answer) seen
 abbrev pub script_lines : (cpu : ℕ) → List ObservedLine → List (List ℕ)
 script_lines cpu seen = heading cpu ∷ seen_lines seen
 
--- those of all processors from this one on
+-- the headings and answers of all processors from this one on
 abbrev pub run_lines : (cpu : ℕ) → List (List ObservedLine) → List (List ℕ)
 run_lines cpu [] = []
 run_lines cpu (seen ∷ later) = script_lines cpu seen ++ run_lines (suc cpu) later

@@ -25,7 +25,7 @@ answers_marked g h k more marks same a b =
     let causes : a.0 ≡ b.0 = cc in
     answered_alike g h k more a.0 b.0 causes same a.2 b.2
 
--- so equally many lines are finished after both
+-- then equally many lines are finished after both
 many_alike : (g : Setting) (cpu : ℕ) (h k more : List Record) → AnswerAlike g cpu h k more
     → length (answers_at g cpu (h ++ more)) ≡ length (answers_at g cpu (k ++ more))
 many_alike g cpu h k more alike =
@@ -109,7 +109,8 @@ timed_alike g seen h k more alike here there before r later is =
         (there (h ++ past.0) r later
         (ap (λ (xs : List Record). h ++ xs) past.2 ∙ sym (append_assoc h past.0 (r ∷ later)))))
 
--- an explained beginning has records that were answered as seen and made in time
+-- the records of an explained beginning have the answers that were seen, and each of its calls was made
+-- in time
 pub explained_news : (g : Setting) (seen : List (List ObservedLine)) (schedule : List ℕ) (news : List Record)
     → plays g schedule ≡ Some news → IsExplained g seen schedule
     → AreAsSeen g seen news × AreInTime g seen news

@@ -7,7 +7,7 @@ use Rattle.hp_explore.specs.CausesBelow.{AreCausedBelow}
 use Rattle.hp_explain.specs.Explaining.{Explains, IsExplained, MayRun, calls_left}
 use Rattle.hp_explain.specs.declared.observed.ObservedLine.{ObservedLine}
 
--- the marks: the number of calls, and what the answers of the plans in progress depend on
+-- the marks of a place: its number of calls, and what the answers of the plans in progress depend on
 abbrev pub IsMarked : Setting → List Record → List ℕ → Type 0
 IsMarked g news numbers =
     (causes : List ℕ) × (numbers ≡ length news ∷ causes)

@@ -45,8 +45,7 @@ AreAllOverBefore g seen news time =
     (cpu : ℕ) (lines : List ObservedLine) → slice_get seen cpu ≡ Some lines
     → AreOverBefore lines (length (answers_at g cpu news)) time
 
--- the line that the processor works on next may run: each line that was answered before it began is
--- finished
+-- the processor's next line may run: all lines that were answered before that line began are finished
 abbrev pub MayRun : Setting → List (List ObservedLine) → List Record → (cpu : ℕ) → Type 0
 MayRun g seen news cpu =
     (lines : List ObservedLine) (one : ObservedLine) → slice_get seen cpu ≡ Some lines
@@ -58,7 +57,7 @@ AreInTime g seen news =
     (before : List Record) (r : Record) (later : List Record) → news ≡ before ++ r ∷ later
     → MayRun g seen before r.cpu
 
--- how many calls the history has room for, and serials are left for
+-- how many more calls can be recorded: each needs room in the history and a serial
 abbrev pub calls_left : Setting → ℕ
 calls_left g =
     min (g.layout.history - length g.start) (18446744073709551615 - (g.before + length g.start))

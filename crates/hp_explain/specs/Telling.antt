@@ -29,7 +29,7 @@ unknown_told Words = codes "explained: unknown\n"
 unknown_told Object = codes "{\"found\": null}\n"
 unknown_told Scenario = []
 
--- ---- on a machine
+-- ---- the text for scripts on a machine
 
 -- the text has the first schedule that explains what was seen, as a search for an end writes the one
 -- that it found, and the history has room for its calls. Or no schedule explains it, and there is a
@@ -52,7 +52,7 @@ IsExplanationTold form names before g (found.Explained schedule) text result =
     (text ≡ found_text form names before g schedule.items) × (result ≡ Explained)
 IsExplanationTold form names before g (found.Unexplained longest) text result = result ≡ Unexplained
 
--- ---- in a scenario
+-- ---- the text for a scenario
 
 -- what was seen has a line for each line of each script. `answers` either has an object for each, or is
 -- what `hotplug run` prints of them

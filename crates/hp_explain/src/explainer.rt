@@ -9,7 +9,8 @@ use hp_schedules::FinishedLine;
 use hp_units::Cpu;
 use std::alloc::{AllocError, Global};
 
-/// What was seen, and the first of the longest explained schedules that the search has come to.
+/// What was seen, and the longest explained schedule that the search has found so far; the first of
+/// these if there are several.
 #[derive(Drop)]
 pub(crate) struct Explainer<'a> {
     seen: &'a Observed,
@@ -40,8 +41,8 @@ impl<'a> Explainer<'a> {
         longest
     }
 
-    /// Returns whether the line that the processor works on next may run at this place: each line
-    /// that was answered before it began is finished.
+    /// Returns whether the processor's next line may run now: all lines that were answered before
+    /// that line began are finished.
     fn may_run(&self, path: &Path<'_>, cpu: u32) -> bool
         ensures { IsTrue result ↔ MayRun path.now.setting self.now.seen.now path.now.news cpu }
     {

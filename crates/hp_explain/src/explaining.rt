@@ -58,7 +58,7 @@ pub fn explain<W: Watch>(
     }
 }
 
-/// Returns how many calls the machine's history has room for, and serials are left for.
+/// Returns how many more calls the machine can record: each needs room in the history and a serial.
 fn calls_left(machine: &Machine) -> u64
     ensures { (scripts : List (List Step)) → result ≡ calls_left (setting machine.now scripts) }
 {

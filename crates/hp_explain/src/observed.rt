@@ -12,9 +12,9 @@ use std::marker::Model;
 pub struct ObservedLine {
     /// The line's answer.
     pub answer: LineAnswer,
-    /// The time before which the line had not begun; 0 if it is unknown.
+    /// The line began at this time or later; 0 if that is unknown.
     pub from: u64,
-    /// The time at which the line was answered, or some time later; `u64::MAX` if it is unknown.
+    /// The line was answered at this time or before; `u64::MAX` if that is unknown.
     pub to: u64,
 }
 

@@ -28,7 +28,8 @@ pub(crate) struct Unfinished {
 pub(crate) enum Next {
     /// Nothing: its script is finished.
     Finished,
-    /// Its next line began after this line was answered, which is not finished.
+    /// Nothing yet: its next line began after this line was answered, and this line is not
+    /// finished.
     Waits(Unfinished),
     /// Its next call gives its line this answer.
     Answered(LineAnswer),
