@@ -11,7 +11,7 @@ use Rattle.hp_trace.specs.Logs.{IsLogOfScenario}
 use Rattle.hp_trace.specs.Traces.{AreRowsOf, IsJoinedTraceOf, IsJsonOf}
 use Rattle.hp_trace.specs.declared.view.View.{View}
 
--- the bytes are a scenario, and `P` holds of it with the numbers of all results
+-- the bytes are a scenario, and `P` holds of it with plain numbers in place of the names for results
 abbrev pub InPlain : (input : List ℕ) → (ScenarioValue → Type 0) → Type 0
 InPlain input P = InScenario input (2 ^ 64 - 1) (λ s. P s.scenario)
 
@@ -19,7 +19,7 @@ InPlain input P = InScenario input (2 ^ 64 - 1) (λ s. P s.scenario)
 abbrev pub HasTrace : View → (input text : List ℕ) → Type 0
 HasTrace view input text = InPlain input (λ s. IsJoinedTraceOf view s text)
 
--- the text has these lines of JSON in a form
+-- the text is these lines of JSON, in a form
 abbrev pub IsJsonText : JsonForm → (lines text : List ℕ) → Type 0
 IsJsonText Lines lines text = text ≡ lines
 IsJsonText Page lines text = text ≡ viewer_before ++ lines ++ viewer_after

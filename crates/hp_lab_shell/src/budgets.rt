@@ -31,7 +31,7 @@ pub(crate) struct Reached {
     pub states: u64,
     /// How many bytes it keeps.
     pub bytes: u64,
-    /// How many whole seconds have passed, when the clock was last read.
+    /// How many whole seconds had passed when the clock was last read.
     pub seconds: u64,
 }
 

@@ -53,8 +53,8 @@ pub(crate) fn say_fault(rt: &HostRuntime, file: Option<&str>, fault: LabProgramF
     }
 }
 
-/// Returns the name of the file that could not be read, escaped as in JSON, or `None` if memory
-/// runs out.
+/// Returns the name of the file, escaped as in JSON, if the fault is that it could not be read.
+/// Returns `None` for any other fault, for standard input, and if memory runs out.
 fn unread_name(alloc: Global, file: Option<&str>, fault: LabProgramFault) -> Option<String> {
     if !fault.is_of_input() {
         return None;

@@ -10,8 +10,8 @@ use hp_scenario::Scenario;
 use hp_search::LabProgramFault;
 use std::alloc::Global;
 
-/// Reads a scenario, and puts the numbers that `hotplug serial` gives in place of names for
-/// results.
+/// Reads a scenario, and replaces each name for a result by the number that `hotplug serial` gives
+/// it.
 ///
 /// Fails with the scenario's first fault.
 pub(crate) fn plain_scenario(alloc: Global, input: &[u8]) -> Result<Scenario, LabProgramFault>

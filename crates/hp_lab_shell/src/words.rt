@@ -178,8 +178,8 @@ fn files_of<'m, 'a>(names: Option<&'m [&'a str]>) -> &'m [&'a str] {
     }
 }
 
-/// Returns the request on the command line, or why it cannot be served. `wanted` and `part` are the
-/// lines of an end and the part that the command line names.
+/// Returns the request on the command line, or why it cannot be served. `wanted` has the lines that
+/// the command line wants of an end, and `part` the part that it names.
 pub(crate) fn request_from<'m, 'a, 'w>(
     matches: &'m ArgMatches<'a>,
     wanted: &'w [Wanted],
