@@ -70,8 +70,8 @@ pub record AreAlike (g : Setting) (h k : List Record) : Type 0 where
       → own_operation (receipts_of cpu h) ≡ own_operation (receipts_of cpu k)
   pub nets : AreJoined g.layout g.base (net_of (g.start ++ h)) (net_of (g.start ++ k))
 
--- no Cancel can drop the steps so far: true after a step that neither begins an operation nor is an
--- operation's own work, until an operation begins or is cancelled, or steps are undone
+-- whether no Cancel can drop the steps so far, after one more event: a Begin, a Cancel or an UndoAfter
+-- makes it false; a Read, a DrainFor or a Migrate leaves it as it was; any other event makes it true
 abbrev pub closed_by : (was : Bool) → Event → Bool
 closed_by was (Read owner page index) = was
 closed_by was (DrainFor op cpu) = was

@@ -19,8 +19,8 @@ use Rattle.hp_schedules.specs.declared.scripts.OwnWork.TheVariants.{Latest, Nth,
 use Rattle.hp_schedules.specs.declared.scripts.Step.{Step}
 use Rattle.hp_schedules.specs.declared.scripts.Step.TheVariants.{Ask, Own, Carry}
 
--- the event that a line, and that the cursor's own line, calls next after its processor's receipts;
--- None if it is finished
+-- the event that a line calls next after its processor's receipts, and that of the cursor's own line;
+-- None if there is no such event
 abbrev pub asks : List Receipt → Cursor → Step → Option Event
 asks receipts c (Ask event) = Some event
 asks receipts c (Own work) = Some (work_of (known_with c.op receipts) work)
@@ -35,7 +35,7 @@ IsIn cpus (Ask event) own d = own ≡ []
 IsIn cpus (Own work) own d = own ≡ []
 IsIn cpus (Carry plan turns) own d = IsAfter cpus turns own d
 
--- the same of the first of several lines, which was not finished before the last of them
+-- the same for the first of several lines, which was not finished before its last receipt
 abbrev pub IsInFirst : (cpus : ℕ) → List Step → List Receipt → Driver → Type 0
 IsInFirst cpus [] own d = Unit {0}
 IsInFirst cpus (line ∷ lines) own d =
@@ -99,8 +99,8 @@ carried c =
     cond (is_over c.driver.stage)
     (Some (record { line = c.line; answer = option_map Carried (end_in c.driver.stage) })) None
 
--- a cursor stays at the line of a plan after it. So if it is at the beginning of a line, the line
--- before was one call
+-- a cursor stays at a plan's line when the plan has ended. So if it is at the beginning of a line, the
+-- line before was one call
 abbrev pub IsSettled : List Step → Cursor → Type 0
 IsSettled lines c =
     is_carrying c lines ≡ false → (k : ℕ) (line : Step) → c.line ≡ k + 1 → slice_get lines k ≡ Some line
@@ -117,7 +117,7 @@ pub record AreCursors (g : Setting) (news : List Record) (cursors : List Cursor)
   pub settled : (cpu : ℕ) (lines : List Step) (c : Cursor)
       → slice_get g.scripts cpu ≡ Some lines → slice_get cursors cpu ≡ Some c → IsSettled lines c
 
--- what the further calls of a cursor's script depend on, beside what it is replied: its line, the
+-- what the further calls of a cursor's script depend on, beside the replies to them: its line, the
 -- operation that it began last, and its driver's key
 abbrev pub steering_of : Cursor → List ℕ
 steering_of c =

@@ -5,10 +5,9 @@ use Rattle.hp_schedules.specs.Orders.{HasCount, IsBefore, IsFirst}
 use Rattle.hp_schedules.specs.Outcomes.{OutcomeValue}
 use Rattle.hp_schedules.specs.Schedules.{EndsWith, Setting}
 
--- the ends count the schedules s in the set; E s x states that s is in it and has the outcome x. An
--- end's count is the number of schedules that end in this way, and it names the first of them.
--- Every schedule's end is listed, no two ends are equal, and the counts add up to the number of
--- schedules
+-- E s x states that the schedule s is in a set and has the outcome x. The ends count this set: there is
+-- one end for each of its outcomes, with the number of schedules that end in this way and the first of
+-- these. The counts add up to the number of schedules in the set
 pub record AreCounted (E : List ℕ → OutcomeValue → Type 0) (ends : List Ending) : Type 0 where
   pub counts : (k : ℕ) (e : Ending) → slice_get ends k ≡ Some e → HasCount (λ s. E s e.outcome) e.count
   pub firsts : (k : ℕ) (e : Ending) → slice_get ends k ≡ Some e → IsFirst (λ s. E s e.outcome) e.first.items

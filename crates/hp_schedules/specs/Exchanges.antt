@@ -15,7 +15,7 @@ exchange_in r = unnumbered (receipt_of r)
 abbrev pub exchange_of : Exchange → Receipt
 exchange_of e = record { serial = 0; event = e.event; reply = e.reply }
 
--- the transcripts that the entries make, each one exchange longer than an earlier one
+-- the transcripts that the entries make: each entry adds its exchange to an earlier transcript
 abbrev pub exchange_below : Exchange → ℕ
 exchange_below e = e.below
 

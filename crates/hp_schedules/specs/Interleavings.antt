@@ -54,8 +54,8 @@ IsRoomNeeded g None =
 IsRoomNeeded g (Some needed) =
     AreOneCalls g.scripts × (needed ≡ length g.start + sum (script_lengths g.scripts))
 
--- what is known before any call about how many there are: a number up to the limit; more than the
--- limit; or nothing, if a line may be several calls or there are 2^64 lines or more
+-- what is known before any call about the number of complete schedules: a number up to the limit; that
+-- it is above the limit; or nothing, if a line may be several calls or there are 2^64 lines or more
 abbrev pub IsKnown : List (List Step) → (limit : ℕ) → HowMany → Type 0
 IsKnown scripts limit (Exactly m) = AreOneCalls scripts × IsCountOfLengths scripts m × (m ≤ limit)
 IsKnown scripts limit MoreThanLimit = AreTooMany scripts limit

@@ -19,7 +19,7 @@ abbrev pub answer_of : Step → List Receipt → Option LineAnswer
 answer_of (Carry plan turns) own = option_map Carried (end_of own)
 answer_of line own = option_map (λ r. Replied r.reply) (slice_get own 0)
 
--- the receipts before `rest`, the last ones of them
+-- the receipts without `rest`, which is their end
 abbrev pub without : (receipts rest : List Receipt) → List Receipt
 without receipts rest = take (length receipts - length rest) receipts
 

@@ -21,8 +21,8 @@ sum ns = sum_by (λ n. n) ns
 abbrev pub IsMultinomial : List ℕ → ℕ → Type 0
 IsMultinomial ns m = m * factorials ns ≡ factorial (sum ns)
 
--- the number is the coefficient after one more length, if that of the others and
--- their sum are these
+-- the number is the coefficient with one more length, if `count` is that of the others and `total` is
+-- their sum
 abbrev pub IsMultinomialWith : (count total length m : ℕ) → Type 0
 IsMultinomialWith count total length m =
     (ns : List ℕ) → sum ns ≡ total → IsMultinomial ns count → IsMultinomial (ns ++ length ∷ []) m

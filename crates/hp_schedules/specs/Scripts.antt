@@ -57,8 +57,8 @@ known_of receipts = known_with (own_operation receipts) receipts
 abbrev pub nothing_known : Known
 nothing_known = record { op = 0; begun = []; frames = [] }
 
--- the event of work on an operation, and that of a line's work on a result. If there is none of this
--- number, it is operation 0 or the frame of no layout
+-- the event of work on an operation, and that of a line's work on a result. If no result has this
+-- number, the operation is 0, or the frame is that of no layout
 abbrev pub step_work_of : (op : ℕ) → StepWork → Event
 step_work_of op (DrainFor cpu) = DrainsFor op cpu
 step_work_of op Migrate = Migrates op
@@ -96,7 +96,7 @@ after_lines cpus known [] receipts = Some receipts
 after_lines cpus known (line ∷ lines) receipts =
     option_and_then (λ rest. after_lines cpus known lines rest) (after_line cpus known line [] receipts)
 
--- the next event of the lines, after the receipts since the first of them began
+-- the next event of the lines, given the receipts since the first of them began
 abbrev pub next_in : (cpus : ℕ) → Known → List Step → List Receipt → Option Event
 next_in cpus known [] receipts = None
 next_in cpus known (line ∷ lines) receipts =

@@ -8,7 +8,7 @@ use Rattle.hp_schedules.specs.declared.tally.Ending.{Ending}
 abbrev pub count_for : (end : ℕ) → Share → ℕ
 count_for end s = cond (nat_eq s.end end) s.count 0
 
--- how many of all shares' schedules do
+-- how many of all shares' schedules go to this end
 abbrev pub amount_of : List Share → (end : ℕ) → ℕ
 amount_of shares end = sum_by (count_for end) shares
 
@@ -30,7 +30,7 @@ pub record AddsCounts (old : List Ending) (counts : List ℕ) (new : List Ending
       → (f.outcome ≡ e.outcome) × (f.first.items ≡ e.first.items)
       × (f.count ≡ e.count + slice_index_or counts k 0)
 
--- the shares are what each end counts more than before
+-- the shares of an end add up to what its count has grown by since the earlier counts
 pub record AreSince (earlier : List ℕ) (ends : List Ending) (shares : List Share) : Type 0 where
   pub at_ends : AreAtEnds (length ends) shares
   pub each : (k : ℕ) (e : Ending) → slice_get ends k ≡ Some e

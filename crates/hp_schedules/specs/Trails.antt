@@ -27,7 +27,7 @@ IsShareOf shares end place = (s : Share) × (slice_get shares place ≡ Some s) 
 abbrev pub left_over : (Share → ℕ) → (end at : ℕ) → List Share → ℕ
 left_over f end at shares = sum_by f (take end shares) + sum_by f (drop at shares)
 
--- the share at index `at` is one of the sums now, which end before index `later`
+-- the share at index `at` is added to the sums, which now end before index `later`
 pub record IsSummedUp (start end at : ℕ) (old : List Share) (later : ℕ) (new : List Share) : Type 0 where
   pub long : length new ≡ length old
   pub before : take start new ≡ take start old

@@ -1,4 +1,4 @@
-//! A test for closed histories: those of which no later Cancel can drop a step.
+//! Tests whether a history is closed: no later Cancel can drop a step of it.
 ghost use Rattle.std.specs.Prelude.{◌≡◌};
 ghost use Rattle.hp_schedules.specs.Alike.{closed_after, is_closed};
 

@@ -129,8 +129,8 @@ impl Cursor {
         ]
     }
 
-    /// Appends numbers of the earlier results that the lines from the cursor's on work on, and
-    /// returns whether each fits 32 bits.
+    /// Appends the numbers of `push_named` for each line from the cursor's on, and returns whether
+    /// each fits 32 bits.
     pub(crate) fn push_frames(
         &self,
         lines: &[Step],

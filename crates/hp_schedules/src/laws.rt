@@ -67,9 +67,9 @@ pub fn answers_only_grow()
         → answers_at g cpu (news ++ latest ∷ []) ≡ answers_at g cpu news }
 {}
 
-/// Two beginnings with equal numbers of a processor, by `push_steering` and `push_causes`, have
-/// finished equally many of its lines. If the same records follow both, they give its further lines
-/// the same answers.
+/// If `push_steering` and `push_causes` give a processor equal numbers after two beginnings, both
+/// have finished equally many of its lines. If the same records follow both, they give its further
+/// lines the same answers.
 pub fn alike_positions_answer_alike()
     ensures { (g : Setting) (cpu : ℕ) (h k more : List Record) (steering causes : List ℕ)
         → IsSteered g cpu h steering → IsSteered g cpu k steering

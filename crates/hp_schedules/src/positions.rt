@@ -121,9 +121,9 @@ impl Positions {
         cursor.push_frames(scripts[place].lines(), news, Cpu(cpu), numbers)
     }
 
-    /// Appends two numbers that the answer of the processor's plan in progress depends on, beside
-    /// the numbers of `push_steering` and the replies to further calls: the last refusal that the
-    /// plan met. They are 0 if there is none.
+    /// Appends the last refusal that the processor's plan in progress met, as two numbers; both are
+    /// 0 if there is none. Beside the numbers of `push_steering` and the replies to further calls,
+    /// the answer of that plan depends on nothing else.
     pub fn push_causes(
         &self,
         scripts: &[CallScript],

@@ -75,7 +75,8 @@ impl Trail {
         end + 1
     }
 
-    /// Returns the index of the sum of the end at index `end`, if the hint is one of the sums.
+    /// Returns the index of the sum of the end at index `end`, if the end's hint is the index of
+    /// that sum.
     fn place_of(&self, end: usize, start: usize, many: usize) -> Option<usize>
         requires { many ≤ length self.now.shares.items }
         ensures from { IfSome result (λ place. start ≤ place) }
