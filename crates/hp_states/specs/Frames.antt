@@ -60,7 +60,8 @@ pub record IsPlaceWalked (g : Setting) (news : List Record) (ends : List Ending)
 abbrev pub IsFresh : TallyValue → Level → Type 0
 IsFresh tally frame = frame ≡ record { next = 0; is_over = true; start = length tally.trail }
 
--- each end's count grew by its share; or not all counts have room, and the place must be walked
+-- either each end's count grew by its share, or there is no room for all counts and the place must be
+-- walked
 abbrev pub IsAdded : (old : TallyValue) → (shares : List Share) → (new : TallyValue) → Entry → Type 0
 IsAdded old shares new Counted =
     AddsShares old.ends shares new.ends × KeepsBefore (length old.trail) old new

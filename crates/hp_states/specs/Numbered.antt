@@ -1,4 +1,5 @@
--- Interned lists of openings, and what their numbers mean at a place.
+-- Interned lists of openings (operations that a Cancel can undo completely), and what a list's number
+-- means at a place.
 use Rattle.std.specs.Prelude.{◌≡◌, ℕ, true, List, [], ◌∷◌, ◌++◌, Option, Some, None, slice_get}
 use Rattle.hp_states.specs.Codes.{IsCoded}
 use Rattle.hp_units.specs.History.{effect_of, net_of, value_of}
@@ -48,7 +49,7 @@ IsMadeBy f lists (Some n) number =
     (os : List NumberedOpening) → slice_get lists n ≡ Some os
     → (m : ℕ) × (number ≡ Some m) × (slice_get lists m ≡ Some (f os))
 
--- ---- the places of a walk
+-- ---- what the numbers of a place mean
 
 -- openings whose states have these numbers
 abbrev pub AreNamed : LayoutParts → (codes : List (List ℕ)) → List NumberedOpening → List Opening → Type 0

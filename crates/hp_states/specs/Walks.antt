@@ -19,7 +19,7 @@ pub record IsAt (g : Setting) (p : StepsValue) : Type 0 where
   pub played : plays g (schedule_of p.records) ≡ Some p.records
   pub state : p.state ≡ value_of g.layout g.base (g.start ++ p.records)
 
--- the complete schedules before a place of the walk; and these with those that continue from it
+-- the complete schedules before a place of the walk; and these together with those that continue from it
 abbrev pub Before : Setting → List ℕ → List ℕ → OutcomeValue → Type 0
 Before g place s x = IsBefore s place × EndsWith g s x
 
@@ -42,7 +42,7 @@ pub record IsWalkedBefore (g : Setting) (place : List ℕ) (ends : List Ending) 
 
 -- ---- for one part
 
--- the part's complete schedules before a place; and these with those that continue from it
+-- the part's complete schedules before a place; and these together with those that continue from it
 abbrev pub BeforeInPart : Setting → PartValue → List ℕ → List ℕ → OutcomeValue → Type 0
 BeforeInPart g part place s x = IsBefore s place × EndsInPart g part s x
 
@@ -85,14 +85,14 @@ abbrev pub IsNotedAtEnd : (is_end : Bool) → (processors : ℕ) → StepsValue 
 IsNotedAtEnd true processors p old new = IsEndNoted processors p old new
 IsNotedAtEnd false processors p old new = new ≡ old
 
--- the processors below `below` have no call to make after the new records; or
--- some processor has one
+-- true: no processor below `below` has a call to make after the new records; false: some processor has
+-- one
 abbrev pub IsOverBelow : Setting → List Record → (below : ℕ) → Bool → Type 0
 IsOverBelow g news below true = (cpu : ℕ) → cpu < below → next_call g cpu news ≡ None
 IsOverBelow g news below false = (cpu : ℕ) × (event : Event) × (next_call g cpu news ≡ Some event)
 
--- a schedule of the part ends after the new records; or a script has a call to make there; or the
--- schedule belongs to another part
+-- true: a schedule of the part ends after the new records; false: a script has a call to make there, or
+-- the schedule belongs to another part
 abbrev pub IsEndHere : Setting → PartValue → List Record → (is_end : Bool) → Type 0
 IsEndHere g part news true =
     IsOverBelow g news (length g.scripts) true × IsOfPart (length g.scripts) part (schedule_of news)

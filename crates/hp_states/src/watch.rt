@@ -6,11 +6,11 @@ pub const KEPT_BYTES: u64 = 2_147_483_648;
 
 /// Watches a search: gets its progress, and may end it.
 pub trait Watch {
-    /// What is known of a watch that has ended a search.
+    /// What holds of a watch that has ended a search.
     ghost has_ended: { Self → Type 0 };
 
-    /// Called with the number of schedules counted so far. A watch that has ended a search does not
-    /// take that back.
+    /// Called with the number of schedules counted so far. A watch cannot take back that it has
+    /// ended a search.
     fn counted(&mut self, schedules: u64)
         ensures { has_ended self.old → has_ended self.new };
 
