@@ -26,7 +26,7 @@ IsNumber s number = (1 ≤ number) × (number ≤ s.of)
 abbrev pub part_in : SearchValue → (number : ℕ) → PartValue
 part_in s number = part_by (record { number = number; of = s.of }) s.calls
 
--- ---- how it is written
+-- ---- a head, as it is written
 
 abbrev pub head_part : (number : ℕ) → List ℕ
 head_part number = codes "{\"part\": " ++ decimal number
@@ -54,7 +54,7 @@ abbrev pub head_line : SearchValue → (number ends : ℕ) → List ℕ
 head_line s number ends =
     head_numbers s number ++ head_counts s.setup ends ++ escaped_text Kept s.scenario ++ codes "\"}"
 
--- ---- how it is read
+-- ---- a head, as it is read
 
 -- the contents of a head
 pub record HeadValue : Type 0 where
