@@ -26,7 +26,8 @@ abbrev pub IsCancelled : OpEnd → Type 0
 IsCancelled (EndsCancelled why restored) = Unit {0}
 IsCancelled end = ⊥
 
--- the plan was cancelled, its last refusal matches, and its steps were dropped or not, as wanted
+-- the plan was cancelled, its last refusal matches, and its steps were dropped exactly if `restored` is
+-- true
 abbrev pub IsCancelledAs : (why : Option Pattern) → (restored : Bool) → OpEnd → Type 0
 IsCancelledAs wanted restored (EndsCancelled why dropped) =
     (dropped ≡ restored) × IsCauseAsWanted wanted why

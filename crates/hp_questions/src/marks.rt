@@ -15,9 +15,9 @@ use std::alloc::{AllocError, Global};
 /// wanted line 1 if a reply meets it or a plan ended as it wants, else 0. Returns whether each
 /// number fits 32 bits. If not, `numbers` holds only a part of them.
 ///
-/// Places with the same marks can be merged: equal further calls with equal replies lead both to
-/// ends that meet the same wanted lines, if the rows at the end are equal and further plans end
-/// alike. Allocates only for `numbers` and for lines about plans.
+/// Places with the same marks can be merged. If the same further calls get the same replies after
+/// both, further plans end alike, and the rows at the end are equal, then both ends meet the same
+/// wanted lines. Allocates only for `numbers` and for lines about plans.
 pub fn push_marks(
     alloc: Global,
     wanted: &[Wanted],
@@ -84,7 +84,7 @@ fn push_calls(
     Ok(true)
 }
 
-/// Appends 1 for each wanted line that the replies so far have, and 0 for each other.
+/// Appends 1 for each wanted line that is met so far, and 0 for each other.
 fn push_met(
     alloc: Global,
     wanted: &[Wanted],

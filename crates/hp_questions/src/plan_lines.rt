@@ -109,8 +109,8 @@ fn is_refused_as(refusal: &Pattern, end: &OpEnd) -> bool
     }
 }
 
-/// Returns whether the plan was cancelled, its last refusal matches, and its steps were dropped or
-/// not, as `restored` wants.
+/// Returns whether the plan was cancelled, its last refusal matches, and its steps were dropped
+/// exactly if `restored` is true.
 fn is_cancelled_as(why: &Option<Pattern>, restored: bool, end: &OpEnd) -> bool
     ensures { IsTrue result ↔ IsCancelledAs why.now restored end.now }
 {
