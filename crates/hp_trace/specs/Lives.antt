@@ -43,7 +43,8 @@ without_text t = record {
 
 -- ---- lines that come one after another
 
--- the lines of texts, each read after the names of the lines before it, and the names after the last
+-- lines that were read from texts, each with the names of the lines before it; `last` are the names
+-- after all of them
 abbrev pub AreRead : (names : List (List ℕ)) → List Numbered → (last : List (List ℕ)) → Type 0
 AreRead names [] last = last ≡ names
 AreRead names (n ∷ read) last = (text : List ℕ) × (line_in names text ≡ Some n) × AreRead n.names read last

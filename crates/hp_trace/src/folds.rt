@@ -114,7 +114,8 @@ impl Lines {
         let is_whole = (counted.len() as u64) < self.room;
         let mut word = String::new(alloc);
         for piece in counted.split(' ') {
-            // A count of absent frames begins with a space: what follows it is not a word.
+            // The mark of absent frames is a space. So their count is split in two, and a piece
+            // that begins with `*` is not a word.
             if !is_whole && !piece.starts_with('*') {
                 self.put(word.as_str())?;
                 word.clear();
