@@ -23,7 +23,7 @@ pub record IsSignLine (input : List ℕ) (line : ℕ) : Type 0 where
 abbrev pub AreSignLines : (input lines : List ℕ) → Type 0
 AreSignLines input lines = All (IsSignLine input) lines
 
--- the noted lines still have more than white space, if the line to be noted does
+-- all noted lines still have more than white space, if the line to be noted has
 abbrev pub KeepSignLines : (is_noted : Bool) → (line : ℕ) → (old new : List ℕ) → Type 0
 KeepSignLines is_noted line old new =
     (input : List ℕ) → AreSignLines input old → (is_noted ≡ true → IsSignLine input line)

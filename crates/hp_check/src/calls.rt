@@ -79,7 +79,7 @@ fn bind(bound: &mut Bindings, naming: Option<Naming>, place: usize) -> Result<()
     }
 }
 
-/// Adds a text that is not a line after lines with these names.
+/// Adds the finding for a text that is not a line after lines with these names.
 fn push_bad_call(
     found: &mut Vec<Finding>,
     bound: &Bindings,

@@ -13,8 +13,8 @@ use hp_units::{Parts, is_pageblock_count, is_within};
 use serde_json::Value;
 use std::alloc::{AllocError, Global};
 
-/// Adds the parts of a scenario's layout that are out of their ranges, if all its parts can be
-/// read.
+/// Adds a finding for each part of a scenario's layout that is out of its range, if all its parts
+/// can be read.
 #[tactic(auto, unfolding(crate::specs::Ranges::parts_in))]
 pub(crate) fn push_ranges(
     found: &mut Vec<Finding>,

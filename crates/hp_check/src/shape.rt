@@ -235,7 +235,7 @@ fn push_boot(found: &mut Vec<Finding>, boot: Option<&Value>) -> Result<(), Alloc
     push_boots(found, words)
 }
 
-/// Adds the entries of `boot` that are not words for a block's state.
+/// Adds a finding for each entry of `boot` that is not a word for a block's state.
 fn push_boots(found: &mut Vec<Finding>, words: &[Value]) -> Result<(), AllocError>
     ensures { OnOk result (Adds IsShape (lacks (list_all (λ v. is_some (boot_in (view v))) words.now))
         found.old.items found.new.items) }
@@ -263,7 +263,7 @@ fn push_calls(found: &mut Vec<Finding>, calls: Option<&Value>) -> Result<(), All
     push_texts(found, texts)
 }
 
-/// Adds the entries of `calls` that are not texts.
+/// Adds a finding for each entry of `calls` that is not a text.
 fn push_texts(found: &mut Vec<Finding>, texts: &[Value]) -> Result<(), AllocError>
     ensures { OnOk result (Adds IsShape (lacks (list_all (λ v. is_some (as_str (view v))) texts.now))
         found.old.items found.new.items) }

@@ -143,7 +143,7 @@ fn turns_warning(layout: &Layout, work: &Work) -> Option<Warning> {
     }
 }
 
-/// Returns the warning that any call of a processor has here.
+/// Returns the warning for a line that makes a call of this processor, whichever call it is.
 fn caller_warning(layout: &Layout, tally: &Tally, cpu: Cpu) -> Option<Warning> {
     let history = layout.history();
     if tally.is_full(history) {
