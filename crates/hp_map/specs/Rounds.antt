@@ -74,8 +74,7 @@ next_round n rows = map (next_row (n * length rows) (memory_after rows)) rows
 
 -- ---- rows in which equal rounds are joined
 
--- a round, and how many rounds right after it repeat it; or a single row of another kind, where `more`
--- is 0
+-- a round, and how many rounds right after it repeat it; or a single row of another kind, with `more` 0
 pub record RoundsValue : Type 0 where
   pub rows : List RowValue
   pub more : ℕ
@@ -94,7 +93,7 @@ all_rows r = r.rows ++ more_rows r.rows r.more
 abbrev pub IsOneMore : RoundsValue → List RowValue → Type 0
 IsOneMore r rows = (is_round r.rows ≡ true) × (rows ≡ next_round (suc r.more) r.rows)
 
--- the rows of each entry are a round or a single row
+-- the rows of an entry are a round or a single row; only a round is repeated
 pub record IsEntry (r : RoundsValue) : Type 0 where
   pub whole : is_whole r.rows ≡ true
   pub round : is_round r.rows ≡ false → r.more ≡ 0

@@ -13,7 +13,7 @@ use std::mem::replace;
 #[derive(Drop)]
 pub struct RoundJoiner {
     last: Option<Rounds>,
-    /// The rows after the last entry: a round to which more rows may come, or another row.
+    /// The rows after the last entry: a round that may go on, or one row of another kind.
     rest: Vec<RowPicture>,
 }
 
