@@ -60,10 +60,10 @@ IsNearCause g wanted below Stopped = Unit {0}
 
 -- ---- for the whole search
 
--- the cause of a fault. `HistoryFull` has one of three causes. There is no room for a call with few
--- changes. Or no schedule with few changes ends as wanted, and there is no room for a call before all
--- schedules that do. Or none with few changes does, and there is no room for a call with fewer changes
--- than the first schedule that does
+-- the cause of a fault. `HistoryFull` has one of three causes, one for each step of the search. There is
+-- no room for a call with few changes. Or there is none for a call before all schedules that end as
+-- wanted. Or there is none for a call with fewer changes than the first schedule that ends as wanted. In
+-- the last two cases, no schedule with few changes ends as wanted
 abbrev pub IsFindCause : Setting → List Wanted → FindFault → Type 0
 IsFindCause g wanted HistoryFull =
     FillsNear g wanted few_changes

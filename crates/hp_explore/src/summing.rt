@@ -49,7 +49,7 @@ pub fn sum(alloc: Global, parts: &[Vec<Ending>]) -> Result<Vec<Ending>, SumFault
         → AreParts g calls (map (λ part. part.items) parts.now) → AreEnds g ends.items) }
     ensures ordered { IfOk result (λ ends. (g : Setting) (calls : ℕ) → 0 < length parts.now
         → AreParts g calls (map (λ part. part.items) parts.now) → AreInOrder ends.items) }
-    // For any lists:
+    // For any lists, also if they are not those of all parts:
     ensures adds { IfOk result (λ ends. AreAdded (map (λ part. part.items) parts.now) ends.items) }
     ensures total { IfOk result
         (λ ends. sum_by (λ e. e.count) ends.items ≡ counted_by (map (λ part. part.items) parts.now)) }

@@ -69,7 +69,7 @@ impl<'a> Aim for Within<'a> {
         Ok(true)
     }
 
-    /// A complete schedule that ends as wanted is met.
+    /// The aim is met by a complete schedule that ends as wanted.
     fn is_met(
         &mut self,
         alloc: Global,
