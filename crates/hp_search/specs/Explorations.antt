@@ -17,7 +17,7 @@ use Rattle.hp_search.specs.Groups.{AreShown, grouping_of}
 use Rattle.hp_search.specs.declared.groups.GroupBy.{GroupBy}
 use Rattle.hp_search.specs.Holding.{HoldsIn}
 
--- ---- on a machine
+-- ---- for scripts on a machine
 
 -- None: the ends are those of all complete schedules, these are at most `limit`, and none fills the
 -- history. Otherwise the ends are those of the first schedules, and there are more; either they count
@@ -42,7 +42,7 @@ pub record IsExploredOn (form : EndsForm) (by : Option GroupBy) (names : List (L
   pub grouped : AreShown (option_map (grouping_of g) by) ends shown
   pub told : AreEndsTold form names before g shown more text found
 
--- ---- in a scenario
+-- ---- for a scenario
 
 -- the text is that of an exploration of the scenario's scripts
 abbrev pub IsExplorationOf : EndsForm → Option GroupBy → (input : List ℕ) → (setup limit : ℕ)

@@ -14,14 +14,15 @@ use Rattle.hp_search.specs.declared.lab_fault.LabFault.{LabFault}
 use Rattle.hp_search.specs.declared.lab_fault.LabFault.TheVariants.{NotJson, BadShape, Layout, BadLine, NotForScript, PastLayout, HistoryFull, OutOfMemory}
 use Rattle.hp_search.specs.Holding.{HoldsAfter, InScenario}
 
--- ---- on a machine
+-- ---- for scripts on a machine
 
 -- the history has no room for a call of the first schedule of one of these ends
 abbrev pub FillsAlongSome : Setting → List Ending → Type 0
 FillsAlongSome g ends =
     (place : ℕ) × (e : Ending) × (slice_get ends place ≡ Some e) × FillsAlong g e.first.items
 
--- `C` is a cause of a full history, which needs room for `needed` records, if that is known
+-- the history is full, for a cause that `C` states, and needs room for `needed` records; None if that
+-- number is not known
 abbrev pub IsFull : (C : Setting → ExploreFault → Type 0) → (needed : Option ℕ) → Setting → Type 0
 IsFull C needed g = C g explore.HistoryFull × IsRoomNeeded g needed
 
@@ -43,13 +44,13 @@ IsUntold C g (HistoryFull needed) = IsFull C needed g
 IsUntold C g OutOfMemory = Unit {0}
 IsUntold C g fault = ⊥
 
--- ---- in a scenario
+-- ---- for a scenario
 
 -- the bytes are not a scenario, and this is the reason
 abbrev pub IsUnread : (input : List ℕ) → LabFault → Type 0
 IsUnread input fault = (why : ScenarioFault) × (named_in input ≡ Err why) × (fault ≡ fault_from why)
 
--- when each fault comes, given `C`, why a call fails; `PastLayout` comes only from a search for an
+-- when each fault comes, if `C` states why a call fails; `PastLayout` comes only from a search for an
 -- end
 abbrev pub IsFaultWith : (C : Setting → ExploreFault → Type 0) → (input : List ℕ) → (setup : ℕ) → LabFault
     → Type 0

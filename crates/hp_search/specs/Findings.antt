@@ -19,7 +19,7 @@ use Rattle.hp_search.specs.Faults.{IsFaultWith}
 use Rattle.hp_search.specs.Holding.{HoldsAfter, HoldsIn, InScenario}
 use Rattle.hp_search.specs.FoundTexts.{absent_told, found_text, unknown_told}
 
--- ---- on a machine
+-- ---- for scripts on a machine
 
 -- the text is that of a schedule that was found; or it reports that none ends as wanted
 abbrev pub IsFoundTold : ScheduleForm → (names : List (List ℕ)) → (before : List Line) → Setting → Sought
@@ -42,7 +42,7 @@ IsFoundOn form names before g wanted text Absent =
 IsFoundOn form names before g wanted text Unknown =
     AreWithin g.layout wanted × (text ≡ unknown_told form)
 
--- ---- in a scenario
+-- ---- for a scenario
 
 -- the text is that of a search in the scenario's scripts
 abbrev pub IsFindingOf : ScheduleForm → (input : List ℕ) → (setup : ℕ) → List Wanted → (text : List ℕ)

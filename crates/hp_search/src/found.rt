@@ -26,6 +26,6 @@ pub struct FindText {
     /// The interleaving that was found, or a text that reports that there is none, or that it is
     /// not known.
     pub text: String,
-    /// Whether an interleaving was found.
+    /// How the search ended.
     pub result: FindResult,
 }

@@ -1,12 +1,13 @@
 //! What a scenario does in every interleaving of its processors' calls, as text; and the faults of
 //! the laboratory, each with its text.
 //!
-//! hp_questions runs a scenario's setup and makes the scripts, and hp_explore searches. This crate
-//! joins them (`prepared`), returns what each search found (`exploring`, `threads`, `finding`), and
-//! writes ends and schedules as words, as JSON and as a scenario (`words`, `objects`, `replays`).
-//! It owns the conditions on a scenario's bytes, and states when each fault of a search comes. It
-//! also defines the faults of the program and of adding up parts; the crates that return these
-//! state when they come. It opens no file and no stream.
+//! hp_starts runs a scenario's setup and makes the scripts, hp_questions defines the lines that an
+//! end is to have or to lack, and hp_explore searches. This crate joins them (`prepared`), returns
+//! what each search found (`exploring`, `threads`, `finding`), and writes ends and schedules as
+//! words, as JSON and as a scenario (`words`, `objects`, `replays`). It owns the conditions on a
+//! scenario's bytes, and states when each fault of a search comes. It also defines the faults of
+//! the program and of adding up parts; the crates that return these state when they come. It opens
+//! no file and no stream.
 //!
 //! Read specs/Prepared and specs/Holding first, then specs/Explorations (what `explore_text`
 //! promises), specs/Findings, specs/Words, specs/FaultTexts and specs/FaultOrigins.

@@ -22,7 +22,7 @@ use std::alloc::{AllocError, Global};
 
 /// A scenario made ready for a search.
 pub struct Prepared {
-    /// The scenario, with plain numbers in place of results of the setup.
+    /// The scenario, with plain numbers in place of names for results of the setup.
     pub scenario: Scenario,
     /// How many of the scenario's first lines are the setup.
     pub setup: u64,
