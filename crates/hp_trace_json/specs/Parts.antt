@@ -59,7 +59,7 @@ abbrev pub page_in : Option Pictured → (owner page : ℕ) → Option ℕ
 page_in None owner page = None
 page_in (Some p) owner page = frame_at p.memory.pages owner page
 
--- the words of a page, and one of them: 0 of a page that is not mapped
+-- the words of a page, and one of them; words of a page that is not mapped are 0
 abbrev pub words_in : Option Pictured → (owner page : ℕ) → List ℕ
 words_in None owner page = []
 words_in (Some p) owner page = unwrap_or (words_at p.memory.pages owner page) []

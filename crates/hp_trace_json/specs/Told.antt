@@ -1,5 +1,5 @@
 -- What entries report of a part of a state, which has a value for each key. A key whose value changed
--- has one entry, which makes the value now of the one before; every other key has none.
+-- has one entry, which leads from the value before to the value now; every other key has none.
 use Rattle.std.specs.Prelude.{ℕ, ◌≡◌, ◌≢◌, ◌⊎◌, ◌<◌, ◌≤◌, Bool, List, [], ◌∷◌, ◌++◌}
 use Rattle.std.specs.List.{filter}
 

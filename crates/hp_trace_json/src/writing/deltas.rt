@@ -201,7 +201,7 @@ fn write_rows(out: &mut Writer, change: &RowChange) -> Result<(), AllocError> {
     write_row(out, &after)
 }
 
-/// Writes that what an added memory block becomes changed.
+/// Writes a change of what an added memory block becomes.
 fn write_autos(out: &mut Writer, was: Auto, now: Auto) -> Result<(), AllocError> {
     out.string("auto")?;
     write_auto(out, was)?;
