@@ -37,7 +37,7 @@ pub fn serve_word<R: Source, W: Sink, P: Watch + Drop>(
     // The script lines that deserve a warning.
     ensures told { IfOk result (λ served. IfSome (R.remaining reader.old)
         (λ input. served.unbegun.items ≡ unbegun_of word.entry (named_in input))) }
-    // After any other fault, nothing was written.
+    // After any fault but `WriteFailed`, nothing was written.
     ensures silent { IfErr result
         (λ fault. fault ≢ LabProgramFault.WriteFailed
         → Keeps (W.contents writer.old) (W.contents writer.new)) }
