@@ -11,8 +11,8 @@ use Rattle.hp_search.specs.declared.program_fault.LabProgramFault.TheVariants.{L
 use Rattle.hp_lab_shell.specs.declared.words.Word.{Word}
 use Rattle.hp_lab_shell.specs.declared.words.Word.TheVariants.{Check, Explore, Find, Log, Never, Part, Picture, Sum, Told, Trace}
 
--- of the scripts that a command searches, the lines that work on operation 0 although their processor
--- has begun none
+-- of the scripts that a command searches, per processor the first line that works on operation 0
+-- although the processor has begun none
 abbrev pub unbegun_of : Word → Result NamedValue ScenarioFault → List Unbegun
 unbegun_of (Check setup) read = []
 unbegun_of (Explore asked form by jobs) read = unbegun_in asked.setup read

@@ -5,7 +5,7 @@ use Rattle.hp_scenario.specs.declared.fault.ScenarioFault.{ScenarioFault}
 use Rattle.hp_starts.specs.Unbegun.{unbegun_lines}
 use Rattle.hp_starts.specs.declared.unbegun.Unbegun.{Unbegun}
 
--- the lines of scripts that work on operation 0 although their processor has begun none
+-- per processor, the first script line that works on operation 0 although the processor has begun none
 abbrev pub unbegun_in : (setup : ℕ) → Result NamedValue ScenarioFault → List Unbegun
 unbegun_in setup (Ok s) = unbegun_lines s.scenario.layout.cpus setup s.scenario.lines
 unbegun_in setup (Err fault) = []

@@ -15,7 +15,8 @@ use std::thread::Threads;
 pub struct Served {
     /// The exit status.
     pub status: u8,
-    /// The lines of scripts that work on operation 0 although their processor has begun none.
+    /// Per processor, the first line of a script that works on operation 0 although the processor
+    /// has begun none.
     pub unbegun: Vec<Unbegun>,
 }
 

@@ -11,8 +11,8 @@ use hp_starts::Unbegun;
 use hp_trace::View;
 use std::alloc::{AllocError, Global};
 
-/// Returns the lines of a command's scripts that work on operation 0 although their processor has
-/// begun none.
+/// Returns, per processor, the first line of a command's scripts that works on operation 0 although
+/// the processor has begun none.
 pub fn unbegun_of(alloc: Global, input: &[u8], word: Word<'_>) -> Result<Vec<Unbegun>, AllocError>
     ensures { IfOk result (λ found. found.items ≡ unbegun_of word.entry (named_in input.now)) }
 {

@@ -19,8 +19,8 @@ pub(crate) fn line_count(alloc: Global, input: &[u8]) -> Result<Option<u64>, All
     }
 }
 
-/// Returns the lines after the setup that work on operation 0 although their processor has begun
-/// none. Empty if the bytes are not a scenario.
+/// Returns, per processor, the first line after the setup that works on operation 0 although the
+/// processor has begun none. Empty if the bytes are not a scenario.
 pub(crate) fn unbegun_in(
     alloc: Global,
     input: &[u8],
