@@ -36,8 +36,9 @@ pub(crate) fn write_slip(out: &mut String, text: &str) -> Result<(), AllocError>
     }
 }
 
-/// Returns the first word of a text that is not of the kind that its place requires, and what is
-/// wrong with it. The places are the processor's number, the verb, and what comes after it.
+/// Returns the first word of a text in which a mistake is found, and what the mistake is. Each word
+/// is checked for the kind that its place requires: the processor's number, the verb, and what
+/// comes after it.
 fn slip_in(text: &str) -> Option<(&str, &'static str)> {
     let mut words = text.split(' ');
     let cpu = words.next()?;
@@ -114,7 +115,7 @@ fn is_name_byte(byte: u8) -> bool {
     byte.is_ascii_lowercase() || byte.is_ascii_digit() || byte == b'_'
 }
 
-/// Returns the kinds of the words after a verb, up to the last that is a number or a name.
+/// Returns the kinds of the words after a verb, as many as are checked.
 fn kinds_of(verb: &str) -> &'static [Kind] {
     match verb {
         "kalloc" | "kfree" | "drain" | "remove" => &[Kind::Narrow],

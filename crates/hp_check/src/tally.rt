@@ -61,7 +61,8 @@ impl Tally {
         Ok(())
     }
 
-    /// Adds the records of a plan, if the history has room for the first.
+    /// Adds a plan, if the history has room for its first record. Only that one is counted: how
+    /// many records a plan makes is not known.
     fn add_plan(&mut self, history: u64) {
         if !self.is_full(history) {
             self.any_later = true;
