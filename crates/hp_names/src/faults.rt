@@ -10,7 +10,8 @@ use std::alloc::{AllocError, Global};
 pub enum NameFault {
     /// No earlier line of the processor gives its result the name after `$`.
     UnknownName,
-    /// The name after `$` is that of a frame where an operation is needed, or the other way round.
+    /// The name after `$` is that of a frame, but the verb works on an operation; or the other way
+    /// round.
     WrongKind,
     /// A word begins with `$`, and is not the one after `drainfor`, `migrate`, `commit`, `cancel`
     /// or `kfree`.
