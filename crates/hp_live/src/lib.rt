@@ -1,4 +1,4 @@
-//! A live machine: lines answered one at a time, as `hotplug serial` answers a scenario's.
+//! A live machine: it replies to lines one at a time, as `hotplug serial` replies to a scenario's.
 //!
 //! The crate owns a session and the form of its replies: as text, as an object of JSON, and in
 //! rows. It reads no stream: hp_talk does. hp_scenario defines what a line is, hp_commands what is

@@ -1,4 +1,4 @@
-//! Does what a line asks for, and answers it.
+//! Does what a line asks for, and makes its answer.
 ghost use Rattle.std.specs.Prelude.{◌≡◌, IfOk, OnErr, OnOk};
 ghost use Rattle.hp_scenario.specs.Asked.{asked_by};
 ghost use Rattle.hp_scenario.specs.Seen.{asked_seen};
@@ -15,7 +15,7 @@ use hp_text::write_read_fault;
 use hp_units::{CallFault, Cpu, Event, OpEnd, Plan};
 use std::alloc::{AllocError, Global};
 
-/// Does what a line asks for, and answers it.
+/// Does what a line asks for, and makes its answer in `out`.
 ///
 /// If memory runs out while the answer is made, the line has still been run, and the answer has
 /// what its event did.
@@ -35,7 +35,7 @@ pub(crate) fn answer_line(
     answer_asked(out, alloc, machine, line.cpu, line.work.asked())
 }
 
-/// Does what is asked for, and answers it.
+/// Does what is asked for, and makes the answer in `out`.
 #[inline(always)]
 fn answer_asked(
     out: &mut LiveAnswer,
@@ -77,7 +77,7 @@ fn call(alloc: Global, machine: &mut UnrecordedMachine, cpu: Cpu, event: &Event)
     }
 }
 
-/// Runs a plan with at most `turns` migrations, and answers with its calls and how it ended.
+/// Runs a plan with at most `turns` migrations, and makes the answer: its calls, and how it ended.
 fn answer_plan(
     out: &mut LiveAnswer,
     alloc: Global,
@@ -126,7 +126,7 @@ fn left(machine: &UnrecordedMachine) -> OpEnd
     OpEnd::Left { op: None, fault }
 }
 
-/// Reads a control file, and answers with its text, or why there is none.
+/// Reads a control file, and makes the answer: its text, or why there is none.
 fn answer_file(
     out: &mut LiveAnswer,
     alloc: Global,

@@ -1,4 +1,4 @@
-//! A session: a machine, and the lines that it has answered.
+//! A session: a machine, and the lines that it has replied to.
 ghost use Rattle.std.specs.Prelude.{◌≡◌, ◌≢◌, ◌<◌, ◌+◌, List, ℕ, [], ◌∷◌, ◌++◌, length, IfErr, IfOk, OnOk, false, true, vec_capacity, vec_len};
 ghost use Rattle.hp_scenario.specs.Asked.{asked_by};
 ghost use Rattle.hp_live.specs.Answers.{Answers, IsDone, untold};
@@ -28,7 +28,7 @@ pub enum Lack {
     Answer,
 }
 
-/// A machine that answers lines one at a time. The session keeps all lines so far, with plain
+/// A machine that replies to lines one at a time. The session keeps all lines so far, with plain
 /// numbers in place of names for results, and the names of owners and of results in them.
 #[derive(Drop)]
 pub struct Session {
@@ -104,8 +104,8 @@ impl Session {
         self.lines.len() as u64 + 1
     }
 
-    /// Reads a line, runs it, and answers it in `out` as `hotplug serial` would. The session keeps
-    /// the line, with plain numbers. A text that is not a line changes nothing.
+    /// Reads a line, runs it, and makes its answer in `out`: the text is that of `hotplug serial`.
+    /// The session keeps the line, with plain numbers. A text that is not a line changes nothing.
     ///
     /// Memory to keep the line is reserved before it is run. After an error, `out` has no meaning,
     /// and no result may have the name that the line gives its own.
@@ -165,7 +165,7 @@ fn run_all(alloc: Global, machine: &mut UnrecordedMachine, lines: &[Line]) -> Re
     Ok(())
 }
 
-/// Runs a line, answers it, and appends it to `lines`, which has room for it.
+/// Runs a line, makes its answer in `out`, and appends the line to `lines`, which has room for it.
 fn run_and_keep(
     lines: &mut Vec<Line>,
     machine: &mut UnrecordedMachine,
