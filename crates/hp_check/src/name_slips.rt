@@ -204,8 +204,8 @@ fn reference_in(text: &str) -> &str {
     ""
 }
 
-/// Returns the last word that begins with a dollar sign, or the empty text if there is none. If any
-/// reference is not allowed in its place, the last one is not.
+/// Returns the last word that begins with a dollar sign, or the empty text if there is none. If
+/// some reference is not allowed in its place, neither is the last one.
 fn last_reference_in(text: &str) -> &str {
     for word in text.rsplit(' ') {
         if word.starts_with('$') {
