@@ -40,7 +40,7 @@ did_text (did.Sealed count) = sealed_line count
 abbrev pub untold : AnswerValue
 untold = record { text = []; calls = []; did = did.NoLine }
 
--- an answer to which what a line did was added, with its text
+-- an answer with what a line did, and the text for that appended
 abbrev pub said : AnswerValue → Did → AnswerValue
 said a d = record { text = a.text ++ did_text d; calls = a.calls; did = d }
 

@@ -120,7 +120,7 @@ abbrev pub HasRows : List ℕ × List ℕ → Type 0
 HasRows pair = (pair.1 ≡ pair.0) ⊎ (pair.1 ≡ [])
 
 -- the first row of a talk and the rows in its replies, one below another, are the trace of the talk's
--- scenario followed by the lines of the talk, from these lines on
+-- scenario followed by the lines of the talk, from the first of these lines on
 pub record DrawsTrace (s : ScenarioValue) (width : ℕ) (orders : Bool) (first text : List ℕ)
     (new : RowsSession) : Type 0 where
   pub told : List (List ℕ × List ℕ)
