@@ -76,8 +76,8 @@ IsTaken old o new =
 abbrev pub IsLineTaken : (text : List ℕ) → (old new : List (List ObservedLine)) → Type 0
 IsLineTaken text old new = (o : SeenObject) × IsObjectLine text o × IsTaken old o new
 
--- each processor's lines are those of its objects in their order, and each object names a processor that
--- there is
+-- each processor's lines are those of its objects in their order, and each object names one of these
+-- processors
 abbrev pub AreToldBy : List SeenObject → List (List ObservedLine) → Type 0
 AreToldBy objects seen =
     ((cpu : ℕ) (own : List ObservedLine) → slice_get seen cpu ≡ Some own → own ≡ told_of cpu objects)

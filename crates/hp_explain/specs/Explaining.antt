@@ -45,7 +45,8 @@ AreAllOverBefore g seen news time =
     (cpu : ℕ) (lines : List ObservedLine) → slice_get seen cpu ≡ Some lines
     → AreOverBefore lines (length (answers_at g cpu news)) time
 
--- the processor's next line may run: all lines that were answered before that line began are finished
+-- the processor's first unfinished line may run: all lines that were answered before it began are
+-- finished
 abbrev pub MayRun : Setting → List (List ObservedLine) → List Record → (cpu : ℕ) → Type 0
 MayRun g seen news cpu =
     (lines : List ObservedLine) (one : ObservedLine) → slice_get seen cpu ≡ Some lines

@@ -41,8 +41,8 @@ impl<'a> Explainer<'a> {
         longest
     }
 
-    /// Returns whether the processor's next line may run now: all lines that were answered before
-    /// that line began are finished.
+    /// Returns whether the processor's first unfinished line may run now: all lines that were
+    /// answered before it began are finished.
     fn may_run(&self, path: &Path<'_>, cpu: u32) -> bool
         ensures { IsTrue result ↔ MayRun path.now.setting self.now.seen.now path.now.news cpu }
     {
