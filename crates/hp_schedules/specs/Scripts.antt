@@ -58,7 +58,7 @@ abbrev pub nothing_known : Known
 nothing_known = record { op = 0; begun = []; frames = [] }
 
 -- the event of work on an operation, and that of a line's work on a result. If no result has this
--- number, the operation is 0, or the frame is that of no layout
+-- number, the operation is 0, or the frame is one that no layout has
 abbrev pub step_work_of : (op : ℕ) → StepWork → Event
 step_work_of op (DrainFor cpu) = DrainsFor op cpu
 step_work_of op Migrate = Migrates op
