@@ -1,10 +1,13 @@
 pub mod Codes
+pub mod Exchanges
 pub mod Frames
+pub mod Interned
 pub mod Numbered
 pub mod Numbers
 pub mod Parts
 pub mod Places
 pub mod Rooms
+pub mod Rows
 pub mod Seen
 pub mod Standing
 pub mod Stops

@@ -3,10 +3,10 @@
 ghost use Rattle.std.specs.Prelude.{◌≡◌, IfOk, length};
 
 use hp_schedules::{
-    CallScript, Change, Exchanges, Outcome, Positions, Rows, Shard, Share, Step, Tally,
-    all_answers, are_mergeable, call_count, change_of, fit_in, is_closed, key_digest, learn, mixed,
-    schedule_of,
+    CallScript, Change, Outcome, Positions, Shard, Share, Step, Tally, all_answers, are_mergeable,
+    call_count, change_of, fit_in, is_closed, learn, mixed, schedule_of,
 };
+use hp_states::{Exchanges, Rows, key_digest};
 use hp_units::{Cpu, Event, Frame, Order, Record, Reply, Serial};
 use indexmap::IndexMap;
 use std::alloc::{AllocError, Global};
