@@ -1,5 +1,5 @@
-//! Hashes that find ends and transcripts. A hit is always compared. Equal ends are proved to hash
-//! alike.
+//! Hashes that find ends here, and keys and transcripts in the crates above. A hit is always
+//! compared. Equal ends are proved to hash alike.
 ghost use Rattle.std.specs.Prelude.{◌≡◌, ℕ, OnOk, Some, fold, nat_eq};
 ghost use Rattle.indexmap.specs.IndexMap.{ContainsKey, Updates};
 ghost use Rattle.hp_schedules.specs.Digests.{digest_of, mixed, mixed_reply, refusal_number, replies_digest, reply_number, row_number};
