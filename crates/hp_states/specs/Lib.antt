@@ -7,7 +7,6 @@ pub mod Numbers
 pub mod Parts
 pub mod Places
 pub mod Rooms
-pub mod Rows
 pub mod Seen
 pub mod Standing
 pub mod Stops

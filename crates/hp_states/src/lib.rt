@@ -7,7 +7,8 @@
 //! A place is where a schedule of scripts leads. The crate owns:
 //! - the numbers by which places are compared (`openings`, `exchanges`, `stops`, `standing`),
 //! - tables of keys made of such numbers (`key_table`),
-//! - the places walked so far, with how many schedules continue from each to each end (`memo`),
+//! - the places walked so far, with how many schedules continue from each to each end (`memo`,
+//!   `rows`),
 //! - what a walk does when it reaches and leaves a place (`arrivals`).
 //!
 //! It makes no calls: hp_explore does.

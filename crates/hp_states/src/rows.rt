@@ -13,15 +13,15 @@ pub struct Rows {
 }
 
 impl Model for Rows {
-    ghost use Rattle.std.specs.Prelude.{List};
+    ghost use Rattle.std.specs.Prelude.{List, length};
     ghost use Rattle.hp_schedules.specs.declared.trail.Share.{Share};
-    ghost use Rattle.hp_states.specs.Rows.{FillUp, rows_from};
+    ghost use Rattle.hp_states.specs.Texts.{AreTextsFrom, texts_from};
 
     ghost Value = { List (List Share) };
 
-    ghost view = { λ r. rows_from 0 r.shares.items r.ends.items };
+    ghost view = { λ r. texts_from r.shares.items 0 r.ends.items };
 
-    ghost invariant = { λ r. FillUp 0 r.shares.items r.ends.items };
+    ghost invariant = { λ r. AreTextsFrom (length r.shares.items) 0 r.ends.items };
 }
 
 /// Keeps callers from proving again how each field is dropped.
