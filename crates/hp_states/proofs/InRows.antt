@@ -35,7 +35,8 @@ row_there now None rows place start all numbers ends shown are all_is ends_are w
     lies : LiesWithin (length numbers) start (get_or shown place 0)
     lies =
         rw (start_is, all_is)
-        (lies_within (length all) 0 shown place (subst (AreTextsFrom (length all) 0) (sym ends_are) are) within)
+        (lies_within (length all) 0 shown place (subst (AreTextsFrom (length all) 0) (sym ends_are) are)
+        within)
 
     outside : (get_or shown place 0 < start) ⊎ (length numbers < get_or shown place 0) → ⊥
     outside (inl back) = omega (arith, lies.ordered)

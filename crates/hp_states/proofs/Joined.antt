@@ -8,7 +8,8 @@ use Rattle.hp_states.specs.Codes.{KeepCodes}
 use Rattle.hp_states.specs.Texts.{AreTextsFrom, start_of, texts_from}
 
 -- there are as many as ends
-pub count : {X : Type 0} (bytes : List X) (start : ℕ) (ends : List ℕ) → length (texts_from bytes start ends) ≡ length ends
+pub count : {X : Type 0} (bytes : List X) (start : ℕ) (ends : List ℕ)
+    → length (texts_from bytes start ends) ≡ length ends
 count bytes start [] = refl
 count bytes start (end ∷ ends) = ap suc (count bytes end ends)
 
