@@ -163,7 +163,8 @@ none_left aim p place v leaving first =
     (leaving.schedule ∙ ap (λ (h : List Record). schedule_of h) first) leaving.done)
   where
     whole : IsDone p.setting aim [] → IsFirstSought p.setting aim None
-    whole done = (λ s sought. done.0 s sought (s, refl), λ all fills. done.1 all fills.0 fills.1 (fills.0, refl))
+    whole done =
+        (λ s sought. done.0 s sought (s, refl), λ all fills. done.1 all fills.0 fills.1 (fills.0, refl))
 
 -- ---- a place that is done
 

@@ -51,11 +51,14 @@ outcome_here p processors x is all =
 -- so a test of the outcome tells whether it is one
 pub end_told : (p : PathValue) (wanted : List Wanted) (processors : ℕ) (x : OutcomeValue) (told : Bool)
     → plays p.setting (schedule_of p.news) ≡ Some p.news → IsOver p → processors ≡ length p.setting.scripts
-    → x ≡ outcome processors p.news p.setting.layout (state_at p) → (IsTrue told ↔ Meets p.setting.layout.cpus p.setting.scripts wanted x)
+    → x ≡ outcome processors p.news p.setting.layout (state_at p)
+    → (IsTrue told ↔ Meets p.setting.layout.cpus p.setting.scripts wanted x)
     → IsTrue told ↔ Reaches p.setting wanted (schedule_of p.news)
 end_told p wanted processors x told played over all is met =
     let here : x ≡ outcome_after p.setting p.news = outcome_here p processors x is all in (
-      λ yes. an_end p.setting wanted p.news played over (subst (Meets p.setting.layout.cpus p.setting.scripts wanted) here (met.0 yes)),
+      λ yes. an_end p.setting wanted p.news played over
+          (subst (Meets p.setting.layout.cpus p.setting.scripts wanted) here (met.0 yes)),
       λ reaches. met.1
-          (subst (Meets p.setting.layout.cpus p.setting.scripts wanted) (sym here) (end_meets p.setting wanted p.news played over reaches)),
+          (subst (Meets p.setting.layout.cpus p.setting.scripts wanted) (sym here)
+          (end_meets p.setting wanted p.news played over reaches)),
     )

@@ -111,7 +111,8 @@ visited_longer g aim before cpu v visited = record {
 pub visited_more : (g : Setting) (aim : AimValue) (schedule : List ℕ)
     (news : List Record) (old new : Visited)
     → plays g (schedule_of news) ≡ Some news → schedule ≡ schedule_of news
-    → aim.admits (schedule_of news) → new.is_on ≡ old.is_on → KeepStops old.stops new.stops → IsKept g aim news old new
+    → aim.admits (schedule_of news) → new.is_on ≡ old.is_on → KeepStops old.stops new.stops
+    → IsKept g aim news old new
     → AreVisited g aim schedule old → AreVisited g aim schedule new
 visited_more g aim schedule news old new played is admitted on keep (inl same) visited =
     stops_kept g aim schedule old new on same keep visited

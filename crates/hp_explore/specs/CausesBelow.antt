@@ -11,7 +11,7 @@ use Rattle.hp_schedules.specs.LineAnswers.{answers_at}
 use Rattle.hp_schedules.specs.Schedules.{Setting}
 use Rattle.hp_schedules.proofs.Caused.{answer_alike}
 use Rattle.hp_explore.specs.Aims.{HaveSameKey}
-use Rattle.hp_explore.specs.Starts.{same_starts}
+use Rattle.hp_schedules.specs.Starts.{same_starts}
 use Rattle.hp_explore.specs.SteeredBelow.{steered_at}
 
 -- two numbers for each processor below a number, of the last refusal that its plan in progress met

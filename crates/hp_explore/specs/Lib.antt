@@ -11,7 +11,6 @@ pub mod Paths
 pub mod Reaching
 pub mod Searches
 pub mod Settings
-pub mod Starts
 pub mod SteeredBelow
 pub mod Sums
 pub mod Visited

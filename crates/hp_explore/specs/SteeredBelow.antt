@@ -18,7 +18,8 @@ regrouped xs ys a b c d rest more first second is =
 
 -- if the steering of two places is followed by more numbers, and both lists are equal, then the steering
 -- is equal, and so are the further numbers
-pub steered_apart : (g : Setting) (h k : List Record) (n : ℕ) (xs ys rest more : List ℕ) → n ≤ length g.scripts
+pub steered_apart : (g : Setting) (h k : List Record) (n : ℕ) (xs ys rest more : List ℕ)
+    → n ≤ length g.scripts
     → AreSteered g n h xs → AreSteered g n k ys → xs ++ rest ≡ ys ++ more → (xs ≡ ys) × (rest ≡ more)
 steered_apart g h k zero xs ys rest more within a b is =
     (a ∙ sym b, ap (λ (zs : List ℕ). zs ++ rest) (sym a) ∙ (is ∙ ap (λ (zs : List ℕ). zs ++ more) b))

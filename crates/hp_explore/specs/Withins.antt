@@ -26,7 +26,7 @@ use Rattle.hp_explore.specs.CausesBelow.{AreCausedBelow, answered_alike}
 use Rattle.hp_explore.specs.Changes.{changes, changes_after}
 use Rattle.hp_explore.specs.Counted.{calls_counted_alike}
 use Rattle.hp_explore.specs.Reaching.{IsWithin, Reaches}
-use Rattle.hp_explore.specs.Starts.{same_starts}
+use Rattle.hp_schedules.specs.Starts.{same_starts}
 
 -- if there is a budget, the latest processor and the changes so far
 abbrev pub AreSpent : (budget : Option ℕ) → List ℕ → List ℕ → Type 0

@@ -13,22 +13,11 @@ use Rattle.hp_units.specs.declared.replies.Receipt.{Receipt}
 use Rattle.hp_schedules.specs.Alike.{AreMergeable, is_mergeable, is_mergeable_line, unnumbered}
 use Rattle.hp_schedules.specs.Cursors.{frames_named}
 use Rattle.hp_schedules.specs.Scripts.{Known, after_line, frame_in, frames_of, known_of, later_operation, line_next, next_in, no_frame, once, own_operation, step_work_of, takes_frame, work_of}
+use Rattle.hp_schedules.specs.Starts.{same_starts}
 use Rattle.hp_schedules.specs.declared.scripts.OwnWork.TheVariants.{Latest, Nth, Free}
 use Rattle.hp_schedules.specs.declared.scripts.Step.{Step}
 use Rattle.hp_schedules.specs.declared.scripts.Step.TheVariants.{Ask, Own, Carry}
 use Rattle.hp_schedules.proofs.AfterLines.{any_known}
-
--- ---- lists that begin with lists of one length
-
-pub same_starts : (a b c d : List ℕ) → length a ≡ length c → a ++ b ≡ c ++ d → (a ≡ c) × (b ≡ d)
-same_starts [] b [] d long is = (refl, is)
-same_starts [] b (y ∷ c) d long is = absurd (omega (arith, long))
-same_starts (x ∷ a) b [] d long is = absurd (omega (arith, long))
-same_starts (x ∷ a) b (y ∷ c) d long is =
-    let first : x ≡ y = cc in
-    let others : a ++ b ≡ c ++ d = cc in
-    let rest = same_starts a b c d (omega (arith, long)) others in
-    (ap (λ (n : ℕ). n ∷ a) first ∙ ap (λ (xs : List ℕ). y ∷ xs) rest.0, rest.1)
 
 -- ---- results with further receipts
 

@@ -7,7 +7,7 @@ use Rattle.hp_ops.specs.declared.stages.Stage.TheVariants.{Begin as Begins, Drai
 use Rattle.hp_ops.proofs.Receipts.{next_push}
 use Rattle.hp_units.specs.Driver.{migrate_or_cancel, next_after, next_drain, next_event, tried}
 use Rattle.hp_units.specs.declared.events.Event.{Event}
-use Rattle.hp_units.specs.declared.events.Event.TheVariants.{Begin, DrainFor, Migrate, Commit, Cancel}
+use Rattle.hp_units.specs.declared.events.Event.TheVariants.{Begin, DrainFor, Migrate, Commit, Cancel, KernelFree}
 use Rattle.hp_units.specs.declared.plans.Item.{Item}
 use Rattle.hp_units.specs.declared.replies.Receipt.{Receipt}
 use Rattle.hp_units.specs.declared.replies.Refusal.TheVariants.{NoFrame, NothingToMove, NotFree}
@@ -28,31 +28,36 @@ push_cases (x ∷ xs) = elim (push_cases xs) [
   | inr p ↦ inr (record { front = x ∷ p.front; last = p.last; list_is = ap (λ ys. x ∷ ys) p.list_is })
 ]
 
--- ---- no driver begins twice
+-- ---- after its first call a driver only works
 
-abbrev works : Event → Bool
-works (Begin plan) = false
-works event = true
+-- work on an operation or a free
+abbrev pub is_work : Event → Bool
+is_work (DrainFor op cpu) = true
+is_work (Migrate op) = true
+is_work (Commit op) = true
+is_work (Cancel op) = true
+is_work (KernelFree frame) = true
+is_work event = false
 
-abbrev all_work : Option Event → Bool
+abbrev pub all_work : Option Event → Bool
 all_work None = true
-all_work (Some event) = works event
+all_work (Some event) = is_work event
 
-turn_works : (turns op : ℕ) (rs : List Receipt) → works (migrate_or_cancel turns op rs) ≡ true
+turn_works : (turns op : ℕ) (rs : List Receipt) → is_work (migrate_or_cancel turns op rs) ≡ true
 turn_works turns op rs = by_left (ltb (tried rs) turns)
   where
-    by_left : (b : Bool) → works (cond b (Migrate op) (Cancel op)) ≡ true
+    by_left : (b : Bool) → is_work (cond b (Migrate op) (Cancel op)) ≡ true
     by_left true = refl
     by_left false = refl
 
-drain_works : (cpus turns op cpu : ℕ) (rs : List Receipt) → works (next_drain cpus turns op cpu rs) ≡ true
+drain_works : (cpus turns op cpu : ℕ) (rs : List Receipt) → is_work (next_drain cpus turns op cpu rs) ≡ true
 drain_works cpus turns op cpu rs = by_processor (ltb cpu cpus)
   where
-    by_processor : (b : Bool) → works (cond b (DrainFor op cpu) (migrate_or_cancel turns op rs)) ≡ true
+    by_processor : (b : Bool) → is_work (cond b (DrainFor op cpu) (migrate_or_cancel turns op rs)) ≡ true
     by_processor true = refl
     by_processor false = turn_works turns op rs
 
-next_works : (cpus turns : ℕ) (rs : List Receipt) (e : Event) (reply : Reply)
+pub next_works : (cpus turns : ℕ) (rs : List Receipt) (e : Event) (reply : Reply)
     → all_work (next_after cpus turns rs e reply) ≡ true
 next_works cpus turns rs (Begin plan) (Opened op) = drain_works cpus turns op 0 rs
 next_works cpus turns rs (DrainFor op cpu) Done = drain_works cpus turns op (cpu + 1) rs

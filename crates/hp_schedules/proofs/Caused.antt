@@ -22,6 +22,7 @@ use Rattle.hp_schedules.specs.Cursors.{IsCursor, IsInFirst, IsSteered, frames_ah
 use Rattle.hp_schedules.specs.LineAnswers.{answer_of, answers_at, answers_in, without}
 use Rattle.hp_schedules.specs.Schedules.{Setting}
 use Rattle.hp_schedules.specs.Scripts.{after_line, after_lines, nothing_known}
+use Rattle.hp_schedules.specs.Starts.{same_starts}
 use Rattle.hp_schedules.specs.declared.cursors.Cursor.{Cursor}
 use Rattle.hp_schedules.specs.declared.line_answers.LineAnswer.{LineAnswer}
 use Rattle.hp_schedules.specs.declared.line_answers.LineAnswer.TheVariants.{Plan as Carried}
@@ -33,7 +34,6 @@ use Rattle.hp_schedules.proofs.Begun.{IsPush, asks_none, asks_some, push_cases}
 use Rattle.hp_schedules.proofs.CausesAt.{cause_from, cause_of_script, cause_on, same_cause}
 use Rattle.hp_schedules.proofs.LineAnswers.{answers_kept, answers_past, first_more, first_on, first_over, none_begun, receipts_later, without_is}
 use Rattle.hp_schedules.proofs.Lines.{goes_on_all, over_now}
-use Rattle.hp_schedules.proofs.Agreeing.{same_starts}
 use Rattle.hp_schedules.proofs.Steering.{GoAlike, key_in, rest_alike}
 use Rattle.hp_schedules.proofs.UpTo.{before_many}
 

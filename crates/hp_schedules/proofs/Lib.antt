@@ -15,15 +15,12 @@ pub mod Continuing
 pub mod Copied
 pub mod Counting
 pub mod Counts
-pub mod Exchanged
-pub mod InRows
 pub mod Interleaved
 pub mod Interleavings
 pub mod Known
 pub mod LineAnswers
 pub mod Lines
 pub mod Nths
-pub mod Numberings
 pub mod OneCalls
 pub mod Opened
 pub mod Openings

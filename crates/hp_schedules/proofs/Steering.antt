@@ -22,9 +22,10 @@ use Rattle.hp_schedules.specs.Continuing.{ContinueAlike}
 use Rattle.hp_schedules.specs.Cursors.{IsInFirst, IsSteered, frames_ahead, frames_named, steering_of}
 use Rattle.hp_schedules.specs.Schedules.{Setting}
 use Rattle.hp_schedules.specs.Scripts.{Known, after_line, frames_of, known_of, line_next, next_in, next_of, own_operation}
+use Rattle.hp_schedules.specs.Starts.{same_starts}
 use Rattle.hp_schedules.specs.declared.scripts.Step.{Step}
 use Rattle.hp_schedules.specs.declared.scripts.Step.TheVariants.{Ask, Own, Carry}
-use Rattle.hp_schedules.proofs.Agreeing.{all_named_long, drop_mergeable, next_agree, results_agree, same_starts, script_mergeable}
+use Rattle.hp_schedules.proofs.Agreeing.{all_named_long, drop_mergeable, next_agree, results_agree, script_mergeable}
 use Rattle.hp_schedules.proofs.Unnumbered.{after_same}
 
 -- ---- a driver

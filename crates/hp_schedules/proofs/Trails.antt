@@ -9,7 +9,7 @@ use Rattle.hp_schedules.specs.Notes.{AddsEnd, TallyValue}
 use Rattle.hp_schedules.specs.Outcomes.{OutcomeValue}
 use Rattle.hp_schedules.specs.Shares.{AddsAt, AreAtEnds, AreSince, amount_of, count_for}
 use Rattle.hp_schedules.specs.Trails.{AddsUp, IsGathered, IsSummedUp, KeepsBefore, left_over}
-use Rattle.hp_schedules.specs.declared.rows.Share.{Share}
+use Rattle.hp_schedules.specs.declared.trail.Share.{Share}
 use Rattle.hp_schedules.specs.declared.tally.Ending.{Ending}
 use Rattle.hp_schedules.proofs.Counts.{get_set_cases}
 use Rattle.hp_schedules.proofs.Shares.{amount_past, amount_push, at_ends_more, at_ends_push, other_share, own_share, shared}

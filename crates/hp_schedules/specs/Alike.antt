@@ -24,8 +24,8 @@ leaves_steps (Undoes serial) = false
 leaves_steps (Cancels op) = true
 leaves_steps Acts = true
 
--- no line of the scripts undoes steps by their serials, or works on an operation other than the one
--- that its processor began last. Then schedules that lead to the same place may be merged
+-- no line of the scripts undoes steps by their serials, or works on an operation by the number of its
+-- Begin. Then schedules that lead to the same place may be merged
 abbrev pub is_mergeable_line : Step → Bool
 is_mergeable_line (Ask event) = leaves_steps (effect_of event)
 is_mergeable_line (Own (Latest work)) = true

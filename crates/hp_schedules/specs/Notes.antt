@@ -3,7 +3,7 @@ use Rattle.std.specs.Prelude.{◌≡◌, ℕ, ◌+◌, ◌<◌, ◌⊎◌, List,
 use Rattle.indexmap.specs.IndexMap.{ContainsKey, IndexMap}
 use Rattle.hp_schedules.specs.Digests.{digest_of}
 use Rattle.hp_schedules.specs.Outcomes.{OutcomeValue}
-use Rattle.hp_schedules.specs.declared.rows.Share.{Share}
+use Rattle.hp_schedules.specs.declared.trail.Share.{Share}
 use Rattle.hp_schedules.specs.declared.tally.Ending.{Ending}
 
 -- the limit on the schedules counted, the ends so far, and the shares that were added to them

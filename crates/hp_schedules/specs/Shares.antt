@@ -1,7 +1,7 @@
 -- Shares: how many schedules continue from a place, for each end that it leads to.
 use Rattle.std.specs.Prelude.{◌≡◌, ℕ, ◌+◌, ◌<◌, ◌≤◌, List, Some, cond, length, nat_eq, slice_get, slice_index_or, slice_set, sum, sum_by}
 use Rattle.hp_schedules.specs.Notes.{TallyValue}
-use Rattle.hp_schedules.specs.declared.rows.Share.{Share}
+use Rattle.hp_schedules.specs.declared.trail.Share.{Share}
 use Rattle.hp_schedules.specs.declared.tally.Ending.{Ending}
 
 -- how many of one share's schedules go to this end

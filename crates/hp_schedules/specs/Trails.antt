@@ -2,7 +2,7 @@
 use Rattle.std.specs.Prelude.{◌≡◌, ℕ, ◌+◌, ◌≤◌, List, Some, drop, length, slice_get, sum_by, take}
 use Rattle.hp_schedules.specs.Notes.{TallyValue}
 use Rattle.hp_schedules.specs.Shares.{AreAtEnds, AreSince}
-use Rattle.hp_schedules.specs.declared.rows.Share.{Share}
+use Rattle.hp_schedules.specs.declared.trail.Share.{Share}
 
 -- ---- sums in place of shares
 

@@ -1,4 +1,5 @@
-//! Hashes that find places and ends. A hit is always compared; equal ends are proved to hash alike.
+//! Hashes that find ends here, and keys and transcripts in the crates above. A hit is always
+//! compared. Equal ends are proved to hash alike.
 ghost use Rattle.std.specs.Prelude.{◌≡◌, ℕ, OnOk, Some, fold, nat_eq};
 ghost use Rattle.indexmap.specs.IndexMap.{ContainsKey, Updates};
 ghost use Rattle.hp_schedules.specs.Digests.{digest_of, mixed, mixed_reply, refusal_number, replies_digest, reply_number, row_number};
@@ -8,17 +9,6 @@ use crate::outcomes::told;
 use hp_units::{Cpu, Record, Refusal, Reply, Row};
 use indexmap::IndexMap;
 use std::alloc::AllocError;
-
-/// Returns the hash of a place's key.
-pub fn key_digest(key: &[u32]) -> u64
-    ensures { result ≡ fold mixed 0 key.now }
-{
-    let mut digest = 0;
-    for number in key {
-        digest = mixed(digest, u64::from(*number));
-    }
-    digest
-}
 
 /// Stores the number under the hash, in place of an earlier one.
 ///
@@ -86,7 +76,7 @@ pub fn mixed(digest: u64, number: u64) -> u64
 }
 
 /// A hash input for a reply; not injective.
-pub(crate) fn reply_number(reply: &Reply) -> u64
+pub fn reply_number(reply: &Reply) -> u64
     ensures { result ≡ reply_number reply.now }
 {
     match reply {

@@ -34,17 +34,17 @@ pub fn interleavings_are_counted()
         → (HasCount (IsComplete g) m ↔ IsCountOfLengths g.scripts m) }
 {}
 
-/// If no script undoes steps by their serials or works on an operation other than the latest, two
-/// schedules with alike records have the same continuations, with the same outcomes.
+/// If no script undoes steps by their serials, or works on an operation by the number of its Begin,
+/// two schedules with alike records have the same continuations, with the same outcomes.
 pub fn alike_places_go_on_alike()
     ensures { (g : Setting) (p q rest : List ℕ) (h k : List Record) (x : OutcomeValue)
         → AreMergeable g.scripts → plays g p ≡ Some h → plays g q ≡ Some k → AreAlike g h k
         → EndsWith g (p ++ rest) x → EndsWith g (q ++ rest) x }
 {}
 
-/// If no script undoes steps by their serials or works on an operation other than the latest, two
-/// beginnings that continue alike have the same continuations, call for call, with the same events,
-/// serials and replies.
+/// If no script undoes steps by their serials, or works on an operation by the number of its Begin,
+/// two beginnings that continue alike have the same continuations, call for call, with the same
+/// events, serials and replies.
 pub fn alike_beginnings_continue_alike()
     ensures { (g : Setting) (p q rest : List ℕ) (h k end : List Record) → AreMergeable g.scripts
         → plays g p ≡ Some h → plays g q ≡ Some k → ContinueAlike g h k → plays g (p ++ rest) ≡ Some end

@@ -5,7 +5,6 @@
 //! - scripts and positions in them,
 //! - the parts that a search is split into,
 //! - outcomes, how many schedules lead to each, and the number of interleavings,
-//! - the numbers by which a walk compares transcripts,
 //! - which schedules continue alike.
 //!
 //! It makes no calls: hp_explore walks the schedules.
@@ -18,7 +17,6 @@ mod changes;
 mod closed;
 mod cursors;
 mod digests;
-mod exchanges;
 mod laws;
 mod likeness;
 mod line_answers;
@@ -28,7 +26,6 @@ mod part_numbers;
 mod parts;
 mod positions;
 mod results;
-mod rows;
 mod scripts;
 mod tally;
 mod trail;
@@ -36,8 +33,7 @@ mod trail;
 pub use changes::{Change, change_of};
 pub use closed::is_closed;
 pub use cursors::{Cursor, NextCall};
-pub use digests::{key_digest, learn, mixed};
-pub use exchanges::Exchanges;
+pub use digests::{learn, mixed, reply_number};
 pub use laws::{
     alike_beginnings_continue_alike, alike_places_go_on_alike, alike_positions_answer_alike,
     answers_only_grow, counts_are_unique, interleavings_are_counted, lines_finish_alike,
@@ -49,6 +45,6 @@ pub use outcomes::{Outcome, Replies, all_answers};
 pub use part_numbers::ShardId;
 pub use parts::Shard;
 pub use positions::Positions;
-pub use rows::{Rows, Share};
 pub use scripts::{CallScript, OwnWork, Step, StepWork, are_mergeable};
 pub use tally::{Ending, Tally, fit_in, schedule_of, total_of};
+pub use trail::Share;

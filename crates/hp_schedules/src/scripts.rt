@@ -103,8 +103,10 @@ impl Step {
         !matches!(self, Step::Carry { .. })
     }
 
-    /// Returns whether the line undoes no steps by their serials, and works on no operation other
-    /// than the latest.
+    /// Returns whether the line neither undoes steps by their serials (`UndoAfter`) nor works on an
+    /// operation by the number of its Begin (`Nth`).
+    ///
+    /// An event of `Ask` may still name any operation: that number is in the script.
     fn is_mergeable(&self) -> bool
         ensures { result ≡ is_mergeable_line self.now }
     {
@@ -151,8 +153,8 @@ impl CallScript {
         true
     }
 
-    /// Returns whether no line undoes steps by their serials, or works on an operation other than
-    /// the latest.
+    /// Returns whether no line undoes steps by their serials, or works on an operation by the
+    /// number of its Begin.
     fn is_mergeable(&self) -> bool
         ensures { result ≡ is_mergeable self.now }
     {
@@ -176,8 +178,8 @@ pub(crate) fn later_operation(op: Serial, serial: Serial, event: &Event) -> Seri
     }
 }
 
-/// Returns whether no script undoes steps by their serials, or works on an operation other than the
-/// one that its processor began last.
+/// Returns whether no script undoes steps by their serials, or works on an operation by the number
+/// of its Begin.
 ///
 /// A walk may treat two places that continue alike as one only if this holds: serials differ between
 /// the schedules that lead there.

@@ -9,8 +9,7 @@ ghost use Rattle.hp_schedules.specs.Trails.{KeepsBefore};
 
 use crate::digests::{digest_of, learn};
 use crate::outcomes::{Outcome, all_answers};
-use crate::rows::Share;
-use crate::trail::Trail;
+use crate::trail::{Share, Trail};
 use hp_units::{Cpu, Record, Row};
 use indexmap::IndexMap;
 use std::alloc::{AllocError, Global};

@@ -2,13 +2,21 @@
 ghost use Rattle.std.specs.Prelude.{◌≡◌, ◌+◌, ◌++◌, ◌∷◌, [], ◌<◌, ◌≤◌, ◌^◌, IfSome, OnErr, OnOk, drop, length, sum_by};
 ghost use Rattle.hp_schedules.specs.Trails.{IsGathered, IsShareOf, IsSummedUp, left_over};
 
-use crate::rows::Share;
 use std::alloc::AllocError;
+
+/// How many schedules continue from a place to one end.
+#[derive(Clone, Copy, Drop)]
+pub struct Share {
+    /// The end's index in the list of ends.
+    pub end: usize,
+    /// The number of schedules that continue to it.
+    pub count: u64,
+}
 
 /// The shares that were added to the ends, oldest first.
 ///
-/// `places` has for each end the index of its latest sum. It is only a hint: an index may be out of
-/// date, so the share there is looked at before it is used.
+/// `places` has for each end the index at which `gather` last stored a sum of that end, or 0 if it
+/// has stored none. It is only a hint: that sum may be gone, and another share in its place.
 #[derive(Drop)]
 pub(crate) struct Trail {
     pub(crate) shares: Vec<Share>,

@@ -1,18 +1,15 @@
 -- The results of the steps of a script, in the receipts of its processor.
-use Rattle.std.proofs.Common.{◌≡◌, ℕ, zero, suc, ◌+◌, Bool, true, false, cond, ltb, List, [], ◌∷◌, ◌++◌, Option, Some, None, get_or, map, filter, fold, refl, ap, sym, subst, ◌∙◌, ◌⊎◌, inl, inr, arith, append_assoc, append-nil}
+use Rattle.std.proofs.Common.{◌≡◌, ℕ, zero, suc, ◌+◌, Bool, true, false, cond, List, [], ◌∷◌, ◌++◌, Option, Some, None, get_or, map, filter, fold, refl, ap, sym, subst, ◌∙◌, ◌⊎◌, inl, inr, arith, append_assoc, append-nil}
 use Rattle.std.specs.List.{count_by}
 use Rattle.std.specs.Option.{option_and_then, option_map_or}
 use Rattle.std.proofs.lemmas.List.Sums.{fold-append, sum_by-append}
 use Rattle.std.proofs.lemmas.Option.{none-some, same_Some}
-use Rattle.hp_units.specs.Driver.{migrate_or_cancel, next_after, next_drain, next_event, tried}
+use Rattle.hp_units.specs.Driver.{next_after, next_event}
 use Rattle.hp_units.specs.Marks.{is_opening, mark_of}
 use Rattle.hp_units.specs.declared.events.Event.{Event}
 use Rattle.hp_units.specs.declared.events.Event.TheVariants.{Begin, DrainFor, Migrate, Commit, Cancel, KernelFree}
 use Rattle.hp_units.specs.declared.plans.Item.{Item}
 use Rattle.hp_units.specs.declared.replies.Receipt.{Receipt}
-use Rattle.hp_units.specs.declared.replies.Refusal.TheVariants.{NoFrame, NothingToMove, NotFree}
-use Rattle.hp_units.specs.declared.replies.Reply.{Reply}
-use Rattle.hp_units.specs.declared.replies.Reply.TheVariants.{Done, Moved, Opened, Refused}
 use Rattle.hp_ops.proofs.Receipts.{next_push}
 use Rattle.hp_schedules.specs.Scripts.{Known, after_line, after_lines, frame_in, frames_of, later_operation, line_next, next_in, no_frame, nothing_known, once, operations_of, own_operation, step_work_of, takes_frame, work_of}
 use Rattle.hp_schedules.specs.declared.scripts.OwnWork.{OwnWork}
@@ -21,7 +18,7 @@ use Rattle.hp_schedules.specs.declared.scripts.Step.{Step}
 use Rattle.hp_schedules.specs.declared.scripts.Step.TheVariants.{Ask, Own, Carry}
 use Rattle.hp_schedules.specs.declared.scripts.StepWork.TheVariants as step
 use Rattle.hp_schedules.proofs.AfterLines.{after_more, after_parts, any_known, first_then, lines_before, lines_parts}
-use Rattle.hp_schedules.proofs.Begun.{IsPush, push_cases}
+use Rattle.hp_schedules.proofs.Begun.{IsPush, all_work, is_work, next_works, push_cases}
 use Rattle.hp_schedules.proofs.Lines.{goes_on, goes_on_all, over_now}
 
 -- ---- what is counted, and what is found
@@ -70,15 +67,6 @@ pub record IsFound (cpus : ℕ) (front between : List Step) (event : Event) (rec
       → get_or (frames_of receipts) (count_by step_allocs front) no_frame ≡ frame_in first.own.reply
 
 -- ---- which events are counted
-
--- work on an operation, and a free, are not
-abbrev is_work : Event → Bool
-is_work (DrainFor op cpu) = true
-is_work (Migrate op) = true
-is_work (Commit op) = true
-is_work (Cancel op) = true
-is_work (KernelFree frame) = true
-is_work event = false
 
 -- a step that is counted makes one call that is counted, its first
 record Counts (q : Event → Bool) (s : Step → Bool) : Type 0 where
@@ -129,35 +117,6 @@ work_works known (Nth nth step.Migrate) = refl
 work_works known (Nth nth step.Commit) = refl
 work_works known (Nth nth step.Cancel) = refl
 work_works known (Free nth) = refl
-
--- after its first call a plan only works
-abbrev all_work : Option Event → Bool
-all_work None = true
-all_work (Some event) = is_work event
-
-turn_works : (turns op : ℕ) (rs : List Receipt) → is_work (migrate_or_cancel turns op rs) ≡ true
-turn_works turns op rs = by_left (ltb (tried rs) turns)
-  where
-    by_left : (b : Bool) → is_work (cond b (Migrate op) (Cancel op)) ≡ true
-    by_left true = refl
-    by_left false = refl
-
-drain_works : (cpus turns op cpu : ℕ) (rs : List Receipt) → is_work (next_drain cpus turns op cpu rs) ≡ true
-drain_works cpus turns op cpu rs = by_processor (ltb cpu cpus)
-  where
-    by_processor : (b : Bool) → is_work (cond b (DrainFor op cpu) (migrate_or_cancel turns op rs)) ≡ true
-    by_processor true = refl
-    by_processor false = turn_works turns op rs
-
-next_works : (cpus turns : ℕ) (rs : List Receipt) (e : Event) (reply : Reply)
-    → all_work (next_after cpus turns rs e reply) ≡ true
-next_works cpus turns rs (Begin plan) (Opened op) = drain_works cpus turns op 0 rs
-next_works cpus turns rs (DrainFor op cpu) Done = drain_works cpus turns op (cpu + 1) rs
-next_works cpus turns rs (Migrate op) (Moved from to) = turn_works turns op rs
-next_works cpus turns rs (Migrate op) (Refused NoFrame) = drain_works cpus turns op 0 rs
-next_works cpus turns rs (Migrate op) (Refused NothingToMove) = refl
-next_works cpus turns rs (Commit op) (Refused (NotFree frame)) = drain_works cpus turns op 0 rs
-next_works cpus turns rs e reply = refl
 
 later_works : (cpus turns : ℕ) (plan : List Item) (x : Receipt) (xs : List Receipt) (e : Event)
     → next_event cpus turns plan (x ∷ xs) ≡ Some e → is_work e ≡ true

@@ -7,7 +7,7 @@ use Rattle.hp_schedules.specs.Parts.{AllOfPart, ComesTo, IsOfPart, PartValue}
 use Rattle.hp_schedules.specs.Schedules.{Setting, schedule_of}
 use Rattle.hp_schedules.specs.Shares.{AddsShares, AreSince}
 use Rattle.hp_schedules.specs.Trails.{KeepsBefore}
-use Rattle.hp_schedules.specs.declared.rows.Share.{Share}
+use Rattle.hp_schedules.specs.declared.trail.Share.{Share}
 use Rattle.hp_schedules.proofs.Trails.{keeps_none}
 use Rattle.hp_states.specs.Frames.{GoOn, IsAdded, IsEntered, IsEnteredWithin, IsFrame, IsFresh, IsPlaceReached, counts_of}
 use Rattle.hp_states.specs.Seen.{Grow}

@@ -1,4 +1,4 @@
--- Texts that stand in one buffer, one after another.
+-- Texts, keys or rows that stand in one buffer, one after another.
 use Rattle.std.proofs.Common.{ℕ, zero, suc, ◌≡◌, ◌+◌, ◌-◌, ◌<◌, ◌≤◌, List, [], ◌∷◌, ◌++◌, Some, length, get_or, take, drop, refl, sym, ◌∙◌, ap, subst, arith, slice_get}
 use Rattle.std.specs.Prelude.{slice_range}
 use Rattle.std.proofs.lemmas.List.{drop-append-le, drop_at, length-append, length-drop, take-append-le, take_all}
@@ -8,7 +8,8 @@ use Rattle.hp_states.specs.Codes.{KeepCodes}
 use Rattle.hp_states.specs.Texts.{AreTextsFrom, start_of, texts_from}
 
 -- there are as many as ends
-pub count : (bytes : List ℕ) (start : ℕ) (ends : List ℕ) → length (texts_from bytes start ends) ≡ length ends
+pub count : {X : Type 0} (bytes : List X) (start : ℕ) (ends : List ℕ)
+    → length (texts_from bytes start ends) ≡ length ends
 count bytes start [] = refl
 count bytes start (end ∷ ends) = ap suc (count bytes end ends)
 
@@ -25,7 +26,7 @@ starts_after start ends number before low is =
     sym (ap (start_of start ends) is ∙ starts_next start ends before (omega arith))
 
 -- the text of a number
-pub text_at : (bytes : List ℕ) (start : ℕ) (ends : List ℕ) (number : ℕ) → number < length ends
+pub text_at : {X : Type 0} (bytes : List X) (start : ℕ) (ends : List ℕ) (number : ℕ) → number < length ends
     → slice_get (texts_from bytes start ends) number
     ≡ Some (slice_range bytes (start_of start ends number) (get_or ends number 0))
 text_at bytes start [] number low = absurd (omega arith)
@@ -57,29 +58,30 @@ still_texts size more start [] are = (omega (arith, are), refl)
 still_texts size more start (end ∷ ends) are = (are.0, still_texts size more end ends are.1)
 
 -- a text that was there
-same_text : (bytes more : List ℕ) (start end : ℕ) → start ≤ end → end ≤ length bytes
+same_text : {X : Type 0} (bytes more : List X) (start end : ℕ) → start ≤ end → end ≤ length bytes
     → slice_range (bytes ++ more) start end ≡ slice_range bytes start end
 same_text bytes more start end ordered within =
     ap (take (end - start)) (drop-append-le start bytes more (omega arith))
     ∙ take-append-le (end - start) (drop start bytes) more (omega (arith, length-drop start bytes))
 
 -- the text that comes
-new_text : (bytes more : List ℕ)
+new_text : {X : Type 0} (bytes more : List X)
     → slice_range (bytes ++ more) (length bytes) (length bytes + length more) ≡ more
 new_text bytes more =
     ap (take (length bytes + length more - length bytes)) (drop_at bytes more (length bytes) refl)
     ∙ take_all (length bytes + length more - length bytes) more (omega arith)
 
-pub text_added : (bytes more : List ℕ) (start : ℕ) (ends : List ℕ) → AreTextsFrom (length bytes) start ends
+pub text_added : {X : Type 0} (bytes more : List X) (start : ℕ) (ends : List ℕ)
+    → AreTextsFrom (length bytes) start ends
     → texts_from (bytes ++ more) start (ends ++ (length bytes + length more) ∷ [])
     ≡ texts_from bytes start ends ++ more ∷ []
-text_added bytes more start [] are =
-    ap (λ (text : List ℕ). text ∷ [])
+text_added {X} bytes more start [] are =
+    ap (λ (text : List X). text ∷ [])
     (ap (λ (at : ℕ). slice_range (bytes ++ more) at (length bytes + length more)) are ∙ new_text bytes more)
-text_added bytes more start (end ∷ ends) are =
-    ap (λ (text : List ℕ). text ∷ texts_from (bytes ++ more) end (ends ++ (length bytes + length more) ∷ []))
+text_added {X} bytes more start (end ∷ ends) are =
+    ap (λ (text : List X). text ∷ texts_from (bytes ++ more) end (ends ++ (length bytes + length more) ∷ []))
     (same_text bytes more start end are.0 (below (length bytes) end ends are.1))
-    ∙ ap (λ (texts : List (List ℕ)). slice_range bytes start end ∷ texts)
+    ∙ ap (λ (texts : List (List X)). slice_range bytes start end ∷ texts)
     (text_added bytes more end ends are.1)
 
 -- the earlier ones keep their numbers
@@ -87,12 +89,13 @@ pub keep_more : (texts : List (List ℕ)) (more : List ℕ) → KeepCodes texts 
 keep_more texts more n c is = get_left texts (more ∷ []) n (slice_get_within texts n c is) ∙ is
 
 -- and it has the next one
-pub number_more : (texts : List (List ℕ)) (more : List ℕ) (n : ℕ) → n ≡ length texts
+pub number_more : {X : Type 0} (texts : List (List X)) (more : List X) (n : ℕ) → n ≡ length texts
     → slice_get (texts ++ more ∷ []) n ≡ Some more
 number_more texts more n is = ap (slice_get (texts ++ more ∷ [])) is ∙ get_end texts more
 
 -- both of a buffer and its ends, after a text more
-pub texts_on : (bytes more bytes' ends ends' : List ℕ) (at : ℕ) → AreTextsFrom (length bytes) 0 ends
+pub texts_on : {X : Type 0} (bytes more bytes' : List X) (ends ends' : List ℕ) (at : ℕ)
+    → AreTextsFrom (length bytes) 0 ends
     → bytes' ≡ bytes ++ more → ends' ≡ ends ++ at ∷ [] → at ≡ length bytes'
     → AreTextsFrom (length bytes') 0 ends'
 texts_on bytes more bytes' ends ends' at are b e is =
@@ -102,11 +105,12 @@ texts_on bytes more bytes' ends ends' at are b e is =
     (subst (λ (n : ℕ). AreTextsFrom n 0 (ends ++ n ∷ [])) (sym size)
     (still_texts (length bytes) (length more) 0 ends are)))
 
-pub texts_are : (bytes more bytes' ends ends' : List ℕ) (at : ℕ) → AreTextsFrom (length bytes) 0 ends
+pub texts_are : {X : Type 0} (bytes more bytes' : List X) (ends ends' : List ℕ) (at : ℕ)
+    → AreTextsFrom (length bytes) 0 ends
     → bytes' ≡ bytes ++ more → ends' ≡ ends ++ at ∷ [] → at ≡ length bytes'
     → texts_from bytes' 0 ends' ≡ texts_from bytes 0 ends ++ more ∷ []
-texts_are bytes more bytes' ends ends' at are b e is =
+texts_are {X} bytes more bytes' ends ends' at are b e is =
     let place : at ≡ length bytes + length more = is ∙ (ap length b ∙ length-append bytes more) in
-    ap (λ (bs : List ℕ). texts_from bs 0 ends') b
+    ap (λ (bs : List X). texts_from bs 0 ends') b
     ∙ (ap (texts_from (bytes ++ more) 0) (e ∙ ap (λ (n : ℕ). ends ++ n ∷ []) place)
     ∙ text_added bytes more 0 ends are)

@@ -15,7 +15,7 @@ use Rattle.hp_states.specs.Seen.{AreSamePlaces, Grow, IsMemo, IsOnWay, IsRow, Is
 use Rattle.hp_schedules.specs.Shares.{AddsCounts, AddsShares, AreAtEnds, AreSince, amount_of}
 use Rattle.hp_states.specs.Standing.{AreSameNumbers, IsKey, IsStanding, KeepMeanings, StandingValue}
 use Rattle.hp_states.specs.Walks.{BeforeInPart, HasRoomFrom, IsAt, IsPartWalkedBefore, IsPartWalkedThrough, ThroughInPart}
-use Rattle.hp_schedules.specs.declared.rows.Share.{Share}
+use Rattle.hp_schedules.specs.declared.trail.Share.{Share}
 use Rattle.hp_schedules.specs.declared.tally.Ending.{Ending}
 use Rattle.hp_states.proofs.Counts.{count_past, count_read}
 use Rattle.hp_states.proofs.Grown.{grow_added, seen_grows}

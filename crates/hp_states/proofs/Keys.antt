@@ -10,12 +10,12 @@ use Rattle.hp_units.specs.declared.events.Event.{Event}
 use Rattle.hp_units.specs.declared.replies.Receipt.{Receipt}
 use Rattle.hp_units.specs.declared.replies.Record.{Record}
 use Rattle.hp_schedules.specs.Alike.{AreAlike, exchanges}
-use Rattle.hp_schedules.specs.Exchanges.{IsExchanged, exchange_in}
+use Rattle.hp_states.specs.Exchanges.{IsExchanged, exchange_in}
 use Rattle.hp_schedules.specs.Schedules.{Setting, next_call, play_one, plays, record_of_call, schedule_of}
 use Rattle.hp_schedules.specs.Scripts.{own_operation}
 use Rattle.hp_states.specs.Standing.{AddsParts, IsBegunKey, IsKey, IsPart, KeepMeanings, StandingValue}
 use Rattle.hp_states.specs.Stops.{AreNumbersAt}
-use Rattle.hp_schedules.proofs.Exchanged.{exchanges_other, exchanges_own}
+use Rattle.hp_states.proofs.Exchanged.{exchanges_other, exchanges_own}
 use Rattle.hp_states.proofs.StopNumbers.{numbers_join, numbers_kept}
 use Rattle.hp_schedules.proofs.Plays.{asks_within, from_news, plays_one, stays_none}
 

@@ -8,7 +8,7 @@ use Rattle.hp_schedules.specs.Schedules.{Setting, schedule_of}
 use Rattle.hp_schedules.specs.Shares.{AreSince}
 use Rattle.hp_schedules.specs.Trails.{KeepsBefore}
 use Rattle.hp_schedules.specs.declared.cursors.Cursor.{Cursor}
-use Rattle.hp_schedules.specs.declared.rows.Share.{Share}
+use Rattle.hp_schedules.specs.declared.trail.Share.{Share}
 use Rattle.hp_schedules.specs.declared.tally.Ending.{Ending}
 use Rattle.hp_states.specs.Frames.{IsKeeping, IsLeaving, counts_of}
 use Rattle.hp_states.specs.Seen.{Grow, IsMemo, MemoValue}

@@ -3,8 +3,10 @@ pub mod Coded
 pub mod Counts
 pub mod Ended
 pub mod Entered
+pub mod Exchanged
 pub mod FreeLists
 pub mod Grown
+pub mod InRows
 pub mod Joined
 pub mod Keeping
 pub mod Keys
@@ -13,11 +15,12 @@ pub mod Loops
 pub mod Merges
 pub mod Noting
 pub mod Numbered
+pub mod Numberings
 pub mod OfPart
 pub mod Parts
 pub mod Rooms
-pub mod StopNumbers
 pub mod Stood
+pub mod StopNumbers
 pub mod Walked
 pub mod Walks
 pub mod Words

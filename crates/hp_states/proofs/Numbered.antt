@@ -10,13 +10,13 @@ use Rattle.hp_units.specs.Memory.{Memory}
 use Rattle.hp_units.specs.declared.replies.Record.{Record}
 use Rattle.hp_laws.proofs.Net.{net-push}
 use Rattle.hp_schedules.specs.Alike.{leaves_steps}
-use Rattle.hp_schedules.specs.Numbers.{KeepNumbers}
+use Rattle.hp_states.specs.Interned.{KeepNumbers}
 use Rattle.hp_states.specs.Numbered.{AreNamed, IsBegun, IsEntryOf, IsInFront, IsMadeBy, IsNumbered, IsStateAt, NumbersOn, entry_below, in_front, opening_of, openings_of}
 use Rattle.hp_schedules.specs.Openings.{AreOpen, NumberedOpening, Opening, after_cancel, after_work, change_of}
 use Rattle.hp_schedules.specs.Schedules.{Setting}
 use Rattle.hp_schedules.specs.declared.changes.Change.TheVariants.{Stays, Begins, Works, Cancels, Ends}
 use Rattle.hp_states.specs.declared.openings.Entry.{Entry}
-use Rattle.hp_schedules.proofs.Numberings.{made_added}
+use Rattle.hp_states.proofs.Numberings.{made_added}
 use Rattle.hp_schedules.proofs.Opened.{none_after, open_more}
 use Rattle.hp_schedules.proofs.Openings.{changed, openings_after}
 

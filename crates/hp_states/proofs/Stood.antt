@@ -3,11 +3,11 @@ use Rattle.std.proofs.Common.{◌≡◌, ℕ, ◌<◌, Bool, List, [], ◌∷◌
 use Rattle.std.proofs.lemmas.Option.{same_Some, slice_get-get_or, slice_get_within}
 use Rattle.hp_units.specs.declared.replies.Record.{Record}
 use Rattle.hp_schedules.specs.Alike.{is_closed}
-use Rattle.hp_schedules.specs.Exchanges.{IsExchanged}
+use Rattle.hp_states.specs.Exchanges.{IsExchanged}
 use Rattle.hp_schedules.specs.Schedules.{Setting}
 use Rattle.hp_states.specs.Standing.{AreSameNumbers, IsStanding, KeepMeanings, StandingValue}
-use Rattle.hp_schedules.proofs.Exchanged.{exchanged_begun}
-use Rattle.hp_schedules.proofs.Numberings.{keep_same}
+use Rattle.hp_states.proofs.Exchanged.{exchanged_begun}
+use Rattle.hp_states.proofs.Numberings.{keep_same}
 use Rattle.hp_states.proofs.StopNumbers.{begun_at, keep_none as keep_no_stops, keep_same_stops}
 
 -- ---- numbers that mean what they meant

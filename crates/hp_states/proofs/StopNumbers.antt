@@ -8,7 +8,7 @@ use Rattle.hp_memory.specs.Memory.{MemoryValue}
 use Rattle.hp_units.specs.History.{value_of, net_of}
 use Rattle.hp_units.specs.declared.replies.Record.{Record}
 use Rattle.hp_schedules.specs.Alike.{AreJoined, is_closed}
-use Rattle.hp_schedules.specs.Numbers.{KeepNumbers}
+use Rattle.hp_states.specs.Interned.{KeepNumbers}
 use Rattle.hp_schedules.specs.Openings.{NumberedOpening, AreOpen}
 use Rattle.hp_schedules.specs.Schedules.{Setting}
 use Rattle.hp_states.specs.Codes.{IsCoded, KeepCodes}
@@ -16,7 +16,7 @@ use Rattle.hp_states.specs.Numbered.{AreNamed, IsNumbered}
 use Rattle.hp_states.specs.Stops.{AreNumbersAt, AreSameStops, AreStops, AreStopsAt, KeepStops, StopsValue}
 use Rattle.hp_states.specs.declared.stops.Stop.{Stop}
 use Rattle.hp_schedules.proofs.ClosedNets.{closed_none_sole}
-use Rattle.hp_schedules.proofs.Numberings.{keep_same}
+use Rattle.hp_states.proofs.Numberings.{keep_same}
 use Rattle.hp_states.proofs.Coded.{coded_states_are_same}
 use Rattle.hp_states.proofs.Numbered.{named_once, number_kept, state_kept}
 

@@ -16,7 +16,7 @@ use Rattle.hp_states.specs.declared.frames.Entry.{Entry}
 use Rattle.hp_states.specs.declared.frames.Entry.TheVariants.{Counted, Open}
 use Rattle.hp_states.specs.declared.frames.Level.{Level}
 use Rattle.hp_schedules.specs.declared.cursors.Cursor.{Cursor}
-use Rattle.hp_schedules.specs.declared.rows.Share.{Share}
+use Rattle.hp_schedules.specs.declared.trail.Share.{Share}
 use Rattle.hp_schedules.specs.declared.tally.Ending.{Ending}
 
 -- the counts of these ends

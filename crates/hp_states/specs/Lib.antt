@@ -1,5 +1,7 @@
 pub mod Codes
+pub mod Exchanges
 pub mod Frames
+pub mod Interned
 pub mod Numbered
 pub mod Numbers
 pub mod Parts

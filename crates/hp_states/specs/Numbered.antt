@@ -9,7 +9,7 @@ use Rattle.hp_schedules.specs.Alike.{leaves_steps}
 use Rattle.hp_schedules.specs.Openings.{AreOpen, NumberedOpening, Opening}
 use Rattle.hp_schedules.specs.Schedules.{Setting}
 use Rattle.hp_states.specs.declared.openings.Entry.{Entry}
-use Rattle.hp_schedules.specs.Numbers.{IsMadeOf, lists_from}
+use Rattle.hp_states.specs.Interned.{IsMadeOf, lists_from}
 
 -- ---- lists of openings
 

@@ -8,7 +8,7 @@ use Rattle.hp_schedules.specs.Outcomes.{OutcomeValue}
 use Rattle.hp_schedules.specs.Schedules.{EndsWith, Setting, plays, schedule_of}
 use Rattle.hp_states.specs.Standing.{IsKey, IsStanding, StandingValue}
 use Rattle.hp_states.specs.Walks.{HasRoomFrom}
-use Rattle.hp_schedules.specs.declared.rows.Share.{Share}
+use Rattle.hp_schedules.specs.declared.trail.Share.{Share}
 use Rattle.hp_schedules.specs.declared.tally.Ending.{Ending}
 use Rattle.hp_schedules.specs.Shares.{AreAtEnds, amount_of}
 

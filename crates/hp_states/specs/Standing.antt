@@ -2,8 +2,8 @@
 use Rattle.std.specs.Prelude.{◌≡◌, ℕ, ◌+◌, ◌*◌, ◌<◌, List, Some, length, slice_get}
 use Rattle.hp_units.specs.Receipts.{receipts_of}
 use Rattle.hp_units.specs.declared.replies.Record.{Record}
-use Rattle.hp_schedules.specs.Exchanges.{AreExchanged, ExchangesValue, IsExchanged}
-use Rattle.hp_schedules.specs.Numbers.{KeepNumbers}
+use Rattle.hp_states.specs.Exchanges.{AreExchanged, ExchangesValue, IsExchanged}
+use Rattle.hp_states.specs.Interned.{KeepNumbers}
 use Rattle.hp_schedules.specs.Schedules.{Setting}
 use Rattle.hp_schedules.specs.Scripts.{own_operation}
 use Rattle.hp_states.specs.Stops.{AreNumbersAt, AreSameStops, AreStopsAt, KeepStops, StopsValue}

@@ -3,7 +3,7 @@
 use Rattle.std.specs.Prelude.{◌≡◌, ℕ, List, [], ◌∷◌, ◌++◌, Some, reverse}
 use Rattle.hp_states.specs.Codes.{KeepCodes}
 use Rattle.hp_units.specs.declared.replies.Record.{Record}
-use Rattle.hp_schedules.specs.Numbers.{KeepNumbers}
+use Rattle.hp_states.specs.Interned.{KeepNumbers}
 use Rattle.hp_states.specs.Numbered.{IsNumbered, IsStateAt}
 use Rattle.hp_schedules.specs.Openings.{NumberedOpening}
 use Rattle.hp_schedules.specs.Schedules.{Setting}

@@ -1,10 +1,10 @@
--- Byte strings, or keys, one after another in one buffer.
+-- Byte strings, keys or rows, one after another in one buffer.
 use Rattle.std.specs.Prelude.{ℕ, zero, suc, ◌≡◌, ◌≤◌, List, [], ◌∷◌, slice_range}
 
 -- the strings of a buffer from `start` on, given where each ends
-abbrev pub texts_from : List ℕ → (start : ℕ) → (ends : List ℕ) → List (List ℕ)
-texts_from bytes start [] = []
-texts_from bytes start (end ∷ ends) = slice_range bytes start end ∷ texts_from bytes end ends
+abbrev pub texts_from : {X : Type 0} → List X → (start : ℕ) → (ends : List ℕ) → List (List X)
+texts_from items start [] = []
+texts_from items start (end ∷ ends) = slice_range items start end ∷ texts_from items end ends
 
 -- no string ends before it starts, and the last one ends where the buffer does
 abbrev pub AreTextsFrom : (size start : ℕ) → (ends : List ℕ) → Type 0

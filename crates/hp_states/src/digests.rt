@@ -1,5 +1,7 @@
 //! Hashes of byte strings. A hit is compared byte by byte, so nothing is proved about them.
 
+use hp_schedules::mixed;
+
 /// Returns a hash of the bytes, taken eight at a time.
 pub(crate) fn digest_of(bytes: &[u8]) -> u64 {
     let mut digest = bytes.len() as u64;
@@ -7,13 +9,6 @@ pub(crate) fn digest_of(bytes: &[u8]) -> u64 {
         digest = mixed(digest, word_of(chunk));
     }
     digest
-}
-
-/// Mixes one word into the hash.
-fn mixed(digest: u64, word: u64) -> u64 {
-    (digest ^ word)
-        .wrapping_mul(0x9e37_79b9_7f4a_7c15)
-        .rotate_left(29)
 }
 
 /// Returns the first eight bytes as one word, or all bytes if there are fewer.

@@ -1,9 +1,10 @@
 //! Keys of places in one table, each with its index.
-ghost use Rattle.std.specs.Prelude.{◌≡◌, ◌++◌, ◌∷◌, ◌<◌, [], IfOk, IfSome, OnErr, OnOk, Some, length, slice_get};
+ghost use Rattle.std.specs.Prelude.{◌≡◌, ◌++◌, ◌∷◌, ◌<◌, [], IfOk, IfSome, OnErr, OnOk, Some, fold, length, slice_get};
+ghost use Rattle.hp_schedules.specs.Digests.{mixed};
 ghost use Rattle.hp_states.specs.Texts.{texts_from};
 
 use crate::texts::{TABLE_BYTES, start_of};
-use hp_schedules::key_digest;
+use hp_schedules::mixed;
 use indexmap::IndexMap;
 use std::alloc::{AllocError, Global};
 use std::marker::Model;
@@ -102,4 +103,15 @@ fn key_in<'a>(numbers: &'a [u32], ends: &[usize], at: usize) -> Option<&'a [u32]
     }
     let start = start_of(ends, at);
     numbers.get(start..ends[at])
+}
+
+/// Returns the hash of a place's key.
+pub fn key_digest(key: &[u32]) -> u64
+    ensures { result ≡ fold mixed 0 key.now }
+{
+    let mut digest = 0;
+    for number in key {
+        digest = mixed(digest, u64::from(*number));
+    }
+    digest
 }

@@ -5,9 +5,10 @@
 //! state of a layout (`laws`).
 //!
 //! A place is where a schedule of scripts leads. The crate owns:
-//! - the numbers by which places are compared (`openings`, `stops`, `standing`),
+//! - the numbers by which places are compared (`openings`, `exchanges`, `stops`, `standing`),
 //! - tables of keys made of such numbers (`key_table`),
-//! - the places walked so far, with how many schedules continue from each to each end (`memo`),
+//! - the places walked so far, with how many schedules continue from each to each end (`memo`,
+//!   `rows`),
 //! - what a walk does when it reaches and leaves a place (`arrivals`).
 //!
 //! It makes no calls: hp_explore does.
@@ -21,6 +22,7 @@ mod code;
 mod codes;
 mod digests;
 mod ends;
+mod exchanges;
 mod frames;
 mod kept_counts;
 mod key_table;
@@ -28,6 +30,7 @@ mod laws;
 mod memo;
 mod memories;
 mod openings;
+mod rows;
 mod standing;
 mod stops;
 mod texts;
@@ -36,10 +39,12 @@ mod watch;
 pub use arrivals::{arrive, leave, note};
 pub use codes::Codes;
 pub use ends::outcome_at;
+pub use exchanges::Exchanges;
 pub use frames::{Entry, Level};
 pub use kept_counts::kept_counts_are_added;
-pub use key_table::KeyTable;
+pub use key_table::{KeyTable, key_digest};
 pub use laws::codes_tell_states_apart;
 pub use memo::Memo;
+pub use rows::Rows;
 pub use stops::Stops;
 pub use watch::{KEPT_BYTES, Reach, Silent, Watch};

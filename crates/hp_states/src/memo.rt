@@ -11,9 +11,10 @@ ghost use Rattle.hp_states.specs.Places.{IsPlace, memory_at};
 ghost use Rattle.hp_schedules.specs.declared.tally.Ending.{Ending};
 
 use crate::key_table::KeyTable;
+use crate::rows::Rows;
 use crate::standing::Standing;
 use hp_memory::Memory;
-use hp_schedules::{Positions, Rows, Share};
+use hp_schedules::{Positions, Share};
 use hp_units::{Cpu, Record};
 use std::alloc::{AllocError, Global};
 use std::marker::Model;

@@ -1,7 +1,7 @@
 //! The operations that a Cancel can undo completely at a place, each with the state from before its
 //! Begin. Equal lists share a number in nearly all cases, so that places are compared by numbers.
 ghost use Rattle.std.specs.Prelude.{◌≡◌, ◌∷◌, ◌<◌, ◌≤◌, [], IfNone, IfOk, IfSome, List, Some, length, slice_get};
-ghost use Rattle.hp_schedules.specs.Numbers.{KeepNumbers};
+ghost use Rattle.hp_states.specs.Interned.{KeepNumbers};
 ghost use Rattle.hp_states.specs.Numbered.{IsBegun, IsEntryOf, IsInFront, IsMadeBy, NumbersOn};
 ghost use Rattle.hp_schedules.specs.Openings.{NumberedOpening, after_cancel, after_work};
 
@@ -31,7 +31,7 @@ pub(crate) struct Openings {
 
 impl Model for Openings {
     ghost use Rattle.std.specs.Prelude.{List};
-    ghost use Rattle.hp_schedules.specs.Numbers.{StandOnEarlier};
+    ghost use Rattle.hp_states.specs.Interned.{StandOnEarlier};
     ghost use Rattle.hp_states.specs.Numbered.{entry_below, openings_of};
     ghost use Rattle.hp_schedules.specs.Openings.{NumberedOpening};
 
@@ -196,14 +196,6 @@ impl Openings {
         if number == 0 {
             return None;
         }
-        entry_at(entries, number - 1)
+        entries.get(number - 1)
     }
-}
-
-/// Returns the entry at this index.
-fn entry_at(entries: &[Entry], place: usize) -> Option<&Entry>
-    ensures some { IfSome result (λ entry. slice_get entries.now place ≡ Some entry.now) }
-    ensures none { IfNone result (length entries.now ≤ place) }
-{
-    entries.get(place)
 }

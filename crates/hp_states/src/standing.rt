@@ -9,9 +9,10 @@ ghost use Rattle.hp_schedules.specs.Schedules.{Setting};
 ghost use Rattle.hp_states.specs.Standing.{AddsParts, AreSameNumbers, IsKey, IsStanding, KeepMeanings};
 ghost use Rattle.hp_states.specs.Places.{memory_at};
 
+use crate::exchanges::Exchanges;
 use crate::stops::{Stops, push_two};
 use hp_memory::Memory;
-use hp_schedules::{Exchanges, Positions};
+use hp_schedules::Positions;
 use hp_units::{Cpu, Record};
 use std::alloc::{AllocError, Global};
 use std::marker::Model;

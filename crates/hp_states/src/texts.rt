@@ -139,7 +139,7 @@ fn text_in<'a>(bytes: &'a [u8], ends: &[usize], number: usize) -> &'a [u8]
     &bytes[start..end]
 }
 
-/// Returns the place where a string starts, which is where the one before it ends.
+/// Returns where a string or row starts in its buffer, which is where the one before it ends.
 pub(crate) fn start_of(ends: &[usize], number: usize) -> usize
     requires { number < length ends.now }
     ensures { result ≡ start_of 0 ends.now number }

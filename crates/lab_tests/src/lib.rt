@@ -1,5 +1,6 @@
-//! Tests of the laboratory: explorations with the text that each must write, what hp_schedules keeps
-//! for a walk, scenarios that are refused, scenarios with the report on each, scenarios with names.
+//! Tests of the laboratory: explorations with the text that each must write, what hp_schedules and
+//! hp_states keep for a walk, scenarios that are refused, scenarios with the report on each,
+//! scenarios with names.
 //!
 //! They are a crate of their own, as integration tests are, so that the gate does not prove hp_search
 //! and hp_check once more with them. `rt test` in this folder runs them.

@@ -38,7 +38,8 @@ add_shares-requires o c =
 
 pub returns-then-not-has_key-clause-ok : goal.returns-then-not-has_key-clause-ok
 returns-then-not-has_key-clause-ok o c =
-    λ g news stood. entered_within g news c.args.tally.now c.new-then-not-has_key.result c.new-then-not-has_key.ensures
+    λ g news stood. entered_within g news c.args.tally.now c.new-then-not-has_key.result
+    c.new-then-not-has_key.ensures
 
 pub returns-then-is_stopped-clause-ok : goal.returns-then-is_stopped-clause-ok
 returns-then-is_stopped-clause-ok o c =

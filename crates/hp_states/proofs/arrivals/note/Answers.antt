@@ -19,7 +19,8 @@ returns-clause-ok o c =
     on_ok_weaker c.note-noted.result
     (λ noted g is. subst (λ (b : Bool). IsNotedAtEnd b c.args.processors (standing g news) was now)
     (sym c.if-not-is_end.false)
-    (subst (λ (rows : List Row). IsNoted was (outcome_with c.args.processors news rows) (schedule_of news) now)
+    (subst (λ (rows : List Row).
+    IsNoted was (outcome_with c.args.processors news rows) (schedule_of news) now)
     (c.in_ok-blocks.ensures ∙ ap (λ (m : MemoryValue). ended_rows_below m.layout.blocks m.state) is) noted))
     c.note-noted.ensures.ok
 

@@ -65,7 +65,8 @@ returns-in-Counted-clause-kept o c =
     let all =
     gone_back w.path.setting w.part (length w.tally.trail) w.tally c.arrive.new.tally w.path.news
     (frames_of w) (reverse c.reserve.new.self.items) c.take_back.ensures.back.0 c.take_back.new.path
-    c.take_back.new.memo w.processors (ap reverse c.in_ok-reserve.ensures.items) entered.1 c.requires.coming.below
+    c.take_back.new.memo w.processors (ap reverse c.in_ok-reserve.ensures.items) entered.1
+    c.requires.coming.below
     entered.0 c.take_back.ensures.back.1
     (memo_same w.path.setting c.arrive.new.tally.ends c.arrive.new.memo c.take_back.new.memo
     c.take_back.ensures.same

@@ -16,5 +16,6 @@ returns-then-is_lost-clause-skipped c =
     (lost_skipped p.setting wanted c.args.self.now.budget p.news
     (sym c.is_some.ensures ∙ c.if-is_some.true) c.is_played.ensures
     (subst (λ (n : ℕ). IsLost p.setting.layout.cpus p.setting.scripts wanted n p.news) c.requires.processors
-    (subst (λ (h : List Record). IsLost p.setting.layout.cpus p.setting.scripts wanted c.args.processors h) c.records.ensures
+    (subst (λ (h : List Record). IsLost p.setting.layout.cpus p.setting.scripts wanted c.args.processors h)
+    c.records.ensures
     (c.is_lost.ensures c.if-is_lost.true p.setting.layout.cpus p.setting.scripts))))

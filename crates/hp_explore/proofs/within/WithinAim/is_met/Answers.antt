@@ -12,7 +12,8 @@ use Rattle.hp_explore.proofs.within.WithinAim.is_met.Goals as goal
 use Rattle.hp_explore.proofs.within.WithinAim.is_met.Goals.{After-drop-outcome-inside-2}
 
 told : (c : After-drop-outcome-inside-2) (met : Bool)
-    → (IsTrue met ↔ Meets c.cpus.result c.scripts.result.now c.args.self.now.wanted.now c.in_ok-outcome.outcome)
+    → (IsTrue met
+    ↔ Meets c.cpus.result c.scripts.result.now c.args.self.now.wanted.now c.in_ok-outcome.outcome)
     → IsTrue met
     ↔ (aim_within c.args.path.now.setting c.args.self.now.wanted.now c.args.self.now.budget).sought
     c.args._schedule.now

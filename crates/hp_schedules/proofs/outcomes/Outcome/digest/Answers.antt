@@ -12,7 +12,8 @@ mixed_more : (start : ℕ) (rows : List Row) (i : ℕ) (row : Row) (digest next 
 mixed_more start rows i row digest next within here so_far is =
     is
     ∙ (ap (λ (d : ℕ). mixed_row d row) so_far
-    ∙ (ap (mixed_row (fold mixed_row start (take i rows))) here ∙ sym (fold_more mixed_row start rows i row within)))
+    ∙ (ap (mixed_row (fold mixed_row start (take i rows))) here
+    ∙ sym (fold_more mixed_row start rows i row within)))
 
 pub loop-row-preserved : goal.loop-row-preserved
 loop-row-preserved c =

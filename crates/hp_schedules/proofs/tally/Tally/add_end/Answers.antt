@@ -6,7 +6,7 @@ use Rattle.hp_schedules.specs.Notes.{AddsEnd, HasNoEnd, HasRoom, TallyValue}
 use Rattle.hp_schedules.specs.Outcomes.{outcome_with}
 use Rattle.hp_schedules.specs.Schedules.{schedule_of}
 use Rattle.hp_schedules.specs.Trails.{KeepsBefore}
-use Rattle.hp_schedules.specs.declared.rows.Share.{Share}
+use Rattle.hp_schedules.specs.declared.trail.Share.{Share}
 use Rattle.hp_schedules.specs.declared.tally.Ending.{Ending}
 use Rattle.hp_schedules.proofs.Known.{known_first}
 use Rattle.hp_schedules.proofs.Trails.{keeps_end, trail_pushed}

@@ -2,7 +2,7 @@
 use Rattle.std.proofs.Common.{arith, length, refl, subst}
 use Rattle.hp_schedules.specs.Notes.{TallyValue}
 use Rattle.hp_schedules.specs.Trails.{KeepsBefore}
-use Rattle.hp_schedules.specs.declared.rows.Share.{Share}
+use Rattle.hp_schedules.specs.declared.trail.Share.{Share}
 use Rattle.hp_schedules.proofs.Trails.{counts_add_up, gathered_gives, keeps_gathered}
 use Rattle.hp_schedules.proofs.tally.Tally.gather.Goals as goal
 

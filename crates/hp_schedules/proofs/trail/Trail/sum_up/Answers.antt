@@ -1,7 +1,7 @@
 -- The share is added to its end's sum, or is the first of its end.
 use Rattle.std.proofs.Common.{◌≡◌, ◌<◌, Some, ap, arith, length, refl, slice_get, sym, ◌∙◌}
 use Rattle.std.proofs.lemmas.Option.{same_Some, slice_get_read}
-use Rattle.hp_schedules.specs.declared.rows.Share.{Share}
+use Rattle.hp_schedules.specs.declared.trail.Share.{Share}
 use Rattle.hp_schedules.specs.declared.trail.Trail.{Trail}
 use Rattle.hp_schedules.proofs.Trails.{sum_fits, summed_first, summed_with}
 use Rattle.hp_schedules.proofs.trail.Trail.sum_up.Goals.{then-share-len, else-share-len}

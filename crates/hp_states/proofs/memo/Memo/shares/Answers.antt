@@ -1,7 +1,7 @@
 -- The row is that of the place where the key is.
 use Rattle.std.proofs.Common.{Bor, IfSome, List, subst}
 use Rattle.hp_states.specs.Seen.{IsRowAmong, MemoValue}
-use Rattle.hp_schedules.specs.declared.rows.Share.{Share}
+use Rattle.hp_schedules.specs.declared.trail.Share.{Share}
 use Rattle.hp_states.proofs.Keeping.{row_among}
 use Rattle.hp_states.proofs.memo.Memo.shares.Goals as goal
 

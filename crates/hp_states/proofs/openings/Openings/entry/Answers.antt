@@ -4,7 +4,7 @@ use Rattle.hp_laws.proofs.Options.{some_weaker}
 use Rattle.hp_states.specs.Numbered.{IsEntryOf, entry_below, in_front}
 use Rattle.hp_schedules.specs.Openings.{NumberedOpening}
 use Rattle.hp_states.specs.declared.openings.Entry.{Entry}
-use Rattle.hp_schedules.proofs.Numberings.{first_empty, made_read, none_past, none_weaker}
+use Rattle.hp_states.proofs.Numberings.{entry_there, first_empty, made_read, none_past, none_there, none_weaker}
 use Rattle.hp_states.proofs.openings.Openings.entry.Goals as goal
 
 pub returns-then-number-eq0-clause-none : goal.returns-then-number-eq0-clause-none
@@ -25,7 +25,9 @@ returns-clause-some c =
     (subst (λ (entries : List Entry). slice_get entries (c.args.number - 1) ≡ Some e.now)
     c.as_slice-entries.ensures.value here)
     (omega (arith, c.if-number-eq0.false))))
-    c.entry_at.result c.entry_at.ensures.some
+    c.get.result
+    (entry_there (λ (e : Bor Entry). e.now) c.as_slice-entries.result.now (c.args.number - 1) c.get.result
+    c.get.ensures.lookup.0 c.get.ensures.lookup.1)
 
 pub returns-clause-none : goal.returns-clause-none
 returns-clause-none c =
@@ -39,4 +41,5 @@ returns-clause-none c =
     ))
     (subst (λ (lists : List (List NumberedOpening)). slice_get lists c.args.number ≡ Some os)
     (sym c.self.view_is) h))
-    c.entry_at.result c.entry_at.ensures.none
+    c.get.result (none_there c.as_slice-entries.result.now (c.args.number - 1) c.get.result
+    c.get.ensures.lookup.0)

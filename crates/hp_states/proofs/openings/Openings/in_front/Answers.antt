@@ -1,11 +1,11 @@
 -- The list has the number of an entry that is found, or of one that is added.
 use Rattle.std.proofs.Common.{◌∷◌, ◌++◌, ◌<◌, ◌+◌, [], List, length, ap, subst, sym, ◌∙◌, arith}
-use Rattle.hp_schedules.specs.Numbers.{KeepNumbers, StandOnEarlier}
+use Rattle.hp_states.specs.Interned.{KeepNumbers, StandOnEarlier}
 use Rattle.hp_states.specs.Numbered.{IsInFront, entry_below, in_front, openings_of}
 use Rattle.hp_schedules.specs.Openings.{NumberedOpening}
 use Rattle.hp_states.specs.declared.openings.Entry.{Entry}
 use Rattle.hp_states.proofs.Numbered.{front_added}
-use Rattle.hp_schedules.proofs.Numberings.{keep_added, stand_added}
+use Rattle.hp_states.proofs.Numberings.{keep_added, stand_added}
 use Rattle.hp_states.proofs.openings.Openings.in_front.Goals as goal
 
 pub invariant_of-self : goal.invariant_of-self
