@@ -177,7 +177,8 @@ on_operation cpus cpu earlier source front between event e w receipts f opens wo
     by_none (count_by (line_begins cpu) (drop (source + 1) earlier) == 0) refl
   where
     by_none : (b : Bool) → (count_by (line_begins cpu) (drop (source + 1) earlier) == 0) ≡ b
-        → work_of (known_of receipts) (if b then Latest w else Nth (count_by (line_begins cpu) (take source earlier)) w)
+        → work_of (known_of receipts) (if b then Latest w
+        else Nth (count_by (line_begins cpu) (take source earlier)) w)
         ≡ event_on f.first.own event
     by_none true is =
         ap (λ (op : ℕ). step_work_of op w)
@@ -191,7 +192,8 @@ on_frame : (cpus cpu : ℕ) (earlier : List Line) (source : ℕ) (front between 
     (works e : Event) (receipts : List Receipt) (f : IsFound cpus front between e receipts)
     → takes_frame e ≡ true → is_free works ≡ true
     → count_by step_allocs front ≡ count_by (line_allocs cpu) (take source earlier)
-    → work_of (known_of receipts) (Free (count_by (line_allocs cpu) (take source earlier))) ≡ event_on f.first.own works
+    → work_of (known_of receipts) (Free (count_by (line_allocs cpu) (take source earlier)))
+    ≡ event_on f.first.own works
 on_frame cpus cpu earlier source front between works e receipts f takes frees many =
     ap (λ (n : ℕ). event.KernelFree (get_or (frames_of receipts) n no_frame)) (sym many)
     ∙ (ap (λ (frame : ℕ). event.KernelFree frame) (f.taken takes) ∙ on_free works f.first.own frees)

@@ -36,13 +36,15 @@ no_result : (cpu : ℕ) (earlier : List Line) (source : ℕ) (line : Line) (e : 
 no_result cpu earlier source line e work free = by_open (line_opens cpu line)
   where
     by_alloc : (b : Bool)
-        → (if b && is_free e then Some (Free (count_by (line_allocs cpu) (take source earlier))) else None) ≡ None
+        → (if b && is_free e then Some (Free (count_by (line_allocs cpu) (take source earlier)))
+        else None) ≡ None
     by_alloc true = rw free refl
     by_alloc false = refl
 
     by_open : (b : Bool)
         → (if b then option_map (on_begun cpu earlier source) (work_in e)
-        else (if line_allocs cpu line && is_free e then Some (Free (count_by (line_allocs cpu) (take source earlier)))
+        else (if line_allocs cpu line && is_free e
+        then Some (Free (count_by (line_allocs cpu) (take source earlier)))
         else None)) ≡ None
     by_open true = rw work refl
     by_open false = by_alloc (line_allocs cpu line)
@@ -65,7 +67,8 @@ own_step op begun w = if begun then Own (Latest w) else Ask (step_work_of op w)
 
 -- a line that begins an operation or asks for a block is that step
 abbrev pub Plainly : Event → Type 0
-Plainly e = (work_in e ≡ None) × (is_free e ≡ false) × ((op : ℕ) (begun : Bool) → event_step op begun None e ≡ Ask e)
+Plainly e =
+    (work_in e ≡ None) × (is_free e ≡ false) × ((op : ℕ) (begun : Bool) → event_step op begun None e ≡ Ask e)
 
 pub opening_plainly : (e : Event) → is_opening (mark_of e) ≡ true → Plainly e
 opening_plainly (event.Begin plan) is = (refl, refl, λ op begun. refl)
