@@ -1,7 +1,7 @@
 -- Each reply is read in turn.
 use Rattle.std.proofs.Common.{◌≡◌, ℕ, ◌+◌, ◌<◌, List, [], ◌∷◌, ◌++◌, Option, arith, get_or, length, refl, ap, subst, sym, take, ◌∙◌}
 use Rattle.std.specs.Option.{option_to_list}
-use Rattle.std.proofs.lemmas.List.{append-nil}
+use Rattle.std.proofs.lemmas.List.{append-nil, take_all}
 use Rattle.std.proofs.lemmas.Option.{slice_get_read}
 use Rattle.hp_laws.proofs.Replays.{take_one}
 use Rattle.hp_units.specs.declared.replies.OpEnd.{OpEnd}
@@ -108,4 +108,11 @@ loop-reply-preserved c =
 
 -- the script is the only one
 pub returns : goal.returns
-returns c = ?
+returns c =
+    let cpus = c.args.cpus in
+    let replies = c.args.replies.now in
+    c.loop-reply.invariant.ends_are
+    ∙ (ap (λ (scripts : List (List Step)). plan_ends cpus (get_or scripts 0 [])
+    (take c.loop-reply.reply-index replies)) c.from_ref-scripts.ensures.value
+    ∙ ap (λ (rs : List Reply). plan_ends cpus c.args.script.now rs)
+    (take_all c.loop-reply.reply-index replies c.loop-reply-test.false))
