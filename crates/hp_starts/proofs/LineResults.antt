@@ -27,7 +27,7 @@ use Rattle.hp_schedules.proofs.Asked.{lines_here}
 use Rattle.hp_schedules.proofs.Placed.{asked_is}
 use Rattle.hp_starts.specs.Begins.{asked_begins, last_begun, line_begins}
 use Rattle.hp_starts.specs.NamedResults.{AreOfLinesBefore, IsCallOf, event_on, steps_before}
-use Rattle.hp_starts.specs.Results.{asked_allocs, asked_on, asked_opens, is_free, line_allocs, line_opens, named_at, on_begun, on_result, work_in}
+use Rattle.hp_starts.specs.Results.{asked_allocs, asked_on, asked_opens, is_free, line_allocs, line_opens, named_at, on_begun, work_in}
 use Rattle.hp_starts.specs.Scripts.{script_of, steps_in, steps_of}
 use Rattle.hp_starts.specs.declared.begins.Begin.{Begin}
 use Rattle.hp_starts.proofs.StepCounts.{AreCalled, next_past, step_allocs, step_begins}
@@ -40,7 +40,7 @@ use Rattle.hp_starts.proofs.LineSteps.{Plainly, alloc_plainly, allocs_lines, beg
 record Sourced (cpu : ℕ) (lines : List Line) (place source : ℕ) (e : Event) (own : OwnWork) : Type 0 where
   first : Line
   there : slice_get (take place lines) source ≡ Some first
-  works : on_result cpu (take place lines) source first e ≡ Some own
+  works : asked_on cpu (take place lines) source first (asks.event e) ≡ Some own
 
 sourced : (cpu : ℕ) (lines : List Line) (sources : List (Option ℕ)) (place source : ℕ) (e : Event)
     (own : OwnWork) → slice_get sources place ≡ Some (Some source)

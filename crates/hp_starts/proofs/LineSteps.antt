@@ -19,7 +19,7 @@ use Rattle.hp_schedules.specs.declared.scripts.Step.TheVariants.{Ask, Own, Carry
 use Rattle.hp_schedules.specs.declared.scripts.StepWork.{StepWork}
 use Rattle.hp_schedules.specs.declared.scripts.StepWork.TheVariants.{DrainFor, Migrate, Commit, Cancel}
 use Rattle.hp_starts.specs.Begins.{asked_begins, line_begins}
-use Rattle.hp_starts.specs.Results.{asked_allocs, asked_on, is_free, line_allocs, line_opens, named_at, on_begun, on_result, work_in}
+use Rattle.hp_starts.specs.Results.{asked_allocs, asked_on, is_free, line_allocs, line_opens, named_at, on_begun, work_in}
 use Rattle.hp_starts.specs.Scripts.{event_step, explored, own_work, step_for, steps_in, steps_of}
 use Rattle.hp_starts.specs.declared.begins.Begin.{Begin}
 use Rattle.hp_starts.proofs.StepCounts.{counted_first, step_allocs, step_begins}
@@ -32,7 +32,7 @@ none_anyway f None none = refl
 none_anyway f (Some x) none = none x
 
 no_result : (cpu : ℕ) (earlier : List Line) (source : ℕ) (line : Line) (e : Event) → work_in e ≡ None
-    → is_free e ≡ false → on_result cpu earlier source line e ≡ None
+    → is_free e ≡ false → asked_on cpu earlier source line (asks.event e) ≡ None
 no_result cpu earlier source line e work free = by_open (line_opens cpu line)
   where
     by_alloc : (b : Bool)

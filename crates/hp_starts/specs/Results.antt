@@ -60,18 +60,15 @@ on_begun cpu earlier place w =
     if count_by (line_begins cpu) (drop (place + 1) earlier) == 0 then Latest w
     else Nth (count_by (line_begins cpu) (take place earlier)) w
 
--- what an event does with the result of the line at `place`, which is `line`: work on the operation
+-- what a line's event does with the result of the line at `place`, which is `line`: work on the operation
 -- that it began, or a free of the frame that it got. The frame's number is how many blocks the script
--- asked for before it. `None` if that line has no such result
-abbrev pub on_result : (cpu : ℕ) → (earlier : List Line) → (place : ℕ) → Line → Event → Option OwnWork
-on_result cpu earlier place line e =
+-- asked for before it. `None` if that line has no such result, and for a line that is no event
+abbrev pub asked_on : (cpu : ℕ) → (earlier : List Line) → (place : ℕ) → Line → asks.Meaning → Option OwnWork
+asked_on cpu earlier place line (asks.event e) =
     if line_opens cpu line then option_map (on_begun cpu earlier place) (work_in e)
     else
     (if line_allocs cpu line && is_free e
     then Some (Free (count_by (line_allocs cpu) (take place earlier))) else None)
-
-abbrev pub asked_on : (cpu : ℕ) → (earlier : List Line) → (place : ℕ) → Line → asks.Meaning → Option OwnWork
-asked_on cpu earlier place line (asks.event e) = on_result cpu earlier place line e
 asked_on cpu earlier place line m = None
 
 -- the work of the line at `place` on the result of its source. `None` if it has no source, or if the

@@ -2,10 +2,11 @@
 ghost use Rattle.std.specs.Prelude.{◌≡◌, ◌<◌, IfOk, drop, length, option_and_then, slice_get};
 ghost use Rattle.std.specs.List.{count_by};
 ghost use Rattle.std.specs.Option.{option_flatten};
+ghost use Rattle.hp_scenario.specs.Asked as asks;
 ghost use Rattle.hp_scenario.specs.Asked.{asked_by};
 ghost use Rattle.hp_schedules.specs.Scripts.{takes_frame};
 ghost use Rattle.hp_starts.specs.Begins.{line_begins};
-ghost use Rattle.hp_starts.specs.Results.{asked_allocs, asked_on, asked_opens, is_free, line_allocs, line_opens, named_at, on_begun, on_result, source_after, sources_after, work_in};
+ghost use Rattle.hp_starts.specs.Results.{asked_allocs, asked_on, asked_opens, is_free, line_allocs, line_opens, named_at, on_begun, source_after, sources_after, work_in};
 
 use crate::begins::line_begins;
 use crate::starts::rest_of;
@@ -113,7 +114,8 @@ fn on_result(
     event: &Event,
 ) -> Result<Option<OwnWork>, AllocError>
     requires { place < length earlier.now }
-    ensures { IfOk result (λ named. named ≡ on_result cpu earlier.now place line.now event.now) }
+    ensures { IfOk result (λ named.
+        named ≡ asked_on cpu earlier.now place line.now (asks.event event.now)) }
 {
     if line_opens(cpu, line) {
         return match work_in(event) {
