@@ -64,7 +64,7 @@ fn replies_of(all: &[Replies], index: usize) -> &[Reply]
 
 /// Returns how the plans of a script ended, given the replies to its calls.
 ///
-/// Runs the script again without a machine, as the only one: each call gets the next of the replies.
+/// Runs the script again, alone and without a machine: each call gets the next of the replies.
 fn plan_ends(
     alloc: Global,
     cpus: u32,
