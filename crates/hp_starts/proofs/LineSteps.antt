@@ -21,7 +21,6 @@ use Rattle.hp_schedules.specs.declared.scripts.StepWork.TheVariants.{DrainFor, M
 use Rattle.hp_starts.specs.Begins.{asked_begins, line_begins}
 use Rattle.hp_starts.specs.Results.{asked_allocs, asked_on, is_free, line_allocs, line_opens, named_at, on_begun, work_in}
 use Rattle.hp_starts.specs.Scripts.{event_step, explored, own_work, step_for, steps_in, steps_of}
-use Rattle.hp_starts.specs.declared.begins.Begin.{Begin}
 use Rattle.hp_starts.proofs.StepCounts.{counted_first, step_allocs, step_begins}
 
 -- ---- which work a line may do on a result
@@ -218,7 +217,7 @@ steps_counted q s m c cpu op begun lines sources place (line ∷ left) =
 
 -- ---- the steps of lines, and of further ones
 
-abbrev begun_after : (cpu : ℕ) → Bool → List Line → Bool
+abbrev pub begun_after : (cpu : ℕ) → Bool → List Line → Bool
 begun_after cpu begun [] = begun
 begun_after cpu begun (line ∷ lines) = begun_after cpu (begun || line_begins cpu line) lines
 

@@ -14,7 +14,7 @@ use Rattle.hp_units.specs.declared.replies.Refusal.TheVariants.{NoFrame, Nothing
 use Rattle.hp_units.specs.declared.replies.Reply.{Reply}
 use Rattle.hp_units.specs.declared.replies.Reply.TheVariants.{Done, Moved, Opened, Refused}
 use Rattle.hp_ops.proofs.Receipts.{next_push}
-use Rattle.hp_schedules.specs.Scripts.{Known, after_line, after_lines, line_next, next_in, nothing_known, once, takes_frame, work_of}
+use Rattle.hp_schedules.specs.Scripts.{Known, after_line, after_lines, line_next, next_in, nothing_known, takes_frame, work_of}
 use Rattle.hp_schedules.specs.declared.scripts.OwnWork.{OwnWork}
 use Rattle.hp_schedules.specs.declared.scripts.OwnWork.TheVariants.{Latest, Nth, Free}
 use Rattle.hp_schedules.specs.declared.scripts.Step.{Step}

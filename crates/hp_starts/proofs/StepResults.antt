@@ -6,7 +6,7 @@ use Rattle.std.proofs.lemmas.Option.{none-some, same_Some}
 use Rattle.hp_units.specs.Marks.{is_opening, mark_of}
 use Rattle.hp_units.specs.declared.events.Event.{Event}
 use Rattle.hp_units.specs.declared.replies.Receipt.{Receipt}
-use Rattle.hp_schedules.specs.Scripts.{after_line, after_lines, frame_in, frames_of, later_operation, no_frame, nothing_known, once, operations_of, own_operation, takes_frame}
+use Rattle.hp_schedules.specs.Scripts.{after_line, after_lines, frame_in, frames_of, later_operation, no_frame, nothing_known, operations_of, own_operation, takes_frame}
 use Rattle.hp_schedules.specs.declared.scripts.Step.{Step}
 use Rattle.hp_schedules.specs.declared.scripts.Step.TheVariants.{Ask}
 use Rattle.hp_schedules.proofs.AfterLines.{after_parts, first_then, lines_before, lines_parts}
