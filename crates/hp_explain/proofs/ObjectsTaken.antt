@@ -183,7 +183,8 @@ filled_more {A} scripts old cpu seen observed new d one after script same within
 
 -- all lines are taken
 pub taken_all : {A E : Type 0} (items : A → List (List ObservedLine)) (rest : List (Bor (List ℕ)))
-    (i count : ℕ) (seen : List (List ObservedLine)) (r : Result A E) → length rest ≤ i → AreTakenUpTo rest i count seen
+    (i count : ℕ) (seen : List (List ObservedLine)) (r : Result A E)
+    → length rest ≤ i → AreTakenUpTo rest i count seen
     → IfOk r (λ observed. items observed ≡ map filled seen)
     → IfOk r (λ observed. AreSeen (map (λ x. x.now) rest) (items observed))
 taken_all items rest i count seen (Err e) all so_far made = tt

@@ -30,7 +30,8 @@ none_answered : (g : Setting) (cpu : ℕ) → answers_at g cpu [] ≡ []
 unfolding answers_at
 none_answered g cpu = by_script (slice_get g.scripts cpu)
   where
-    by_script : (o : Option (List Step)) → option_map_or (λ lines. answers_in g.layout.cpus lines []) o [] ≡ []
+    by_script : (o : Option (List Step))
+        → option_map_or (λ lines. answers_in g.layout.cpus lines []) o [] ≡ []
     by_script None = refl
     by_script (Some lines) = none_begun g.layout.cpus lines
 

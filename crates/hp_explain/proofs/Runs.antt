@@ -35,7 +35,8 @@ there seen cpu line one is = by_script (slice_get seen cpu) refl
     by_script : (o : Option (List ObservedLine)) → slice_get seen cpu ≡ o → IsThere seen cpu line one
     by_script None here =
         absurd (none-some one
-        (sym (ap (λ (o : Option (List ObservedLine)). option_and_then (λ xs. slice_get xs line) o) here) ∙ is))
+        (sym (ap (λ (o : Option (List ObservedLine)). option_and_then (λ xs. slice_get xs line) o)
+        here) ∙ is))
     by_script (Some lines) here =
         record { lines = lines; here = here; at = sym (line_of seen cpu line lines here) ∙ is }
 
@@ -46,7 +47,8 @@ pub run_some : (g : Setting) (seen : List (List ObservedLine)) (news : List Reco
 run_some g seen news cpu one is = (
   λ all lines other here at.
       subst (λ (x : ObservedLine). AreAllOverBefore g seen news x.from)
-      (same_Some one other (sym is ∙ (line_of seen cpu (length (answers_at g cpu news)) lines here ∙ at))) all,
+      (same_Some one other
+      (sym is ∙ (line_of seen cpu (length (answers_at g cpu news)) lines here ∙ at))) all,
   λ runs.
       let place = there seen cpu (length (answers_at g cpu news)) one is in
       runs place.lines one place.here place.at,

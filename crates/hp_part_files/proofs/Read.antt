@@ -281,5 +281,6 @@ pub unsummed_in : (input : List ℕ) (h : HeadValue) (p : Prepared) (fault : Par
     → IsPrepared h.search.scenario h.search.setup p
     → IsUntoldSum input (names_of p) (setting_of p) h.search fault → IsUnsummedIn input h fault
 unsummed_in input h p fault ready untold =
-    inr (held_in (λ names before g. IsUntoldSum input names g h.search fault) h.search.scenario h.search.setup p
+    inr (held_in (λ names before g. IsUntoldSum input names g h.search fault)
+    h.search.scenario h.search.setup p
     ready untold)

@@ -62,7 +62,8 @@ fn part_on<W: Watch>(
 ) -> Result<SearchText, ExploreFault>
     requires { length prepared.now.start.scripts.items < 2 ^ 32 }
     ensures ok { IfOk result (λ f. IsPartOn number prepared.now.setup scenario.now limit
-        (W.has_ended watch.new) (string_bytes f.text) f.is_found (names_of prepared.now) (setting_of prepared.now)) }
+        (W.has_ended watch.new) (string_bytes f.text) f.is_found
+        (names_of prepared.now) (setting_of prepared.now)) }
     ensures err { IfErr result (IsPartCause number limit (setting_of prepared.now)) }
 {
     let machine = &prepared.start.machine;

@@ -177,7 +177,8 @@ end_bare own =
 
 -- ---- lines
 
-step_bare : (op other : ℕ) (work : StepWork) → erased (step_work_of op work) ≡ erased (step_work_of other work)
+step_bare : (op other : ℕ) (work : StepWork)
+    → erased (step_work_of op work) ≡ erased (step_work_of other work)
 step_bare op other (Drains cpu) = refl
 step_bare op other Migrates = refl
 step_bare op other Commits = refl
@@ -235,7 +236,8 @@ after_bare cpus line earlier (r ∷ rs) =
         (sym (ap (option_map erased) some) ∙ line_bare cpus nothing_known line earlier) in
         ap (option_map (map bare)) (goes_on cpus nothing_known line earlier r rs e some)
         ∙ (later
-        ∙ (ap (λ (xs : List Receipt). after_line cpus nothing_known line xs (map bare rs)) (map-append bare earlier (r ∷ []))
+        ∙ (ap (λ (xs : List Receipt). after_line cpus nothing_known line xs (map bare rs))
+        (map-append bare earlier (r ∷ []))
         ∙ sym (goes_on cpus nothing_known line (map bare earlier) (bare r) (map bare rs) other.0 other.1)))
 
 -- what the lines call next
@@ -247,7 +249,8 @@ next_bare cpus known (line ∷ lines) receipts =
     by_left (after_line cpus nothing_known line [] receipts) refl (λ rest. next_bare cpus known lines rest)
   where
     by : Known → List Receipt → Option (List Receipt) → Option Event
-    by n rs o = option_map erased (option_map_or (λ rest. next_in cpus n lines rest) o (line_next cpus n line rs))
+    by n rs o =
+        option_map erased (option_map_or (λ rest. next_in cpus n lines rest) o (line_next cpus n line rs))
 
     by_left : (o : Option (List Receipt)) → after_line cpus nothing_known line [] receipts ≡ o
         → ((rest : List Receipt) → option_map erased (next_in cpus known lines rest)
@@ -285,14 +288,16 @@ without_bare receipts rest =
     ∙ ap (λ (n : ℕ). length (map bare receipts) - n) (sym (length-map rest bare)))
 
 pub ends_bare : (cpus : ℕ) (lines : List Step) (receipts : List Receipt)
-    → ends_answered (answers_in cpus lines receipts) ≡ ends_answered (answers_in cpus lines (map bare receipts))
+    → ends_answered (answers_in cpus lines receipts)
+    ≡ ends_answered (answers_in cpus lines (map bare receipts))
 ends_bare cpus [] receipts = refl
 ends_bare cpus (line ∷ lines) receipts =
     by_left (after_line cpus nothing_known line [] receipts) refl (λ rest. ends_bare cpus lines rest)
   where
     by : List Receipt → Option (List Receipt) → List OpEnd
     by rs o =
-        ends_answered (option_map_or (λ rest. answer_of line (without rs rest) ∷ answers_in cpus lines rest) o [])
+        ends_answered
+        (option_map_or (λ rest. answer_of line (without rs rest) ∷ answers_in cpus lines rest) o [])
 
     by_left : (o : Option (List Receipt)) → after_line cpus nothing_known line [] receipts ≡ o
         → ((rest : List Receipt) → ends_answered (answers_in cpus lines rest)

@@ -67,7 +67,8 @@ one_or_none P false n is same =
 pub met_more : (cpus : ℕ) (scripts : List (List Step)) (wanted : List Wanted) (processors : ℕ)
     (news : List Record) (i : ℕ) (one : Wanted) (told : Bool) (n : ℕ) (old mid new : List ℕ)
     → slice_get wanted i ≡ Some one
-    → (met : List ℕ) × (mid ≡ old ++ met) × AreMet cpus scripts wanted processors news i met → new ≡ mid ++ n ∷ []
+    → (met : List ℕ) × (mid ≡ old ++ met) × AreMet cpus scripts wanted processors news i met
+    → new ≡ mid ++ n ∷ []
     → n ≡ bool_byte told → (IsTrue told ↔ HasLineSoFar cpus scripts processors news (line_of one))
     → (met : List ℕ) × (new ≡ old ++ met) × AreMet cpus scripts wanted processors news (i + 1) met
 met_more cpus scripts wanted processors news i one told n old mid new here so_far is n_is same = (
@@ -95,7 +96,8 @@ met_more cpus scripts wanted processors news i one told n old mid new here so_fa
         same_Some one other (sym here ∙ (ap (slice_get wanted) index ∙ at)) in (
           n,
           ap (slice_get (so_far.0 ++ n ∷ [])) (sym place) ∙ get_end so_far.0 n,
-          subst (λ (w : Wanted). (n ≡ 1) ↔ HasLineSoFar cpus scripts processors news (line_of w)) same_line last.0,
+          subst (λ (w : Wanted). (n ≡ 1) ↔ HasLineSoFar cpus scripts processors news (line_of w))
+              same_line last.0,
           last.1,
         )
 

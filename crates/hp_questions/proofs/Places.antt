@@ -20,5 +20,6 @@ and_false false c is = refl
 pub not_all : {A : Type 0} (p : A → Bool) (xs : List A) (k : ℕ) (x : A) → slice_get xs k ≡ Some x
     → p x ≡ false → list_all p xs ≡ false
 not_all p [] k x here fails = absurd cc
-not_all p (y ∷ xs) zero x here fails = ap (λ (b : Bool). b && list_all p xs) (ap p (same_Some y x here) ∙ fails)
+not_all p (y ∷ xs) zero x here fails =
+    ap (λ (b : Bool). b && list_all p xs) (ap p (same_Some y x here) ∙ fails)
 not_all p (y ∷ xs) (suc k) x here fails = and_false (p y) (list_all p xs) (not_all p xs k x here fails)

@@ -32,8 +32,11 @@ ends_at cpus scripts all cpu within =
 ends_are : (cpus : ℕ) (scripts : List (List Step)) (all : List (List Reply)) (cpu : ℕ) (ends : List OpEnd)
     → slice_get (all_plan_ends cpus scripts all) cpu ≡ Some ends
     → (cpu < length scripts) × (ends ≡ plan_ends_of cpus scripts all cpu)
-ends_are cpus scripts all cpu ends is =
-    (within, same_Some ends (plan_ends_of cpus scripts all cpu) (sym is ∙ ends_at cpus scripts all cpu within))
+ends_are cpus scripts all cpu ends is = (
+  within,
+  same_Some ends (plan_ends_of cpus scripts all cpu)
+      (sym is ∙ ends_at cpus scripts all cpu within),
+)
   where
     within : cpu < length scripts
     within =
@@ -112,7 +115,8 @@ own_kept p cpus scripts n h k more cpu ends on here has =
       plan_ends_of cpus scripts (replies_below n (k ++ more)) cpu,
       ends_at cpus scripts (replies_below n (k ++ more)) cpu is.0,
       subst (HasEnd p) (sym later.2)
-          (end_left p (plan_ends_of cpus scripts (replies_below n k) cpu) later.0 (subst (HasEnd p) is.1 has)),
+          (end_left p (plan_ends_of cpus scripts (replies_below n k) cpu) later.0
+          (subst (HasEnd p) is.1 has)),
     )
 
 pub plans_carried : (p : EndPattern) (cpus : ℕ) (scripts : List (List Step)) (n : ℕ) (h k more : List Record)

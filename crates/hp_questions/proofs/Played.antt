@@ -125,7 +125,8 @@ agrees_on g [] h end so_far is =
     (so_far cpu lines here)
 agrees_on g (c ∷ rest) h end so_far is =
     by_call (next_call g c h) refl
-    (λ e asked on. agrees_on g rest (h ++ record_of_call g h c e ∷ []) end (agrees_more g h c e asked so_far) on)
+    (λ e asked on. agrees_on g rest (h ++ record_of_call g h c e ∷ []) end
+    (agrees_more g h c e asked so_far) on)
   where
     by_call : (o : Option Event) → next_call g c h ≡ o
         → ((e : Event) → next_call g c h ≡ Some e

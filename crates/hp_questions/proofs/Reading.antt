@@ -162,7 +162,8 @@ read_more cpus scripts cpu cursors later news replies ends new reply call event 
       at = λ g s c. on g news s c (a.at g s c) (asked g s c (a.at g s c));
       receipts =
           receipts_own news (called cpu event reply)
-          ∙ (ap (λ (rs : List Receipt). rs ++ receipt_of (called cpu event reply) ∷ []) a.receipts ∙ sym longer);
+          ∙ (ap (λ (rs : List Receipt). rs ++ receipt_of (called cpu event reply) ∷ []) a.receipts
+          ∙ sym longer);
       ends_are =
           new_is
           ∙ (ap (λ (xs : List OpEnd). xs ++ option_to_list (end_finished f))

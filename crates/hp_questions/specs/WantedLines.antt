@@ -144,9 +144,9 @@ end_of word args =
     else None)))
 
 -- the end after the space that follows a colon
-unfoldable pub said_end : List (List ℕ) → Option EndPattern
-said_end ([] ∷ word ∷ args) = end_of word args
-said_end _ = None
+unfoldable pub end_after_space : List (List ℕ) → Option EndPattern
+end_after_space ([] ∷ word ∷ args) = end_of word args
+end_after_space _ = None
 
 -- ---- memory blocks
 
@@ -194,9 +194,9 @@ line_of [] = None
 line_of (word ∷ args) = line_by word args
 
 -- the reply after the space that follows a colon
-unfoldable pub said_reply : List (List ℕ) → Option Pattern
-said_reply ([] ∷ word ∷ args) = reply_of word args
-said_reply _ = None
+unfoldable pub reply_after_space : List (List ℕ) → Option Pattern
+reply_after_space ([] ∷ word ∷ args) = reply_of word args
+reply_after_space _ = None
 
 -- the reply with this number, counted from 1
 unfoldable pub numbered_answer : (cpu number : List ℕ) → Pattern → Option EndLine
@@ -218,34 +218,34 @@ answer_by (cpu ∷ []) reply = option_map (λ c. Answer (Some c) reply) (number_
 answer_by (first ∷ cpu ∷ second ∷ number ∷ []) reply = named_answer first cpu second number reply
 answer_by _ reply = None
 
-unfoldable pub answer_of : (who said : List (List ℕ)) → Option EndLine
-answer_of who said = do
-  reply ← said_reply said
+unfoldable pub answer_of : (who words : List (List ℕ)) → Option EndLine
+answer_of who words = do
+  reply ← reply_after_space words
   answer_by who reply
 
 -- the end of a plan of this processor, or of any
-unfoldable pub plan_line : (cpu : Option ℕ) → (said : List (List ℕ)) → Option EndLine
-plan_line cpu said = option_map (λ end. Plan cpu end) (said_end said)
+unfoldable pub plan_line : (cpu : Option ℕ) → (words : List (List ℕ)) → Option EndLine
+plan_line cpu words = option_map (λ end. Plan cpu end) (end_after_space words)
 
 -- the processor, `plan` and its end, between colons
-unfoldable pub own_plan : (who mark said : List ℕ) → Option EndLine
-own_plan who mark said =
+unfoldable pub own_plan : (who mark end : List ℕ) → Option EndLine
+own_plan who mark end =
     if bytes_eq mark (codes " plan") then (do
       cpu ← number_of 32 who
-      plan_line (Some cpu) (words_of said))
+      plan_line (Some cpu) (words_of end))
     else None
 
 -- a line with one colon: `plan` and the end of one, or a processor and a reply to it
-unfoldable pub said_by : (who said : List ℕ) → Option EndLine
-said_by who said =
-    if bytes_eq who (codes "plan") then plan_line None (words_of said)
-    else answer_of (words_of who) (words_of said)
+unfoldable pub colon_line : (who rest : List ℕ) → Option EndLine
+colon_line who rest =
+    if bytes_eq who (codes "plan") then plan_line None (words_of rest)
+    else answer_of (words_of who) (words_of rest)
 
 -- a line from the parts between its colons
 unfoldable pub line_in : List (List ℕ) → Option EndLine
 line_in (line ∷ []) = line_of (words_of line)
-line_in (who ∷ said ∷ []) = said_by who said
-line_in (who ∷ mark ∷ said ∷ []) = own_plan who mark said
+line_in (who ∷ rest ∷ []) = colon_line who rest
+line_in (who ∷ mark ∷ end ∷ []) = own_plan who mark end
 line_in _ = None
 
 unfoldable pub end_line : List ℕ → Option EndLine

@@ -13,6 +13,7 @@
 //! specs/Limits and specs/WantedLines.
 #![tactic(auto)]
 
+mod block_words;
 mod laws;
 mod likeness;
 mod limits;
@@ -20,6 +21,7 @@ mod marks;
 mod plan_ends;
 mod plan_lines;
 mod plan_words;
+mod reply_words;
 mod wanted;
 mod wanted_lines;
 
@@ -29,5 +31,6 @@ pub use limits::first_past;
 pub use marks::{asks_no_plans, is_lost, push_marks};
 pub use plan_ends::{PlanEnds, all_plan_ends};
 pub use plan_lines::EndPattern;
+pub use reply_words::{refusal_pattern, reply_pattern};
 pub use wanted::{EndLine, Pattern, Wanted, are_met};
-pub use wanted_lines::{refusal_pattern, reply_pattern, wanted_line};
+pub use wanted_lines::wanted_line;

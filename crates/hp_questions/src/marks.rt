@@ -1,5 +1,5 @@
 //! Which wanted lines are met before a schedule is complete.
-ghost use Rattle.std.specs.Prelude.{◌≡◌, ◌↔◌, ◌<◌, ◌^◌, ◌++◌, ℕ, List, IfOk, IsTrue, None, OnOk, length, map, slice_get, true};
+ghost use Rattle.std.specs.Prelude.{◌≡◌, ◌↔◌, ◌++◌, ℕ, List, IfOk, IsTrue, None, OnOk, length, map, slice_get, true};
 ghost use Rattle.std.specs.List.{range_with_len};
 ghost use Rattle.hp_schedules.specs.declared.scripts.Step.{Step};
 ghost use Rattle.hp_schedules.specs.Outcomes.{replies_below, replies_to, told};
@@ -27,7 +27,6 @@ pub fn push_marks(
     records: &[Record],
     numbers: &mut Vec<u32>,
 ) -> Result<bool, AllocError>
-    requires { length scripts.now < 2 ^ 32 }
     ensures { IfOk result (λ fit. fit ≡ true → (marks : List ℕ)
         × (numbers.new.items ≡ numbers.old.items ++ marks)
         × AreMarks cpus scripts.now wanted.now processors records.now marks) }
@@ -94,7 +93,6 @@ fn push_met(
     records: &[Record],
     numbers: &mut Vec<u32>,
 ) -> Result<(), AllocError>
-    requires { length scripts.now < 2 ^ 32 }
     ensures { OnOk result ((met : List ℕ) × (numbers.new.items ≡ numbers.old.items ++ met)
         × AreMet cpus scripts.now wanted.now processors records.now (length wanted.now) met) }
 {
@@ -158,7 +156,6 @@ fn has_line_so_far(
     processors: u32,
     records: &[Record],
 ) -> Result<bool, AllocError>
-    requires { length scripts.now < 2 ^ 32 }
     ensures { IfOk result (λ has.
         IsTrue has ↔ HasLineSoFar cpus scripts.now processors records.now line.now) }
 {

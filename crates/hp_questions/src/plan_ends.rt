@@ -1,11 +1,12 @@
 //! How the plans of scripts ended.
-ghost use Rattle.std.specs.Prelude.{◌≡◌, ◌<◌, ◌^◌, [], IfOk, length, slice_index_or};
+ghost use Rattle.std.specs.Prelude.{◌≡◌, [], IfOk, slice_index_or};
 ghost use Rattle.hp_questions.specs.PlanEnds.{all_plan_ends, end_answered, end_finished, plan_ends};
 
 use hp_schedules::{CallScript, FinishedLine, LineAnswer, Positions, Replies};
 use hp_units::{Cpu, OpEnd, Record, Reply, Serial};
 use std::alloc::{AllocError, Global};
 use std::marker::Model;
+use std::slice;
 
 /// The ends of one processor's finished plans, in the order of its lines. A contract sees a list.
 #[derive(Drop)]
@@ -40,56 +41,54 @@ pub fn all_plan_ends(
     scripts: &[CallScript],
     all: &[Replies],
 ) -> Result<Vec<PlanEnds>, AllocError>
-    requires { length scripts.now < 2 ^ 32 }
     ensures { IfOk result (λ ends. ends.items ≡ all_plan_ends cpus scripts.now all.now) }
 {
     let mut ends = Vec::new(alloc);
-    for cpu in 0..scripts.len() as u32 {
+    for index in 0..scripts.len() {
         ends.reserve(1)?;
-        let own = plan_ends(alloc, cpus, scripts, cpu, replies_of(all, cpu))?;
+        let own = plan_ends(alloc, cpus, &scripts[index], replies_of(all, index))?;
         ends.push_reserved(own);
     }
     Ok(ends)
 }
 
-/// Returns the replies to a processor, or none if there are none for it.
-fn replies_of(all: &[Replies], cpu: u32) -> &[Reply]
-    ensures { result.now ≡ slice_index_or all.now cpu [] }
+/// Returns the replies to the calls of the script at `index`, or none if there are none for it.
+fn replies_of(all: &[Replies], index: usize) -> &[Reply]
+    ensures { result.now ≡ slice_index_or all.now index [] }
 {
-    match all.get(cpu as usize) {
+    match all.get(index) {
         Some(replies) => replies.as_slice(),
         None => &[],
     }
 }
 
-/// Returns how the plans of the processor ended, given the replies to it.
+/// Returns how the plans of a script ended, given the replies to its calls.
 ///
-/// Runs the script again without a machine: each call gets the next of the replies.
+/// Runs the script again, alone and without a machine: each call gets the next of the replies.
 fn plan_ends(
     alloc: Global,
     cpus: u32,
-    scripts: &[CallScript],
-    cpu: u32,
+    script: &CallScript,
     replies: &[Reply],
 ) -> Result<PlanEnds, AllocError>
-    requires { cpu < length scripts.now }
-    ensures { IfOk result (λ ends. ends ≡ plan_ends cpus (slice_index_or scripts.now cpu []) replies.now) }
+    ensures { IfOk result (λ ends. ends ≡ plan_ends cpus script.now replies.now) }
 {
+    let scripts = slice::from_ref(script);
     let mut positions = Positions::start(alloc, cpus, scripts)?;
     let mut calls = Vec::new(alloc);
     let mut ends = Vec::new(alloc);
     for reply in replies {
         calls.reserve(1)?;
-        let Some(call) = positions.request(alloc, cpus, scripts, calls.as_slice(), cpu)? else {
+        let Some(call) = positions.request(alloc, cpus, scripts, calls.as_slice(), 0)? else {
             continue;
         };
         let latest = Record {
             serial: Serial(0),
-            cpu: Cpu(cpu),
+            cpu: Cpu(0),
             event: call.event.copy(alloc)?,
             reply: *reply,
         };
-        positions.go_on(cpus, scripts, cpu, &call, &latest);
+        positions.go_on(cpus, scripts, 0, &call, &latest);
         if let Some(end) = end_of(&positions.answered(scripts, &latest)) {
             ends.push(end)?;
         }

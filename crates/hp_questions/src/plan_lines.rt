@@ -1,5 +1,5 @@
 //! Patterns for the ends of plans.
-ghost use Rattle.std.specs.Prelude.{◌≡◌, ◌↔◌, ◌<◌, ◌^◌, IfOk, IsTrue, None, length};
+ghost use Rattle.std.specs.Prelude.{◌≡◌, ◌↔◌, IfOk, IsTrue, None};
 ghost use Rattle.hp_questions.specs.PlanEnds.{all_plan_ends};
 ghost use Rattle.hp_questions.specs.PlanLines.{HasEnd, HasPlanEnd, IsCauseAsWanted, IsCancelledAs, IsEndAsWanted, IsRefusedAs};
 
@@ -52,7 +52,6 @@ impl EndPattern {
         all: &[Replies],
         cpu: Option<Cpu>,
     ) -> Result<bool, AllocError>
-        requires { length scripts.now < 2 ^ 32 }
         ensures { IfOk result (λ is. IsTrue is
             ↔ HasPlanEnd self.now (all_plan_ends cpus scripts.now all.now) cpu) }
     {

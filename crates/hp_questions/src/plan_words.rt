@@ -4,8 +4,9 @@ ghost use Rattle.hp_scenario.specs.Words.{words_of};
 ghost use Rattle.hp_questions.specs.WantedLines as says;
 
 use crate::plan_lines::EndPattern;
+use crate::reply_words::refusal_pattern;
 use crate::wanted::{EndLine, Pattern};
-use crate::wanted_lines::{refusal_pattern, split_words};
+use crate::wanted_lines::split_words;
 use hp_units::{Cpu, number32};
 use std::alloc::{AllocError, Global};
 
@@ -15,13 +16,13 @@ pub(crate) fn own_plan_line(
     alloc: Global,
     who: &str,
     mark: &str,
-    said: &str,
+    end: &str,
 ) -> Result<Option<EndLine>, AllocError>
-    ensures { IfOk result (λ line. line ≡ says.own_plan who.now mark.now said.now) }
+    ensures { IfOk result (λ line. line ≡ says.own_plan who.now mark.now end.now) }
 {
     match mark {
         " plan" => match number32(who) {
-            Some(cpu) => plan_line(alloc, Some(Cpu(cpu)), said),
+            Some(cpu) => plan_line(alloc, Some(Cpu(cpu)), end),
             None => Ok(None),
         },
         _ => Ok(None),
@@ -34,12 +35,12 @@ pub(crate) fn own_plan_line(
 pub(crate) fn plan_line(
     alloc: Global,
     cpu: Option<Cpu>,
-    said: &str,
+    end: &str,
 ) -> Result<Option<EndLine>, AllocError>
-    ensures { IfOk result (λ line. line ≡ says.plan_line cpu (words_of said.now)) }
+    ensures { IfOk result (λ line. line ≡ says.plan_line cpu (words_of end.now)) }
 {
     let mut words = Vec::new(alloc);
-    split_words(&mut words, said)?;
+    split_words(&mut words, end)?;
     Ok(plan_from(cpu, words.as_slice()))
 }
 
@@ -48,7 +49,7 @@ pub(crate) fn plan_line(
 fn plan_from(cpu: Option<Cpu>, words: &[&str]) -> Option<EndLine>
     ensures { result ≡ says.plan_line cpu (map (λ w. w.now) words.now) }
 {
-    match said_end(words) {
+    match end_after_space(words) {
         Some(end) => Some(EndLine::Plan { cpu, end }),
         None => None,
     }
@@ -56,9 +57,9 @@ fn plan_from(cpu: Option<Cpu>, words: &[&str]) -> Option<EndLine>
 
 /// Parses the end of a plan after a colon. The first word is empty, since a space follows the
 /// colon.
-#[tactic(auto, unfolding(crate::specs::WantedLines::said_end))]
-fn said_end(words: &[&str]) -> Option<EndPattern>
-    ensures { result ≡ says.said_end (map (λ w. w.now) words.now) }
+#[tactic(auto, unfolding(crate::specs::WantedLines::end_after_space))]
+fn end_after_space(words: &[&str]) -> Option<EndPattern>
+    ensures { result ≡ says.end_after_space (map (λ w. w.now) words.now) }
 {
     match words {
         [space, word, args @ ..] => {

@@ -1,5 +1,5 @@
 //! What is wanted of an end, and which ends meet it.
-ghost use Rattle.std.specs.Prelude.{◌≡◌, ◌↔◌, ◌<◌, ◌^◌, IfOk, IsTrue, None, Some, length, slice_get};
+ghost use Rattle.std.specs.Prelude.{◌≡◌, ◌↔◌, IfOk, IsTrue, None, Some, slice_get};
 ghost use Rattle.hp_questions.specs.Patterns.{IsAsWanted, IsKindOf, kind_of};
 ghost use Rattle.hp_questions.specs.Wanted.{HasAnswer, HasAnswerAt, HasLine, HasReply, HasReplyAt, IsMetBy, Meets};
 
@@ -131,7 +131,6 @@ impl EndLine {
         scripts: &[CallScript],
         outcome: &Outcome,
     ) -> Result<bool, AllocError>
-        requires { length scripts.now < 2 ^ 32 }
         ensures { IfOk result (λ is. IsTrue is ↔ HasLine cpus scripts.now outcome.now self.now) }
     {
         match self {
@@ -158,7 +157,6 @@ impl Wanted {
         scripts: &[CallScript],
         outcome: &Outcome,
     ) -> Result<bool, AllocError>
-        requires { length scripts.now < 2 ^ 32 }
         ensures { IfOk result (λ is. IsTrue is ↔ IsMetBy cpus scripts.now outcome.now self.now) }
     {
         match self {
@@ -179,7 +177,6 @@ pub fn are_met(
     scripts: &[CallScript],
     outcome: &Outcome,
 ) -> Result<bool, AllocError>
-    requires { length scripts.now < 2 ^ 32 }
     ensures { IfOk result (λ met. IsTrue met ↔ Meets cpus scripts.now wanted.now outcome.now) }
 {
     for index in 0..wanted.len() {

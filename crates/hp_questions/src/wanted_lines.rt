@@ -6,12 +6,11 @@ ghost use Rattle.hp_questions.specs.declared.wanted.Wanted.TheVariants.{Has, Lac
 ghost use Rattle.hp_scenario.specs.Words.{words_of};
 ghost use Rattle.hp_questions.specs.WantedLines as says;
 
+use crate::block_words::block_from;
 use crate::plan_words::{own_plan_line, plan_line};
+use crate::reply_words::reply_pattern;
 use crate::wanted::{EndLine, Pattern, Wanted};
-use hp_scenario::{only32, only64, zone_from};
-use hp_units::{
-    Block, Claim, Cpu, Frame, Refusal, Reply, Row, Serial, State, Zone, number32, number64,
-};
+use hp_units::{Cpu, number32, number64};
 use std::alloc::{AllocError, Global};
 
 /// Parses a line as `explore` prints it, or returns `None` if no end can have the text as a line.
@@ -84,20 +83,20 @@ fn line_in(alloc: Global, parts: &[&str]) -> Result<Option<EndLine>, AllocError>
 {
     match parts {
         [line] => lone_line(alloc, line),
-        [who, said] => said_line(alloc, who, said),
-        [who, mark, said] => own_plan_line(alloc, who, mark, said),
+        [who, rest] => colon_line(alloc, who, rest),
+        [who, mark, end] => own_plan_line(alloc, who, mark, end),
         _ => Ok(None),
     }
 }
 
 /// Parses a line with one colon: the end of any processor's plan, or a reply to one processor.
-#[tactic(auto, unfolding(crate::specs::WantedLines::said_by))]
-fn said_line(alloc: Global, who: &str, said: &str) -> Result<Option<EndLine>, AllocError>
-    ensures { IfOk result (λ line. line ≡ says.said_by who.now said.now) }
+#[tactic(auto, unfolding(crate::specs::WantedLines::colon_line))]
+fn colon_line(alloc: Global, who: &str, rest: &str) -> Result<Option<EndLine>, AllocError>
+    ensures { IfOk result (λ line. line ≡ says.colon_line who.now rest.now) }
 {
     match who {
-        "plan" => plan_line(alloc, None, said),
-        _ => answer_line(alloc, who, said),
+        "plan" => plan_line(alloc, None, rest),
+        _ => answer_line(alloc, who, rest),
     }
 }
 
@@ -111,13 +110,13 @@ fn lone_line(alloc: Global, text: &str) -> Result<Option<EndLine>, AllocError>
 }
 
 /// Parses what is before a colon, which names a processor, and the reply after it.
-fn answer_line(alloc: Global, who: &str, said: &str) -> Result<Option<EndLine>, AllocError>
-    ensures { IfOk result (λ line. line ≡ says.answer_of (words_of who.now) (words_of said.now)) }
+fn answer_line(alloc: Global, who: &str, rest: &str) -> Result<Option<EndLine>, AllocError>
+    ensures { IfOk result (λ line. line ≡ says.answer_of (words_of who.now) (words_of rest.now)) }
 {
     let mut words = Vec::new(alloc);
     split_words(&mut words, who)?;
     let mut reply = Vec::new(alloc);
-    split_words(&mut reply, said)?;
+    split_words(&mut reply, rest)?;
     Ok(answer_from(words.as_slice(), reply.as_slice()))
 }
 
@@ -154,19 +153,19 @@ fn any_answer(word: &str, args: &[&str]) -> Option<EndLine>
 
 /// Parses a reply to the processor that the words `who` name.
 #[tactic(auto, unfolding(crate::specs::WantedLines::answer_of))]
-fn answer_from(who: &[&str], said: &[&str]) -> Option<EndLine>
-    ensures { result ≡ says.answer_of (map (λ w. w.now) who.now) (map (λ w. w.now) said.now) }
+fn answer_from(who: &[&str], reply: &[&str]) -> Option<EndLine>
+    ensures { result ≡ says.answer_of (map (λ w. w.now) who.now) (map (λ w. w.now) reply.now) }
 {
-    match said_reply(said) {
+    match reply_after_space(reply) {
         Some(reply) => line_by_words(who, reply),
         None => None,
     }
 }
 
 /// Parses the reply after a colon. The first word is empty, since a space follows the colon.
-#[tactic(auto, unfolding(crate::specs::WantedLines::said_reply))]
-fn said_reply(words: &[&str]) -> Option<Pattern>
-    ensures { result ≡ says.said_reply (map (λ w. w.now) words.now) }
+#[tactic(auto, unfolding(crate::specs::WantedLines::reply_after_space))]
+fn reply_after_space(words: &[&str]) -> Option<Pattern>
+    ensures { result ≡ says.reply_after_space (map (λ w. w.now) words.now) }
 {
     match words {
         [space, word, args @ ..] => {
@@ -234,177 +233,5 @@ fn numbered_answer(cpu: &str, number: &str, reply: Pattern) -> Option<EndLine>
         cpu,
         earlier: number - 1,
         reply,
-    })
-}
-
-/// Parses a reply as `explore` prints it, such as `frame 4`, from its first word and the other
-/// words.
-#[tactic(auto, unfolding(crate::specs::WantedLines::reply_of))]
-pub fn reply_pattern(word: &str, args: &[&str]) -> Option<Pattern>
-    ensures { result ≡ says.reply_of word.now (map (λ w. w.now) args.now) }
-{
-    match word {
-        "done" => bare_reply(Reply::Done, args),
-        "restored" => bare_reply(Reply::Restored, args),
-        "released" => bare_reply(Reply::Released, args),
-        "frame" => Some(Pattern::Exactly(Reply::Frame(Frame(only32(args)?)))),
-        "word" => Some(Pattern::Exactly(Reply::Word(only64(args)?))),
-        "undone" => Some(Pattern::Exactly(Reply::Undone {
-            count: only64(args)?,
-        })),
-        "moved" => moved(args),
-        "opened" => opened(args),
-        "refused" => refusal_pattern(args),
-        _ => None,
-    }
-}
-
-/// Returns a pattern for exactly this reply, if there are no arguments.
-#[tactic(auto, unfolding(crate::specs::WantedLines::bare_reply))]
-fn bare_reply(reply: Reply, args: &[&str]) -> Option<Pattern>
-    ensures { result ≡ says.bare_reply reply (map (λ w. w.now) args.now) }
-{
-    match args {
-        [] => Some(Pattern::Exactly(reply)),
-        [_, ..] => None,
-    }
-}
-
-#[tactic(auto, unfolding(crate::specs::WantedLines::moved_reply))]
-fn moved(args: &[&str]) -> Option<Pattern>
-    ensures { result ≡ says.moved_reply (map (λ w. w.now) args.now) }
-{
-    let [from, to] = args else { return None };
-    let from = Frame(number32(from)?);
-    let to = Frame(number32(to)?);
-    Some(Pattern::Exactly(Reply::Moved { from, to }))
-}
-
-/// Parses the argument of `opened`, which must be 0: an end does not show the operation's number.
-#[tactic(auto, unfolding(crate::specs::WantedLines::opened_reply))]
-fn opened(args: &[&str]) -> Option<Pattern>
-    ensures { result ≡ says.opened_reply (map (λ w. w.now) args.now) }
-{
-    let op = only64(args)?;
-    if op == 0 {
-        Some(Pattern::Exactly(Reply::Opened { op: Serial(0) }))
-    } else {
-        None
-    }
-}
-
-/// Parses a refusal. A name alone matches every refusal of its kind.
-#[tactic(auto, unfolding(crate::specs::WantedLines::refusal_of))]
-pub fn refusal_pattern(args: &[&str]) -> Option<Pattern>
-    ensures { result ≡ says.refusal_of (map (λ w. w.now) args.now) }
-{
-    match args {
-        [name] => Some(Pattern::AnyOf(named_refusal(name)?)),
-        [name, number] => {
-            let number = number32(number)?;
-            let refusal = numbered_refusal(name, number)?;
-            Some(Pattern::Exactly(Reply::Refused(refusal)))
-        }
-        _ => None,
-    }
-}
-
-/// Returns the refusal with this name, with 0 for its frame or block.
-#[tactic(auto, unfolding(crate::specs::WantedLines::named_refusal))]
-fn named_refusal(name: &str) -> Option<Refusal>
-    ensures { result ≡ says.named_refusal name.now }
-{
-    match name {
-        "NoOwner" => Some(Refusal::NoOwner),
-        "NoPage" => Some(Refusal::NoPage),
-        "NoWord" => Some(Refusal::NoWord),
-        "AlreadyMapped" => Some(Refusal::AlreadyMapped),
-        "NotMapped" => Some(Refusal::NotMapped),
-        "BadOrder" => Some(Refusal::BadOrder),
-        "NoFrame" => Some(Refusal::NoFrame),
-        "NoSuchFrame" => Some(Refusal::NoSuchFrame),
-        "NotKernel" => Some(Refusal::NotKernel),
-        "NoCpu" => Some(Refusal::NoCpu),
-        "NoBlock" => Some(Refusal::NoBlock),
-        "EmptyPlan" => Some(Refusal::EmptyPlan),
-        "NoOp" => Some(Refusal::NoOp),
-        "NothingToMove" => Some(Refusal::NothingToMove),
-        "Gone" => Some(Refusal::Gone),
-        "BadAddress" => Some(Refusal::BadAddress),
-        _ => numbered_refusal(name, 0),
-    }
-}
-
-/// Returns the refusal with this name, for the frame or block with this number.
-#[tactic(auto, unfolding(crate::specs::WantedLines::numbered_refusal))]
-fn numbered_refusal(name: &str, number: u32) -> Option<Refusal>
-    ensures { result ≡ says.numbered_refusal name.now number }
-{
-    let block = Block(number);
-    let frame = Frame(number);
-    match name {
-        "Twice" => Some(Refusal::Twice { block }),
-        "Busy" => Some(Refusal::Busy { block }),
-        "NotOnline" => Some(Refusal::NotOnline { block }),
-        "NotOffline" => Some(Refusal::NotOffline { block }),
-        "Unmovable" => Some(Refusal::Unmovable { frame }),
-        "NotFree" => Some(Refusal::NotFree { frame }),
-        "NotAbsent" => Some(Refusal::NotAbsent { block }),
-        _ => None,
-    }
-}
-
-/// Parses a wanted memory block: its number and its final row.
-#[tactic(auto, unfolding(crate::specs::WantedLines::block_of))]
-fn block_from(args: &[&str]) -> Option<EndLine>
-    ensures { result ≡ says.block_of (map (λ w. w.now) args.now) }
-{
-    let [number, word, args @ ..] = args else {
-        return None;
-    };
-    let block = Block(number32(number)?);
-    let row = row_from(word, args)?;
-    Some(EndLine::Block { block, row })
-}
-
-/// Parses a memory block's row from its state and the other words.
-#[tactic(auto, unfolding(crate::specs::WantedLines::row_of))]
-fn row_from(word: &str, args: &[&str]) -> Option<Row>
-    ensures { result ≡ says.row_of word.now (map (λ w. w.now) args.now) }
-{
-    match word {
-        "offline" => bare_row(State::Offline, args),
-        "absent" => bare_row(State::Absent, args),
-        "online" => zone_row(State::Online, args),
-        "going" => zone_row(State::Going, args),
-        _ => None,
-    }
-}
-
-/// Returns the row of a block that is offline or absent.
-#[tactic(auto, unfolding(crate::specs::WantedLines::bare_row))]
-fn bare_row(state: State, args: &[&str]) -> Option<Row>
-    ensures { result ≡ says.bare_row state (map (λ w. w.now) args.now) }
-{
-    let zone: Option<Zone> = None;
-    let claim: Option<Claim> = None;
-    match args {
-        [] => Some(Row { state, zone, claim }),
-        [_, ..] => None,
-    }
-}
-
-/// Parses the row of a block that is online or going, which has a zone.
-#[tactic(auto, unfolding(crate::specs::WantedLines::zone_row))]
-fn zone_row(state: State, args: &[&str]) -> Option<Row>
-    ensures { result ≡ says.zone_row state (map (λ w. w.now) args.now) }
-{
-    let [word] = args else { return None };
-    let zone = zone_from(word)?;
-    let claim: Option<Claim> = None;
-    Some(Row {
-        state,
-        zone: Some(zone),
-        claim,
     })
 }

@@ -38,7 +38,8 @@ explored_told g limit ended x (Some known) whole few room first many stopped h =
 -- and they, or their groups, are told, where the scripts are those of a scenario that was made ready
 pub is_explored : (form : EndsForm) (by : Option GroupBy) (p : Prepared) (scripts : List (List Step))
     (limit : ℕ) (ended : Type 0) (x shown : Exploration) (text : List ℕ) (found : Bool) (cpus : ℕ)
-    → cpus ≡ p.start.machine.layout.cpus → scripts ≡ p.start.scripts.items → IfWhole x (AreEnds (setting p.start.machine scripts))
+    → cpus ≡ p.start.machine.layout.cpus → scripts ≡ p.start.scripts.items
+    → IfWhole x (AreEnds (setting p.start.machine scripts))
     → IfWhole x (λ _. HasMoreThan (IsComplete (setting p.start.machine scripts)) limit → ⊥)
     → IfWhole x (λ _. FillsHistory (setting p.start.machine scripts) → ⊥)
     → IfFirst x (λ ends. AreFirst (setting p.start.machine scripts) (counted ends) ends)
@@ -50,7 +51,8 @@ pub is_explored : (form : EndsForm) (by : Option GroupBy) (p : Prepared) (script
     → shown.is_whole ≡ x.is_whole
     → IsTold form (names_of p) (before_of p) (setting_of p) shown text found
     → IsExploredOn form by (names_of p) (before_of p) (setting_of p) limit ended text found
-is_explored form by p scripts limit ended x shown text found cpus all same whole few room first many stopped ordered
+is_explored form by p scripts limit ended x shown text found cpus all same whole few room first many stopped
+    ordered
     within grouped is_whole told =
     let more =
     subst (λ (w : Bool). IsMore (setting_of p).scripts w told.0) is_whole told.1 in
@@ -66,7 +68,8 @@ is_explored form by p scripts limit ended x shown text found cpus all same whole
       within = within;
       shown = shown.ends.items;
       grouped =
-          subst (λ (ss : List (List Step)). AreShown (option_map (grouping_of (setting p.start.machine ss)) by)
+          subst (λ (ss : List (List Step)).
+          AreShown (option_map (grouping_of (setting p.start.machine ss)) by)
           x.ends.items shown.ends.items) same
           (subst (λ (n : ℕ). AreShown (option_map (λ b. record { by = b; cpus = n; scripts = scripts }) by)
           x.ends.items shown.ends.items) all grouped);

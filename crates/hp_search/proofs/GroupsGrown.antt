@@ -22,7 +22,8 @@ none_adds : (by : GroupingValue) (x : OutcomeValue) (ends : List Ending)
 none_adds by x [] none = refl
 none_adds by x (e ∷ ends) none = inr (none 0 e refl, none_adds by x ends (λ k d h. none (suc k) d h))
 
-adds_more : (by : GroupingValue) (x : OutcomeValue) (ends : List Ending) (e : Ending) (n : ℕ) → AddUp by x ends n
+adds_more : (by : GroupingValue) (x : OutcomeValue) (ends : List Ending) (e : Ending) (n : ℕ)
+    → AddUp by x ends n
     → Agree by e.outcome x → AddUp by x (ends ++ e ∷ []) (n + e.count)
 adds_more by x [] e n nothing agrees = inl (0, agrees, omega (arith, nothing), refl)
 adds_more by x (d ∷ ends) e n h agrees =
@@ -36,7 +37,8 @@ adds_more by x (d ∷ ends) e n h agrees =
       | inr other ↦ inr (other.0, adds_more by x ends e n other.1 agrees)
     ]
 
-adds_other : (by : GroupingValue) (x : OutcomeValue) (ends : List Ending) (e : Ending) (n : ℕ) → AddUp by x ends n
+adds_other : (by : GroupingValue) (x : OutcomeValue) (ends : List Ending) (e : Ending) (n : ℕ)
+    → AddUp by x ends n
     → (Agree by e.outcome x → ⊥) → AddUp by x (ends ++ e ∷ []) n
 adds_other by x [] e n nothing differs = inr (differs, nothing)
 adds_other by x (d ∷ ends) e n h differs =
@@ -344,7 +346,10 @@ begun by ends groups e new ok begins =
 grown : (by : GroupingValue) (ends groups : List Ending) (e : Ending) (new : List Ending)
     → AreGroups by ends groups → AddsEnd by groups e new → AreGroups by (ends ++ e ∷ []) new
 grown by ends groups e new ok adds =
-    elim adds [ inl joins ↦ joined by ends groups e new ok joins | inr begins ↦ begun by ends groups e new ok begins ]
+    elim adds [
+      | inl joins ↦ joined by ends groups e new ok joins
+      | inr begins ↦ begun by ends groups e new ok begins
+    ]
 
 -- ---- groups of the ends so far
 
@@ -357,7 +362,8 @@ none_yet by = record {
   ordered = λ order i j f g less h k. absurd cc;
 }
 
-pub groups_more : (by : GroupingValue) (ends groups new : List Ending) (at : ℕ) (e : Ending) → at < length ends
+pub groups_more : (by : GroupingValue) (ends groups new : List Ending) (at : ℕ) (e : Ending)
+    → at < length ends
     → e ≡ get_or ends at e → AreGroups by (take at ends) groups → AddsEnd by groups e new
     → AreGroups by (take (at + 1) ends) new
 groups_more by ends groups new at e within here so_far adds =
@@ -365,7 +371,8 @@ groups_more by ends groups new at e within here so_far adds =
     (sym (take_more ends at e within ∙ ap (λ (f : Ending). take at ends ++ f ∷ []) (sym here)))
     (grown by (take at ends) groups e new so_far adds)
 
-pub groups_room : (by : GroupingValue) (ends groups : List Ending) (at bound : ℕ) (e : Ending) → at < length ends
+pub groups_room : (by : GroupingValue) (ends groups : List Ending) (at bound : ℕ) (e : Ending)
+    → at < length ends
     → e ≡ get_or ends at e → AreGroups by (take at ends) groups
     → sum_by (λ (f : Ending). f.count) ends < bound
     → sum_by (λ (f : Ending). f.count) groups + e.count < bound

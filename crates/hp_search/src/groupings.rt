@@ -1,5 +1,5 @@
 //! The part of an outcome by which ends are grouped.
-ghost use Rattle.std.specs.Prelude.{◌≡◌, ◌↔◌, ◌<◌, ◌^◌, IfOk, IsTrue, codes, fold, length, true};
+ghost use Rattle.std.specs.Prelude.{◌≡◌, ◌↔◌, IfOk, IsTrue, codes, fold, true};
 ghost use Rattle.hp_questions.specs.PlanEnds.{all_plan_ends};
 ghost use Rattle.hp_schedules.specs.Digests.{mixed};
 ghost use Rattle.hp_search.specs.Groups.{Agree, part_digest};
@@ -23,21 +23,17 @@ pub struct Grouping<'a> {
 }
 
 impl<'a> Model for Grouping<'a> {
-    ghost use Rattle.std.specs.Prelude.{◌<◌, ◌^◌, length};
     ghost use Rattle.hp_search.specs.Groups.{GroupingValue};
 
     ghost Value = { GroupingValue };
 
     ghost view = { λ g. record { by = g.by; cpus = g.cpus; scripts = g.scripts.now } };
-
-    ghost invariant = { λ g. length g.scripts.now < 2 ^ 32 };
 }
 
 impl<'a> Grouping<'a> {
     /// Creates a grouping by the part `by` of the outcomes of `scripts`, on a layout with `cpus`
     /// processors.
     pub fn new(by: GroupBy, cpus: u32, scripts: &'a [CallScript]) -> Grouping<'a>
-        requires { length scripts.now < 2 ^ 32 }
         ensures { result ≡ record { by = by; cpus = cpus; scripts = scripts.now } }
     {
         Grouping { by, cpus, scripts }

@@ -49,8 +49,7 @@ pub(crate) fn grouped(
     cpus: u32,
     scripts: &[CallScript],
 ) -> Result<Exploration, AllocError>
-    requires fits { sum_by (λ e. e.count) explored.ends.items < 2 ^ 64 }
-    requires few { length scripts.now < 2 ^ 32 }
+    requires { sum_by (λ e. e.count) explored.ends.items < 2 ^ 64 }
     ensures ends { IfOk result (λ shown.
         AreShown (option_map (λ b. record { by = b; cpus = cpus; scripts = scripts.now }) by)
         explored.ends.items shown.ends.items) }

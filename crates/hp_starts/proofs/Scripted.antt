@@ -11,9 +11,11 @@ use Rattle.hp_schedules.specs.Interleavings.{IsKnown, holds_no_plan, is_one_call
 use Rattle.hp_schedules.specs.Multinomials.{IsMultinomial, sum}
 use Rattle.hp_schedules.specs.declared.multinomials.HowMany.{HowMany}
 use Rattle.hp_schedules.specs.declared.multinomials.HowMany.TheVariants.{Exactly, MoreThanLimit, Unknown}
+use Rattle.hp_schedules.specs.Scripts.{step_work_of}
 use Rattle.hp_schedules.specs.declared.scripts.OwnWork.{OwnWork}
+use Rattle.hp_schedules.specs.declared.scripts.OwnWork.TheVariants.{Latest}
 use Rattle.hp_schedules.specs.declared.scripts.Step.{Step}
-use Rattle.hp_schedules.specs.declared.scripts.Step.TheVariants.{Ask}
+use Rattle.hp_schedules.specs.declared.scripts.Step.TheVariants.{Ask, Own}
 use Rattle.hp_schedules.specs.declared.scripts.StepWork as own
 use Rattle.hp_scenario.specs.Asked as asks
 use Rattle.hp_scenario.specs.declared.lines.Line.{Line}
@@ -21,7 +23,7 @@ use Rattle.hp_starts.specs.Begins.{last_begun, line_begins}
 use Rattle.hp_starts.specs.Checks.{AreFit, IsUnfit}
 use Rattle.hp_starts.specs.Counting.{AreKnownAs, AreScripts, IsKnownAfter}
 use Rattle.hp_starts.specs.Results.{named_at}
-use Rattle.hp_starts.specs.Scripts.{called, explored, named_or_called, own_step, own_work, script_of, scripts_of, step_for, steps_in, steps_of}
+use Rattle.hp_starts.specs.Scripts.{event_step, explored, own_work, script_of, scripts_of, step_for, steps_in, steps_of}
 use Rattle.hp_starts.specs.declared.begins.Begin.{Begin}
 use Rattle.hp_starts.specs.declared.start_fault.StartFault.{StartFault}
 use Rattle.hp_starts.specs.declared.start_fault.StartFault.TheVariants.{NotForScript, OutOfMemory}
@@ -32,11 +34,15 @@ shape steps = map is_one_call steps
 
 -- ---- one line
 
+-- work on operation 0
+abbrev own_step : (op : ℕ) → (begun : Bool) → own.StepWork → Step
+own_step op begun w = if begun then Own (Latest w) else Ask (step_work_of op w)
+
 own_one : (op : ℕ) (begun : Bool) (w : own.StepWork) → is_one_call (own_step op begun w) ≡ true
 own_one op true w = refl
 own_one op false w = refl
 
-called_one : (op : ℕ) (begun : Bool) (e : Event) → is_one_call (called op begun e) ≡ true
+called_one : (op : ℕ) (begun : Bool) (e : Event) → is_one_call (event_step op begun None e) ≡ true
 called_one op begun e = by_work (own_work e)
   where
     by_work : (o : Option own.StepWork) → is_one_call (option_map_or (own_step op begun) o (Ask e)) ≡ true
@@ -44,7 +50,7 @@ called_one op begun e = by_work (own_work e)
     by_work (Some w) = own_one op begun w
 
 step_one : (op : ℕ) (begun : Bool) (named : Option OwnWork) (e : Event)
-    → is_one_call (named_or_called op begun named e) ≡ true
+    → is_one_call (event_step op begun named e) ≡ true
 step_one op begun None e = called_one op begun e
 step_one op begun (Some w) e = refl
 

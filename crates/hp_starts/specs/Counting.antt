@@ -27,15 +27,13 @@ IsKnownAfter cpus setup lines limit None = AreScripts cpus setup lines → ⊥
 IsKnownAfter cpus setup lines limit (Some known) =
     AreScripts cpus setup lines × AreKnownAs cpus (drop setup lines) limit known
 
--- the line that reports the number
-abbrev pub known_text : (limit : ℕ) → HowMany → List ℕ
-known_text limit (Exactly count) = codes "interleavings: " ++ decimal count ++ newline
-known_text limit MoreThanLimit = codes "interleavings: more than " ++ decimal limit ++ newline
-known_text limit Unknown = codes "interleavings: not known: the calls of a plan are counted only by explore\n"
-
+-- the line that reports the number; empty if there is none
 abbrev pub told_text : (limit : ℕ) → Option HowMany → List ℕ
 told_text limit None = []
-told_text limit (Some known) = known_text limit known
+told_text limit (Some (Exactly count)) = codes "interleavings: " ++ decimal count ++ newline
+told_text limit (Some MoreThanLimit) = codes "interleavings: more than " ++ decimal limit ++ newline
+told_text limit (Some Unknown) =
+    codes "interleavings: not known: the calls of a plan are counted only by explore\n"
 
 abbrev pub IsCountTold : (cpus setup : ℕ) → List Line → (limit : ℕ) → (text : List ℕ) → Type 0
 IsCountTold cpus setup lines limit text =

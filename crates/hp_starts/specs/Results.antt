@@ -6,6 +6,7 @@ use Rattle.std.specs.Option.{option_flatten, option_map}
 use Rattle.hp_units.specs.Marks.{is_opening, mark_of}
 use Rattle.hp_units.specs.declared.events.Event.{Event}
 use Rattle.hp_units.specs.declared.events.Event.TheVariants as event
+use Rattle.hp_schedules.specs.Scripts.{takes_frame}
 use Rattle.hp_schedules.specs.declared.scripts.OwnWork.{OwnWork}
 use Rattle.hp_schedules.specs.declared.scripts.OwnWork.TheVariants.{Latest, Nth, Free}
 use Rattle.hp_schedules.specs.declared.scripts.StepWork.{StepWork}
@@ -24,11 +25,6 @@ work_in (event.Commit op) = Some Commit
 work_in (event.Cancel op) = Some Cancel
 work_in e = None
 
--- an event asks for a block for the kernel
-abbrev pub is_alloc : Event → Bool
-is_alloc (event.KernelAlloc order) = true
-is_alloc e = false
-
 -- an event gives a kernel block back
 abbrev pub is_free : Event → Bool
 is_free (event.KernelFree frame) = true
@@ -43,7 +39,7 @@ asked_opens m = false
 
 -- a line's work asks for a block
 abbrev pub asked_allocs : asks.Meaning → Bool
-asked_allocs (asks.event e) = is_alloc e
+asked_allocs (asks.event e) = takes_frame e
 asked_allocs m = false
 
 -- a line is the processor's, and its work is a Begin
@@ -54,34 +50,25 @@ line_opens cpu line = (line.cpu == cpu) && asked_opens (asks.asked_by line.work)
 abbrev pub line_allocs : (cpu : ℕ) → Line → Bool
 line_allocs cpu line = (line.cpu == cpu) && asked_allocs (asks.asked_by line.work)
 
--- how many operations a processor begins in lines, by a Begin or a plan
-abbrev pub begun_in : (cpu : ℕ) → List Line → ℕ
-begun_in cpu lines = count_by (line_begins cpu) lines
-
--- how many blocks a processor asks for in lines
-abbrev pub allocs_in : (cpu : ℕ) → List Line → ℕ
-allocs_in cpu lines = count_by (line_allocs cpu) lines
-
 -- ---- work on a result
 
 -- work on the operation that the line at `place` began. It is the processor's latest one if no line
--- since then begins another. Otherwise its number is how many the script began before it
+-- since then begins another, by a Begin or a plan. Otherwise its number is how many the script began
+-- before it
 abbrev pub on_begun : (cpu : ℕ) → (earlier : List Line) → (place : ℕ) → StepWork → OwnWork
 on_begun cpu earlier place w =
-    if begun_in cpu (drop (place + 1) earlier) == 0 then Latest w
-    else Nth (begun_in cpu (take place earlier)) w
+    if count_by (line_begins cpu) (drop (place + 1) earlier) == 0 then Latest w
+    else Nth (count_by (line_begins cpu) (take place earlier)) w
 
--- what an event does with the result of the line at `place`, which is `line`: work on the operation
--- that it began, or a free of the frame that it got. `None` if that line has no such result
-abbrev pub on_result : (cpu : ℕ) → (earlier : List Line) → (place : ℕ) → Line → Event → Option OwnWork
-on_result cpu earlier place line e =
+-- what a line's event does with the result of the line at `place`, which is `line`: work on the operation
+-- that it began, or a free of the frame that it got. The frame's number is how many blocks the script
+-- asked for before it. `None` if that line has no such result, and for a line that is no event
+abbrev pub asked_on : (cpu : ℕ) → (earlier : List Line) → (place : ℕ) → Line → asks.Meaning → Option OwnWork
+asked_on cpu earlier place line (asks.event e) =
     if line_opens cpu line then option_map (on_begun cpu earlier place) (work_in e)
     else
-    (if line_allocs cpu line && is_free e then Some (Free (allocs_in cpu (take place earlier)))
-    else None)
-
-abbrev pub asked_on : (cpu : ℕ) → (earlier : List Line) → (place : ℕ) → Line → asks.Meaning → Option OwnWork
-asked_on cpu earlier place line (asks.event e) = on_result cpu earlier place line e
+    (if line_allocs cpu line && is_free e
+    then Some (Free (count_by (line_allocs cpu) (take place earlier))) else None)
 asked_on cpu earlier place line m = None
 
 -- the work of the line at `place` on the result of its source. `None` if it has no source, or if the

@@ -19,32 +19,24 @@ use Rattle.hp_starts.specs.declared.begins.Begin.{Begin}
 
 -- the work of an event on operation 0, which in a script is the operation that its processor began
 -- last; `None` for any other operation
-abbrev pub own_if_last : (op : ℕ) → own.StepWork → Option own.StepWork
-own_if_last op w = if op == 0 then Some w else None
-
 abbrev pub own_work : Event → Option own.StepWork
-own_work (event.DrainFor op cpu) = own_if_last op (DrainFor cpu)
-own_work (event.Migrate op) = own_if_last op Migrate
-own_work (event.Commit op) = own_if_last op Commit
-own_work (event.Cancel op) = own_if_last op Cancel
+own_work (event.DrainFor op cpu) = if op == 0 then Some (DrainFor cpu) else None
+own_work (event.Migrate op) = if op == 0 then Some Migrate else None
+own_work (event.Commit op) = if op == 0 then Some Commit else None
+own_work (event.Cancel op) = if op == 0 then Some Cancel else None
 own_work e = None
 
--- work on the operation that the processor began last: `op`, unless its script has begun one
-abbrev pub own_step : (op : ℕ) → (begun : Bool) → own.StepWork → step.Step
-own_step op begun w = if begun then Own (Latest w) else Ask (step_work_of op w)
-
--- an event as a step of a script
-abbrev pub called : (op : ℕ) → (begun : Bool) → Event → step.Step
-called op begun e = option_map_or (own_step op begun) (own_work e) (Ask e)
-
--- an event as a step. If the event works on the result of an earlier line, `named` is this work
-abbrev pub named_or_called : (op : ℕ) → (begun : Bool) → (named : Option OwnWork) → Event → step.Step
-named_or_called op begun None e = called op begun e
-named_or_called op begun (Some w) e = Own w
+-- an event as a step of a script. If it works on the result of an earlier line, `named` is this work.
+-- Work on operation 0 is on the operation that the processor began last: `op`, unless its script has
+-- begun one
+abbrev pub event_step : (op : ℕ) → (begun : Bool) → (named : Option OwnWork) → Event → step.Step
+event_step op begun (Some w) e = Own w
+event_step op begun None e =
+    option_map_or (λ w. if begun then Own (Latest w) else Ask (step_work_of op w)) (own_work e) (Ask e)
 
 -- a line's work as a step; `None` for `cat`, a seal, and a text that a control file does not take
 abbrev pub explored : (op : ℕ) → (begun : Bool) → (named : Option OwnWork) → asks.Meaning → Option step.Step
-explored op begun named (asks.event e) = Some (named_or_called op begun named e)
+explored op begun named (asks.event e) = Some (event_step op begun named e)
 explored op begun named (asks.plan items turns) = Some (Carry items turns)
 explored op begun named (asks.not_taken fault) = None
 explored op begun named (asks.cat path) = None

@@ -12,25 +12,20 @@ abbrev pub asked_names_last : asks.Meaning → Bool
 asked_names_last (asks.event e) = is_some (own_work e)
 asked_names_last m = false
 
--- a line is the processor's and works on operation 0
-abbrev pub line_names_last : (cpu : ℕ) → Line → Bool
-line_names_last cpu line = (line.cpu == cpu) && asked_names_last (asks.asked_by line.work)
-
 -- the number, from 1, of the first line after the setup in which a processor works on operation 0
 -- before it begins an operation; `before` lines precede `lines`
 abbrev pub unbegun_at : (cpu setup before : ℕ) → List Line → Option ℕ
 unbegun_at cpu setup before [] = None
 unbegun_at cpu setup before (line ∷ lines) =
     if line_begins cpu line then None
-    else (if nat_le setup before && line_names_last cpu line then Some (before + 1)
+    else
+    (if nat_le setup before && ((line.cpu == cpu) && asked_names_last (asks.asked_by line.work))
+    then Some (before + 1)
     else unbegun_at cpu setup (before + 1) lines)
 
--- the same with its processor, as a list of one or none
-abbrev pub unbegun_of : (cpu setup : ℕ) → List Line → List Unbegun
-unbegun_of cpu setup lines =
-    option_map_or (λ line. record { cpu = cpu; line = line } ∷ []) (unbegun_at cpu setup 0 lines) []
-
--- the same for all processors below `cpus`
+-- these lines with their processors, for all processors below `cpus`
 abbrev pub unbegun_lines : (cpus setup : ℕ) → List Line → List Unbegun
 unbegun_lines zero setup lines = []
-unbegun_lines (suc cpus) setup lines = unbegun_lines cpus setup lines ++ unbegun_of cpus setup lines
+unbegun_lines (suc cpus) setup lines =
+    unbegun_lines cpus setup lines
+    ++ option_map_or (λ line. record { cpu = cpus; line = line } ∷ []) (unbegun_at cpus setup 0 lines) []

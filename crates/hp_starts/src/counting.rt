@@ -1,6 +1,6 @@
 //! The number of interleavings of a scenario's scripts, computed without a search.
-ghost use Rattle.std.specs.Prelude.{◌≡◌, ◌++◌, IfOk, OnOk, string_bytes};
-ghost use Rattle.hp_starts.specs.Counting.{AreKnownAs, IsCountTold, IsKnownAfter, known_text, told_text};
+ghost use Rattle.std.specs.Prelude.{◌≡◌, ◌++◌, IfOk, OnOk, Some, string_bytes};
+ghost use Rattle.hp_starts.specs.Counting.{AreKnownAs, IsCountTold, IsKnownAfter, told_text};
 
 use crate::checks::check_lines;
 use crate::scripts::scripts_of;
@@ -63,23 +63,18 @@ fn told_line(alloc: Global, known: Option<HowMany>, limit: u64) -> Result<String
     ensures { IfOk result (λ text. string_bytes text ≡ told_text limit known) }
 {
     let mut text = String::new(alloc);
-    write_told(&mut text, known, limit)?;
-    Ok(text)
-}
-
-/// Writes the line that reports `known`, if there is one.
-fn write_told(out: &mut String, known: Option<HowMany>, limit: u64) -> Result<(), AllocError>
-    ensures { OnOk result (string_bytes out.new ≡ string_bytes out.old ++ told_text limit known) }
-{
     match known {
-        Some(known) => write_known(out, known, limit),
-        None => Ok(()),
+        Some(known) => {
+            write_known(&mut text, known, limit)?;
+            Ok(text)
+        }
+        None => Ok(text),
     }
 }
 
 /// Writes the line that reports `known`.
 fn write_known(out: &mut String, known: HowMany, limit: u64) -> Result<(), AllocError>
-    ensures { OnOk result (string_bytes out.new ≡ string_bytes out.old ++ known_text limit known) }
+    ensures { OnOk result (string_bytes out.new ≡ string_bytes out.old ++ told_text limit (Some known)) }
 {
     match known {
         HowMany::Exactly(count) => writeln!(out, "interleavings: {count}"),

@@ -1,8 +1,12 @@
 //! The results of earlier lines: the operation that a line began, or the frame that it got.
 ghost use Rattle.std.specs.Prelude.{◌≡◌, ◌<◌, IfOk, drop, length, option_and_then, slice_get};
+ghost use Rattle.std.specs.List.{count_by};
 ghost use Rattle.std.specs.Option.{option_flatten};
+ghost use Rattle.hp_scenario.specs.Asked as asks;
 ghost use Rattle.hp_scenario.specs.Asked.{asked_by};
-ghost use Rattle.hp_starts.specs.Results.{allocs_in, asked_allocs, asked_on, asked_opens, begun_in, is_alloc, is_free, line_allocs, line_opens, named_at, on_begun, on_result, source_after, sources_after, work_in};
+ghost use Rattle.hp_schedules.specs.Scripts.{takes_frame};
+ghost use Rattle.hp_starts.specs.Begins.{line_begins};
+ghost use Rattle.hp_starts.specs.Results.{asked_allocs, asked_on, asked_opens, is_free, line_allocs, line_opens, named_at, on_begun, source_after, sources_after, work_in};
 
 use crate::begins::line_begins;
 use crate::starts::rest_of;
@@ -110,7 +114,8 @@ fn on_result(
     event: &Event,
 ) -> Result<Option<OwnWork>, AllocError>
     requires { place < length earlier.now }
-    ensures { IfOk result (λ named. named ≡ on_result cpu earlier.now place line.now event.now) }
+    ensures { IfOk result (λ named.
+        named ≡ asked_on cpu earlier.now place line.now (asks.event event.now)) }
 {
     if line_opens(cpu, line) {
         return match work_in(event) {
@@ -139,7 +144,7 @@ fn on_begun(cpu: Cpu, earlier: &[Line], place: usize, work: StepWork) -> Result<
 
 /// Returns how many operations the processor begins in these lines.
 fn begun_in(cpu: Cpu, lines: &[Line]) -> Result<u32, AllocError>
-    ensures { IfOk result (λ count. count ≡ begun_in cpu lines.now) }
+    ensures { IfOk result (λ count. count ≡ count_by (line_begins cpu) lines.now) }
 {
     let mut count = 0;
     for line in lines {
@@ -152,7 +157,7 @@ fn begun_in(cpu: Cpu, lines: &[Line]) -> Result<u32, AllocError>
 
 /// Returns how many blocks the processor asks for in these lines.
 fn allocs_in(cpu: Cpu, lines: &[Line]) -> Result<u32, AllocError>
-    ensures { IfOk result (λ count. count ≡ allocs_in cpu lines.now) }
+    ensures { IfOk result (λ count. count ≡ count_by (line_allocs cpu) lines.now) }
 {
     let mut count = 0;
     for line in lines {
@@ -209,7 +214,7 @@ fn work_allocs(work: &Work) -> bool
 
 /// Returns whether an event asks for a block for the kernel.
 fn is_alloc(event: &Event) -> bool
-    ensures { result ≡ is_alloc event.now }
+    ensures { result ≡ takes_frame event.now }
 {
     matches!(event, Event::KernelAlloc { .. })
 }

@@ -1,10 +1,10 @@
 //! The lines after the setup, as one script per processor.
-ghost use Rattle.std.specs.Prelude.{◌≡◌, ◌<◌, ◌++◌, IfOk, OnOk, Some, length, slice_get};
+ghost use Rattle.std.specs.Prelude.{◌≡◌, ◌==◌, ◌<◌, ◌++◌, IfOk, None, OnOk, Some, if◌then◌else◌, length, slice_get};
 ghost use Rattle.hp_schedules.specs.Scripts.{step_work_of};
 ghost use Rattle.hp_scenario.specs.Asked.{asked_by};
 ghost use Rattle.hp_scenario.specs.declared.lines.Line.{Line as AnyLine};
 ghost use Rattle.hp_starts.specs.Results.{named_at};
-ghost use Rattle.hp_starts.specs.Scripts.{called, explored, named_or_called, own_if_last, own_step, own_work, script_of, scripts_of, step_for, steps_of};
+ghost use Rattle.hp_starts.specs.Scripts.{event_step, explored, own_work, script_of, scripts_of, step_for, steps_of};
 
 use crate::begins::{Begin, last_begun, line_begins};
 use crate::results::named_at;
@@ -118,7 +118,7 @@ fn named_or_called(
     named: Option<OwnWork>,
     event: &Event,
 ) -> Result<Step, AllocError>
-    ensures { IfOk result (λ step. step ≡ named_or_called op has_begun named event.now) }
+    ensures { IfOk result (λ step. step ≡ event_step op has_begun named event.now) }
 {
     match named {
         Some(work) => Ok(Step::Own(work)),
@@ -128,7 +128,7 @@ fn named_or_called(
 
 /// Returns an event as a step. Operation 0 becomes the one that the processor began last.
 fn called(alloc: Global, op: Serial, has_begun: bool, event: &Event) -> Result<Step, AllocError>
-    ensures { IfOk result (λ step. step ≡ called op has_begun event.now) }
+    ensures { IfOk result (λ step. step ≡ event_step op has_begun None event.now) }
 {
     match own_work(event) {
         Some(work) => Ok(own_step(op, has_begun, work)),
@@ -139,7 +139,8 @@ fn called(alloc: Global, op: Serial, has_begun: bool, event: &Event) -> Result<S
 /// Returns work on the operation that the processor began last: `op`, unless its script has begun
 /// one since.
 fn own_step(op: Serial, has_begun: bool, work: StepWork) -> Step
-    ensures { result ≡ own_step op has_begun work }
+    ensures { result
+        ≡ if has_begun then Step.Own (OwnWork.Latest work) else Step.Ask (step_work_of op work) }
 {
     if has_begun {
         Step::Own(OwnWork::Latest(work))
@@ -183,7 +184,7 @@ pub(crate) fn own_work(event: &Event) -> Option<StepWork>
 
 /// Returns the work if `op` is 0.
 fn own_if_last(op: Serial, work: StepWork) -> Option<StepWork>
-    ensures { result ≡ own_if_last op work }
+    ensures { result ≡ if op == 0 then Some work else None }
 {
     if op == Serial(0) { Some(work) } else { None }
 }

@@ -1,7 +1,8 @@
 //! Script lines that name operation 0 before their processor has begun an operation.
-ghost use Rattle.std.specs.Prelude.{◌≡◌, ◌++◌, IfOk, OnOk};
+ghost use Rattle.std.specs.Prelude.{◌≡◌, ◌==◌, ◌++◌, ◌&&◌, [], ◌∷◌, IfOk, OnOk};
+ghost use Rattle.std.specs.Option.{option_map_or};
 ghost use Rattle.hp_scenario.specs.Asked.{asked_by};
-ghost use Rattle.hp_starts.specs.Unbegun.{asked_names_last, line_names_last, unbegun_at, unbegun_lines, unbegun_of};
+ghost use Rattle.hp_starts.specs.Unbegun.{asked_names_last, unbegun_at, unbegun_lines};
 
 use crate::begins::line_begins;
 use crate::scripts::own_work;
@@ -45,7 +46,9 @@ fn push_unbegun(
     setup: u64,
     lines: &[Line],
 ) -> Result<(), AllocError>
-    ensures { OnOk result (found.new.items ≡ found.old.items ++ unbegun_of cpu setup lines.now) }
+    ensures { OnOk result (found.new.items ≡ found.old.items
+        ++ option_map_or (λ line. record { cpu = cpu; line = line } ∷ [])
+        (unbegun_at cpu setup 0 lines.now) []) }
 {
     if let Some(line) = unbegun_line(cpu, setup, lines) {
         found.push(Unbegun { cpu, line })?;
@@ -71,7 +74,8 @@ fn unbegun_line(cpu: Cpu, setup: u64, lines: &[Line]) -> Option<u64>
 
 /// Returns whether a line is the processor's and works on operation 0.
 fn line_names_last(cpu: Cpu, line: &Line) -> bool
-    ensures { result ≡ line_names_last cpu line.now }
+    ensures { result
+        ≡ ((line.now.cpu == cpu) && asked_names_last (asked_by line.now.work)) }
 {
     line.cpu == cpu && work_names_last(&line.work)
 }

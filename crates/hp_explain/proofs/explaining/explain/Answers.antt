@@ -31,7 +31,8 @@ returns-in-None-clause-ok g c =
     let became = c.first_sought.ensures.becomes in
     let none : IsFirstSought start (aim_of start found.seen.now found.room found.longest.items) None =
     subst (λ (o : Option (Vec Cpu Global)).
-    IsFirstSought start (aim_of start found.seen.now found.room found.longest.items) (option_map (λ s. s.items) o))
+    IsFirstSought start (aim_of start found.seen.now found.room found.longest.items)
+    (option_map (λ s. s.items) o))
     c.in-None.is c.in_ok-order.ensures.ok in
     let begun : IsExplained start c.args.seen.now found.longest.items =
     rw (← c.new-explainer.ensures.seen)

@@ -12,7 +12,8 @@ loop-cpu-preserved c =
     let more = c.in_ok-push_standing.ensures.more in record {
       same = c.push_standing.ensures.same ∙ c.loop-cpu.invariant.same;
       standings = subst
-          (λ (all : List Standing). AreStandingsBelow p.setting c.args.seen.now p.news (c.loop-cpu.cpu + 1) all)
+          (λ (all : List Standing).
+          AreStandingsBelow p.setting c.args.seen.now p.news (c.loop-cpu.cpu + 1) all)
           (sym more.1)
           (stand_more p.setting c.args.seen.now p.news c.loop-cpu.cpu c.loop-cpu.all.items more.0
           c.loop-cpu.invariant.standings

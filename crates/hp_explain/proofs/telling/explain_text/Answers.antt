@@ -16,7 +16,8 @@ pub returns-in_err-seen-clause-err : goal.returns-in_err-seen-clause-err
 returns-in_err-seen-clause-err g c =
     let p = err_from_is_err_and c.from_residual-in_err-seen.result c.from_residual-in_err-seen.ensures.1 in
     rw (p.1, p.2)
-    (stopped_in (λ g. Unit {0}) c.args.scenario.now 0 c.in_ok-prepared.prepared c.in_ok-prepared.ensures.ok tt)
+    (stopped_in (λ g. Unit {0}) c.args.scenario.now 0 c.in_ok-prepared.prepared
+    c.in_ok-prepared.ensures.ok tt)
 
 pub returns-in-Ok-clause-ok : goal.returns-in-Ok-clause-ok
 returns-in-Ok-clause-ok g c =

@@ -35,11 +35,13 @@ returns-in-Ok-part_on-clause-ok g c =
     let f = c.in-Ok-part_on.finding in
     let ended : Type 0 = g.W.Watch.has_ended c.part_on.new.watch in
     held_in
-    (λ names before s. IsPartOn n c.args.setup input c.args.limit ended (string_bytes f.text) f.is_found names s)
+    (λ names before s. IsPartOn n c.args.setup input c.args.limit ended (string_bytes f.text)
+    f.is_found names s)
     input c.args.setup p c.in_ok-prepared.ensures.ok
     (subst (λ (k : ℕ). IsPartOn n k input c.args.limit ended (string_bytes f.text) f.is_found (names_of p)
     (setting_of p)) c.in_ok-prepared.ensures.ok.number
-    (subst (λ (t : List ℕ). IsPartOn n p.setup t c.args.limit ended (string_bytes f.text) f.is_found (names_of p)
+    (subst (λ (t : List ℕ). IsPartOn n p.setup t c.args.limit ended (string_bytes f.text)
+    f.is_found (names_of p)
     (setting_of p)) c.in-Ok.ensures.0 c.in-Ok-part_on.ensures.ok))
 
 pub returns-clause-err : goal.returns-clause-err

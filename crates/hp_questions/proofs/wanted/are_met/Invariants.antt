@@ -5,4 +5,5 @@ use Rattle.hp_questions.proofs.Below.{Below}
 use Rattle.hp_questions.proofs.wanted.are_met.Given as goal
 
 abbrev pub invariant-loop-index : goal.invariant-loop-index
-invariant-loop-index l = record { all : Below (λ (one : Wanted). IsMetBy l.cpus l.scripts l.outcome one) l.wanted l.index }
+invariant-loop-index l =
+    record { all : Below (λ (one : Wanted). IsMetBy l.cpus l.scripts l.outcome one) l.wanted l.index }

@@ -15,8 +15,10 @@ returns-clause-ok g c =
     let s = c.in_ok-shown.ensures in
     is_explored c.args.form c.args.by c.args.prepared.now c.as_slice-scripts.result.now c.args.limit _
     c.in_ok-explored.explored c.in_ok-shown.shown (string_bytes f.text) f.is_found
-    c.cpus-processors.result (c.cpus-processors.ensures.is ∙ ap (λ (l : LayoutParts). l.cpus) c.layout.ensures)
-    c.as_slice-scripts.ensures.value h.ok h.few h.room h.first h.many h.stopped h.ordered h.within s.ends s.whole
+    c.cpus-processors.result
+    (c.cpus-processors.ensures.is ∙ ap (λ (l : LayoutParts). l.cpus) c.layout.ensures)
+    c.as_slice-scripts.ensures.value h.ok h.few h.room h.first h.many h.stopped
+    h.ordered h.within s.ends s.whole
     c.in-Ok.ensures.ok
 
 pub returns-in_err-explored-clause-err : goal.returns-in_err-explored-clause-err

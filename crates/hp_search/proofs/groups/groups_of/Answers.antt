@@ -13,7 +13,8 @@ pub loop-end-preserved : goal.loop-end-preserved
 loop-end-preserved c = record {
   by = c.in_ok-add.ensures.by ∙ c.loop-end.invariant.by;
   so_far =
-      groups_more c.args.by.now c.args.ends.now c.loop-end.groups.ends c.add.new.self.ends c.loop-end.end-index
+      groups_more c.args.by.now c.args.ends.now c.loop-end.groups.ends
+      c.add.new.self.ends c.loop-end.end-index
       c.end-item.result c.loop-end-test.true c.end-item.is c.loop-end.invariant.so_far
       (subst (λ (by : GroupingValue). AddsEnd by c.loop-end.groups.ends c.end-item.result c.add.new.self.ends)
       c.loop-end.invariant.by c.in_ok-add.ensures.ok);

@@ -12,6 +12,7 @@ returns c =
     (five (codes "end ") (decimal c.args.number) (codes ": ") (decimal c.args.end.now.count) (codes ", "))
     c.in_ok-write.ensures.bytes) in
     let before =
-    and_on _ _ _ (and_on _ _ _ (and_on _ _ _ start c.in_ok-write_share.ensures) c.in_ok-write_refusals.ensures)
+    and_on _ _ _ (and_on _ _ _ (and_on _ _ _ start c.in_ok-write_share.ensures)
+    c.in_ok-write_refusals.ensures)
     c.in_ok-write_blocks.ensures in
     goes_on _ _ _ _ before c.in_ok-push.ensures.bytes

@@ -7,4 +7,5 @@ use Rattle.hp_search.proofs.summaries.write_summary.Given as goal
 
 abbrev pub invariant-loop-index : goal.invariant-loop-index
 invariant-loop-index l =
-    WritesLines (take l.index l.ends) (string_bytes l.fn.out ++ counts_text l.ends l.fn.more) (string_bytes l.out)
+    WritesLines (take l.index l.ends) (string_bytes l.fn.out ++ counts_text l.ends l.fn.more)
+    (string_bytes l.out)

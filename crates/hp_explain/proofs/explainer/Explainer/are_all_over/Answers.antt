@@ -15,6 +15,7 @@ returns-then-not-are_over c = (
 pub returns : goal.returns
 returns c = (
   λ told. over_all c.args.path.now.setting c.args.self.now.seen.now c.args.path.now.news c.args.time
-      c.loop-cpu.cpu (omega (arith, c.loop-cpu-test.false, c.processors-cpu-end.ensures)) c.loop-cpu.invariant,
+      c.loop-cpu.cpu (omega (arith, c.loop-cpu-test.false, c.processors-cpu-end.ensures))
+      c.loop-cpu.invariant,
   λ all. refl,
 )

@@ -12,7 +12,8 @@ returns-in-Some-clause-admitted c =
     λ told.
     let called = c.requires.called in
     asked_explained c.args.path.now.setting c.args.self.now.seen.now c.args.self.now.room
-    c.args.self.now.longest.items c.args.schedule.now c.args.path.now.news (Some c.in-Some.finished) c.requires.schedule
+    c.args.self.now.longest.items c.args.schedule.now c.args.path.now.news (Some c.in-Some.finished)
+    c.requires.schedule
     c.is_played.ensures called (λ before r is. c.in-Some.ensures before r is)
     (λ line same. subst (λ (f : FinishedLine). HasSeen c.args.self.now.seen.now called.cpu f.line f.answer)
     (same_Some c.in-Some.finished line same)
@@ -23,12 +24,14 @@ returns-in-Some-clause-skipped c =
     λ told.
     let called = c.requires.called in
     asked_skipped c.args.path.now.setting c.args.self.now.seen.now c.args.self.now.room
-    c.args.self.now.longest.items c.args.schedule.now c.args.path.now.news c.in-Some.finished c.requires.schedule c.is_played.ensures called
+    c.args.self.now.longest.items c.args.schedule.now c.args.path.now.news c.in-Some.finished
+    c.requires.schedule c.is_played.ensures called
     (λ before r is. c.in-Some.ensures before r is)
     (iff_false (c.has_seen_latest.ensures called.before called.cpu called.longer) told)
 
 pub returns-in-None-clause-admitted : goal.returns-in-None-clause-admitted
 returns-in-None-clause-admitted c =
     λ told. asked_explained c.args.path.now.setting c.args.self.now.seen.now c.args.self.now.room
-    c.args.self.now.longest.items c.args.schedule.now c.args.path.now.news None c.requires.schedule c.is_played.ensures c.requires.called
+    c.args.self.now.longest.items c.args.schedule.now c.args.path.now.news None
+    c.requires.schedule c.is_played.ensures c.requires.called
     (λ before r is. c.in-None.ensures before r is) (λ line same. absurd cc)

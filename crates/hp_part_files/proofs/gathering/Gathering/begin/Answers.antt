@@ -17,7 +17,8 @@ returns-clause-ok c =
     let all = parts_of c.args.self.now in
     ap (λ (l : List PartEndsValue).
     gathered l c.replace-number.new.dest c.replace-ends.new.dest.items c.args.named) done
-    ∙ (ap (λ (n : ℕ). gathered all n c.replace-ends.new.dest.items c.args.named) c.replace-number.ensures.after
+    ∙ (ap (λ (n : ℕ). gathered all n c.replace-ends.new.dest.items c.args.named)
+    c.replace-number.ensures.after
     ∙ ap (λ (ends : List Ending). gathered all c.args.number ends c.args.named)
     (ap (λ (v : Vec Ending Global). v.items) c.replace-ends.ensures.after ∙ c.new.ensures.items))
 
