@@ -6,11 +6,13 @@ use Rattle.hp_map.specs.Rows.{RowValue}
 use Rattle.hp_trace_json.specs.Ascii.{AddsLine}
 use Rattle.hp_trace_json.specs.Parts.{state_of}
 use Rattle.hp_trace_json.specs.Traces.{TraceValue}
-use Rattle.hp_trace.specs.Rows.{IsRowIn, IsRowTold, IsTextTold, IsWritten, RowsValue}
+use Rattle.hp_trace.specs.Columns.{IsRowIn}
+use Rattle.hp_trace.specs.Rows.{IsRowTold, IsTextTold, IsWritten, RowsValue}
 
 pub row_in : (asked answer below beside memory old new was_asked was_answered : List ℕ)
     → was_asked ≡ asked → was_answered ≡ answer
-    → new ≡ old ++ (was_asked ++ (below ++ (codes " " ++ (was_answered ++ (beside ++ (memory ++ codes "\n"))))))
+    → new
+    ≡ old ++ (was_asked ++ (below ++ (codes " " ++ (was_answered ++ (beside ++ (memory ++ codes "\n"))))))
     → IsRowIn asked answer old new
 row_in asked answer below beside memory old new was_asked was_answered is_asked is_answered written =
     rw (← is_asked) (subst (λ (a : List ℕ). IsRowIn was_asked a old new) is_answered (record {
@@ -26,7 +28,8 @@ pub row_written : (row : RowValue) (old inside : RowsValue) (text : List ℕ) (k
 row_written row old inside text kept same written = grind arith
 
 -- a row and a text as JSON
-pub from_both : {T E : Type 0} (r : Result T E) (P Q R : Type 0) → (P → Q → R) → OnOk r P → OnOk r Q → OnOk r R
+pub from_both : {T E : Type 0} (r : Result T E) (P Q R : Type 0) → (P → Q → R) → OnOk r P → OnOk r Q
+    → OnOk r R
 from_both r P Q R f p q = grind arith
 
 pub row_told : (m : MachineValue) (old inside : RowsValue) (json : TraceValue) → old ≡ inside

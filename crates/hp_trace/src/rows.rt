@@ -1,9 +1,10 @@
 //! The rows of a trace.
-ghost use Rattle.std.specs.Prelude.{◌≡◌, ◌++◌, ◌∷◌, [], List, IfOk, OnOk, string_bytes};
-ghost use Rattle.std.specs.Option.{option_to_list};
+ghost use Rattle.std.specs.Prelude.{◌≡◌, ◌++◌, [], IfOk, OnOk, string_bytes};
 ghost use Rattle.std.specs.Str.Lines.{lines};
-ghost use Rattle.hp_trace.specs.Rows.{AddsRow, AreDrawn, AreJoinedTo, AreMoreShown, AreRowsShown, DrawsIf, IsJoinedSoFar, IsJoinedText, IsRow, IsRowLogged, IsRowShown, IsRowTold, IsTextTold, IsWritten, Says, line_rows, more_line, no_rows, noted};
-ghost use Rattle.hp_map.specs.Rows.{RowValue, row_with};
+ghost use Rattle.hp_trace.specs.Rows.{AddsRow, AreDrawn, DrawsIf, IsRow, IsRowLogged, IsRowTold, IsTextTold, IsWritten, Says, line_rows, no_rows, noted};
+ghost use Rattle.hp_map.specs.Rows.{row_with};
+
+mod joined;
 
 use crate::columns::write_row;
 use crate::folds::{RowLayout, memory_text};
@@ -12,13 +13,12 @@ use crate::state_logs::StateLog;
 use crate::view::View;
 use hp_judge::LogEvent;
 use hp_machine::Machine;
-use hp_map::{BlockPicture, Move, RoundJoiner, Rounds, RowPicture, picture_of};
+use hp_map::{BlockPicture, Move, RoundJoiner, RowPicture, picture_of};
 use hp_scenario::Line;
 use hp_units::{Receipt, Text};
 use indexmap::IndexSet;
 use std::alloc::{AllocError, Global};
 use std::marker::Model;
-use std::mem::replace;
 
 /// What becomes of the rows of a line.
 #[derive(Clone, Copy)]
@@ -196,65 +196,6 @@ impl Rows {
         Ok(())
     }
 
-    /// Adds a row, and shows the last entry if no more rows can be joined to it.
-    fn join(&mut self, alloc: Global, row: RowPicture) -> Result<(), AllocError>
-        ensures { OnOk result (AreJoinedTo (row ∷ []) self.old self.new) }
-    {
-        let gone = self.joiner.push(alloc, row)?;
-        self.show(alloc, gone)
-    }
-
-    /// Adds each line of a text as a row without memory blocks.
-    fn join_lines(&mut self, alloc: Global, text: &str) -> Result<(), AllocError>
-        ensures { OnOk result (AreJoinedTo (line_rows (lines text.now)) self.old self.new) }
-    {
-        for line in text.lines() {
-            let row = row_with(alloc, line, "", None, Vec::new(alloc))?;
-            self.join(alloc, row)?;
-        }
-        Ok(())
-    }
-
-    /// Shows an entry, if there is one.
-    fn show(&mut self, alloc: Global, entry: Option<Rounds>) -> Result<(), AllocError>
-        ensures { OnOk result (AreMoreShown (option_to_list entry) self.old self.new) }
-    {
-        match entry {
-            Some(entry) => self.show_entry(alloc, entry),
-            None => Ok(()),
-        }
-    }
-
-    /// Shows an entry: the rows of its first round, and a line about the others.
-    fn show_entry(&mut self, alloc: Global, entry: Rounds) -> Result<(), AllocError>
-        ensures { OnOk result (AreMoreShown (entry ∷ []) self.old self.new) }
-    {
-        let more = more_line(alloc, &entry)?;
-        self.show_rows(alloc, entry.into_rows())?;
-        self.text.push_str(more.as_str())
-    }
-
-    /// Shows rows.
-    fn show_rows(&mut self, alloc: Global, rows: Vec<RowPicture>) -> Result<(), AllocError>
-        ensures { OnOk result (AreRowsShown rows.items self.old self.new) }
-    {
-        for row in rows {
-            self.show_row(alloc, row)?;
-        }
-        Ok(())
-    }
-
-    /// Shows a row, or a line without memory blocks.
-    fn show_row(&mut self, alloc: Global, row: RowPicture) -> Result<(), AllocError>
-        ensures { OnOk result (IsRowShown row self.old self.new) }
-    {
-        if row.blocks().is_empty() {
-            let line = row.asked();
-            return writeln!(self.text, "{line}");
-        }
-        self.write(alloc, row)
-    }
-
     /// Returns the memory blocks of the last row, or none before the first.
     fn blocks_before(&self) -> &[BlockPicture] {
         match self.kept.last() {
@@ -325,19 +266,6 @@ impl Rows {
             joiner: _,
         } = self;
         all
-    }
-
-    /// Returns the text of the rows, in which equal rounds are joined.
-    pub(crate) fn into_joined_text(self, alloc: Global) -> Result<String, AllocError>
-        ensures { IfOk result (λ text. (rows : List RowValue)
-            → IsJoinedSoFar rows self → IsJoinedText rows (string_bytes text)) }
-    {
-        let mut all = self;
-        let joiner = replace(&mut all.joiner, RoundJoiner::new(alloc));
-        let (gone, last) = joiner.finish(alloc)?;
-        all.show(alloc, gone)?;
-        all.show(alloc, last)?;
-        Ok(all.into_text())
     }
 
     /// Returns the rows as values.
@@ -414,18 +342,4 @@ fn row_with(
     let asked = Text::new(asked);
     let answer = Text::new(answer);
     Ok(RowPicture::new(asked, answer, moved, blocks))
-}
-
-/// Returns the line about the rounds that are not shown, or an empty text if there are none.
-fn more_line(alloc: Global, entry: &Rounds) -> Result<String, AllocError>
-    ensures { IfOk result (λ text. string_bytes text ≡ more_line entry.now) }
-{
-    let mut out = String::new(alloc);
-    if entry.more() == 0 {
-        return Ok(out);
-    }
-    out.push_str("     ")?;
-    entry.write_more(&mut out)?;
-    out.push_str("\n")?;
-    Ok(out)
 }
