@@ -19,6 +19,7 @@ use hp_units::{Receipt, Text};
 use indexmap::IndexSet;
 use std::alloc::{AllocError, Global};
 use std::marker::Model;
+use std::mem::replace;
 
 /// What becomes of the rows of a line.
 #[derive(Clone, Copy)]
@@ -38,7 +39,6 @@ pub(crate) enum Form {
 }
 
 /// The rows so far, in one form: as text, as values, as the events of a log, or as JSON.
-#[derive(Drop)]
 pub(crate) struct Rows {
     form: Form,
     row_layout: RowLayout,
@@ -48,6 +48,21 @@ pub(crate) struct Rows {
     log: StateLog,
     json: JsonRows,
     joiner: RoundJoiner,
+}
+
+/// Keeps callers from proving again how each field is dropped.
+impl Drop for Rows {
+    fn drop(self) {
+        let Rows {
+            form: _,
+            row_layout: _,
+            text: _text,
+            kept: _kept,
+            log: _log,
+            json: _json,
+            joiner: _joiner,
+        } = self;
+    }
 }
 
 impl Model for Rows {
@@ -253,66 +268,36 @@ impl Rows {
     }
 
     /// Returns the text of the rows.
-    pub(crate) fn into_text(self) -> String
+    pub(crate) fn into_text(self, alloc: Global) -> String
         ensures { string_bytes result ≡ self.text }
     {
-        let Rows {
-            form: _,
-            row_layout: _,
-            text: all,
-            kept: _,
-            log: _,
-            json: _,
-            joiner: _,
-        } = self;
-        all
+        let mut all = self;
+        replace(&mut all.text, String::new(alloc))
     }
 
     /// Returns the rows as values.
-    pub(crate) fn into_kept(self) -> Vec<RowPicture>
+    pub(crate) fn into_kept(self, alloc: Global) -> Vec<RowPicture>
         ensures { result.items ≡ self.kept }
     {
-        let Rows {
-            form: _,
-            row_layout: _,
-            text: _,
-            kept: all,
-            log: _,
-            json: _,
-            joiner: _,
-        } = self;
-        all
+        let mut all = self;
+        replace(&mut all.kept, Vec::new(alloc))
     }
 
     /// Returns the events of the log.
-    pub(crate) fn into_events(self) -> Vec<LogEvent>
+    pub(crate) fn into_events(self, alloc: Global) -> Vec<LogEvent>
         ensures { result.items ≡ self.log.events }
     {
-        let Rows {
-            form: _,
-            row_layout: _,
-            text: _,
-            kept: _,
-            log,
-            json: _,
-            joiner: _,
-        } = self;
+        let mut all = self;
+        let log = replace(&mut all.log, StateLog::new(alloc));
         log.into_events()
     }
 
     /// Returns the text of the rows as JSON.
-    pub(crate) fn into_json(self) -> String
+    pub(crate) fn into_json(self, alloc: Global) -> String
         ensures { string_bytes result ≡ self.json.text }
     {
-        let Rows {
-            form: _,
-            row_layout: _,
-            text: _,
-            kept: _,
-            log: _,
-            json,
-            joiner: _,
-        } = self;
+        let mut all = self;
+        let json = replace(&mut all.json, JsonRows::new(alloc));
         json.into_text()
     }
 }

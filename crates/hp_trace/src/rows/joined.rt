@@ -81,7 +81,7 @@ impl Rows {
         let (gone, last) = joiner.finish(alloc)?;
         all.show(alloc, gone)?;
         all.show(alloc, last)?;
-        Ok(all.into_text())
+        Ok(all.into_text(alloc))
     }
 }
 
