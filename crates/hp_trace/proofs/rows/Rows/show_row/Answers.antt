@@ -11,8 +11,8 @@ returns-then-is_line c =
     (sym c.self.view_is) (sym c.is_line.ensures ∙ c.if-is_line.true) c.asked-line.ensures is)
     c.writeln.ensures.bytes
 
-pub returns-else-is_line : goal.returns-else-is_line
-returns-else-is_line c =
+pub returns : goal.returns
+returns c =
     on_ok_weaker c.write.result
     (λ w.
     row_shown c.args.row c.args.self.now c.write.new.self (sym c.is_line.ensures ∙ c.if-is_line.false) w)
