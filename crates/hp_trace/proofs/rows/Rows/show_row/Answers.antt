@@ -1,4 +1,4 @@
-use Rattle.std.proofs.Common.{sym, string_bytes}
+use Rattle.std.proofs.Common.{◌∙◌, sym, string_bytes}
 use Rattle.std.proofs.lemmas.Result.{on_ok_weaker}
 use Rattle.hp_trace.proofs.RowsJoined.{line_shown, row_shown}
 use Rattle.hp_trace.proofs.rows.Rows.show_row.Goals as goal
