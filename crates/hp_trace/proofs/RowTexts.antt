@@ -1,5 +1,5 @@
 -- A row as text.
-use Rattle.std.proofs.Common.{arith, ◌≡◌, ℕ, List, ◌++◌, Some, Result, OnOk, append_assoc, subst}
+use Rattle.std.proofs.Common.{arith, ◌≡◌, ℕ, List, ◌++◌, ◌∙◌, Some, Result, OnOk, ap, append_assoc, subst, sym}
 use Rattle.std.specs.Prelude.{codes}
 use Rattle.hp_machine.specs.Machine.{MachineValue}
 use Rattle.hp_map.specs.Rows.{RowValue}
@@ -26,6 +26,16 @@ pub row_written : (row : RowValue) (old inside : RowsValue) (text : List ℕ) (k
     → old ≡ inside → IsRowIn row.asked row.answer inside.text text
     → IsWritten row old (record inside { text = text; kept = kept })
 row_written row old inside text kept same written = grind arith
+
+-- a row that was written, and is kept in place of the last one
+pub row_kept : (row : RowValue) (old mid inside : RowsValue) (kept : List RowValue) → mid ≡ inside
+    → IsWritten row old mid → IsWritten row old (record inside { kept = kept })
+row_kept row old mid inside kept same w = record {
+  text = w.text;
+  kept = kept;
+  written = w.written;
+  is = ap (λ (r : RowsValue). record r { kept = kept }) (sym same ∙ w.is);
+}
 
 -- a row and a text as JSON
 pub from_both : {T E : Type 0} (r : Result T E) (P Q R : Type 0) → (P → Q → R) → OnOk r P → OnOk r Q

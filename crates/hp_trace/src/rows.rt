@@ -197,18 +197,24 @@ impl Rows {
         }
     }
 
-    /// Writes a row.
+    /// Writes a row, and keeps it in place of the last one.
     fn write(&mut self, alloc: Global, row: RowPicture) -> Result<(), AllocError>
         ensures { OnOk result (IsWritten row self.old self.new) }
     {
-        let memory = memory_text(alloc, self.row_layout, self.blocks_before(), row.blocks())?;
-        let is_first = self.kept.is_empty();
-        let row_layout = self.row_layout.after(alloc, is_first, row.blocks())?;
-        self.row_layout = row_layout;
-        write_row(&mut self.text, alloc, &row, memory.as_str())?;
+        self.write_text(alloc, &row)?;
         self.kept.clear();
         self.kept.push(row)?;
         Ok(())
+    }
+
+    /// Writes a row below the last one.
+    fn write_text(&mut self, alloc: Global, row: &RowPicture) -> Result<(), AllocError>
+        ensures { OnOk result (IsWritten row.now self.old self.new) }
+    {
+        let memory = memory_text(alloc, self.row_layout, self.blocks_before(), row.blocks())?;
+        let is_first = self.kept.is_empty();
+        self.row_layout = self.row_layout.after(alloc, is_first, row.blocks())?;
+        write_row(&mut self.text, alloc, row, memory.as_str())
     }
 
     /// Returns the memory blocks of the last row, or none before the first.
