@@ -51,7 +51,8 @@ run_with m first last new cpu caller turns plan end fault gained old start kept 
             subst (λ (k : MachineValue). AreCalls m cpu gained k) (sym at_last)
             (rw (← same) (subst (λ (k : MachineValue). AreCalls k caller gained last) at_first calls));
         cause = subst (HasCause fault) (sym at_last) cause;
-        run = subst (λ (k : MachineValue). IsDriverRun k.layout.cpus turns plan gained fault end) at_first ran;
+        run =
+            subst (λ (k : MachineValue). IsDriverRun k.layout.cpus turns plan gained fault end) at_first ran;
       },
       at_kept ∙ keeps ∙ ap (λ (l : List Receipt). l ++ gained) at_start,
     )

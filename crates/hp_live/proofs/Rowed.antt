@@ -35,7 +35,8 @@ pub kept_lost : (names after : List (List ℕ)) (lines kept : List Line) (bound 
     → IsLostTyped (record { names = names; lines = lines; bound = bound; trace = trace; text = was })
     (typed_by names plain)
     (record { names = after; lines = kept; bound = noted; trace = later; text = now })
-kept_lost names after lines kept bound noted trace later was now plain found line number at read keeps is known =
+kept_lost names after lines kept bound noted trace later was now plain found line number at read keeps is
+    known =
     inr (
       record { numbered = record { names = after; line = line }; naming = plain.naming },
       typed_is names after plain found line at read,

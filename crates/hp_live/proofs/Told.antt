@@ -117,11 +117,13 @@ pub lost_line : (given : Lack) (names after : List (List ℕ)) (lines kept : Lis
     → IsLostTyped given (record { names = names; lines = lines; bound = bound; machine = m })
     (typed_by names plain)
     (record { names = after; lines = kept; bound = noted; machine = new })
-lost_line given names after lines kept bound noted m new plain found line d number same done is at read keeps known =
+lost_line given names after lines kept bound noted m new plain found line d number same done is at read keeps
+    known =
     subst (λ (k : Lack). IsLostTyped k (record { names = names; lines = lines; bound = bound; machine = m })
     (typed_by names plain)
     (record { names = after; lines = kept; bound = noted; machine = new })) (sym same)
-    (lost_answer names after lines kept bound noted m new plain found line d number done is at read keeps known)
+    (lost_answer names after lines kept bound noted m new plain found line d number done is at read keeps
+    known)
 
 -- ---- a line that was answered, but whose reply was lost
 

@@ -58,7 +58,8 @@ IsEventTold m cpu event d new =
     ⊎ ((fault : CallFault) × (d ≡ did.Unrecorded fault) × (new ≡ m))
 
 -- a plan was run: how it ended, and the receipts of its calls
-abbrev pub IsPlanTold : MachineValue → (cpu turns : ℕ) → List Item → AnswerValue → (new : MachineValue) → Type 0
+abbrev pub IsPlanTold : MachineValue → (cpu turns : ℕ) → List Item → AnswerValue → (new : MachineValue)
+    → Type 0
 IsPlanTold m cpu turns items a new =
     (end : OpEnd) × (run : IsPlanRun m cpu turns items end new) × (a ≡ told (did.Plan end) run.receipts)
 
@@ -93,8 +94,8 @@ IsEventDone m cpu event d new =
     WritesEvent m cpu event (did_text d) new × IsEventTold m cpu event d new
 
 -- a plan was run to this end; the answer has the receipts of its calls, and nothing else yet
-abbrev pub IsPlanKept : MachineValue → (cpu turns : ℕ) → List Item → OpEnd → AnswerValue → (new : MachineValue)
-    → Type 0
+abbrev pub IsPlanKept : MachineValue → (cpu turns : ℕ) → List Item → OpEnd → AnswerValue
+    → (new : MachineValue) → Type 0
 IsPlanKept m cpu turns items end a new =
     (run : IsPlanRun m cpu turns items end new)
     × (a ≡ record { text = []; calls = run.receipts; did = did.NoLine })

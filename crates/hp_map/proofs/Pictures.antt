@@ -32,8 +32,9 @@ pictures_more l s places n old new b are is more =
     }
 
 -- a picture of these parts
-pub picture_is : (l : LayoutParts) (s : Memory) (places : List Place) (block : ℕ) (head cells ordered : List ℕ)
-    (free : List FreeBlock) (kernel : List KernelBlock) (kinds : List ℕ) (picture : BlockValue)
+pub picture_is : (l : LayoutParts) (s : Memory) (places : List Place) (block : ℕ)
+    (head cells ordered : List ℕ) (free : List FreeBlock) (kernel : List KernelBlock) (kinds : List ℕ)
+    (picture : BlockValue)
     → picture ≡ block_with head cells ordered free kernel kinds
     → cells ≡ cells_text l places block → free ≡ free_of l s.free.areas block → kernel ≡ kernel_of l s block
     → IsBlockPicture l s places block picture

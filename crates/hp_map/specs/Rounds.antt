@@ -16,7 +16,8 @@ begins_round row = starts_with nat_eq row.asked (codes "     migrate ")
 -- after its first row, a round has drains and a commit
 abbrev pub continues_round : RowValue → Bool
 continues_round row =
-    starts_with nat_eq row.asked (codes "     drainfor ") || starts_with nat_eq row.asked (codes "     commit ")
+    starts_with nat_eq row.asked (codes "     drainfor ")
+    || starts_with nat_eq row.asked (codes "     commit ")
 
 abbrev pub is_round : List RowValue → Bool
 is_round [] = false
@@ -170,7 +171,9 @@ first_serial [] = 0
 first_serial (first ∷ rest) = unwrap_or (serial_of first.answer) 0
 
 abbrev pub rounds_word : (more : ℕ) → List ℕ
-rounds_word more = if more == 1 then codes " more round like this, serials " else codes " more rounds like this, serials "
+rounds_word more =
+    if more == 1 then codes " more round like this, serials "
+    else codes " more rounds like this, serials "
 
 -- how many more rounds there are, and the serials of their calls
 abbrev pub more_text : RoundsValue → List ℕ

@@ -144,7 +144,8 @@ pub stays_not : (l : LayoutParts) (s t : Memory) (before after : SnapshotValue) 
 stays_not l s t before after f holder next same p q inside at after_at is differs =
     let other : same_piece (piece_at s f) (piece_at t f) ≡ false =
     sym (stays_shown l s t before after f p q inside)
-    ∙ (sym (ap₂ (λ (a b : FrameHolder). same_piece (piece_in a) (piece_in b)) at after_at) ∙ (sym is ∙ differs)) in
+    ∙ (sym (ap₂ (λ (a b : FrameHolder). same_piece (piece_in a) (piece_in b)) at after_at)
+    ∙ (sym is ∙ differs)) in
     sym (ap (λ (b : Bool). b && not (list_any leaves_offline (block_events s t (block_of l f)))) other)
 
 -- they are, and it is looked at what happens to the memory block
@@ -156,10 +157,12 @@ pub stays_by : (l : LayoutParts) (s t : Memory) (before after : SnapshotValue) (
     → from ≡ phase_of (slice_index_or before.rows block offline_row)
     → to ≡ phase_of (slice_index_or after.rows block offline_row)
     → goes ≡ list_any leaves_offline (phase_events block from to) → not goes ≡ stays l s t f
-stays_by l s t before after f block holder next same goes from to p q inside at after_at is agrees of was now gone =
+stays_by l s t before after f block holder next same goes from to p q inside at after_at is agrees of was now
+    gone =
     let pieces : same_piece (piece_at s f) (piece_at t f) ≡ true =
     sym (stays_shown l s t before after f p q inside)
-    ∙ (sym (ap₂ (λ (a b : FrameHolder). same_piece (piece_in a) (piece_in b)) at after_at) ∙ (sym is ∙ agrees)) in
+    ∙ (sym (ap₂ (λ (a b : FrameHolder). same_piece (piece_in a) (piece_in b)) at after_at)
+    ∙ (sym is ∙ agrees)) in
     let events : goes ≡ list_any leaves_offline (block_events s t block) =
     gone
     ∙ ap₂ (λ (a b : BlockPhase). list_any leaves_offline (phase_events block a b))
@@ -192,8 +195,8 @@ allocated l s t after f holder still old new q inside at is ends written =
     (ap (λ (h : FrameHolder). piece_in h) at ∙ piece-shown l t after f q inside)
     ∙ ap (λ (b : Bool). if b then [] else alloc_events f (piece_at t f)) (sym ends ∙ is))
 
-pub turned : (l : LayoutParts) (s t : Memory) (before after : SnapshotValue) (block : ℕ) (from to : BlockPhase)
-    (old new : List LogEvent)
+pub turned : (l : LayoutParts) (s t : Memory) (before after : SnapshotValue) (block : ℕ)
+    (from to : BlockPhase) (old new : List LogEvent)
     → Shows l s before → Shows l t after
     → from ≡ phase_of (slice_index_or before.rows block offline_row)
     → to ≡ phase_of (slice_index_or after.rows block offline_row)

@@ -1,16 +1,18 @@
 -- A row as text.
-use Rattle.std.proofs.Common.{arith, ◌≡◌, ℕ, List, ◌++◌, Some, Result, OnOk, append_assoc, subst}
+use Rattle.std.proofs.Common.{arith, ◌≡◌, ℕ, List, ◌++◌, ◌∙◌, Some, Result, OnOk, ap, append_assoc, subst, sym}
 use Rattle.std.specs.Prelude.{codes}
 use Rattle.hp_machine.specs.Machine.{MachineValue}
 use Rattle.hp_map.specs.Rows.{RowValue}
 use Rattle.hp_trace_json.specs.Ascii.{AddsLine}
 use Rattle.hp_trace_json.specs.Parts.{state_of}
 use Rattle.hp_trace_json.specs.Traces.{TraceValue}
-use Rattle.hp_trace.specs.Rows.{IsRowIn, IsRowTold, IsTextTold, IsWritten, RowsValue}
+use Rattle.hp_trace.specs.Columns.{IsRowIn}
+use Rattle.hp_trace.specs.Rows.{IsRowTold, IsTextTold, IsWritten, RowsValue}
 
 pub row_in : (asked answer below beside memory old new was_asked was_answered : List ℕ)
     → was_asked ≡ asked → was_answered ≡ answer
-    → new ≡ old ++ (was_asked ++ (below ++ (codes " " ++ (was_answered ++ (beside ++ (memory ++ codes "\n"))))))
+    → new
+    ≡ old ++ (was_asked ++ (below ++ (codes " " ++ (was_answered ++ (beside ++ (memory ++ codes "\n"))))))
     → IsRowIn asked answer old new
 row_in asked answer below beside memory old new was_asked was_answered is_asked is_answered written =
     rw (← is_asked) (subst (λ (a : List ℕ). IsRowIn was_asked a old new) is_answered (record {
@@ -25,8 +27,19 @@ pub row_written : (row : RowValue) (old inside : RowsValue) (text : List ℕ) (k
     → IsWritten row old (record inside { text = text; kept = kept })
 row_written row old inside text kept same written = grind arith
 
+-- a row that was written, and is kept in place of the last one
+pub row_kept : (row : RowValue) (old mid inside : RowsValue) (kept : List RowValue) → mid ≡ inside
+    → IsWritten row old mid → IsWritten row old (record inside { kept = kept })
+row_kept row old mid inside kept same w = record {
+  text = w.text;
+  kept = kept;
+  written = w.written;
+  is = ap (λ (r : RowsValue). record r { kept = kept }) (sym same ∙ w.is);
+}
+
 -- a row and a text as JSON
-pub from_both : {T E : Type 0} (r : Result T E) (P Q R : Type 0) → (P → Q → R) → OnOk r P → OnOk r Q → OnOk r R
+pub from_both : {T E : Type 0} (r : Result T E) (P Q R : Type 0) → (P → Q → R) → OnOk r P → OnOk r Q
+    → OnOk r R
 from_both r P Q R f p q = grind arith
 
 pub row_told : (m : MachineValue) (old inside : RowsValue) (json : TraceValue) → old ≡ inside

@@ -1,16 +1,16 @@
 -- Rows that are joined, and shown as text.
-use Rattle.std.proofs.Common.{◌≡◌, ℕ, ◌+◌, length, List, [], ◌∷◌, ◌++◌, map, Option, None, Some, refl, sym, ap, subst, ◌∙◌, append_assoc, append-nil, true, ◌==◌, rules, Bor}
+use Rattle.std.proofs.Common.{◌≡◌, ℕ, ◌+◌, length, List, [], ◌∷◌, ◌++◌, map, Option, None, refl, sym, ap, subst, ◌∙◌, append_assoc, append-nil, Bool, true, false, Bor}
 use Rattle.std.specs.List.{flat_map}
 use Rattle.std.specs.Option.{option_to_list}
 use Rattle.std.specs.Str.Lines.{lines}
 use Rattle.hp_machine.specs.Machine.{MachineValue, booted}
 use Rattle.hp_scenario.specs.Scenario.{ScenarioValue}
 use Rattle.hp_text.specs.State.{newline}
-use Rattle.hp_map.specs.BlockPictures.{BlockValue}
 use Rattle.hp_map.specs.Rounds.{Ends, IsJoinOf, JoinerValue, RoundsValue, Takes, nothing_read}
 use Rattle.hp_map.specs.Rows.{RowValue, row_with}
 use Rattle.hp_map.specs.declared.row_picture.Move.{Move}
-use Rattle.hp_trace.specs.Rows.{AreDrawn, AreEntriesShown, AreJoinedTo, AreMoreShown, AreRowsShown, AreShown, DrawsIf, IsDrawn, IsJoinedSoFar, IsJoinedText, IsRow, IsRowShown, IsShownIn, Row, RowsValue, SaysAs, drawing, line_rows, more_line, no_rows, words}
+use Rattle.hp_trace.specs.Rows.{AreDrawn, AreJoinedTo, AreMoreShown, AreRowsShown, DrawsIf, IsDrawn, IsJoinedSoFar, IsRow, IsRowShown, IsWritten, Row, RowsValue, SaysAs, drawing, line_rows, no_rows, words}
+use Rattle.hp_trace.specs.RowsJoined.{AreEntriesShown, AreShown, IsJoinedText, IsShownAs, IsShownIn, is_line, more_line}
 use Rattle.hp_trace.specs.Traces.{AreRowsOf, IsJoinedTraceOf, IsScenarioTraced, IsStart, shown_rows, skipped, start_text}
 use Rattle.hp_trace.specs.declared.rows.Form.{Form}
 use Rattle.hp_trace.specs.declared.rows.Form.TheVariants.{Joined, Kept}
@@ -42,7 +42,7 @@ rows_more xs x old mid new first second = record {
   shown =
       shown_more xs (x ∷ []) old.text first.text second.text first.shown (
         second.text,
-        subst (λ (t : List ℕ). IsShownIn x.asked x.answer x.blocks t second.text)
+        subst (λ (t : List ℕ). IsShownIn x t second.text)
             (ap (λ (r : RowsValue). r.text) first.is) second.shown,
         refl,
       );
@@ -71,26 +71,33 @@ entries_none : (old : RowsValue) → AreMoreShown [] old old
 entries_none old = record { text = old.text; kept = old.kept; shown = refl; is = refl }
 
 -- a line
-line_in : (asked answer line : List ℕ) (blocks : List BlockValue) (old new : List ℕ) → blocks ≡ []
-    → line ≡ asked → new ≡ old ++ (line ++ newline) → IsShownIn asked answer blocks old new
-line_in asked answer line blocks old new none same is =
-    subst (λ (bs : List BlockValue). IsShownIn asked answer bs old new) (sym none)
-    (is ∙ ap (λ (t : List ℕ). old ++ (t ++ newline)) same ∙ sym (append_assoc old asked newline))
+line_in : (row : RowValue) (line old new : List ℕ) → is_line row ≡ true → line ≡ row.asked
+    → new ≡ old ++ (line ++ newline) → IsShownIn row old new
+line_in row line old new plain same is =
+    subst (λ (b : Bool). IsShownAs b row.asked row.answer old new) (sym plain)
+    (is ∙ ap (λ (t : List ℕ). old ++ (t ++ newline)) same ∙ sym (append_assoc old row.asked newline))
 
 pub line_shown : (row : RowValue) (old inside : RowsValue) (text line : List ℕ) → old ≡ inside
-    → row.blocks ≡ [] → line ≡ row.asked → text ≡ inside.text ++ (line ++ newline)
+    → is_line row ≡ true → line ≡ row.asked → text ≡ inside.text ++ (line ++ newline)
     → IsRowShown row old (record inside { text = text })
-line_shown row old inside text line same none asked is =
+line_shown row old inside text line same plain asked is =
     subst (λ (r : RowsValue). IsRowShown row r (record inside { text = text })) (sym same) (record {
       text = text;
       kept = inside.kept;
-      shown = line_in row.asked row.answer line row.blocks inside.text text none asked is;
+      shown = line_in row line inside.text text plain asked is;
       is = refl;
     })
 
-pub no_items : {X : Type 0} (xs : List X) → (length xs == 0) ≡ true → xs ≡ []
-no_items [] none = refl
-no_items (x ∷ xs) none = search rules
+-- a row that is no line
+pub row_shown : (row : RowValue) (old new : RowsValue) → is_line row ≡ false → IsWritten row old new
+    → IsRowShown row old new
+row_shown row old new drawn w = record {
+  text = w.text;
+  kept = w.kept;
+  shown =
+      subst (λ (b : Bool). IsShownAs b row.asked row.answer old.text w.text) (sym drawn) w.written;
+  is = w.is;
+}
 
 pub nothing_shown : (entry : Option RoundsValue) (old : RowsValue) → entry ≡ None
     → AreMoreShown (option_to_list entry) old old

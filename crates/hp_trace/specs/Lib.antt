@@ -1,8 +1,10 @@
 pub mod Calls
+pub mod Columns
 pub mod Lives
 pub mod Logs
 pub mod Ports
 pub mod Rows
+pub mod RowsJoined
 pub mod StateLogs
 pub mod Traces
 pub mod Views

@@ -1,14 +1,15 @@
 -- The rows of a trace: what was asked, what was answered, and the memory after it.
-use Rattle.std.specs.Prelude.{ℕ, ◌≡◌, ◌==◌, List, [], ◌∷◌, ◌++◌, codes, map, Option, None, Some, if◌then◌else◌}
+use Rattle.std.specs.Prelude.{ℕ, ◌≡◌, List, [], ◌∷◌, ◌++◌, map, Option, None, Some}
 use Rattle.std.proofs.Common.{subst}
 use Rattle.std.specs.Str.Lines.{lines}
 use Rattle.hp_machine.specs.Machine.{MachineValue}
 use Rattle.hp_map.specs.Pictures.{IsPicture}
 use Rattle.hp_map.specs.BlockPictures.{BlockValue}
-use Rattle.hp_map.specs.Rounds.{IsJoinOf, JoinerValue, Reads, RoundsValue, more_text, nothing_read}
+use Rattle.hp_map.specs.Rounds.{JoinerValue, Reads, RoundsValue, nothing_read}
 use Rattle.hp_map.specs.Rows.{RowValue, row_with}
 use Rattle.hp_map.specs.declared.row_picture.Move.{Move}
-use Rattle.hp_text.specs.State.{newline}
+use Rattle.hp_trace.specs.Columns.{IsRowIn}
+use Rattle.hp_trace.specs.RowsJoined.{AreEntriesShown, AreShown, IsShownIn}
 use Rattle.hp_trace.specs.StateLogs.{IsLogged, LogValue, no_log}
 use Rattle.hp_trace_json.specs.Ascii.{AddsLine}
 use Rattle.hp_trace_json.specs.Parts.{state_of}
@@ -47,39 +48,7 @@ pub record IsTextTold (old new : RowsValue) : Type 0 where
   pub seen : json.seen ≡ old.json.seen
   pub is : new ≡ record old { json = json }
 
--- ---- a text in which equal rounds are joined
-
--- one more row in a text: what was asked, what was answered, and the memory, up to the end of a line.
--- How the row is laid out, and the memory as text, are tested, not stated here
-pub record IsRowIn (asked answer old new : List ℕ) : Type 0 where
-  pub gap : List ℕ
-  pub memory : List ℕ
-  pub is : new ≡ old ++ asked ++ gap ++ answer ++ memory ++ newline
-
--- one more row in a text; a row without memory blocks is a line of text as it is
-abbrev pub IsShownIn : (asked answer : List ℕ) → List BlockValue → (old new : List ℕ) → Type 0
-IsShownIn asked answer [] old new = new ≡ old ++ asked ++ newline
-IsShownIn asked answer (block ∷ blocks) old new = IsRowIn asked answer old new
-
-abbrev pub AreShown : List RowValue → (old new : List ℕ) → Type 0
-AreShown [] old new = new ≡ old
-AreShown (row ∷ rows) old new =
-    (mid : List ℕ) × IsShownIn row.asked row.answer row.blocks old mid × AreShown rows mid new
-
--- a line about the rounds that are not shown
-abbrev pub more_line : RoundsValue → List ℕ
-more_line r = if r.more == 0 then [] else codes "     " ++ more_text r ++ newline
-
-abbrev pub AreEntriesShown : List RoundsValue → (old new : List ℕ) → Type 0
-AreEntriesShown [] old new = new ≡ old
-AreEntriesShown (r ∷ rest) old new =
-    (mid : List ℕ) × AreShown r.rows old mid × AreEntriesShown rest (mid ++ more_line r) new
-
--- the text shows these rows: each row is shown, or is in a round that repeats the round right above
-pub record IsJoinedText (rows : List RowValue) (text : List ℕ) : Type 0 where
-  pub entries : List RoundsValue
-  pub joined : IsJoinOf rows entries
-  pub shown : AreEntriesShown entries [] text
+-- ---- rows that are joined
 
 -- these are the rows that were added so far
 pub record IsJoinedSoFar (rows : List RowValue) (r : RowsValue) : Type 0 where
@@ -115,14 +84,14 @@ pub record IsWritten (row : RowValue) (old new : RowsValue) : Type 0 where
   pub written : IsRowIn row.asked row.answer old.text text
   pub is : new ≡ record old { text = text; kept = kept }
 
--- one more row in the text, with or without memory blocks
+-- one more row in the text, or one more line
 pub record IsRowShown (row : RowValue) (old new : RowsValue) : Type 0 where
   pub text : List ℕ
   pub kept : List RowValue
-  pub shown : IsShownIn row.asked row.answer row.blocks old.text text
+  pub shown : IsShownIn row old.text text
   pub is : new ≡ record old { text = text; kept = kept }
 
--- more rows in the text, with or without memory blocks
+-- more rows and lines in the text
 pub record AreRowsShown (rows : List RowValue) (old new : RowsValue) : Type 0 where
   pub text : List ℕ
   pub kept : List RowValue

@@ -8,7 +8,8 @@ use Rattle.hp_scenario.specs.Asked.{asked_by}
 use Rattle.hp_scenario.specs.declared.lines.Line.{Line}
 use Rattle.hp_map.specs.Rows.{RowValue}
 use Rattle.hp_trace.specs.Calls.{MakesWork}
-use Rattle.hp_trace.specs.Rows.{AreDrawn, DrawsIf, IsJoinedText, Row, RowsValue, no_rows}
+use Rattle.hp_trace.specs.Rows.{AreDrawn, DrawsIf, Row, RowsValue, no_rows}
+use Rattle.hp_trace.specs.RowsJoined.{IsJoinedText}
 use Rattle.hp_trace_json.specs.Ascii.{AddsLine}
 use Rattle.hp_text.specs.Lines.{shown_line}
 use Rattle.hp_trace.specs.Views.{shows, whole_view}

@@ -58,8 +58,8 @@ fn trace_event(
     event: &Event,
     asked: &str,
 ) -> Result<(), AllocError>
-    ensures { OnOk result
-        (Adds rows.old rows.new (λ list. MakesEvent machine.old cpu event.now asked.now list machine.new)) }
+    ensures { OnOk result (Adds rows.old rows.new
+        (λ list. MakesEvent machine.old cpu event.now asked.now list machine.new)) }
 {
     match machine.call(alloc, cpu, event) {
         Ok(receipt) => draw_receipt(rows, alloc, machine, asked, &receipt),
@@ -76,7 +76,8 @@ fn note(
     asked: &str,
     remark: Remark,
 ) -> Result<(), AllocError>
-    ensures { OnOk result (AreDrawn (noted machine.now asked.now (remark_text remark)) rows.old rows.new) }
+    ensures { OnOk result
+        (AreDrawn (noted machine.now asked.now (remark_text remark)) rows.old rows.new) }
 {
     let mut out = String::new(alloc);
     write_remark(&mut out, remark)?;
@@ -104,8 +105,8 @@ fn trace_file(
     asked: &str,
 ) -> Result<(), AllocError>
     ensures { OnOk result (AreDrawn
-        (file_rows machine.now (file_text machine.now.layout machine.now.state path.now) asked.now) rows.old
-        rows.new) }
+        (file_rows machine.now (file_text machine.now.layout machine.now.state path.now) asked.now)
+        rows.old rows.new) }
 {
     match read_text(alloc, machine, path) {
         Ok(text) => rows.note(alloc, machine, asked, text.as_str()),

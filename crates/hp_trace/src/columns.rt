@@ -1,6 +1,6 @@
 //! A row as text: what was asked and what was answered in their columns, and the memory.
 ghost use Rattle.std.specs.Prelude.{◌≡◌, ◌++◌, OnOk, string_bytes};
-ghost use Rattle.hp_trace.specs.Rows.{IsRowIn};
+ghost use Rattle.hp_trace.specs.Columns.{IsRowIn};
 
 use hp_map::RowPicture;
 use std::alloc::{AllocError, Global};

@@ -5,8 +5,8 @@
 //! to the memory between them. It runs a scenario's lines on a machine as `hotplug serial` does,
 //! but returns nothing if memory runs out. It knows nothing of streams or command lines.
 //!
-//! Read specs/Traces first, then specs/Calls and specs/Rows, and for the log specs/Logs. How a row
-//! is laid out as text (`columns`, `folds`) is tested, not proved.
+//! Read specs/Traces first, then specs/Calls and specs/Rows, for the text specs/RowsJoined, and for
+//! the log specs/Logs. How a row is laid out as text (`columns`, `folds`) is tested, not proved.
 #![tactic(auto)]
 
 mod calls;

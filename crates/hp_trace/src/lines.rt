@@ -28,7 +28,8 @@ use std::alloc::{AllocError, Global};
 /// The contract fixes what each row asks and answers, in which order the rows come, and which are
 /// not shown. How they are laid out is tested.
 pub fn trace(alloc: Global, scenario: &Scenario, view: View) -> Result<String, AllocError>
-    ensures { IfOk result (λ text. IsJoinedTraceOf view (scenario_seen scenario.now) (string_bytes text)) }
+    ensures { IfOk result (λ text.
+        IsJoinedTraceOf view (scenario_seen scenario.now) (string_bytes text)) }
 {
     let rows = trace_scenario(alloc, scenario, view, Form::Joined)?;
     rows.into_joined_text(alloc)
@@ -44,7 +45,7 @@ pub fn trace_rows(
     ensures { IfOk result (λ rows. AreRowsOf view (scenario_seen scenario.now) rows.items) }
 {
     let rows = trace_scenario(alloc, scenario, view, Form::Kept)?;
-    Ok(rows.into_kept())
+    Ok(rows.into_kept(alloc))
 }
 
 /// Returns the trace of a scenario as JSON: a line about the scenario, and then the rows of
@@ -56,7 +57,7 @@ pub fn trace_json(alloc: Global, scenario: &Scenario) -> Result<String, AllocErr
     let count = scenario.lines.as_slice().len() as u64;
     let mut text = head_line(alloc, &scenario.layout, &scenario.names, count)?;
     let rows = trace_scenario(alloc, scenario, whole_view(), Form::Told)?;
-    let rows = rows.into_json();
+    let rows = rows.into_json(alloc);
     text.push_str(rows.as_str())?;
     Ok(text)
 }
@@ -141,8 +142,8 @@ pub(crate) fn trace_lines(
     lines: &[Line],
 ) -> Result<(), AllocError>
     requires { before + length lines.now < 2 ^ 64 }
-    ensures { OnOk result (TracesLines view names.now.keys before machine.old lines.now rows.old rows.new
-        machine.new) }
+    ensures { OnOk result (TracesLines view names.now.keys before machine.old lines.now rows.old
+        rows.new machine.new) }
 {
     for (index, line) in lines.iter().enumerate() {
         let number = before + index as u64 + 1;
@@ -188,7 +189,8 @@ fn numbered_text(
     number: u64,
     line: &Line,
 ) -> Result<String, AllocError>
-    ensures { IfOk result (λ text. string_bytes text ≡ numbered_text names.now.keys number line.now) }
+    ensures { IfOk result (λ text.
+        string_bytes text ≡ numbered_text names.now.keys number line.now) }
 {
     let mut out = format!(in alloc; "{number:>4} ")?;
     write_shown_line(&mut out, names, line, Brackets::Escaped)?;

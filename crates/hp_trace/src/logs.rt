@@ -32,7 +32,7 @@ pub fn trace_log(alloc: Global, scenario: &Scenario) -> Result<ScenarioLog, Allo
     draw_lines(&mut rows, alloc, &mut machine, scenario.lines.as_slice())?;
     Ok(ScenarioLog {
         block_frames: scenario.layout.block_size(),
-        events: rows.into_events(),
+        events: rows.into_events(alloc),
     })
 }
 

@@ -57,7 +57,8 @@ impl<'a> Port for TracePort<'a> {
 
     ghost makes = { λ p gained q. (q.machine.ghost_name ≡ p.machine.ghost_name)
         × (q.rows.ghost_name ≡ p.rows.ghost_name) × (q.cpu ≡ p.cpu)
-        × IsTraced p.cpu p.rows.now p.is_lost p.machine.now gained q.rows.now q.is_lost q.machine.now };
+        × IsTraced p.cpu p.rows.now p.is_lost p.machine.now gained q.rows.now q.is_lost
+        q.machine.now };
 
     ghost leaves = { λ p fault q. (q.machine.ghost_name ≡ p.machine.ghost_name)
         × (q.rows.ghost_name ≡ p.rows.ghost_name) × (q.machine.now ≡ p.machine.now)
@@ -83,7 +84,8 @@ impl<'a> Port for TracePort<'a> {
         }
     }
 
-    ghost nothing = { λ p. (refl, refl, refl, traced_nothing p.cpu p.rows.now p.is_lost p.machine.now) };
+    ghost nothing = { λ p.
+        (refl, refl, refl, traced_nothing p.cpu p.rows.now p.is_lost p.machine.now) };
 
     ghost joined = { λ p q r xs ys a b. (
       b.0 ∙ a.0,
@@ -143,8 +145,8 @@ pub(crate) fn draw_receipt(
     receipt: &Receipt,
 ) -> Result<(), AllocError>
     ensures { OnOk result
-        (DrawsIf rows.old.form machine.now asked.now (answer_text receipt.now) (moved_of receipt.now.reply)
-        rows.old rows.new) }
+        (DrawsIf rows.old.form machine.now asked.now (answer_text receipt.now)
+        (moved_of receipt.now.reply) rows.old rows.new) }
 {
     let answer = answer_text(alloc, receipt)?;
     rows.draw(
@@ -218,8 +220,8 @@ fn drive(
     plan: Plan,
     turns: u32,
 ) -> Result<OpEnd, AllocError>
-    ensures { IfOk result
-        (λ end. Adds rows.old rows.new (λ list. IsDriven machine.old cpu turns plan end list machine.new)) }
+    ensures { IfOk result (λ end. Adds rows.old rows.new
+        (λ list. IsDriven machine.old cpu turns plan end list machine.new)) }
 {
     let mut port = TracePort::new(machine, cpu, rows);
     let end = run_plan(alloc, &mut port, plan, turns);

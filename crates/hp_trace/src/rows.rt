@@ -1,9 +1,10 @@
 //! The rows of a trace.
-ghost use Rattle.std.specs.Prelude.{◌≡◌, ◌++◌, ◌∷◌, [], List, IfOk, OnOk, string_bytes};
-ghost use Rattle.std.specs.Option.{option_to_list};
+ghost use Rattle.std.specs.Prelude.{◌≡◌, ◌++◌, [], IfOk, OnOk, string_bytes};
 ghost use Rattle.std.specs.Str.Lines.{lines};
-ghost use Rattle.hp_trace.specs.Rows.{AddsRow, AreDrawn, AreJoinedTo, AreMoreShown, AreRowsShown, DrawsIf, IsJoinedSoFar, IsJoinedText, IsRow, IsRowLogged, IsRowShown, IsRowTold, IsTextTold, IsWritten, Says, line_rows, more_line, no_rows, noted};
-ghost use Rattle.hp_map.specs.Rows.{RowValue, row_with};
+ghost use Rattle.hp_trace.specs.Rows.{AddsRow, AreDrawn, DrawsIf, IsRow, IsRowLogged, IsRowTold, IsTextTold, IsWritten, Says, line_rows, no_rows, noted};
+ghost use Rattle.hp_map.specs.Rows.{row_with};
+
+mod joined;
 
 use crate::columns::write_row;
 use crate::folds::{RowLayout, memory_text};
@@ -12,7 +13,7 @@ use crate::state_logs::StateLog;
 use crate::view::View;
 use hp_judge::LogEvent;
 use hp_machine::Machine;
-use hp_map::{BlockPicture, Move, RoundJoiner, Rounds, RowPicture, picture_of};
+use hp_map::{BlockPicture, Move, RoundJoiner, RowPicture, picture_of};
 use hp_scenario::Line;
 use hp_units::{Receipt, Text};
 use indexmap::IndexSet;
@@ -38,7 +39,6 @@ pub(crate) enum Form {
 }
 
 /// The rows so far, in one form: as text, as values, as the events of a log, or as JSON.
-#[derive(Drop)]
 pub(crate) struct Rows {
     form: Form,
     row_layout: RowLayout,
@@ -48,6 +48,21 @@ pub(crate) struct Rows {
     log: StateLog,
     json: JsonRows,
     joiner: RoundJoiner,
+}
+
+/// Keeps callers from proving again how each field is dropped.
+impl Drop for Rows {
+    fn drop(self) {
+        let Rows {
+            form: _,
+            row_layout: _,
+            text: _text,
+            kept: _kept,
+            log: _log,
+            json: _json,
+            joiner: _joiner,
+        } = self;
+    }
 }
 
 impl Model for Rows {
@@ -182,77 +197,24 @@ impl Rows {
         }
     }
 
-    /// Writes a row.
+    /// Writes a row, and keeps it in place of the last one.
     fn write(&mut self, alloc: Global, row: RowPicture) -> Result<(), AllocError>
         ensures { OnOk result (IsWritten row self.old self.new) }
     {
-        let memory = memory_text(alloc, self.row_layout, self.blocks_before(), row.blocks())?;
-        let is_first = self.kept.is_empty();
-        let row_layout = self.row_layout.after(alloc, is_first, row.blocks())?;
-        self.row_layout = row_layout;
-        write_row(&mut self.text, alloc, &row, memory.as_str())?;
+        self.write_text(alloc, &row)?;
         self.kept.clear();
         self.kept.push(row)?;
         Ok(())
     }
 
-    /// Adds a row, and shows the last entry if no more rows can be joined to it.
-    fn join(&mut self, alloc: Global, row: RowPicture) -> Result<(), AllocError>
-        ensures { OnOk result (AreJoinedTo (row ∷ []) self.old self.new) }
+    /// Writes a row below the last one.
+    fn write_text(&mut self, alloc: Global, row: &RowPicture) -> Result<(), AllocError>
+        ensures { OnOk result (IsWritten row.now self.old self.new) }
     {
-        let gone = self.joiner.push(alloc, row)?;
-        self.show(alloc, gone)
-    }
-
-    /// Adds each line of a text as a row without memory blocks.
-    fn join_lines(&mut self, alloc: Global, text: &str) -> Result<(), AllocError>
-        ensures { OnOk result (AreJoinedTo (line_rows (lines text.now)) self.old self.new) }
-    {
-        for line in text.lines() {
-            let row = row_with(alloc, line, "", None, Vec::new(alloc))?;
-            self.join(alloc, row)?;
-        }
-        Ok(())
-    }
-
-    /// Shows an entry, if there is one.
-    fn show(&mut self, alloc: Global, entry: Option<Rounds>) -> Result<(), AllocError>
-        ensures { OnOk result (AreMoreShown (option_to_list entry) self.old self.new) }
-    {
-        match entry {
-            Some(entry) => self.show_entry(alloc, entry),
-            None => Ok(()),
-        }
-    }
-
-    /// Shows an entry: the rows of its first round, and a line about the others.
-    fn show_entry(&mut self, alloc: Global, entry: Rounds) -> Result<(), AllocError>
-        ensures { OnOk result (AreMoreShown (entry ∷ []) self.old self.new) }
-    {
-        let more = more_line(alloc, &entry)?;
-        self.show_rows(alloc, entry.into_rows())?;
-        self.text.push_str(more.as_str())
-    }
-
-    /// Shows rows.
-    fn show_rows(&mut self, alloc: Global, rows: Vec<RowPicture>) -> Result<(), AllocError>
-        ensures { OnOk result (AreRowsShown rows.items self.old self.new) }
-    {
-        for row in rows {
-            self.show_row(alloc, row)?;
-        }
-        Ok(())
-    }
-
-    /// Shows a row, or a line without memory blocks.
-    fn show_row(&mut self, alloc: Global, row: RowPicture) -> Result<(), AllocError>
-        ensures { OnOk result (IsRowShown row self.old self.new) }
-    {
-        if row.blocks().is_empty() {
-            let line = row.asked();
-            return writeln!(self.text, "{line}");
-        }
-        self.write(alloc, row)
+        let memory = memory_text(alloc, self.row_layout, self.blocks_before(), row.blocks())?;
+        let is_first = self.kept.is_empty();
+        self.row_layout = self.row_layout.after(alloc, is_first, row.blocks())?;
+        write_row(&mut self.text, alloc, row, memory.as_str())
     }
 
     /// Returns the memory blocks of the last row, or none before the first.
@@ -312,79 +274,36 @@ impl Rows {
     }
 
     /// Returns the text of the rows.
-    pub(crate) fn into_text(self) -> String
+    pub(crate) fn into_text(self, alloc: Global) -> String
         ensures { string_bytes result ≡ self.text }
     {
-        let Rows {
-            form: _,
-            row_layout: _,
-            text: all,
-            kept: _,
-            log: _,
-            json: _,
-            joiner: _,
-        } = self;
-        all
-    }
-
-    /// Returns the text of the rows, in which equal rounds are joined.
-    pub(crate) fn into_joined_text(self, alloc: Global) -> Result<String, AllocError>
-        ensures { IfOk result (λ text. (rows : List RowValue)
-            → IsJoinedSoFar rows self → IsJoinedText rows (string_bytes text)) }
-    {
         let mut all = self;
-        let joiner = replace(&mut all.joiner, RoundJoiner::new(alloc));
-        let (gone, last) = joiner.finish(alloc)?;
-        all.show(alloc, gone)?;
-        all.show(alloc, last)?;
-        Ok(all.into_text())
+        replace(&mut all.text, String::new(alloc))
     }
 
     /// Returns the rows as values.
-    pub(crate) fn into_kept(self) -> Vec<RowPicture>
+    pub(crate) fn into_kept(self, alloc: Global) -> Vec<RowPicture>
         ensures { result.items ≡ self.kept }
     {
-        let Rows {
-            form: _,
-            row_layout: _,
-            text: _,
-            kept: all,
-            log: _,
-            json: _,
-            joiner: _,
-        } = self;
-        all
+        let mut all = self;
+        replace(&mut all.kept, Vec::new(alloc))
     }
 
     /// Returns the events of the log.
-    pub(crate) fn into_events(self) -> Vec<LogEvent>
+    pub(crate) fn into_events(self, alloc: Global) -> Vec<LogEvent>
         ensures { result.items ≡ self.log.events }
     {
-        let Rows {
-            form: _,
-            row_layout: _,
-            text: _,
-            kept: _,
-            log,
-            json: _,
-            joiner: _,
-        } = self;
+        let mut all = self;
+        let log = replace(&mut all.log, StateLog::new(alloc));
         log.into_events()
     }
 
     /// Returns the text of the rows as JSON.
-    pub(crate) fn into_json(self) -> String
+    pub(crate) fn into_json(self, alloc: Global) -> String
         ensures { string_bytes result ≡ self.json.text }
     {
-        let Rows {
-            form: _,
-            row_layout: _,
-            text: _,
-            kept: _,
-            log: _,
-            json,
-            joiner: _,
-        } = self;
+        let mut all = self;
+        let json = replace(&mut all.json, JsonRows::new(alloc));
         json.into_text()
     }
 }
@@ -414,18 +333,4 @@ fn row_with(
     let asked = Text::new(asked);
     let answer = Text::new(answer);
     Ok(RowPicture::new(asked, answer, moved, blocks))
-}
-
-/// Returns the line about the rounds that are not shown, or an empty text if there are none.
-fn more_line(alloc: Global, entry: &Rounds) -> Result<String, AllocError>
-    ensures { IfOk result (λ text. string_bytes text ≡ more_line entry.now) }
-{
-    let mut out = String::new(alloc);
-    if entry.more() == 0 {
-        return Ok(out);
-    }
-    out.push_str("     ")?;
-    entry.write_more(&mut out)?;
-    out.push_str("\n")?;
-    Ok(out)
 }

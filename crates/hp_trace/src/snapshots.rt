@@ -12,7 +12,8 @@ use std::alloc::{AllocError, Global};
 
 /// Takes a snapshot of a machine's memory.
 pub(crate) fn snapshot_of(alloc: Global, machine: &Machine) -> Result<Snapshot, AllocError>
-    ensures { IfOk result (λ snapshot. snapshot ≡ snapshot_of machine.now.layout machine.now.state) }
+    ensures { IfOk result (λ snapshot.
+        snapshot ≡ snapshot_of machine.now.layout machine.now.state) }
 {
     machine.stays_sound();
     let holders = holders_of(alloc, machine)?;
@@ -24,8 +25,8 @@ pub(crate) fn snapshot_of(alloc: Global, machine: &Machine) -> Result<Snapshot, 
 #[tactic(auto, using(crate::proofs::SnapshotsTaken::one_more))]
 fn holders_of(alloc: Global, machine: &Machine) -> Result<Vec<FrameHolder>, AllocError>
     requires { IsWellPlaced machine.now.layout machine.now.state }
-    ensures { IfOk result
-        (λ holders. holders.items ≡ map (holder_of machine.now.state) (all_frames machine.now.layout)) }
+    ensures { IfOk result (λ holders.
+        holders.items ≡ map (holder_of machine.now.state) (all_frames machine.now.layout)) }
 {
     let mut holders = Vec::new(alloc);
     for number in 0..machine.layout().frames() {

@@ -99,8 +99,10 @@ fn owners_pages_told(
     now: &Image,
     owner: Owner,
 ) -> Result<Vec<PageNow>, AllocError>
-    ensures told { IfOk result (λ told. OwnersPagesTold was.now now.now owner now.now.layout.pages told.items) }
-    ensures others { IfOk result (λ told. (other : ℕ) → other ≢ owner → NoOwnersPages other told.items) }
+    ensures told { IfOk result (λ told.
+        OwnersPagesTold was.now now.now owner now.now.layout.pages told.items) }
+    ensures others { IfOk result (λ told.
+        (other : ℕ) → other ≢ owner → NoOwnersPages other told.items) }
 {
     let mut told = Vec::new(alloc);
     for number in 0..now.layout().pages() {

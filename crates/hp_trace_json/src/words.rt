@@ -44,8 +44,10 @@ fn owners_words_told(
     now: &Image,
     owner: Owner,
 ) -> Result<Vec<WordNow>, AllocError>
-    ensures told { IfOk result (λ told. OwnersWordsTold was.now now.now owner now.now.layout.pages told.items) }
-    ensures others { IfOk result (λ told. (other : ℕ) → other ≢ owner → NoOwnersWords other told.items) }
+    ensures told { IfOk result (λ told.
+        OwnersWordsTold was.now now.now owner now.now.layout.pages told.items) }
+    ensures others { IfOk result (λ told.
+        (other : ℕ) → other ≢ owner → NoOwnersWords other told.items) }
 {
     let mut told = Vec::new(alloc);
     for number in 0..now.layout().pages() {

@@ -92,7 +92,8 @@ or_none x y h = grind arith
 
 -- ---- what the arms of a match on an event show
 
-pub alloc_event : (m : MachineSize) (r : BlockRange) (e part : LogEvent) (start order block : ℕ) (movable : Bool)
+pub alloc_event : (m : MachineSize) (r : BlockRange) (e part : LogEvent) (start order block : ℕ)
+    (movable : Bool)
     → e ≡ Alloc start order movable → block ≡ block_of m start → part ≡ cond (contains r block) e Other
     → is_well_formed m e ≡ true → IsPartOf m r e part
 alloc_event m r e part start order block movable e_is block_is part_is formed =

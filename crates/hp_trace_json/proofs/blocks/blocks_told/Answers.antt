@@ -7,7 +7,8 @@ use Rattle.hp_trace_json.proofs.blocks.blocks_told.Goals as goal
 
 pub loop-number-init : goal.loop-number-init
 loop-number-init c =
-    values_none is_block SetsRow (row_in c.args.was.now) (row_in (Some c.args.now.now)) c.new-told.result.items c.new-told.ensures.items
+    values_none is_block SetsRow (row_in c.args.was.now) (row_in (Some c.args.now.now))
+    c.new-told.result.items c.new-told.ensures.items
 
 pub loop-number-preserved : goal.loop-number-preserved
 loop-number-preserved c =

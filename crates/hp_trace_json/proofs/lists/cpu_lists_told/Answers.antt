@@ -21,5 +21,6 @@ loop-number-preserved c =
     (c.cpu_list_in.ensures ∙ ap (cpu_list_at c.args.was.now) number)
     (c.cpu_list-list.ensures ∙ ap (cpu_list_at (Some c.args.now.now)) number)
     (λ x e. is_key _ n (cpu_same x.cpu x.pool (n / 3) c.pool_numbered-pool.result e.0 e.1 ∙ number))
-    (λ k x other e. is_other _ n k (cpu_same x.cpu x.pool (n / 3) c.pool_numbered-pool.result e.0 e.1 ∙ number)
-    other) c.loop-number.invariant c.in_ok-tell_cpu_list.ensures
+    (λ k x other e.
+    is_other _ n k (cpu_same x.cpu x.pool (n / 3) c.pool_numbered-pool.result e.0 e.1 ∙ number) other)
+    c.loop-number.invariant c.in_ok-tell_cpu_list.ensures

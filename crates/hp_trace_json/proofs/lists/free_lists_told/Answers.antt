@@ -21,5 +21,6 @@ loop-number-preserved c =
     (c.free_list_in.ensures ∙ ap (free_list_at c.args.was.now) number)
     (c.list-list.ensures ∙ ap (free_list_at (Some c.args.now.now)) number)
     (λ x e. is_key _ n (free_same x.class x.order c.numbered-class.result (n / 5) e.0 e.1 ∙ number))
-    (λ k x other e. is_other _ n k (free_same x.class x.order c.numbered-class.result (n / 5) e.0 e.1 ∙ number) other) c.loop-number.invariant
-    c.in_ok-tell_free_list.ensures
+    (λ k x other e.
+    is_other _ n k (free_same x.class x.order c.numbered-class.result (n / 5) e.0 e.1 ∙ number) other)
+    c.loop-number.invariant c.in_ok-tell_free_list.ensures

@@ -10,10 +10,13 @@ pub loop-number-init : goal.loop-number-init
 loop-number-init c =
     let o = c.args.owner in (
       below_none
-          (λ page. PagesWordsTold o page (words_in c.args.was.now o page) (words_in (Some c.args.now.now) o page)
+          (λ page.
+          PagesWordsTold o page (words_in c.args.was.now o page) (words_in (Some c.args.now.now) o page)
           c.args.now.now.layout.words)
-          (NoWords o) (owner_joins c.args.was.now c.args.now.now o) c.new-told.result.items c.new-told.ensures.items,
-      λ other differs page index. silent_none (is_word other page index) c.new-told.result.items c.new-told.ensures.items,
+          (NoWords o) (owner_joins c.args.was.now c.args.now.now o) c.new-told.result.items
+          c.new-told.ensures.items,
+      λ other differs page index. silent_none (is_word other page index) c.new-told.result.items
+          c.new-told.ensures.items,
     )
 
 pub loop-number-preserved : goal.loop-number-preserved
@@ -30,14 +33,16 @@ loop-number-preserved c =
           (sym (c.in_ok-extend_from_slice.ensures.items
           ∙ ap (λ l. c.loop-number.told.items ++ l) c.as_slice.ensures.value))
           (below_more
-          (λ page. PagesWordsTold o page (words_in c.args.was.now o page) (words_in (Some c.args.now.now) o page)
+          (λ page.
+          PagesWordsTold o page (words_in c.args.was.now o page) (words_in (Some c.args.now.now) o page)
           c.args.now.now.layout.words)
           (NoWords o) (owner_joins c.args.was.now c.args.now.now o) n _ _ c.loop-number.invariant.0 here
           (λ k other. c.in_ok-of_page.ensures.others o k (λ same e. other e))),
       λ other differs. subst (λ (l : List WordNow). NoOwnersWords other l)
           (sym (c.in_ok-extend_from_slice.ensures.items
           ∙ ap (λ l. c.loop-number.told.items ++ l) c.as_slice.ensures.value))
-          (λ page index. silent_both (is_word other page index) _ _ (c.loop-number.invariant.1 other differs page index)
+          (λ page index.
+          silent_both (is_word other page index) _ _ (c.loop-number.invariant.1 other differs page index)
           (c.in_ok-of_page.ensures.others other page (λ e same. differs e) index)),
     )
 

@@ -18,13 +18,14 @@ loop-index-preserved c =
     let o = c.args.owner in
     let p = c.args.page in (
       values_more (is_word o p) SetsWord (word_of c.args.was.now) (word_of c.args.now.now)
-          (λ x. (x.owner ≡ o) × (x.page ≡ p) × (x.index ≡ n)) n c.word_of.result c.word_of-in-loop-index.result _ _
-          c.word_of.ensures c.word_of-in-loop-index.ensures
+          (λ x. (x.owner ≡ o) × (x.page ≡ p) × (x.index ≡ n)) n c.word_of.result
+          c.word_of-in-loop-index.result _ _ c.word_of.ensures c.word_of-in-loop-index.ensures
           (λ x e. are_words x.owner x.page x.index o p n e.0 e.1 e.2)
           (λ k x other e. last_word x.owner x.page x.index o p n k e.2 other) c.loop-index.invariant.0
           c.in_ok-tell_word.ensures,
       λ a b other index. silent_added (is_word a b index)
-          (λ x. (x.owner ≡ o) × (x.page ≡ p) × (x.index ≡ n)) SetsWord c.word_of.result c.word_of-in-loop-index.result _ _
+          (λ x. (x.owner ≡ o) × (x.page ≡ p) × (x.index ≡ n)) SetsWord c.word_of.result
+          c.word_of-in-loop-index.result _ _
           (λ x e. other_word x.owner x.page x.index o p a b index e.0 e.1 other)
           (c.loop-index.invariant.1 a b other index) c.in_ok-tell_word.ensures,
     )

@@ -5,7 +5,8 @@ use Rattle.hp_log_pictures.proofs.columns.Columns.raise_last.Goals as goal
 
 pub returns-clause-held : goal.returns-clause-held
 returns-clause-held c =
-    let some : 0 < c.self.inside.room = subst (λ (s : Sampled). 0 < s.room) (sym c.self.view_is) c.requires.room in
+    let some : 0 < c.self.inside.room =
+    subst (λ (s : Sampled). 0 < s.room) (sym c.self.view_is) c.requires.room in
     let last : c.len-last.result - 1 ≡ length c.self.inside.peaks.items - 1 =
     omega (arith, c.len-last.ensures, c.self.inside.peaks.ok.0) in
     subst
