@@ -6,9 +6,9 @@ ghost use Rattle.hp_scenario.specs.declared.fault.ScenarioFault.{ScenarioFault};
 ghost use Rattle.hp_scenario.specs.declared.fault.ScenarioFault.TheVariants.{BadLine};
 
 /// A text that is a scenario without names is the same scenario with them, and none of its lines
-/// works on a result by its name. A text that is no scenario has the same fault, unless the fault is
-/// that of a line. So names add meaning only to a text with a line that is not understood without
-/// them.
+/// works on a result by its name. A text that is no scenario has the same fault, unless the fault
+/// is that of a line. So names add meaning only to a text with a line that is not understood
+/// without them.
 pub fn scenarios_without_names_are_read_alike()
     ensures read { (bytes : List ℕ) (s : ScenarioValue) → scenario_in bytes ≡ Ok s
         → named_in bytes ≡ Ok (plainly s) }
