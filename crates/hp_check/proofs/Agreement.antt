@@ -26,6 +26,7 @@ use Rattle.hp_check.specs.declared.finding.Key.{Key}
 use Rattle.hp_check.specs.declared.finding.ScenarioObject.{ScenarioObject}
 use Rattle.hp_check.proofs.Added.{both_added, by_cause, of_fault}
 use Rattle.hp_check.proofs.Entries.{calls_stop}
+use Rattle.hp_check.proofs.Forms.{form_made}
 
 -- ---- what a form comes of
 
@@ -33,9 +34,6 @@ use Rattle.hp_check.proofs.Entries.{calls_stop}
 pub record IsMade (d : Data) (form : Form) : Type 0 where
   pub parts : parts_in d ≡ Some form.parts
   pub calls : texts_at (codes "calls") d ≡ Some form.calls
-
-abbrev pub form_made : LayoutParts → List (List ℕ) → Form
-form_made parts calls = record { parts = parts; calls = calls }
 
 if_some : {A : Type 0} (b : Bool) (o : Option A) (x : A) → cond b o None ≡ Some x → o ≡ Some x
 if_some b o x h = grind arith

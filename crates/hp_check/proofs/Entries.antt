@@ -50,7 +50,8 @@ bound_more place bound (e ∷ ds) d =
 
 fault_more : (place : ℕ) (bound : Bound) (ds : List Data) (d : Data)
     → calls_fault place bound (ds ++ d ∷ [])
-    ≡ option_or (calls_fault place bound ds) (entry_fault (place + length ds) (bound_through place bound ds) d)
+    ≡ option_or (calls_fault place bound ds)
+    (entry_fault (place + length ds) (bound_through place bound ds) d)
 fault_more place bound [] d =
     or_none (entry_fault place bound d) ∙ ap (λ (n : ℕ). entry_fault n bound d) (omega arith)
 fault_more place bound (e ∷ ds) d =
@@ -124,7 +125,8 @@ pub line_added : (place : ℕ) (bound : Bound) (d : Data) (text : List ℕ) (pla
     → Some text ≡ as_str d → plain ≡ plain_in bound text → true ≡ is_some (line_says plain.text)
     → Adds (IsBadText place bound d) (entry_fault place bound d) old old
 line_added place bound d text plain old is same line =
-    of_fault (ap (λ (b : Bool). cond b None (Some (BadLine (place + 1)))) (said_after bound text plain true same line)
+    of_fault (ap (λ (b : Bool). cond b None (Some (BadLine (place + 1))))
+    (said_after bound text plain true same line)
     ∙ ap (text_fault place bound) is)
     (none_added (IsBadText place bound d) old)
 
@@ -144,8 +146,8 @@ pub bad_added : (place : ℕ) (bound : Bound) (d : Data) (text : List ℕ) (plai
     → Adds (IsBadText place bound d) (entry_fault place bound d) old new
 bad_added place bound d text plain old new is same line adds =
     let none : false ≡ is_line_after bound text = said_after bound text plain false same line in
-    one_added (IsBadText place bound d) (entry_fault place bound d) (finding.BadCall (place + 1) text adds.0) old
-    new adds.1 (refl, sym is, sym none)
+    one_added (IsBadText place bound d) (entry_fault place bound d) (finding.BadCall (place + 1) text adds.0)
+    old new adds.1 (refl, sym is, sym none)
     (subst (λ (fault : Option ScenarioFault). IsFirst fault (finding.BadCall (place + 1) text adds.0 ∷ []))
     (ap (λ (b : Bool). cond b None (Some (BadLine (place + 1)))) none ∙ ap (text_fault place bound) is) refl)
 

@@ -1,5 +1,5 @@
 -- The first part of a layout that is out of its range is the layout's fault.
-use Rattle.std.proofs.Common.{arith, ◌≡◌, ℕ, ◌^◌, ◌==◌, Bool, not, ◌&&◌, [], ◌∷◌, length, nat_le, Option}
+use Rattle.std.proofs.Common.{arith, ◌≡◌, ℕ, ◌^◌, ◌==◌, Bool, not, ◌&&◌, [], ◌∷◌, length, nat_le, nat_lt, Option}
 use Rattle.std.specs.Bool.{then_some}
 use Rattle.std.specs.Option.{option_map}
 use Rattle.hp_units.specs.Choices.{first_some}
@@ -27,6 +27,10 @@ first_of : (order pageblocks blocks frames cpus batch high owners pages words hi
     ∷ first_some (then_some (not h) BadOwners ∷ then_some (not i) BadPages ∷ then_some (not j) BadWords
     ∷ then_some (not k) BadLimit ∷ then_some (not l) BadBoot ∷ []) ∷ []))
 first_of n1 n2 n3 n4 n5 n6 n7 n8 n9 n10 n11 n12 a b c d e f g h i j k l = grind arith
+
+-- a test the other way round
+pub is_above : (most n : ℕ) → nat_lt most n ≡ not (nat_le n most)
+is_above most n = grind arith
 
 -- the same of what tests gave
 pub outs_are : (l : LayoutParts) (words : ℕ) (a b c d e f g h i j k m : Option OutOfRange)

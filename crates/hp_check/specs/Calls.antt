@@ -10,7 +10,7 @@ use Rattle.hp_names.specs.Bindings.{Bound, bound_after}
 use Rattle.hp_names.specs.Plain.{plain_in}
 use Rattle.hp_check.specs.declared.finding.Finding.{Finding}
 use Rattle.hp_check.specs.declared.finding.Finding.TheVariants as finding
-use Rattle.hp_check.specs.declared.name_slips.NameSlip.{NameSlip}
+use Rattle.hp_check.specs.declared.name_typos.NameTypo.{NameTypo}
 
 abbrev pub data_of : Items → List Data
 data_of no_items = []
@@ -69,7 +69,7 @@ IsBadText place bound d f = ⊥
 -- the finding for a text was added, with what is wrong with the text's names, if they are the reason
 abbrev pub AddsBadCall : (number : ℕ) → (text : List ℕ) → (old new : List Finding) → Type 0
 AddsBadCall number text old new =
-    (names : Option NameSlip) × (new ≡ old ++ finding.BadCall number text names ∷ [])
+    (names : Option NameTypo) × (new ≡ old ++ finding.BadCall number text names ∷ [])
 
 -- the fault of reading a text
 abbrev pub text_fault : (place : ℕ) → Bound → Option (List ℕ) → Option ScenarioFault

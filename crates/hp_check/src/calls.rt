@@ -6,7 +6,7 @@ ghost use Rattle.hp_check.specs.Adds.{Adds};
 ghost use Rattle.hp_check.specs.Calls.{AddsBadCall, IsBadCall, IsBadText, bound_past, calls_fault, entries_in, entry_fault};
 
 use crate::finding::Finding;
-use crate::name_slips::name_slip;
+use crate::name_typos::name_typo;
 use hp_names::{Bindings, Naming, plain_line};
 use hp_scenario::is_line;
 use hp_units::Text;
@@ -89,7 +89,7 @@ fn push_bad_call(
 ) -> Result<(), AllocError>
     ensures { OnOk result (AddsBadCall number text.now found.old.items found.new.items) }
 {
-    let names = name_slip(alloc, text, bound)?;
+    let names = name_typo(alloc, text, bound)?;
     let text = Text::new(String::from_str(alloc, text)?);
     found.push(Finding::BadCall {
         number,

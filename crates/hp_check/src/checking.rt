@@ -64,7 +64,7 @@ fn warnings_in(
     ensures { IfOk result (λ found. All (IsWarning (length named.now.scenario.lines)) found.items) }
 {
     let mut found = Vec::new(alloc);
-    push_repeats(&mut found, input)?;
+    push_repeats(&mut found, alloc, input)?;
     let layout = &named.scenario.layout;
     let lines = named.scenario.lines.as_slice();
     let sources = named.sources.as_slice();

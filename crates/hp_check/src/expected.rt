@@ -2,18 +2,18 @@
 ghost use Rattle.std.specs.Prelude.{OnOk, string_bytes};
 ghost use Rattle.hp_check.specs.Hints.{AddsText};
 
-use crate::name_slips::{NameSlip, write_name_slip};
-use crate::slips::write_slip;
+use crate::name_typos::{NameTypo, write_name_typo};
+use crate::typos::write_typo;
 use hp_units::number32;
 use std::alloc::AllocError;
 
 /// Writes why a text is not a line, and what was expected. The reason is a space at one of its
-/// ends, or the wrong name or word, if that can be found. `names` is what `name_slip` returned for
+/// ends, or the wrong name or word, if that can be found. `names` is what `name_typo` returned for
 /// the text.
 pub fn write_expected(
     out: &mut String,
     text: &str,
-    names: &Option<NameSlip>,
+    names: &Option<NameTypo>,
 ) -> Result<(), AllocError>
     ensures { OnOk result (AddsText (string_bytes out.old) (string_bytes out.new)) }
 {
@@ -31,13 +31,13 @@ pub fn write_expected(
 fn write_wrong_word(
     out: &mut String,
     text: &str,
-    names: &Option<NameSlip>,
+    names: &Option<NameTypo>,
 ) -> Result<(), AllocError>
     ensures { OnOk result (AddsText (string_bytes out.old) (string_bytes out.new)) }
 {
     match names {
-        Some(slip) => write_name_slip(out, text, slip),
-        None => write_slip(out, text),
+        Some(typo) => write_name_typo(out, text, typo),
+        None => write_typo(out, text),
     }
 }
 
@@ -49,22 +49,12 @@ fn wanted(text: &str) -> &'static str {
     if cpu.is_none() {
         return "its first word is no number of a processor";
     }
-    match words.next() {
-        Some(verb) => wanted_of(verb),
-        None => "a verb is missing",
-    }
-}
-
-/// Returns the form of a line with this verb. For an unknown verb, returns a text that reports it,
-/// with a guess if there is one.
-fn wanted_of(verb: &str) -> &'static str {
-    match text_beside(verb, forms()) {
-        Some(form) => form,
-        None => match text_beside(verb, guesses()) {
-            Some(guess) => guess,
-            None => "its second word is no verb",
-        },
-    }
+    let Some(verb) = words.next() else {
+        return "a verb is missing";
+    };
+    text_beside(verb, forms())
+        .or(text_beside(verb, guesses()))
+        .unwrap_or("its second word is no verb")
 }
 
 /// Returns the text beside a word in a table.

@@ -2,7 +2,7 @@
 ghost use Rattle.std.specs.Prelude.{◌≡◌};
 ghost use Rattle.hp_check.specs.Findings.{is_fault, key_name};
 
-use crate::name_slips::NameSlip;
+use crate::name_typos::NameTypo;
 use hp_requests::ControlFault;
 use hp_scenario::Unfit;
 use hp_units::{Serial, Text};
@@ -27,7 +27,7 @@ pub enum Finding {
     BadCall {
         number: u64,
         text: Text,
-        names: Option<NameSlip>,
+        names: Option<NameTypo>,
     },
     /// A warning: an object has a key more than once, and the last one counts. Repeated keys of the
     /// layout are reported only if the scenario itself repeats none.
@@ -185,7 +185,7 @@ pub enum OutOfRange {
 
 /// What a layout counts.
 #[derive(Clone, Copy)]
-pub enum What {
+pub enum Subject {
     /// Processors.
     Processor,
     /// Owners.
@@ -206,13 +206,24 @@ pub enum What {
 #[derive(Clone, Copy)]
 pub enum Warning {
     /// A number past the layout, whose numbers are below `count`: the call is refused.
-    Past { what: What, number: u64, count: u64 },
+    Past {
+        subject: Subject,
+        number: u64,
+        count: u64,
+    },
     /// The number of an operation that no earlier line begins.
-    NoBegin { op: Serial },
+    NoBegin {
+        op: Serial,
+    },
     /// More turns of a plan than a history of this many records has room for.
-    Turns { turns: u32, history: u64 },
+    Turns {
+        turns: u32,
+        history: u64,
+    },
     /// The earlier lines since the last seal fill a history of this many records.
-    Full { history: u64 },
+    Full {
+        history: u64,
+    },
     /// An `echo` or a `cat` with this character, which no word of a control file contains.
     Unexpected(char),
     /// An `echo` that its control file does not take.

@@ -13,43 +13,23 @@ const DEEPEST: u64 = 127;
 /// stopped.
 pub(crate) fn hint_of(input: &[u8], line: u64, column: u64) -> Hint {
     if is_blank(input) {
-        Hint::NoText
-    } else if input.starts_with(MARK) {
-        Hint::ByteOrderMark
-    } else {
-        match halves_at(input, line, column) {
-            Some((before, rest)) => hint_at(input, before, rest),
-            None => hint_in(input),
+        return Hint::NoText;
+    }
+    if input.starts_with(MARK) {
+        return Hint::ByteOrderMark;
+    }
+    if let Some((before, rest)) = halves_at(input, line, column) {
+        let is_after_comma = before.trim_ascii_end().ends_with(b",");
+        if is_after_comma && matches!(rest, [b']' | b'}' | b',', ..]) {
+            return Hint::Comma;
+        }
+        let first = std::str::from_utf8(rest)
+            .ok()
+            .and_then(|rest| rest.chars().next());
+        if let Some(c) = first.filter(|c| is_odd(*c)) {
+            return Hint::Unexpected(c);
         }
     }
-}
-
-/// Returns the reason at the point where the reader stopped, or else one from the whole text.
-fn hint_at(input: &[u8], before: &[u8], rest: &[u8]) -> Hint {
-    if is_comma_too_many(before, rest) {
-        return Hint::Comma;
-    }
-    match odd_start(rest) {
-        Some(c) => Hint::Unexpected(c),
-        None => hint_in(input),
-    }
-}
-
-/// Returns whether `before` ends with a comma, and `rest` begins with a closing bracket or with
-/// another comma.
-fn is_comma_too_many(before: &[u8], rest: &[u8]) -> bool {
-    before.trim_ascii_end().ends_with(b",") && matches!(rest, [b']' | b'}' | b',', ..])
-}
-
-/// Returns the first character of a text, if it is odd (see `is_odd`).
-fn odd_start(text: &[u8]) -> Option<char> {
-    let text = std::str::from_utf8(text).ok()?;
-    let c = text.chars().next()?;
-    if is_odd(c) { Some(c) } else { None }
-}
-
-/// Returns a reason that may be anywhere in the text.
-fn hint_in(input: &[u8]) -> Hint {
     if nests_deeper(input, DEEPEST) {
         Hint::TooDeep
     } else if has_comment(input) {

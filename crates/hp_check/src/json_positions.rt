@@ -1,5 +1,5 @@
-//! Where things are in a scenario's text: the lines in which the entries of `calls` begin, repeated
-//! keys, comments, and how deep brackets nest.
+//! Where things are in a scenario's text: the lines in which the entries of `calls` begin, whether it
+//! has comments, and how deep brackets nest.
 //!
 //! One walk goes over the brackets, commas, colons, words and strings of the JSON. It decodes no
 //! number and no escape, and accepts any bytes.
@@ -254,49 +254,18 @@ pub fn nests_deeper(input: &[u8], limit: u64) -> bool {
     let mut mode = Mode::Between;
     let mut nested = 0u64;
     for byte in input {
-        nested = nested_after(mode, *byte, nested);
+        let byte = *byte;
+        if begins(mode, byte) {
+            nested = match byte {
+                b'{' | b'[' => nested.saturating_add(1),
+                b'}' | b']' => nested.saturating_sub(1),
+                _ => nested,
+            };
+        }
         if nested > limit {
             return true;
         }
-        mode = mode_after(mode, *byte);
-    }
-    false
-}
-
-/// Returns how many keys have this name while `depth` objects and lists are open. A key is a string
-/// with a colon after it. Escapes are not decoded.
-pub fn keys_at(input: &[u8], depth: u64, name: &[u8]) -> u64 {
-    let mut mode = Mode::Between;
-    let mut nested = 0u64;
-    let mut count = 0u64;
-    for place in 0..input.len() {
-        let byte = input[place];
-        if nested == depth && begins(mode, byte) && is_key(&input[place..], name) {
-            count += 1;
-        }
-        nested = nested_after(mode, byte, nested);
         mode = mode_after(mode, byte);
-    }
-    count
-}
-
-/// Returns whether a text begins with this name between quotation marks, and a colon after it.
-fn is_key(text: &[u8], name: &[u8]) -> bool {
-    let [b'"', text @ ..] = text else {
-        return false;
-    };
-    text.starts_with(name) && is_end_of_key(&text[name.len()..])
-}
-
-/// Returns whether a text begins with a quotation mark and then, after white space, a colon.
-fn is_end_of_key(text: &[u8]) -> bool {
-    let [b'"', text @ ..] = text else {
-        return false;
-    };
-    for byte in text {
-        if !is_space(*byte) {
-            return *byte == b':';
-        }
     }
     false
 }
@@ -317,19 +286,4 @@ pub fn halves_at(input: &[u8], line: u64, column: u64) -> Option<(&[u8], &[u8])>
         }
     }
     None
-}
-
-/// Returns how many objects and lists are open after a byte.
-fn nested_after(mode: Mode, byte: u8, nested: u64) -> u64
-    requires { nested + 1 < 2 ^ 64 }
-    ensures { result ≤ nested + 1 }
-{
-    if !begins(mode, byte) {
-        return nested;
-    }
-    match byte {
-        b'{' | b'[' => nested + 1,
-        b'}' | b']' => nested.saturating_sub(1),
-        _ => nested,
-    }
 }

@@ -32,10 +32,5 @@ pub(crate) fn is_odd(c: char) -> bool {
 
 /// Returns the first odd character of a text.
 pub(crate) fn first_odd(text: &str) -> Option<char> {
-    for c in text.chars() {
-        if is_odd(c) {
-            return Some(c);
-        }
-    }
-    None
+    text.chars().find(|c| is_odd(*c))
 }

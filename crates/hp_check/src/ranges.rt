@@ -45,10 +45,7 @@ fn push_parts(found: &mut Vec<Finding>, parts: &Parts<'_>) -> Result<(), AllocEr
     let words = parts.boot.len() as u64;
     let outs = [
         outside(0, 10, parts.order, OutOfRange::Order(parts.order)),
-        unless(
-            is_pageblock_count(parts.pageblocks),
-            OutOfRange::Pageblocks(parts.pageblocks),
-        ),
+        (!is_pageblock_count(parts.pageblocks)).then_some(OutOfRange::Pageblocks(parts.pageblocks)),
         outside(1, 256, parts.blocks, OutOfRange::Blocks(parts.blocks)),
         frames_out(parts),
         outside(1, 64, parts.cpus, OutOfRange::Cpus(parts.cpus)),
@@ -61,7 +58,7 @@ fn push_parts(found: &mut Vec<Finding>, parts: &Parts<'_>) -> Result<(), AllocEr
                 high: parts.high,
             },
         ),
-        unless(parts.high <= 1024, OutOfRange::High(parts.high)),
+        (parts.high > 1024).then_some(OutOfRange::High(parts.high)),
         outside(1, 64, parts.owners, OutOfRange::Owners(parts.owners)),
         outside(1, 1 << 16, parts.pages, OutOfRange::Pages(parts.pages)),
         outside(1, 512, parts.words, OutOfRange::Words(parts.words)),
@@ -71,13 +68,10 @@ fn push_parts(found: &mut Vec<Finding>, parts: &Parts<'_>) -> Result<(), AllocEr
             parts.history,
             OutOfRange::History(parts.history),
         ),
-        unless(
-            words == parts.blocks,
-            OutOfRange::Boot {
-                words,
-                blocks: parts.blocks,
-            },
-        ),
+        (words != parts.blocks).then_some(OutOfRange::Boot {
+            words,
+            blocks: parts.blocks,
+        }),
     ];
     push_each(found, &outs)
 }
@@ -96,18 +90,11 @@ fn push_each(found: &mut Vec<Finding>, outs: &[Option<OutOfRange>]) -> Result<()
     Ok(())
 }
 
-/// Returns `out` unless the condition holds.
-fn unless(holds: bool, out: OutOfRange) -> Option<OutOfRange>
-    ensures { result ≡ then_some (not holds) out }
-{
-    if holds { None } else { Some(out) }
-}
-
 /// Returns `out` if a number is not within a range.
 fn outside(low: u64, high: u64, n: u64, out: OutOfRange) -> Option<OutOfRange>
     ensures { result ≡ then_some (not (lies_within low high n)) out }
 {
-    unless(is_within(low, high, n), out)
+    (!is_within(low, high, n)).then_some(out)
 }
 
 /// Returns the number of frames if it is too large although the sizes that make it up are in their

@@ -4,44 +4,62 @@ ghost use Rattle.std.specs.List.{All};
 ghost use Rattle.hp_check.specs.Adds.{IsRepeat};
 
 use crate::finding::{Finding, ScenarioObject};
-use crate::json_positions::keys_at;
 use crate::shape::keys_of;
-use std::alloc::AllocError;
+use json::{Error, Scratch, Value};
+use std::alloc::{AllocError, Global};
 
 /// Adds the keys of a scenario that its text has more than once; the last one counts.
 ///
-/// Keys of the layout are added only if no key of the scenario itself comes twice. Otherwise a key
-/// of a value that does not count could be taken for one of the layout.
-pub(crate) fn push_repeats(found: &mut Vec<Finding>, input: &[u8]) -> Result<(), AllocError>
-    requires { All IsRepeat found.old.items }
-    ensures { OnOk result (All IsRepeat found.new.items) }
-{
-    let before = found.len();
-    push_repeats_of(found, input, ScenarioObject::Whole)?;
-    if found.len() > before {
-        return Ok(());
-    }
-    push_repeats_of(found, input, ScenarioObject::Layout)
-}
-
-/// Adds the keys of an object that the text has more than once.
-fn push_repeats_of(
+/// Keys of the layout are added only if no key of the scenario itself comes twice.
+pub(crate) fn push_repeats(
     found: &mut Vec<Finding>,
+    alloc: Global,
     input: &[u8],
-    place: ScenarioObject,
 ) -> Result<(), AllocError>
     requires { All IsRepeat found.old.items }
     ensures { OnOk result (All IsRepeat found.new.items) }
 {
-    // At its keys, this many objects and lists are open.
-    let depth = match place {
-        ScenarioObject::Whole => 1,
-        ScenarioObject::Layout => 2,
+    let mut scratch = Scratch::new(alloc);
+    match Value::from_slice(alloc, input, &mut scratch) {
+        Ok(value) => push_repeats_in(found, &value),
+        Err(Error::OutOfMemory) => Err(AllocError),
+        Err(_) => Ok(()),
+    }
+}
+
+/// Adds the keys that a scenario's value or its layout has more than once.
+fn push_repeats_in(found: &mut Vec<Finding>, value: &Value<'_>) -> Result<(), AllocError>
+    requires { All IsRepeat found.old.items }
+    ensures { OnOk result (All IsRepeat found.new.items) }
+{
+    let before = found.len();
+    push_repeats_of(found, ScenarioObject::Whole, value)?;
+    if found.len() > before {
+        return Ok(());
+    }
+    match value.get("layout") {
+        Some(layout) => push_repeats_of(found, ScenarioObject::Layout, layout),
+        None => Ok(()),
+    }
+}
+
+/// Adds the keys that an object has more than once.
+fn push_repeats_of(
+    found: &mut Vec<Finding>,
+    place: ScenarioObject,
+    value: &Value<'_>,
+) -> Result<(), AllocError>
+    requires { All IsRepeat found.old.items }
+    ensures { OnOk result (All IsRepeat found.new.items) }
+{
+    let Value::Object(members) = value else {
+        return Ok(());
     };
     let keys = keys_of(place);
     for key in keys {
         let key = *key;
-        if keys_at(input, depth, key.name().as_bytes()) < 2 {
+        let name = key.name();
+        if members.iter().filter(|member| member.0 == name).count() < 2 {
             continue;
         }
         found.push(Finding::Repeat { place, key })?;

@@ -3,7 +3,6 @@ use crate::checking::fault_count;
 use crate::expected::write_expected;
 use crate::finding::{Finding, Hint, OutOfRange, ScenarioObject, Shape, Warning};
 use crate::json_positions::call_lines;
-use crate::name_slips::NameSlip;
 use crate::quotes::{write_quoted, write_unexpected};
 use crate::shape::keys_of;
 use std::alloc::{AllocError, Global};
@@ -41,8 +40,12 @@ fn write_finding(out: &mut String, lines: &[u64], finding: &Finding) -> Result<(
             text,
             names,
         } => {
+            let text = text.as_str();
             write_head(out, lines, *number)?;
-            write_call(out, text.as_str(), names)
+            write_quoted(out, text)?;
+            out.push_str(": ")?;
+            write_expected(out, text, names)?;
+            out.push_str("\n")
         }
         Finding::Repeat { place, key } => {
             let name = key.name();
@@ -74,14 +77,6 @@ fn write_hint(out: &mut String, hint: Hint) -> Result<(), AllocError> {
         Hint::Comment => out.push_str(": it has a comment, and JSON has none"),
         Hint::Nothing => Ok(()),
     }
-}
-
-/// Writes a text that is not a line, and what was expected.
-fn write_call(out: &mut String, text: &str, names: &Option<NameSlip>) -> Result<(), AllocError> {
-    write_quoted(out, text)?;
-    out.push_str(": ")?;
-    write_expected(out, text, names)?;
-    out.push_str("\n")
 }
 
 /// Writes the number of a text of `calls`, and the line in which it begins, if that is known.
@@ -176,12 +171,12 @@ fn write_warning(out: &mut String, warning: Warning) -> Result<(), AllocError> {
     out.push_str("warning: ")?;
     match warning {
         Warning::Past {
-            what,
+            subject,
             number,
             count,
         } => writeln!(
             out,
-            "{what} {number} is past the layout, which has {count}, counted from 0"
+            "{subject} {number} is past the layout, which has {count}, counted from 0"
         ),
         Warning::NoBegin { op } => {
             let op = op.0;

@@ -125,18 +125,13 @@ fn push_unknown(
     let names = members.keys();
     for name in names {
         let name = name.as_str();
-        if is_key_of(place, name) {
+        if keys_of(place).iter().any(|key| name == key.name()) {
             continue;
         }
         let key = Text::new(String::from_str(alloc, name)?);
         push(found, Shape::UnknownKey { place, key })?;
     }
     Ok(())
-}
-
-/// Returns whether the object may have a key.
-fn is_key_of(place: ScenarioObject, name: &str) -> bool {
-    keys_of(place).iter().any(|key| name == key.name())
 }
 
 /// Adds the keys that the object lacks.

@@ -14,9 +14,11 @@ pub(crate) struct Tally {
     begins: Vec<bool>,
     /// Whether a record after those in `begins` may begin an operation.
     any_later: bool,
-    in_scripts: bool,
-    /// Whether the line at hand works on the result of an earlier line, by its name.
-    by_name: bool,
+    /// Whether the lines that are added are in scripts.
+    pub(crate) in_scripts: bool,
+    /// Whether the next line works on the result of an earlier line, by its name. The number in
+    /// such a line is 0.
+    pub(crate) by_name: bool,
     used: u64,
 }
 
@@ -74,17 +76,6 @@ impl Tally {
     pub(crate) fn end_setup(&mut self, lines: &[Line]) {
         self.any_later |= lines.iter().any(|line| may_open(&line.work));
         self.in_scripts = true;
-    }
-
-    /// Notes whether the next line works on the result of an earlier line, by its name. The number
-    /// in such a line is 0.
-    pub(crate) fn note_name(&mut self, by_name: bool) {
-        self.by_name = by_name;
-    }
-
-    /// Returns whether the lines that are added are in scripts.
-    pub(crate) fn in_scripts(&self) -> bool {
-        self.in_scripts
     }
 
     /// Returns whether the records since the last seal fill a history of this many records.

@@ -1,5 +1,5 @@
 //! The names of the things that a finding mentions.
-use crate::finding::{ScenarioObject, What};
+use crate::finding::{ScenarioObject, Subject};
 use std::fmt;
 
 impl fmt::Display for ScenarioObject {
@@ -11,16 +11,16 @@ impl fmt::Display for ScenarioObject {
     }
 }
 
-impl fmt::Display for What {
+impl fmt::Display for Subject {
     fn fmt<W: fmt::Write>(&self, f: &mut fmt::Formatter<W>) -> fmt::Result {
         f.write_str(match self {
-            What::Processor => "processor",
-            What::Owner => "owner",
-            What::Page => "page",
-            What::Word => "word",
-            What::Order => "order",
-            What::Frame => "frame",
-            What::Block => "block",
+            Subject::Processor => "processor",
+            Subject::Owner => "owner",
+            Subject::Page => "page",
+            Subject::Word => "word",
+            Subject::Order => "order",
+            Subject::Frame => "frame",
+            Subject::Block => "block",
         })
     }
 }

@@ -3,7 +3,7 @@ ghost use Rattle.std.specs.Prelude.{OnOk, length};
 ghost use Rattle.std.specs.List.{All};
 ghost use Rattle.hp_check.specs.Adds.{IsWarning};
 
-use crate::finding::{Finding, Warning, What};
+use crate::finding::{Finding, Subject, Warning};
 use crate::quotes::first_odd;
 use crate::tally::Tally;
 use hp_requests::{ControlFault, File, file_at};
@@ -25,28 +25,13 @@ pub(crate) fn push_warnings(
     ensures { OnOk result (All (IsWarning (length lines.now)) found.new.items) }
 {
     let mut tally = Tally::new(alloc);
-    push_each(found, layout, &mut tally, setup, lines, sources)
-}
-
-/// Adds the warnings of lines. `tally` is that of the lines before them.
-fn push_each(
-    found: &mut Vec<Finding>,
-    layout: &Layout,
-    tally: &mut Tally,
-    setup: u64,
-    lines: &[Line],
-    sources: &[Option<usize>],
-) -> Result<(), AllocError>
-    requires { All (IsWarning (length lines.now)) found.old.items }
-    ensures { OnOk result (All (IsWarning (length lines.now)) found.new.items) }
-{
     for index in 0..lines.len() {
         if index as u64 == setup {
             tally.end_setup(&lines[index..]);
         }
-        tally.note_name(has_source(sources, index));
+        tally.by_name = matches!(sources.get(index), Some(Some(_)));
         let line = &lines[index];
-        let warning = line_warning(layout, tally, line);
+        let warning = line_warning(layout, &tally, line);
         tally.add(layout, &line.work)?;
         let Some(warning) = warning else {
             continue;
@@ -57,19 +42,11 @@ fn push_each(
     Ok(())
 }
 
-/// Returns whether the line at a place has a source.
-fn has_source(sources: &[Option<usize>], place: usize) -> bool {
-    match sources.get(place) {
-        Some(source) => source.is_some(),
-        None => false,
-    }
-}
-
 /// Returns the warning of a line: the first that applies.
 fn line_warning(layout: &Layout, tally: &Tally, line: &Line) -> Option<Warning> {
     let work = asked_warning(layout, tally, line.cpu, &line.work);
     odd_warning(&line.work)
-        .or(unfit_warning(layout.cpus(), tally.in_scripts(), line))
+        .or(unfit_warning(layout.cpus(), tally.in_scripts, line))
         .or(work)
         .or(turns_warning(layout, &line.work))
 }
@@ -149,47 +126,30 @@ fn caller_warning(layout: &Layout, tally: &Tally, cpu: Cpu) -> Option<Warning> {
     if tally.is_full(history) {
         return Some(Warning::Full { history });
     }
-    past(What::Processor, cpu.0, layout.cpus())
+    past(Subject::Processor, cpu.0, layout.cpus())
 }
 
 /// Returns a warning if a number is not below `count`.
-fn past(what: What, number: u32, count: u32) -> Option<Warning> {
-    if number < count {
-        return None;
-    }
-    let number = u64::from(number);
-    let count = u64::from(count);
-    Some(Warning::Past {
-        what,
-        number,
-        count,
+fn past(subject: Subject, number: u32, count: u32) -> Option<Warning> {
+    (number >= count).then_some(Warning::Past {
+        subject,
+        number: u64::from(number),
+        count: u64::from(count),
     })
 }
 
 /// Returns a warning if an owner, or else a page, is past the layout.
 fn page_past(layout: &Layout, owner: Owner, page: Page) -> Option<Warning> {
-    let owner = past(What::Owner, owner.0, layout.owners());
-    owner.or(past(What::Page, page.0, layout.pages()))
-}
-
-/// Returns a warning if an owner, a page, or else a word is past the layout.
-fn word_past(layout: &Layout, owner: Owner, page: Page, index: u32) -> Option<Warning> {
-    page_past(layout, owner, page).or(past(What::Word, index, layout.words()))
+    let owner = past(Subject::Owner, owner.0, layout.owners());
+    owner.or(past(Subject::Page, page.0, layout.pages()))
 }
 
 /// Returns a warning about the first memory block of a plan that is past the layout, if there is
 /// one.
 fn plan_past(layout: &Layout, plan: &Plan) -> Option<Warning> {
     let blocks = layout.blocks();
-    let item = plan
-        .as_slice()
-        .iter()
-        .find(|item| !(item.block.0 < blocks))?;
-    Some(Warning::Past {
-        what: What::Block,
-        number: u64::from(item.block.0),
-        count: u64::from(blocks),
-    })
+    let item = plan.as_slice().iter().find(|item| item.block.0 >= blocks)?;
+    past(Subject::Block, item.block.0, blocks)
 }
 
 /// Returns a warning if the memory block that begins at an address is past the layout.
@@ -200,11 +160,8 @@ fn address_past(layout: &Layout, address: u64) -> Option<Warning> {
     }
     let number = address / bytes;
     let count = u64::from(layout.blocks());
-    if number < count {
-        return None;
-    }
-    Some(Warning::Past {
-        what: What::Block,
+    (number >= count).then_some(Warning::Past {
+        subject: Subject::Block,
         number,
         count,
     })
@@ -223,8 +180,8 @@ fn no_begin(tally: &Tally, op: Serial) -> Option<Warning> {
 /// one.
 fn event_warning(layout: &Layout, tally: &Tally, event: &Event) -> Option<Warning> {
     match event {
-        Event::KernelAlloc { order } => past(What::Order, order.0, layout.order() + 1),
-        Event::KernelFree { frame } => past(What::Frame, frame.0, layout.frames()),
+        Event::KernelAlloc { order } => past(Subject::Order, order.0, layout.order() + 1),
+        Event::KernelFree { frame } => past(Subject::Frame, frame.0, layout.frames()),
         Event::Map { owner, page } => page_past(layout, *owner, *page),
         Event::Unmap { owner, page } => page_past(layout, *owner, *page),
         Event::Write {
@@ -232,12 +189,14 @@ fn event_warning(layout: &Layout, tally: &Tally, event: &Event) -> Option<Warnin
             page,
             index,
             value: _,
-        } => word_past(layout, *owner, *page, *index),
-        Event::Read { owner, page, index } => word_past(layout, *owner, *page, *index),
-        Event::Drain { cpu } => past(What::Processor, cpu.0, layout.cpus()),
-        Event::Online { block, zone: _ } => past(What::Block, block.0, layout.blocks()),
+        } => page_past(layout, *owner, *page).or(past(Subject::Word, *index, layout.words())),
+        Event::Read { owner, page, index } => {
+            page_past(layout, *owner, *page).or(past(Subject::Word, *index, layout.words()))
+        }
+        Event::Drain { cpu } => past(Subject::Processor, cpu.0, layout.cpus()),
+        Event::Online { block, zone: _ } => past(Subject::Block, block.0, layout.blocks()),
         Event::Begin { plan } => plan_past(layout, plan),
-        Event::DrainFor { op, cpu } => past(What::Processor, cpu.0, layout.cpus()).or(no_begin(
+        Event::DrainFor { op, cpu } => past(Subject::Processor, cpu.0, layout.cpus()).or(no_begin(
             tally, *op,
         )),
         Event::Migrate { op } => no_begin(tally, *op),
@@ -245,7 +204,7 @@ fn event_warning(layout: &Layout, tally: &Tally, event: &Event) -> Option<Warnin
         Event::Cancel { op } => no_begin(tally, *op),
         Event::UndoAfter { serial: _ } => None,
         Event::Probe { address } => address_past(layout, *address),
-        Event::Remove { block } => past(What::Block, block.0, layout.blocks()),
+        Event::Remove { block } => past(Subject::Block, block.0, layout.blocks()),
         Event::SetAuto { auto: _ } => None,
     }
 }

@@ -17,7 +17,7 @@ use crate::session::Session;
 use crate::states::ShownStates;
 use crate::word_objects::{write_fault, write_word};
 use crate::words::help;
-use hp_check::{name_slip, write_expected};
+use hp_check::{name_typo, write_expected};
 use hp_names::NamedScenario;
 use hp_talk::Talk;
 use std::alloc::{AllocError, Global};
@@ -151,7 +151,7 @@ impl ObjectTalk {
         self.hint.clear();
         match self.answer.did() {
             Did::NoLine => {
-                let names = name_slip(alloc, text, &self.session.bound)?;
+                let names = name_typo(alloc, text, &self.session.bound)?;
                 write_expected(&mut self.hint, text, &names)
             }
             _ => Ok(()),

@@ -14,7 +14,7 @@ ghost use Rattle.hp_live.specs.Talks.{word_of};
 use crate::live_words::{LiveWord, word_of};
 use crate::results::{Ran, note, number_left};
 use crate::words::help;
-use hp_check::{name_slip, write_expected};
+use hp_check::{name_typo, write_expected};
 use hp_names::{Bindings, NamedScenario, PlainLine, plain_line, resolve_front};
 use hp_scenario::{Line, Scenario, read_line};
 use hp_talk::Talk;
@@ -237,7 +237,7 @@ fn write_no_line(
     text: &str,
     bound: &Bindings,
 ) -> Result<(), AllocError> {
-    let names = name_slip(alloc, text, bound)?;
+    let names = name_typo(alloc, text, bound)?;
     out.push_str("no line: ")?;
     write_expected(out, text, &names)?;
     out.push_str("\n")

@@ -1,13 +1,13 @@
 -- Scenarios that are read: line by line, and without names as ever.
-use Rattle.std.proofs.Common.{◌≡◌, ℕ, ◌+◌, ◌<◌, ◌≤◌, Bool, true, false, cond, List, [], ◌∷◌, ◌++◌, length, slice_get, drop, Option, Some, None, Result, Ok, Err, refl, sym, ap, ◌∙◌, append_assoc, add-one, arith, option_map}
-use Rattle.std.specs.Prelude.{replicate}
+use Rattle.std.proofs.Common.{◌≡◌, ℕ, ◌+◌, ◌≤◌, Bool, true, false, cond, List, [], ◌∷◌, ◌++◌, length, slice_get, drop, Option, Some, None, Result, Ok, Err, refl, sym, ap, ◌∙◌, append_assoc, add-one, arith, option_map}
+use Rattle.std.specs.Prelude.{⊤, replicate}
 use Rattle.std.specs.Str.{is_utf8}
 use Rattle.std.proofs.Math.Seq.{drop-cons}
 use Rattle.std.proofs.lemmas.List.{append-nil, drop_all, length-append}
 use Rattle.std.proofs.lemmas.Option.{get_or_from_slice_get, slice_get_within}
 use Rattle.serde_json.specs.Data.{Data}
 use Rattle.hp_units.specs.LayoutParts.{LayoutParts, layout_fault}
-use Rattle.hp_scenario.specs.Form.{Form, form_of}
+use Rattle.hp_scenario.specs.Form.{Form, form_of, parts_of}
 use Rattle.hp_scenario.specs.Gives.{Fails, ◌>>=◌, or_fault}
 use Rattle.hp_scenario.specs.Names.{Numbered, line_in}
 use Rattle.hp_scenario.specs.Scenario.{ScenarioValue, Script, json_of, layout_or, scenario_in, scenario_of, scenario_with, with_line as with_plain_line, nothing as no_lines, lines_from as plain_lines_from}
@@ -16,6 +16,11 @@ use Rattle.hp_scenario.specs.declared.fault.ScenarioFault.TheVariants.{NotJson, 
 use Rattle.hp_names.specs.Named.{NamedValue, ReadingValue, lines_from, named_in, named_of, named_with, nothing, plainly, with_line, with_plain, with_text}
 use Rattle.hp_names.specs.Plain.{plain_in, unchanged}
 use Rattle.hp_names.proofs.PlainTexts.{line_unchanged}
+
+-- what the exits of `named_from` unfold
+unfoldable pub named_of_values : ⊤
+unfolding named_of form_of parts_of
+named_of_values = tt
 
 -- ---- line by line
 

@@ -3,6 +3,7 @@ use Rattle.std.proofs.Common.{◌≡◌, ℕ, ◌==◌, ◌&&◌, Bool, true, fa
 use Rattle.std.specs.Prelude.{unwrap_or}
 use Rattle.std.specs.Str.{bytes_eq}
 use Rattle.std.proofs.lemmas.Bool.{eqb-true}
+use Rattle.std.proofs.lemmas.Option.{same_Some}
 use Rattle.std.proofs.lemmas.Slice.Eq.{bytes_eq-Decides}
 use Rattle.hp_numbers.specs.NumberWords.{digits_in, is_bare, number_of}
 use Rattle.hp_units.specs.declared.plans.Item.{Item}
@@ -11,8 +12,10 @@ use Rattle.hp_scenario.specs.Names.{Numbered, line_in, numbered}
 use Rattle.hp_scenario.specs.Words.{is_name, words_of}
 use Rattle.hp_names.specs.Bindings.{Bound, result_at}
 use Rattle.hp_names.specs.NamedWords.{after_dollar, last_two, name_at_end, name_of_two}
-use Rattle.hp_names.specs.Plain.{line_by_verb, naming_line, numbered_line, of_kind, plain_in, plain_of, unchanged, working_line}
-use Rattle.hp_names.specs.Results.{result_of_verb, wanted_by_verb}
+use Rattle.hp_names.specs.Plain.{line_by_use, naming_line, numbered_line, of_kind, plain_in, plain_of, unchanged, working_line}
+use Rattle.hp_names.specs.Results.{use_of_verb}
+use Rattle.hp_names.specs.declared.results.NameUse.{NameUse}
+use Rattle.hp_names.specs.declared.results.NameUse.TheVariants.{Gives, Takes}
 use Rattle.hp_names.specs.declared.results.ResultKind.{ResultKind}
 use Rattle.hp_names.specs.declared.results.ResultKind.TheVariants.{Operation, Frame}
 
@@ -110,23 +113,42 @@ named_kalloc (a ∷ b ∷ c ∷ []) name h = refl
 named_kalloc (a ∷ b ∷ c ∷ d ∷ []) name h = refl
 named_kalloc (a ∷ b ∷ c ∷ d ∷ e ∷ more) name h = refl
 
-named_if : (verb : List ℕ) (args : List (List ℕ)) (name : List ℕ) (kind : ResultKind) (b k : Bool)
-    → bytes_eq verb (codes "begin") ≡ b → bytes_eq verb (codes "kalloc") ≡ k
-    → cond b (Some Operation) (cond k (Some Frame) None) ≡ Some kind
-    → name_at_end args ≡ Some name → request_of (verb ∷ args) ≡ None
-named_if verb args name kind true k is other h at =
-    ap (λ (v : List ℕ). request_of (v ∷ args)) (same_text verb (codes "begin") is) ∙ named_begin args name at
-named_if verb args name kind false true other is h at =
-    ap (λ (v : List ℕ). request_of (v ∷ args)) (same_text verb (codes "kalloc") is)
-    ∙ named_kalloc args name at
-named_if verb args name kind false false other is h at = absurd cc
+-- a verb by its test
+by_test : (P : List ℕ → Type 0) (verb word : List ℕ) (b : Bool) (rest : Option NameUse)
+    (names found : NameUse)
+    → bytes_eq verb word ≡ b → cond b (Some names) rest ≡ Some found → (names ≡ found → P word)
+    → (rest ≡ Some found → P verb) → P verb
+by_test P verb word true rest names found is h here other =
+    subst P (sym (same_text verb word is)) (here (same_Some names found h))
+by_test P verb word false rest names found is h here other = other h
+
+-- what holds of each verb that uses names like this
+by_use : (P : List ℕ → Type 0) (verb : List ℕ) (names : NameUse) → use_of_verb verb ≡ Some names
+    → (Gives Operation ≡ names → P (codes "begin")) → (Gives Frame ≡ names → P (codes "kalloc"))
+    → (Takes Operation ≡ names → P (codes "drainfor")) → (Takes Operation ≡ names → P (codes "migrate"))
+    → (Takes Operation ≡ names → P (codes "commit")) → (Takes Operation ≡ names → P (codes "cancel"))
+    → (Takes Frame ≡ names → P (codes "kfree")) → P verb
+unfolding use_of_verb
+by_use P verb names h begin kalloc drainfor migrate commit cancel kfree =
+    by_test P verb (codes "begin") (bytes_eq verb (codes "begin")) _ (Gives Operation) names refl h begin
+    (λ h. by_test P verb (codes "kalloc") (bytes_eq verb (codes "kalloc")) _ (Gives Frame) names refl h kalloc
+    (λ h. by_test P verb (codes "drainfor") (bytes_eq verb (codes "drainfor")) _ (Takes Operation) names refl
+    h drainfor
+    (λ h. by_test P verb (codes "migrate") (bytes_eq verb (codes "migrate")) _ (Takes Operation) names refl h
+    migrate
+    (λ h. by_test P verb (codes "commit") (bytes_eq verb (codes "commit")) _ (Takes Operation) names refl h
+    commit
+    (λ h. by_test P verb (codes "cancel") (bytes_eq verb (codes "cancel")) _ (Takes Operation) names refl h
+    cancel
+    (λ h. by_test P verb (codes "kfree") (bytes_eq verb (codes "kfree")) None (Takes Frame) names refl h kfree
+    (λ h. absurd cc)))))))
 
 no_named_request : (verb : List ℕ) (args : List (List ℕ)) (name : List ℕ) (kind : ResultKind)
-    → result_of_verb verb ≡ Some kind → name_at_end args ≡ Some name → request_of (verb ∷ args) ≡ None
-unfolding result_of_verb
+    → use_of_verb verb ≡ Some (Gives kind) → name_at_end args ≡ Some name → request_of (verb ∷ args) ≡ None
 no_named_request verb args name kind h at =
-    named_if verb args name kind (bytes_eq verb (codes "begin")) (bytes_eq verb (codes "kalloc")) refl refl h
-    at
+    by_use (λ v. request_of (v ∷ args) ≡ None) verb (Gives kind) h (λ e. named_begin args name at)
+    (λ e. named_kalloc args name at) (λ e. absurd cc) (λ e. absurd cc) (λ e. absurd cc) (λ e. absurd cc)
+    (λ e. absurd cc)
 
 -- a verb that works on a result is one of these
 abbrev IsWorking : List ℕ → Type 0
@@ -173,27 +195,13 @@ works_kfree name (a ∷ b ∷ []) = refl
 works_kfree name (a ∷ b ∷ c ∷ []) = refl
 works_kfree name (a ∷ b ∷ c ∷ d ∷ more) = refl
 
--- a verb by its test
-by_test : (verb word : List ℕ) (b : Bool) (rest : Option ResultKind) (kind found : ResultKind)
-    → bytes_eq verb word ≡ b → cond b (Some kind) rest ≡ Some found → IsWorking word
-    → (rest ≡ Some found → IsWorking verb) → IsWorking verb
-by_test verb word true rest kind found is h works other =
-    subst IsWorking (sym (same_text verb word is)) works
-by_test verb word false rest kind found is h works other = other h
-
-works_on : (verb : List ℕ) (kind : ResultKind) → wanted_by_verb verb ≡ Some kind → IsWorking verb
-unfolding wanted_by_verb
+works_on : (verb : List ℕ) (kind : ResultKind) → use_of_verb verb ≡ Some (Takes kind) → IsWorking verb
 works_on verb kind h =
-    by_test verb (codes "drainfor") (bytes_eq verb (codes "drainfor")) _ Operation kind refl h works_drainfor
-    (λ h. by_test verb (codes "migrate") (bytes_eq verb (codes "migrate")) _ Operation kind refl h
-    works_migrate
-    (λ h. by_test verb (codes "commit") (bytes_eq verb (codes "commit")) _ Operation kind refl h works_commit
-    (λ h. by_test verb (codes "cancel") (bytes_eq verb (codes "cancel")) _ Operation kind refl h works_cancel
-    (λ h. by_test verb (codes "kfree") (bytes_eq verb (codes "kfree")) None Frame kind refl h works_kfree
-    (λ h. absurd cc)))))
+    by_use IsWorking verb (Takes kind) h (λ e. absurd cc) (λ e. absurd cc) (λ e. works_drainfor)
+    (λ e. works_migrate) (λ e. works_commit) (λ e. works_cancel) (λ e. works_kfree)
 
 no_working_request : (verb word : List ℕ) (rest : List (List ℕ)) (name : List ℕ) (kind : ResultKind)
-    → wanted_by_verb verb ≡ Some kind → after_dollar word ≡ Some name
+    → use_of_verb verb ≡ Some (Takes kind) → after_dollar word ≡ Some name
     → request_of (verb ∷ word ∷ rest) ≡ None
 no_working_request verb word rest name kind h at =
     ap (λ (w : List ℕ). request_of (verb ∷ w ∷ rest)) (dollar_word word name at)
@@ -217,22 +225,22 @@ unnumbered bound text cpu verb rest kind None none = refl
 unnumbered bound text cpu verb rest kind (Some name) none = absurd (none name refl)
 
 working_unchanged : (bound : Bound) (text cpu verb : List ℕ) (kind : ResultKind) (args : List (List ℕ))
-    → wanted_by_verb verb ≡ Some kind → (request_of (verb ∷ args) ≡ None → ⊥)
+    → use_of_verb verb ≡ Some (Takes kind) → (request_of (verb ∷ args) ≡ None → ⊥)
     → working_line bound text cpu verb kind args ≡ unchanged text
 working_unchanged bound text cpu verb kind [] is asks = refl
 working_unchanged bound text cpu verb kind (word ∷ rest) is asks =
     unnumbered bound text cpu verb rest kind (after_dollar word)
     (λ name at. asks (no_working_request verb word rest name kind is at))
 
-by_kinds : (bound : Bound) (text cpu verb : List ℕ) (args : List (List ℕ)) (a b : Option ResultKind)
-    → result_of_verb verb ≡ a → wanted_by_verb verb ≡ b → (request_of (verb ∷ args) ≡ None → ⊥)
-    → line_by_verb bound text cpu verb args a b ≡ unchanged text
-by_kinds bound text cpu verb args (Some kind) b is other asks =
+by_names : (bound : Bound) (text cpu verb : List ℕ) (args : List (List ℕ)) (names : Option NameUse)
+    → use_of_verb verb ≡ names → (request_of (verb ∷ args) ≡ None → ⊥)
+    → line_by_use bound text cpu verb args names ≡ unchanged text
+by_names bound text cpu verb args None is asks = refl
+by_names bound text cpu verb args (Some (Gives kind)) is asks =
     unnamed text (cpu ∷ verb ∷ args) cpu kind (name_at_end args)
     (λ name at. asks (no_named_request verb args name kind is at))
-by_kinds bound text cpu verb args None (Some kind) other is asks =
+by_names bound text cpu verb args (Some (Takes kind)) is asks =
     working_unchanged bound text cpu verb kind args is asks
-by_kinds bound text cpu verb args None None other is asks = refl
 
 -- words that say something ask for something
 asks_if : (cpu : Option ℕ) (r : Option Request) (said : Said)
@@ -248,7 +256,7 @@ unfolding plain_of words_say
 words_unchanged bound text [] said h = refl
 words_unchanged bound text (cpu ∷ []) said h = refl
 words_unchanged bound text (cpu ∷ verb ∷ args) said h =
-    by_kinds bound text cpu verb args (result_of_verb verb) (wanted_by_verb verb) refl refl
+    by_names bound text cpu verb args (use_of_verb verb) refl
     (asks_if (number_of 32 cpu) (request_of (verb ∷ args)) said h)
 
 says_if : (names : List (List ℕ)) (o : Option Said) (n : Numbered) → option_map (numbered names) o ≡ Some n

@@ -5,9 +5,11 @@ use Rattle.std.specs.Fmt.{decimal}
 use Rattle.hp_scenario.specs.Words.{words_of}
 use Rattle.hp_names.specs.Bindings.{Bound, key_of, result_at}
 use Rattle.hp_names.specs.NamedWords.{after_dollar, before_name, joined, name_at_end}
-use Rattle.hp_names.specs.Results.{result_of_verb, same_kind, wanted_by_verb}
+use Rattle.hp_names.specs.Results.{same_kind, use_of_verb}
 use Rattle.hp_names.specs.declared.plain.PlainLine.{PlainLine}
 use Rattle.hp_names.specs.declared.results.NamedResult.{NamedResult}
+use Rattle.hp_names.specs.declared.results.NameUse.{NameUse}
+use Rattle.hp_names.specs.declared.results.NameUse.TheVariants.{Gives, Takes}
 use Rattle.hp_names.specs.declared.results.ResultKind.{ResultKind}
 
 -- a text that stays as it is
@@ -53,19 +55,19 @@ working_line bound text cpu verb kind (word ∷ rest) =
 
 -- ---- any line
 
-abbrev pub line_by_verb : Bound → (text cpu verb : List ℕ) → (args : List (List ℕ)) → Option ResultKind
-    → Option ResultKind → PlainLine
-line_by_verb bound text cpu verb args (Some kind) wanted =
+abbrev pub line_by_use : Bound → (text cpu verb : List ℕ) → (args : List (List ℕ)) → Option NameUse
+    → PlainLine
+line_by_use bound text cpu verb args None = unchanged text
+line_by_use bound text cpu verb args (Some (Gives kind)) =
     naming_line text (cpu ∷ verb ∷ args) cpu kind (name_at_end args)
-line_by_verb bound text cpu verb args None (Some kind) = working_line bound text cpu verb kind args
-line_by_verb bound text cpu verb args None None = unchanged text
+line_by_use bound text cpu verb args (Some (Takes kind)) = working_line bound text cpu verb kind args
 
 -- the line in a text of these words, given what is bound before it
 unfoldable pub plain_of : Bound → (text : List ℕ) → (words : List (List ℕ)) → PlainLine
 plain_of bound text [] = unchanged text
 plain_of bound text (cpu ∷ []) = unchanged text
 plain_of bound text (cpu ∷ verb ∷ args) =
-    line_by_verb bound text cpu verb args (result_of_verb verb) (wanted_by_verb verb)
+    line_by_use bound text cpu verb args (use_of_verb verb)
 
 -- the line in a text
 abbrev pub plain_in : Bound → List ℕ → PlainLine

@@ -5,27 +5,25 @@ use Rattle.hp_units.specs.declared.events.Event.{Event}
 use Rattle.hp_units.specs.declared.events.Event.TheVariants.{Begin, KernelAlloc}
 use Rattle.hp_units.specs.declared.replies.Reply.{Reply}
 use Rattle.hp_units.specs.declared.replies.Reply.TheVariants as reply
+use Rattle.hp_names.specs.declared.results.NameUse.{NameUse}
+use Rattle.hp_names.specs.declared.results.NameUse.TheVariants.{Gives, Takes}
 use Rattle.hp_names.specs.declared.results.ResultKind.{ResultKind}
 use Rattle.hp_names.specs.declared.results.ResultKind.TheVariants.{Operation, Frame}
 
--- ---- which lines have results with names, and which lines work on them
+-- ---- which lines may have names
 
--- what a line of this verb results in: an operation or a frame, if its result may have a name
-unfoldable pub result_of_verb : List ℕ → Option ResultKind
-result_of_verb verb =
-    if bytes_eq verb (codes "begin") then Some Operation
-    else (if bytes_eq verb (codes "kalloc") then Some Frame
-    else None)
-
--- the kind of result whose number follows this verb, if a name may take the number's place
-unfoldable pub wanted_by_verb : List ℕ → Option ResultKind
-wanted_by_verb verb =
-    if bytes_eq verb (codes "drainfor") then Some Operation
-    else (if bytes_eq verb (codes "migrate") then Some Operation
-    else (if bytes_eq verb (codes "commit") then Some Operation
-    else (if bytes_eq verb (codes "cancel") then Some Operation
-    else (if bytes_eq verb (codes "kfree") then Some Frame
-    else None))))
+-- how lines of this verb use names, if they may have any: their result may have a name, or a name may
+-- take the place of the number of a result after the verb
+unfoldable pub use_of_verb : List ℕ → Option NameUse
+use_of_verb verb =
+    if bytes_eq verb (codes "begin") then Some (Gives Operation)
+    else (if bytes_eq verb (codes "kalloc") then Some (Gives Frame)
+    else (if bytes_eq verb (codes "drainfor") then Some (Takes Operation)
+    else (if bytes_eq verb (codes "migrate") then Some (Takes Operation)
+    else (if bytes_eq verb (codes "commit") then Some (Takes Operation)
+    else (if bytes_eq verb (codes "cancel") then Some (Takes Operation)
+    else (if bytes_eq verb (codes "kfree") then Some (Takes Frame)
+    else None))))))
 
 abbrev pub same_kind : ResultKind → ResultKind → Bool
 same_kind Operation Operation = true

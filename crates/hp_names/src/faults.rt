@@ -1,7 +1,7 @@
 //! Why names are not understood: hints, whose texts and reasons are tested (lab_tests).
 
 use crate::bindings::Bindings;
-use crate::results::{ResultKind, result_of_verb, wanted_by_verb};
+use crate::results::{NameUse, ResultKind, use_of_verb};
 use crate::words::{after_dollar, last_two, name_at_end, words_in};
 use std::alloc::{AllocError, Global};
 
@@ -42,12 +42,12 @@ fn fault_of(
     let [cpu, verb, args @ ..] = words else {
         return Ok(None);
     };
-    if result_of_verb(verb).is_some() {
-        let is_bad = has_mark_at_end(args) && name_at_end(args).is_none();
-        return Ok(stray_fault(has_reference(args), is_bad, NameFault::BadName));
-    }
-    match wanted_by_verb(verb) {
-        Some(kind) => fault_of_work(alloc, bound, cpu, kind, args),
+    match use_of_verb(verb) {
+        Some(NameUse::Gives(_kind)) => {
+            let is_bad = has_mark_at_end(args) && name_at_end(args).is_none();
+            Ok(stray_fault(has_reference(args), is_bad, NameFault::BadName))
+        }
+        Some(NameUse::Takes(kind)) => fault_of_work(alloc, bound, cpu, kind, args),
         None => Ok(stray_fault(
             has_reference(args),
             has_mark_at_end(args),

@@ -112,7 +112,7 @@ fn read_named(alloc: Global, bytes: &[u8]) -> Result<NamedScenario, ScenarioFaul
 }
 
 /// Returns the scenario in a JSON value. Checks its shape before the layout and the lines.
-#[tactic(auto, unfolding(crate::specs::Named::named_of, hp_scenario::specs::Form::form_of, hp_scenario::specs::Form::parts_of))]
+#[tactic(auto, unfolding(crate::proofs::NamedReads::named_of_values))]
 fn named_from(alloc: Global, value: &Value) -> Result<NamedScenario, ScenarioFault>
     ensures { Gives named_seen result (named_of (view value.now)) }
 {

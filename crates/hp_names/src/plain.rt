@@ -5,7 +5,7 @@ ghost use Rattle.hp_names.specs.NamedWords.{before_name as words_before, joined 
 ghost use Rattle.hp_names.specs.Plain as spec;
 
 use crate::bindings::{Bindings, Naming, key_of};
-use crate::results::{NamedResult, ResultKind, result_of_verb, wanted_by_verb};
+use crate::results::{NameUse, NamedResult, ResultKind, use_of_verb};
 use crate::words::{after_dollar, joined, name_at_end, words_in};
 use hp_units::Text;
 use std::alloc::{AllocError, Global};
@@ -44,11 +44,11 @@ fn plain_of(
     let [cpu, verb, args @ ..] = words else {
         return unchanged(alloc, text);
     };
-    if let Some(kind) = result_of_verb(verb) {
-        return naming_line(alloc, text, words, cpu, kind, name_at_end(args));
-    }
-    match wanted_by_verb(verb) {
-        Some(kind) => working_line(alloc, text, bound, cpu, verb, kind, args),
+    match use_of_verb(verb) {
+        Some(NameUse::Gives(kind)) => {
+            naming_line(alloc, text, words, cpu, kind, name_at_end(args))
+        }
+        Some(NameUse::Takes(kind)) => working_line(alloc, text, bound, cpu, verb, kind, args),
         None => unchanged(alloc, text),
     }
 }

@@ -13,6 +13,15 @@ pub enum ResultKind {
     Frame,
 }
 
+/// How lines use names.
+#[derive(Clone, Copy, Debug, Drop)]
+pub(crate) enum NameUse {
+    /// A line's result is of this kind, and may have a name.
+    Gives(ResultKind),
+    /// The number after the verb is that of such a result, and a name may take its place.
+    Takes(ResultKind),
+}
+
 /// A result with a name.
 #[derive(Clone, Copy, Debug, Drop)]
 pub struct NamedResult {
@@ -48,30 +57,19 @@ impl ResultKind {
     }
 }
 
-/// Returns what a line of this verb results in, if its result may have a name.
-#[tactic(auto, unfolding(crate::specs::Results::result_of_verb))]
-pub(crate) fn result_of_verb(verb: &str) -> Option<ResultKind>
-    ensures { result ≡ spec.result_of_verb verb.now }
+/// Returns how lines of this verb use names, if they may have any.
+#[tactic(auto, unfolding(crate::specs::Results::use_of_verb))]
+pub(crate) fn use_of_verb(verb: &str) -> Option<NameUse>
+    ensures { result ≡ spec.use_of_verb verb.now }
 {
     match verb {
-        "begin" => Some(ResultKind::Operation),
-        "kalloc" => Some(ResultKind::Frame),
-        _ => None,
-    }
-}
-
-/// Returns the kind of result whose number follows this verb, if a name may take the number's
-/// place.
-#[tactic(auto, unfolding(crate::specs::Results::wanted_by_verb))]
-pub(crate) fn wanted_by_verb(verb: &str) -> Option<ResultKind>
-    ensures { result ≡ spec.wanted_by_verb verb.now }
-{
-    match verb {
-        "drainfor" => Some(ResultKind::Operation),
-        "migrate" => Some(ResultKind::Operation),
-        "commit" => Some(ResultKind::Operation),
-        "cancel" => Some(ResultKind::Operation),
-        "kfree" => Some(ResultKind::Frame),
+        "begin" => Some(NameUse::Gives(ResultKind::Operation)),
+        "kalloc" => Some(NameUse::Gives(ResultKind::Frame)),
+        "drainfor" => Some(NameUse::Takes(ResultKind::Operation)),
+        "migrate" => Some(NameUse::Takes(ResultKind::Operation)),
+        "commit" => Some(NameUse::Takes(ResultKind::Operation)),
+        "cancel" => Some(NameUse::Takes(ResultKind::Operation)),
+        "kfree" => Some(NameUse::Takes(ResultKind::Frame)),
         _ => None,
     }
 }

@@ -1,7 +1,7 @@
 //! Scenarios, and the report of a check on each.
 use hp_check::{
-    Finding, Key, call_lines, check, fault_count, halves_at, has_comment, is_blank, keys_at,
-    nests_deeper, write_report,
+    Finding, Key, call_lines, check, fault_count, halves_at, has_comment, is_blank, nests_deeper,
+    write_report,
 };
 use std::alloc::{AllocError, Global};
 use std::test::Fail;
@@ -117,7 +117,7 @@ const HINTED: &[Checked] = &[
 ];
 
 /// Texts with a small error each, such as a capital letter or a leading zero.
-const SLIPPED: Checked = (
+const MISTYPED: Checked = (
     "{\"layout\":{\"order\":1,\"pageblocks\":1,\"blocks\":2,\"cpus\":2,\"batch\":1,\"high\":1,\
          \"owners\":2,\"pages\":2,\"words\":1,\"history\":40,\"boot\":[\"normal\",\"movable\"]},\n\
      \"calls\":[\" 0 seal\",\"0 seal \",\"00 seal\",\"0 Seal\",\"0 map Db 0\",\n\
@@ -167,6 +167,14 @@ const REPEATED: Checked = (
     "scenario: warning: `calls` stands more than once, and the last counts\nfaults: 0, warnings: 1\n",
 );
 
+/// A key of the layout that comes twice, once with an escape. It is also a name in `calls`.
+const REPEATED_ESCAPED: Checked = (
+    "{\"layout\":{\"owners\":2,\"pageblocks\":1,\"blocks\":2,\"cpus\":2,\"batch\":1,\"high\":1,\
+         \"own\\u0065rs\" :2,\"pages\":2,\"words\":1,\"history\":40,\"boot\":[\"normal\",\"movable\"],\
+         \"order\":1},\n\"calls\":[\"0 map owners 0\", \"0 map layout 0\"]}",
+    "layout: warning: `owners` stands more than once, and the last counts\nfaults: 0, warnings: 1\n",
+);
+
 /// A key of the layout that comes twice.
 const REPEATED_BELOW: Checked = (
     "{\"layout\":{\"order\":2,\"order\":1,\"pageblocks\":1,\"blocks\":2,\"cpus\":2,\"batch\":1,\"high\":1,\
@@ -208,7 +216,8 @@ fn checked() -> &'static [Checked] {
 fn each_text_has_its_report(rt: HostRuntime) -> Result<(), Fail> {
     assert!(rt; first_other(rt.alloc(), checked())?.is_none());
     assert!(rt; first_other(rt.alloc(), HINTED)?.is_none());
-    assert!(rt; first_other(rt.alloc(), &[SLIPPED, REPEATED, REPEATED_BELOW])?.is_none());
+    let others = [MISTYPED, REPEATED, REPEATED_BELOW, REPEATED_ESCAPED];
+    assert!(rt; first_other(rt.alloc(), &others)?.is_none());
     Ok(())
 }
 
@@ -252,7 +261,6 @@ fn is_seen() -> bool {
         && has_comment(b"{} # x")
         && nests_deeper(b"[[], {\"[\": [1]}]", 2)
         && !nests_deeper(b"[[], {\"[\": [1]}]", 3)
-        && keys_at(b"{\"a\": \"a\", \"b\": [{\"a\": 0}], \"a\" :1}", 1, b"a") == 2
         && halves_at(b"ab\ncd", 2, 2).is_some_and(|halves| halves.1 == b"d".as_slice())
         && halves_at(b"ab\ncd", 1, 4).is_none()
 }

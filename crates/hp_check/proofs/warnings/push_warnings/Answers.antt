@@ -1,7 +1,7 @@
 use Rattle.std.proofs.Common.{arith, length}
 use Rattle.std.proofs.lemmas.List.Elements.{All-push}
 use Rattle.hp_check.specs.Adds.{IsWarning}
-use Rattle.hp_check.proofs.warnings.push_each.Goals as goal
+use Rattle.hp_check.proofs.warnings.push_warnings.Goals as goal
 
 pub loop-index-preserved : goal.loop-index-preserved
 loop-index-preserved c =

@@ -11,7 +11,7 @@ const LONGEST: usize = 32;
 
 /// What a word of a line may be.
 #[derive(Clone, Copy)]
-enum Kind {
+enum WordKind {
     /// A number below 2^32.
     Narrow,
     /// A number below 2^64.
@@ -24,10 +24,10 @@ enum Kind {
 
 /// Writes the first wrong word of a text that is not a line, and what is wrong with it, if that can
 /// be found.
-pub(crate) fn write_slip(out: &mut String, text: &str) -> Result<(), AllocError>
+pub(crate) fn write_typo(out: &mut String, text: &str) -> Result<(), AllocError>
     ensures { OnOk result (AddsText (string_bytes out.old) (string_bytes out.new)) }
 {
-    match slip_in(text) {
+    match typo_in(text) {
         Some((word, why)) => {
             write_quoted(out, word)?;
             out.push_str(why)
@@ -39,14 +39,14 @@ pub(crate) fn write_slip(out: &mut String, text: &str) -> Result<(), AllocError>
 /// Returns the first word of a text in which a mistake is found, and what the mistake is. Each word
 /// is checked for the kind that its place requires: the processor's number, the verb, and what
 /// comes after it.
-fn slip_in(text: &str) -> Option<(&str, &'static str)> {
+fn typo_in(text: &str) -> Option<(&str, &'static str)> {
     let mut words = text.split(' ');
     let cpu = words.next()?;
-    if let Some(why) = why_not(Kind::Narrow, cpu) {
+    if let Some(why) = why_not(WordKind::Narrow, cpu) {
         return Some((cpu, why));
     }
     let verb = words.next()?;
-    if let Some(why) = why_not(Kind::Word, verb) {
+    if let Some(why) = why_not(WordKind::Word, verb) {
         return Some((verb, why));
     }
     let kinds = kinds_of(verb);
@@ -60,21 +60,21 @@ fn slip_in(text: &str) -> Option<(&str, &'static str)> {
 }
 
 /// Returns what is wrong with a word that should be of this kind, if that can be found.
-fn why_not(kind: Kind, word: &str) -> Option<&'static str> {
+fn why_not(kind: WordKind, word: &str) -> Option<&'static str> {
     match kind {
-        Kind::Narrow => number_slip(number32(word).is_some(), word, " is above 4294967295; "),
-        Kind::Wide => number_slip(
+        WordKind::Narrow => number_typo(number32(word).is_some(), word, " is above 4294967295; "),
+        WordKind::Wide => number_typo(
             number64(word).is_some(),
             word,
             " is above 18446744073709551615; ",
         ),
-        Kind::Name => spelling_slip(word),
-        Kind::Word => capitals_slip(word),
+        WordKind::Name => spelling_typo(word),
+        WordKind::Word => capitals_typo(word),
     }
 }
 
 /// Returns what is wrong with digits that are not a number: a leading zero, or else `too_many`.
-fn number_slip(is_number: bool, word: &str, too_many: &'static str) -> Option<&'static str> {
+fn number_typo(is_number: bool, word: &str, too_many: &'static str) -> Option<&'static str> {
     if is_number || !word.as_bytes().iter().all(|byte| byte.is_ascii_digit()) {
         return None;
     }
@@ -86,12 +86,15 @@ fn number_slip(is_number: bool, word: &str, too_many: &'static str) -> Option<&'
 }
 
 /// Returns what is wrong with a name, if it has characters that no name has, or too many.
-pub(crate) fn spelling_slip(word: &str) -> Option<&'static str> {
-    let capitals = capitals_slip(word);
+pub(crate) fn spelling_typo(word: &str) -> Option<&'static str> {
+    let capitals = capitals_typo(word);
     if capitals.is_some() {
         return capitals;
     }
-    if !word.as_bytes().iter().all(|byte| is_name_byte(*byte)) {
+    let has_letters = word.bytes().all(|byte| byte.is_ascii_lowercase()
+        || byte.is_ascii_digit()
+        || byte == b'_');
+    if !has_letters {
         return Some(" has other letters than a to z, 0 to 9 and _; ");
     }
     if word.len() > LONGEST {
@@ -102,7 +105,7 @@ pub(crate) fn spelling_slip(word: &str) -> Option<&'static str> {
 }
 
 /// Returns what is wrong with a word of the language, if it has capitals.
-fn capitals_slip(word: &str) -> Option<&'static str> {
+fn capitals_typo(word: &str) -> Option<&'static str> {
     if word.as_bytes().iter().any(|byte| byte.is_ascii_uppercase()) {
         Some(" has capital letters; ")
     } else {
@@ -110,23 +113,23 @@ fn capitals_slip(word: &str) -> Option<&'static str> {
     }
 }
 
-/// Returns whether a name may have a byte.
-fn is_name_byte(byte: u8) -> bool {
-    byte.is_ascii_lowercase() || byte.is_ascii_digit() || byte == b'_'
-}
-
 /// Returns the kinds of the words after a verb, as many as are checked.
-fn kinds_of(verb: &str) -> &'static [Kind] {
+fn kinds_of(verb: &str) -> &'static [WordKind] {
     match verb {
-        "kalloc" | "kfree" | "drain" | "remove" => &[Kind::Narrow],
-        "map" | "unmap" => &[Kind::Name, Kind::Narrow],
-        "write" => &[Kind::Name, Kind::Narrow, Kind::Narrow, Kind::Wide],
-        "read" => &[Kind::Name, Kind::Narrow, Kind::Narrow],
-        "online" => &[Kind::Narrow, Kind::Word],
-        "begin" => &[Kind::Word, Kind::Narrow],
-        "drainfor" => &[Kind::Wide, Kind::Narrow],
-        "migrate" | "commit" | "cancel" | "undo" => &[Kind::Wide],
-        "plan" => &[Kind::Narrow, Kind::Word, Kind::Narrow],
+        "kalloc" | "kfree" | "drain" | "remove" => &[WordKind::Narrow],
+        "map" | "unmap" => &[WordKind::Name, WordKind::Narrow],
+        "write" => &[
+            WordKind::Name,
+            WordKind::Narrow,
+            WordKind::Narrow,
+            WordKind::Wide,
+        ],
+        "read" => &[WordKind::Name, WordKind::Narrow, WordKind::Narrow],
+        "online" => &[WordKind::Narrow, WordKind::Word],
+        "begin" => &[WordKind::Word, WordKind::Narrow],
+        "drainfor" => &[WordKind::Wide, WordKind::Narrow],
+        "migrate" | "commit" | "cancel" | "undo" => &[WordKind::Wide],
+        "plan" => &[WordKind::Narrow, WordKind::Word, WordKind::Narrow],
         _ => &[],
     }
 }
