@@ -1,4 +1,4 @@
--- Findings that are added to others, and which fault the first added one reports.
+-- Findings that are added to others, and the fault that the first of them reports.
 use Rattle.std.specs.Prelude.{◌≡◌, ℕ, ◌+◌, ◌≤◌, Bool, true, false, List, [], ◌∷◌, ◌++◌, Option, Some, None, Result, Ok, Err}
 use Rattle.std.specs.List.{All}
 use Rattle.std.specs.Option.{option_map, option_or}
@@ -13,11 +13,12 @@ use Rattle.hp_check.specs.declared.finding.Finding.{Finding}
 use Rattle.hp_check.specs.declared.finding.Finding.TheVariants as finding
 use Rattle.hp_check.specs.declared.finding.OutOfRange.{OutOfRange}
 
--- the first of the added findings reports this fault; without a fault, none is added
+-- the first of the added findings reports this fault; without a fault, no finding is added
 abbrev pub IsFirst : Option ScenarioFault → List Finding → Type 0
 IsFirst None added = added ≡ []
 IsFirst (Some fault) added = Begins fault added
 
+-- findings with the property P were added, and the first of them reports the fault
 pub record Adds (P : Finding → Type 0) (fault : Option ScenarioFault) (old new : List Finding) : Type 0 where
   pub added : List Finding
   pub is : new ≡ old ++ added
@@ -29,7 +30,7 @@ abbrev pub first_at : {X : Type 0} → (ℕ → X → Option ScenarioFault) → 
 first_at f number [] = None
 first_at f number (x ∷ xs) = option_or (f number x) (first_at f (number + 1) xs)
 
--- BadShape, unless a condition holds
+-- the fault BadShape, unless the condition holds
 abbrev pub lacks : Bool → Option ScenarioFault
 lacks true = None
 lacks false = Some BadShape
@@ -39,45 +40,49 @@ abbrev pub out_fault : (number : ℕ) → Option OutOfRange → Option ScenarioF
 out_fault number None = None
 out_fault number (Some out) = Some (Layout (fault_of out))
 
--- the fault of a layout that is past its limits
+-- the fault of a layout that is past its limits; None within them
 abbrev pub limit_fault : LayoutParts → Option ScenarioFault
 limit_fault l = option_map Layout (layout_fault l)
 
--- the same for a layout whose parts may be unreadable
+-- the fault of a layout that is past its limits; None if its parts cannot be read
 abbrev pub limit_fault_of : Option LayoutParts → Option ScenarioFault
 limit_fault_of None = None
 limit_fault_of (Some l) = limit_fault l
 
--- the fault of reading, if reading failed
+-- the fault of reading; None if reading succeeded
 abbrev pub fault_in : {A : Type 0} → Result A ScenarioFault → Option ScenarioFault
 fault_in (Ok x) = None
 fault_in (Err fault) = Some fault
 
 -- ---- kinds of findings
 
+-- the finding is that the text is not JSON
 abbrev pub IsNotJson : Finding → Type 0
 IsNotJson (finding.NotJson hint line column) = Unit {0}
 IsNotJson f = ⊥
 
+-- the finding is about the shape of a value
 abbrev pub IsShape : Finding → Type 0
 IsShape (finding.Shape s) = Unit {0}
 IsShape f = ⊥
 
+-- the finding is about a part of the layout
 abbrev pub IsLayout : Finding → Type 0
 IsLayout (finding.Layout out) = Unit {0}
 IsLayout f = ⊥
 
+-- the finding is about a repeated key
 abbrev pub IsRepeat : Finding → Type 0
 IsRepeat (finding.Repeat place k) = Unit {0}
 IsRepeat f = ⊥
 
--- a warning about a key, or about one of this many lines
+-- the finding is a warning, either about a key or about one of the first `lines` lines
 abbrev pub IsWarning : (lines : ℕ) → Finding → Type 0
 IsWarning lines (finding.Repeat place k) = Unit {0}
 IsWarning lines (finding.Warning number w) = (1 ≤ number) × (number ≤ lines)
 IsWarning lines f = ⊥
 
--- why a value has a finding
+-- the cause of a finding about a JSON value
 abbrev pub ValueCause : Data → Finding → Type 0
 ValueCause d (finding.Shape s) = form_of d ≡ None
 ValueCause d (finding.Layout out) = IsPastLimits d

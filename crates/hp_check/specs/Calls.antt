@@ -1,4 +1,4 @@
--- The entries of `calls`, and which of them are not lines.
+-- The entries of `calls`, and the entries that are not lines.
 use Rattle.std.specs.Prelude.{◌≡◌, ℕ, ◌+◌, Bool, false, List, [], ◌∷◌, ◌++◌, codes, take, Option, Some, None, is_some, slice_get, option_and_then, if◌then◌else◌}
 use Rattle.std.specs.Option.{option_or}
 use Rattle.serde_json.specs.Data.{Data, Items, no_items, item}
@@ -12,10 +12,12 @@ use Rattle.hp_check.specs.declared.finding.Finding.{Finding}
 use Rattle.hp_check.specs.declared.finding.Finding.TheVariants as finding
 use Rattle.hp_check.specs.declared.name_typos.NameTypo.{NameTypo}
 
+-- the items as a list
 abbrev pub data_of : Items → List Data
 data_of no_items = []
 data_of (item d ds) = d ∷ data_of ds
 
+-- the items as a list, which is empty without any
 abbrev pub items_or_none : Option Items → List Data
 items_or_none None = []
 items_or_none (Some ds) = data_of ds
@@ -26,27 +28,30 @@ entries_in d = items_or_none (option_and_then as_array (get (codes "calls") d))
 
 -- ---- the names of results
 
--- a text is a line after lines with these names
+-- the text is a line after lines with these bindings of names
 abbrev pub is_line_after : Bound → (text : List ℕ) → Bool
 is_line_after bound text = is_some (line_says (plain_in bound text).text)
 
--- the names after the entry at this place; a line adds the name of its result
+-- the bindings after the entry at index `place`, which may be a text; a line adds the name of its
+-- result
 abbrev pub bound_text : (place : ℕ) → Bound → Option (List ℕ) → Bound
 bound_text place bound None = bound
 bound_text place bound (Some text) =
     if is_line_after bound text then bound_after bound (plain_in bound text).naming place 0 else bound
 
+-- the bindings after an entry at index `place`
 abbrev pub bound_past : (place : ℕ) → Bound → Data → Bound
 bound_past place bound d = bound_text place bound (as_str d)
 
--- the names after entries, of which the first is at this place
+-- the bindings after several entries, of which the first has the index `place`
 abbrev pub bound_through : (place : ℕ) → Bound → List Data → Bound
 bound_through place bound [] = bound
 bound_through place bound (d ∷ ds) = bound_through (place + 1) (bound_past place bound d) ds
 
--- ---- what is not a line
+-- ---- entries that are not lines
 
--- the entry of this number, counted from 1, is this text, which is not a line after the lines before it
+-- the entry with this number, counted from 1, is this text, which is not a line after the lines before
+-- it
 pub record IsBadEntry (entries : List Data) (number : ℕ) (text : List ℕ) : Type 0 where
   pub at : ℕ
   pub entry : Data
@@ -55,32 +60,32 @@ pub record IsBadEntry (entries : List Data) (number : ℕ) (text : List ℕ) : T
   pub is_text : as_str entry ≡ Some text
   pub no_line : is_line_after (bound_through 0 [] (take at entries)) text ≡ false
 
--- the finding reports such an entry
+-- the finding reports an entry that is not a line
 abbrev pub IsBadCall : (entries : List Data) → Finding → Type 0
 IsBadCall entries (finding.BadCall number text names) = IsBadEntry entries number text
 IsBadCall entries f = ⊥
 
--- the finding reports this entry, at `place`, after lines with these names
+-- the finding reports this entry, at index `place`, which is not a line after lines with these bindings
 abbrev pub IsBadText : (place : ℕ) → Bound → Data → Finding → Type 0
 IsBadText place bound d (finding.BadCall number text names) =
     (number ≡ place + 1) × (as_str d ≡ Some text) × (is_line_after bound text ≡ false)
 IsBadText place bound d f = ⊥
 
--- the finding for a text was added, with what is wrong with the text's names, if they are the reason
+-- the finding for a text was added, with the typo in the text's names, if that is the reason
 abbrev pub AddsBadCall : (number : ℕ) → (text : List ℕ) → (old new : List Finding) → Type 0
 AddsBadCall number text old new =
     (names : Option NameTypo) × (new ≡ old ++ finding.BadCall number text names ∷ [])
 
--- the fault of reading a text
+-- the fault of reading a text at index `place`; None if it is a line, or if there is no text
 abbrev pub text_fault : (place : ℕ) → Bound → Option (List ℕ) → Option ScenarioFault
 text_fault place bound None = None
 text_fault place bound (Some text) = if is_line_after bound text then None else Some (BadLine (place + 1))
 
--- the fault of reading an entry, which may be a text
+-- the fault of reading an entry at index `place`; None if it is a line, or no text
 abbrev pub entry_fault : (place : ℕ) → Bound → Data → Option ScenarioFault
 entry_fault place bound d = text_fault place bound (as_str d)
 
--- the first fault of entries, of which the first is at `place`, after lines with these names
+-- the first fault of entries, of which the first has the index `place`, after lines with these bindings
 abbrev pub calls_fault : (place : ℕ) → Bound → List Data → Option ScenarioFault
 calls_fault place bound [] = None
 calls_fault place bound (d ∷ ds) =

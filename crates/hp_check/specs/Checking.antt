@@ -1,4 +1,4 @@
--- What `check` promises: the first fault is that of reading, and each finding has a cause.
+-- The promises of `check`: the first fault is the reader's, and each finding has a cause.
 use Rattle.std.specs.Prelude.{◌≡◌, ℕ, ◌≤◌, true, List, [], ◌∷◌, count_by, length, Some, None, Result, Ok, Err, is_some}
 use Rattle.std.specs.List.{All}
 use Rattle.serde_json.specs.Data.{Data}
@@ -20,7 +20,7 @@ use Rattle.hp_check.specs.declared.finding.OutOfRange.TheVariants as range
 
 -- ---- the first fault
 
--- the fault that a layout has for a part that is out of its range
+-- the layout fault for a part that is out of its range
 abbrev pub fault_of : OutOfRange → LayoutFault
 fault_of (range.Order n) = BadOrder
 fault_of (range.Pageblocks n) = BadPageblocks
@@ -43,18 +43,20 @@ IsFindingOf (Layout fault) (finding.Layout out) = fault ≡ fault_of out
 IsFindingOf (BadLine line) (finding.BadCall number text names) = line ≡ number
 IsFindingOf fault f = ⊥
 
+-- the first of the findings reports this fault
 abbrev pub Begins : ScenarioFault → List Finding → Type 0
 Begins fault [] = ⊥
 Begins fault (f ∷ fs) = IsFindingOf fault f
 
--- a scenario has no fault; if reading has a fault, the first finding reports it
+-- either the text is a scenario and no finding is a fault, or the first finding reports the fault of
+-- reading it
 abbrev pub Agrees : Result NamedValue ScenarioFault → List Finding → Type 0
 Agrees (Ok scenario) found = count_by is_fault found ≡ 0
 Agrees (Err fault) found = Begins fault found × (1 ≤ count_by is_fault found)
 
 -- ---- causes
 
--- the text is JSON, and this holds of its value
+-- the text is JSON, and P holds of its value
 abbrev pub IsJsonWith : (P : Data → Type 0) → (input : List ℕ) → Type 0
 IsJsonWith P input = (d : Data) × (json_of input ≡ Some d) × P d
 
@@ -62,13 +64,13 @@ IsJsonWith P input = (d : Data) × (json_of input ≡ Some d) × P d
 abbrev pub IsPastLimits : Data → Type 0
 IsPastLimits d = (l : LayoutParts) × (parts_in d ≡ Some l) × (is_some (layout_fault l) ≡ true)
 
--- the text is a scenario, and this holds of its number of lines
+-- the text is a scenario, and P holds of its number of lines
 abbrev pub IsScenarioWith : (P : ℕ → Type 0) → (input : List ℕ) → Type 0
 IsScenarioWith P input = (s : NamedValue) × (named_in input ≡ Ok s) × P (length s.scenario.lines)
 
--- why there is a finding: the text is not JSON; the value has another form; the layout is past its
--- limits; or the entry of `calls` with this number and text is not a line. Only a scenario has
--- warnings, each about a key or about one of its lines
+-- the cause of a finding. Either the text is not JSON, or the value has another form, or the layout
+-- is past its limits. Or the entry of `calls` with this number and text is not a line. Only a
+-- scenario has warnings, each about a key or about one of its lines
 abbrev pub HasCause : (input : List ℕ) → Finding → Type 0
 HasCause input (finding.NotJson hint line column) = json_of input ≡ None
 HasCause input (finding.Shape s) = IsJsonWith (λ d. form_of d ≡ None) input
@@ -79,5 +81,6 @@ HasCause input (finding.Repeat place k) = IsScenarioWith (λ lines. Unit {0}) in
 HasCause input (finding.Warning number w) =
     IsScenarioWith (λ lines. (1 ≤ number) × (number ≤ lines)) input
 
+-- each finding has a cause
 abbrev pub HaveCauses : (input : List ℕ) → List Finding → Type 0
 HaveCauses input found = All (HasCause input) found

@@ -16,7 +16,7 @@ is_fault (finding.BadCall number text names) = true
 is_fault (finding.Repeat place k) = false
 is_fault (finding.Warning number w) = false
 
--- a key as it is written
+-- the text of a key in a scenario
 abbrev pub key_name : Key → List ℕ
 key_name key.Layout = codes "layout"
 key_name key.Calls = codes "calls"

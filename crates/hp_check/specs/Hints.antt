@@ -1,4 +1,4 @@
--- Texts that report what is wrong. Their wording is tested.
+-- Texts that report faults. Their wording is tested.
 use Rattle.std.specs.Prelude.{ℕ, ◌≡◌, List, ◌++◌}
 
 -- a text was appended to another

@@ -2,9 +2,11 @@
 use Rattle.std.specs.Prelude.{◌≡◌, ℕ, ◌+◌, ◌==◌, ◌||◌, Bool, true, false, List, count_by, slice_get, take, Some, if◌then◌else◌}
 use Rattle.std.specs.List.{All}
 
+-- the byte is white space
 abbrev pub is_space : ℕ → Bool
 is_space b = b == 32 || (b == 9 || (b == 10 || b == 13))
 
+-- the byte is a newline
 abbrev pub is_newline : ℕ → Bool
 is_newline b = b == 10
 
@@ -20,10 +22,12 @@ pub record IsSignLine (input : List ℕ) (line : ℕ) : Type 0 where
   pub sign : is_space byte ≡ false
   pub counted : line ≡ 1 + count_by is_newline (take at input)
 
+-- each of these lines has a byte other than white space
 abbrev pub AreSignLines : (input lines : List ℕ) → Type 0
 AreSignLines input lines = All (IsSignLine input) lines
 
--- all noted lines still have more than white space, if the line to be noted has
+-- all noted lines still have a byte other than white space, if each line noted before has one, and `line`
+-- has one when it is noted
 abbrev pub KeepSignLines : (is_noted : Bool) → (line : ℕ) → (old new : List ℕ) → Type 0
 KeepSignLines is_noted line old new =
     (input : List ℕ) → AreSignLines input old → (is_noted ≡ true → IsSignLine input line)

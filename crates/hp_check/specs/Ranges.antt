@@ -1,4 +1,4 @@
--- The parts of a layout, and which of them are out of their ranges.
+-- The parts of a layout, and the parts that are out of their ranges.
 use Rattle.std.specs.Prelude.{ℕ, ◌*◌, ◌^◌, ◌&&◌, Bool, not, codes, Option, nat_le, option_and_then}
 use Rattle.std.specs.Bool.{then_some}
 use Rattle.serde_json.specs.Data.{Data}
@@ -15,7 +15,7 @@ parts_in d =
     (λ layout. option_and_then (λ boot. parts_with boot layout) (boots_at (codes "boot") layout))
     (get (codes "layout") d)
 
--- the sizes that make up the number of frames are in their ranges
+-- the sizes that give the number of frames are in their ranges
 abbrev pub has_sizes : LayoutParts → Bool
 has_sizes l = is_within 0 10 l.order && (is_pageblock_count l.pageblocks && is_within 1 256 l.blocks)
 

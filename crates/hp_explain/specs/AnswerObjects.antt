@@ -18,7 +18,7 @@ number_at key j = option_and_then as_number (get key j)
 abbrev pub text_at : (key : List ℕ) → Json → Option (List ℕ)
 text_at key j = option_and_then as_str (get key j)
 
--- the time at a key, or the unknown time
+-- the time at a key; `unknown` if the object does not have the key
 abbrev pub HasTime : (key : List ℕ) → (unknown : ℕ) → Json → (time : ℕ) → Type 0
 HasTime key unknown j time =
     (number_at key j ≡ Some (decimal time)) ⊎ ((get key j ≡ None) × (time ≡ unknown))
@@ -31,6 +31,7 @@ IsObject j o =
     × HasTime (codes "from") 0 j o.line.from
     × HasTime (codes "to") 18446744073709551615 j o.line.to
 
+-- the text is a JSON object with this processor, answer and times
 abbrev pub IsObjectLine : List ℕ → SeenObject → Type 0
 IsObjectLine text o = (j : Json) × (document text ≡ Some j) × IsObject j o
 
@@ -40,24 +41,24 @@ IsObjectLine text o = (j : Json) × (document text ≡ Some j) × IsObject j o
 abbrev pub full_lines : List (List ℕ) → List (List ℕ)
 full_lines texts = filter (λ text. not (is_empty text)) texts
 
--- each line is an object
+-- the texts are these objects, in their order
 abbrev pub AreObjects : List (List ℕ) → List SeenObject → Type 0
 AreObjects [] [] = Unit {0}
 AreObjects [] (o ∷ objects) = ⊥
 AreObjects (text ∷ texts) [] = ⊥
 AreObjects (text ∷ texts) (o ∷ objects) = IsObjectLine text o × AreObjects texts objects
 
--- what was seen of a processor's lines, with the times that its objects have
+-- the answers in a processor's objects, with the times that these have
 abbrev pub told_of : (cpu : ℕ) → List SeenObject → List ObservedLine
 told_of cpu objects = map (λ (o : SeenObject). o.line) (filter (λ (o : SeenObject). o.cpu == cpu) objects)
 
--- the time by which the first line was answered
+-- the time by which the first line was answered; 2^64-1 without a line
 abbrev pub first_to : List ObservedLine → ℕ
 first_to [] = 18446744073709551615
 first_to (one ∷ later) = one.to
 
--- the lines with their times filled in. No line was answered later than a line after it, so each gets
--- the lowest `to` of its own and of those after it
+-- the lines with their times filled in. Each gets the lowest `to` of its own and of the lines after
+-- it, because no line was answered later than a line after it
 abbrev pub filled : List ObservedLine → List ObservedLine
 filled [] = []
 filled (one ∷ later) = record one { to = min one.to (first_to (filled later)) } ∷ filled later
@@ -72,19 +73,19 @@ IsTaken old o new =
     (own : List ObservedLine) × (slice_get old o.cpu ≡ Some own)
     × (new ≡ slice_set old o.cpu (own ++ o.line ∷ []))
 
--- the line is an object, and its answer is one more of its processor
+-- the line is an object, and its answer is appended to its processor's answers
 abbrev pub IsLineTaken : (text : List ℕ) → (old new : List (List ObservedLine)) → Type 0
 IsLineTaken text old new = (o : SeenObject) × IsObjectLine text o × IsTaken old o new
 
--- each processor's lines are those of its objects in their order, and each object names one of these
+-- each processor has the answers in its objects, in their order, and each object names one of these
 -- processors
 abbrev pub AreToldBy : List SeenObject → List (List ObservedLine) → Type 0
 AreToldBy objects seen =
     ((cpu : ℕ) (own : List ObservedLine) → slice_get seen cpu ≡ Some own → own ≡ told_of cpu objects)
     × ((k : ℕ) (o : SeenObject) → slice_get objects k ≡ Some o → o.cpu < length seen)
 
--- the texts that are not empty are objects, and these are the processors' lines, with their times
--- filled in
+-- the texts that are not empty are objects, and each processor has the answers in its objects, with
+-- their times filled in
 abbrev pub AreSeen : (texts : List (List ℕ)) → List (List ObservedLine) → Type 0
 AreSeen texts seen =
     (objects : List SeenObject) × (told : List (List ObservedLine)) × AreObjects (full_lines texts) objects

@@ -12,7 +12,7 @@ use Rattle.hp_explain.specs.declared.observed.ObservedLine.{ObservedLine}
 
 -- ---- the text of an answer
 
--- the reply to a call, or the end of a plan
+-- the text of an answer: either a reply to a call, or the end of a plan
 abbrev pub answer_text : LineAnswer → List ℕ
 answer_text (Replied reply) = reply_text reply
 answer_text (Carried end) = codes "plan: " ++ end_words end
@@ -23,7 +23,7 @@ answer_text (Carried end) = codes "plan: " ++ end_words end
 abbrev pub heading : (cpu : ℕ) → List ℕ
 heading cpu = codes "cpu " ++ decimal cpu
 
--- the line of each answer
+-- the text of each answer
 abbrev pub seen_lines : List ObservedLine → List (List ℕ)
 seen_lines seen = map (λ one. answer_text one.answer) seen
 
@@ -36,7 +36,7 @@ abbrev pub run_lines : (cpu : ℕ) → List (List ObservedLine) → List (List �
 run_lines cpu [] = []
 run_lines cpu (seen ∷ later) = script_lines cpu seen ++ run_lines (suc cpu) later
 
--- the number of records
+-- the text reports a number of records
 abbrev pub IsRecords : List ℕ → Type 0
 IsRecords text = (count : ℕ) × (text ≡ decimal count ++ codes " records")
 
@@ -49,7 +49,7 @@ is_empty (b ∷ bs) = false
 abbrev pub are_empty : List (List ℕ) → Bool
 are_empty texts = list_all is_empty texts
 
--- the lines after the answers: the number of records or nothing, and empty lines
+-- the lines after the answers: the number of records, if it is there, and then empty lines
 abbrev pub AreLast : List (List ℕ) → Type 0
 AreLast [] = Unit {0}
 AreLast (text ∷ rest) = (are_empty (text ∷ rest) ≡ true) ⊎ (IsRecords text × (are_empty rest ≡ true))
@@ -58,34 +58,34 @@ AreLast (text ∷ rest) = (are_empty (text ∷ rest) ≡ true) ⊎ (IsRecords te
 abbrev pub untimed : LineAnswer → ObservedLine
 untimed answer = record { answer = answer; from = 0; to = 18446744073709551615 }
 
--- the same line without its times
+-- the answer of a line without its times
 abbrev pub without_times : ObservedLine → ObservedLine
 without_times one = untimed one.answer
 
--- no times are known of a processor's lines
+-- no times are known of a processor's answers
 abbrev pub AreUntimed : List ObservedLine → Type 0
 AreUntimed seen = map without_times seen ≡ seen
 
--- no times are known of any line
+-- no times are known of any answer
 abbrev pub AreAllUntimed : List (List ObservedLine) → Type 0
 AreAllUntimed seen = map (map without_times) seen ≡ seen
 
--- one more answer, without times
+-- one more answer was appended, without times
 abbrev pub IsPushed : (old : List ObservedLine) → (text : List ℕ) → (new : List ObservedLine) → Type 0
 IsPushed old text new =
     (answer : LineAnswer) × (text ≡ answer_text answer) × (new ≡ old ++ untimed answer ∷ [])
 
--- the front of the lines is a processor's heading and that many answers
+-- the first lines are a processor's heading and `count` answers
 abbrev pub IsScriptAt : (rest : List (List ℕ)) → (cpu count : ℕ) → List ObservedLine → Type 0
 IsScriptAt rest cpu count seen =
     (rest ≡ script_lines cpu seen ++ drop (count + 1) rest) × (length seen ≡ count) × AreUntimed seen
 
--- the lines are those of a run with these answers of its processors
+-- the lines are a run's output with these answers
 abbrev pub AreRun : List (List ℕ) → List (List ObservedLine) → Type 0
 AreRun texts seen =
     (rest : List (List ℕ)) × (texts ≡ run_lines 0 seen ++ rest) × AreLast rest × AreAllUntimed seen
 
--- the text is that of a run with these answers of its processors
+-- the text is a run's output with these answers
 abbrev pub IsRunText : (input : List ℕ) → List (List ObservedLine) → Type 0
 IsRunText input seen = AreRun (lines input) seen
 

@@ -1,4 +1,4 @@
--- The aim of a search for an order that explains what was seen, and how the search changes it.
+-- The aim of a search for an order that explains the observed answers, and the changes of this aim.
 use Rattle.std.specs.Prelude.{◌≡◌, ◌⊎◌, ℕ, ◌<◌, ◌≤◌, List, [], ◌∷◌, ◌++◌, Some, length}
 use Rattle.hp_units.specs.declared.replies.Record.{Record}
 use Rattle.hp_schedules.specs.Schedules.{Setting, plays}
@@ -7,7 +7,8 @@ use Rattle.hp_explore.specs.CausesBelow.{AreCausedBelow}
 use Rattle.hp_explain.specs.Explaining.{Explains, IsExplained, MayRun, calls_left}
 use Rattle.hp_explain.specs.declared.observed.ObservedLine.{ObservedLine}
 
--- the marks of a place: its number of calls, and what the answers of the plans in progress depend on
+-- the marks of a place: its number of calls, then the last refusals of the plans in progress, as
+-- numbers
 abbrev pub IsMarked : Setting → List Record → List ℕ → Type 0
 IsMarked g news numbers =
     (causes : List ℕ) × (numbers ≡ length news ∷ causes)
@@ -18,9 +19,9 @@ abbrev pub MayRunAfter : Setting → List (List ObservedLine) → List ℕ → (
 MayRunAfter g seen schedule cpu =
     (news : List Record) × (plays g schedule ≡ Some news) × MayRun g seen news cpu
 
--- the search seeks the orders that explain what was seen, and the explained beginnings that are longer
--- than the longest known one. It returns only an order. `room` is how many calls the history has room
--- for
+-- the aim of the search: it seeks the orders that explain the observed answers, and the explained
+-- beginnings that are longer than the longest known one. It returns only an order. `room` is the number
+-- of calls that the history has room for
 abbrev pub aim_of : Setting → List (List ObservedLine) → (room : ℕ) → (longest : List ℕ) → AimValue
 aim_of g seen room longest = record {
   sought = λ s. Explains g seen s ⊎ (IsExplained g seen s × (length longest < length s));
@@ -31,7 +32,8 @@ aim_of g seen room longest = record {
   is_whole = ⊥;
 }
 
--- what was seen and the room stay; the longest known beginning gets no shorter, and stays explained
+-- the observed answers and the room stay the same. The longest known beginning gets no shorter, and it
+-- stays explained
 abbrev pub Becomes : Setting → (seen : List (List ObservedLine)) → (room : ℕ) → (longest : List ℕ)
     → (later : List (List ObservedLine)) → (left : ℕ) → (new : List ℕ) → Type 0
 Becomes g seen room longest later left new =

@@ -1,4 +1,4 @@
--- What is reported of the order that explains answers.
+-- The report on an order that explains answers.
 use Rattle.std.specs.Prelude.{◌≡◌, ◌≤◌, ℕ, false, true, List, [], codes, length, map}
 use Rattle.hp_schedules.specs.Orders.{IsBefore}
 use Rattle.hp_schedules.specs.Schedules.{Setting}
@@ -23,17 +23,17 @@ use Rattle.hp_explain.specs.declared.observed.ObservedLine.{ObservedLine}
 use Rattle.hp_explain.specs.declared.telling.ExplainResult.{ExplainResult}
 use Rattle.hp_explain.specs.declared.telling.ExplainResult.TheVariants.{Explained, Unexplained, Unknown}
 
--- the text if it is not known whether an order explains the answers; there is no scenario then
+-- the text if it is not known whether an order explains the answers; as a scenario it is empty
 abbrev pub unknown_told : ScheduleForm → List ℕ
 unknown_told Words = codes "explained: unknown\n"
 unknown_told Object = codes "{\"found\": null}\n"
 unknown_told Scenario = []
 
--- ---- the text for scripts on a machine
+-- ---- the text, for scripts on a machine
 
--- the text has the first schedule that explains what was seen, as a search for an end writes the one
--- that it found, and the history has room for its calls. Or no schedule explains it, and there is a
--- longest explained beginning; or this is not known
+-- either the text has the first schedule that explains the observed answers, as a search for an end
+-- writes it, and the history has room for its calls. Or no schedule explains them, and there is a
+-- longest explained beginning. Or it is not known whether one explains them
 abbrev pub IsExplainedOn : ScheduleForm → (names : List (List ℕ)) → (before : List Line) → Setting
     → List (List ObservedLine) → (text : List ℕ) → ExplainResult → Type 0
 IsExplainedOn form names before g seen text Explained =
@@ -45,38 +45,38 @@ IsExplainedOn form names before g seen text Unexplained =
     × ((s : List ℕ) → IsExplained g seen s → length s ≤ length longest)
 IsExplainedOn form names before g seen text Unknown = text ≡ unknown_told form
 
--- the text is that of a schedule that explains what was seen; or it reports that there is none
+-- either the text has a schedule that explains the observed answers, or there is none
 abbrev pub IsExplanationTold : ScheduleForm → (names : List (List ℕ)) → (before : List Line) → Setting
     → Explanation → (text : List ℕ) → ExplainResult → Type 0
 IsExplanationTold form names before g (found.Explained schedule) text result =
     (text ≡ found_text form names before g schedule.items) × (result ≡ Explained)
 IsExplanationTold form names before g (found.Unexplained longest) text result = result ≡ Unexplained
 
--- ---- the text for a scenario
+-- ---- the text, for a scenario
 
--- what was seen has a line for each line of each script. `answers` either has an object for each, or is
--- what `hotplug run` prints of them
+-- `seen` has an answer to each line of each script. The text `answers` has them either as objects or as
+-- `hotplug run` prints them
 abbrev pub AreAnswers : (answers : List ℕ) → List (List Step) → List (List ObservedLine) → Type 0
 AreAnswers answers scripts seen =
     (map length seen ≡ map length scripts) × (are_objects answers ≡ false → IsRunText answers seen)
     × (are_objects answers ≡ true → AreObjectsOf answers seen)
 
--- the text gives answers to the setting's scripts, and `P` holds of what was seen
+-- the text has answers to the setting's scripts, and `P` holds of these answers
 abbrev pub OfAnswers : (answers : List ℕ) → Setting → (List (List ObservedLine) → Type 0) → Type 0
 OfAnswers answers g P = (seen : List (List ObservedLine)) × AreAnswers answers g.scripts seen × P seen
 
--- the text is that of a search in the scenario, all of whose lines are in scripts
+-- the text reports a search in the scenario, whose lines are all in scripts
 abbrev pub IsExplainingOf : ScheduleForm → (input answers : List ℕ) → (text : List ℕ) → ExplainResult → Type 0
 IsExplainingOf form input answers text result =
     HoldsIn (λ names before g. OfAnswers answers g
     (λ seen. IsExplainedOn form names before g seen text result)) input 0
 
--- why a call fails in the search; `HistoryFull` never comes
+-- the cause of a call's fault in the search; `HistoryFull` never comes
 abbrev pub IsExplainingCause : Setting → ExploreFault → Type 0
 IsExplainingCause g HistoryFull = ⊥
 IsExplainingCause g OutOfMemory = Unit {0}
 
--- when each fault comes
+-- the cause of each fault of the search
 abbrev pub IsExplainFaultOf : (input answers : List ℕ) → ExplainFault → Type 0
 IsExplainFaultOf input answers (Lab fault) = IsFaultWith IsExplainingCause input 0 fault
 IsExplainFaultOf input answers (Answers fault) =

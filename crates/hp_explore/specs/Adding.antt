@@ -6,7 +6,7 @@ use Rattle.std.specs.Ordering.{is_lt, nat_cmp}
 use Rattle.hp_schedules.specs.Notes.{HasNoEnd}
 use Rattle.hp_schedules.specs.declared.tally.Ending.{Ending}
 
--- the earlier of two schedules: the one with the lower processor at the first difference
+-- the earlier of two schedules in lexicographic order; `t` if they are equal
 abbrev pub earlier : List ℕ → List ℕ → List ℕ
 earlier s t = if is_lt (slice_cmp nat_cmp s t) then s else t
 
@@ -36,12 +36,12 @@ pub record AddsOther (old : List Ending) (e : Ending) (new : List Ending) : Type
 abbrev pub AddsEnd : List Ending → Ending → List Ending → Type 0
 AddsEnd old e new = AddsMore old e new ⊎ AddsOther old e new
 
--- all these ends are added
+-- all ends of one list are added
 abbrev pub AddsEnds : List Ending → List Ending → List Ending → Type 0
 AddsEnds old [] new = new ≡ old
 AddsEnds old (e ∷ ends) new = (next : List Ending) × AddsEnd old e next × AddsEnds next ends new
 
--- all ends of these lists are added
+-- all ends of several lists are added
 abbrev pub AddsLists : List Ending → List (List Ending) → List Ending → Type 0
 AddsLists old [] new = new ≡ old
 AddsLists old (ends ∷ lists) new = (next : List Ending) × AddsEnds old ends next × AddsLists next lists new
@@ -50,11 +50,11 @@ AddsLists old (ends ∷ lists) new = (next : List Ending) × AddsEnds old ends n
 abbrev pub counted_by : List (List Ending) → ℕ
 counted_by lists = sum_by (λ ends. sum_by (λ e. e.count) ends) lists
 
--- the same ends, sorted by their first schedules
+-- the list has the same ends, sorted by their first schedules
 pub record AreSorted (old new : List Ending) : Type 0 where
   pub moved : IsPermutation old new
   pub sorted : IsSortedBy (λ e f. is_lt (slice_cmp nat_cmp e.first.items f.first.items)) new
 
--- the ends are those of the lists, added one after another and sorted
+-- the list has the ends of all the lists, added one after another and then sorted
 abbrev pub AreAdded : List (List Ending) → List Ending → Type 0
 AreAdded lists ends = (added : List Ending) × AddsLists [] lists added × AreSorted added ends

@@ -5,12 +5,12 @@ use Rattle.std.specs.Prelude.{ℕ, ◌+◌, ◌==◌, if◌then◌else◌, List,
 abbrev pub change : (cpu next : ℕ) → ℕ
 change cpu next = if cpu == next then 0 else 1
 
--- the changes of the calls that follow a processor's call
+-- the number of changes in the calls that follow a processor's call
 abbrev pub changes_after : (cpu : ℕ) → List ℕ → ℕ
 changes_after cpu [] = 0
 changes_after cpu (next ∷ rest) = change cpu next + changes_after next rest
 
--- the changes of a schedule
+-- the number of changes of processor in a schedule
 abbrev pub changes : List ℕ → ℕ
 changes [] = 0
 changes (cpu ∷ rest) = changes_after cpu rest

@@ -14,9 +14,9 @@ use Rattle.hp_questions.specs.Marks.{AreMarks}
 use Rattle.hp_questions.specs.declared.wanted.Wanted.{Wanted}
 use Rattle.hp_questions.proofs.Marking.{replies_append}
 
--- ---- playing on from records
+-- ---- playing on after some records
 
--- playing on from records gives records that begin with these
+-- the records after playing on begin with the records before
 pub grown : (g : Setting) (rest : List ℕ) (h end : List Record) → from_news g h rest ≡ Some end
     → (more : List Record) × (end ≡ h ++ more)
 grown g [] h end is = ([], sym (same_Some h end is) ∙ sym (append-nil h))
@@ -113,8 +113,8 @@ none_many : (cpus : ℕ) → many_to cpus [] ≡ 0
 none_many zero = refl
 none_many (suc cpu) = omega (arith, none_many cpu)
 
--- each further call is by a processor that has a script, so there are still as many replies to these
--- processors as records
+-- there are still as many replies to the processors with scripts as there are records, because each
+-- further call is by such a processor
 many_played : (g : Setting) (rest : List ℕ) (h end : List Record)
     → many_to (length g.scripts) h ≡ length h → from_news g h rest ≡ Some end
     → many_to (length g.scripts) end ≡ length end
@@ -145,7 +145,7 @@ pub calls_counted : (g : Setting) (h : List Record) → plays g (schedule_of h) 
 unfolding plays
 calls_counted g h played = many_played g (schedule_of h) [] h (none_many (length g.scripts)) played
 
--- so places with the same marks have equally many records
+-- two places with the same marks have equally many records
 pub calls_counted_alike : (g : Setting) (wanted : List Wanted) (h k : List Record) (marks : List ℕ)
     → plays g (schedule_of h) ≡ Some h → plays g (schedule_of k) ≡ Some k
     → AreMarks g.layout.cpus g.scripts wanted (length g.scripts) h marks

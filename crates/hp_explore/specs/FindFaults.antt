@@ -1,4 +1,4 @@
--- Why a search failed, and what its result rules out.
+-- The causes of a search's faults, and the faults that its result rules out.
 use Rattle.std.specs.Prelude.{ℕ, ◌<◌, ◌⊎◌, List, Option, None, Some, [], ◌∷◌, ◌++◌}
 use Rattle.hp_explore.specs.Faults.{FillsHistory}
 use Rattle.hp_states.specs.Rooms.{HasNoRoom}
@@ -13,14 +13,14 @@ use Rattle.hp_explore.specs.declared.finding.Found.{Found}
 use Rattle.hp_explore.specs.declared.finding.Found.TheVariants.{Nearest, Absent}
 use Rattle.hp_questions.specs.declared.wanted.Wanted.{Wanted}
 
--- the search tries the schedules with fewer changes than this before it tries all
+-- a search tries the schedules with fewer changes than this number first, and then all schedules
 abbrev pub few_changes : ℕ
 few_changes = 3
 
 -- ---- a full history
 
--- a search within this budget reaches a call for which the history has no room, and no schedule
--- that it passed before that call ends as wanted
+-- a search within this budget reaches a call for which the history has no room. No schedule within the
+-- budget and before that call ends as wanted
 pub record FillsPass (g : Setting) (wanted : List Wanted) (budget : Option ℕ) : Type 0 where
   pub place : List ℕ
   pub call : HasNoRoom g place
@@ -32,8 +32,8 @@ abbrev pub FillsFirst : Setting → List Wanted → Type 0
 FillsFirst g wanted = FillsPass g wanted None
 
 -- the history has no room for a call, and the schedule up to and with this call has fewer than `below`
--- changes. No schedule that ends as wanted has fewer changes than that, and none before the call has
--- equally many
+-- changes. No schedule that ends as wanted has fewer changes than this one, and none that has equally
+-- many comes before the call
 pub record FillsNear (g : Setting) (wanted : List Wanted) (below : ℕ) : Type 0 where
   pub place : List ℕ
   pub call : HasNoRoom g place
@@ -41,8 +41,8 @@ pub record FillsNear (g : Setting) (wanted : List Wanted) (below : ℕ) : Type 0
   pub needs : NeedsChanges g wanted (changes (place ++ call.cpu ∷ []))
   pub passed : IsPassed g wanted (Some (changes (place ++ call.cpu ∷ []))) (place ++ call.cpu ∷ [])
 
--- a schedule ends as wanted, none before it does, and the history has no room for a call with fewer
--- changes
+-- a schedule ends as wanted, and none before it does. The history has no room for a call that is
+-- reached with fewer changes
 abbrev pub FillsNearer : Setting → List Wanted → Type 0
 FillsNearer g wanted = (known : List ℕ) × ReachesFirst g wanted known × FillsNear g wanted (changes known)
 
@@ -52,7 +52,7 @@ IsPassCause g wanted budget HistoryFull = FillsPass g wanted budget
 IsPassCause g wanted budget OutOfMemory = Unit {0}
 IsPassCause g wanted budget Stopped = Unit {0}
 
--- the cause of a fault of several passes, one after another, below this number of changes
+-- the cause of a fault of several passes, one after another, with fewer than `below` changes
 abbrev pub IsNearCause : Setting → List Wanted → (below : ℕ) → FindFault → Type 0
 IsNearCause g wanted below HistoryFull = FillsNear g wanted below
 IsNearCause g wanted below OutOfMemory = Unit {0}
@@ -60,10 +60,11 @@ IsNearCause g wanted below Stopped = Unit {0}
 
 -- ---- for the whole search
 
--- the cause of a fault. `HistoryFull` has one of three causes, one for each step of the search. There is
--- no room for a call with few changes. Or there is none for a call before all schedules that end as
--- wanted. Or there is none for a call with fewer changes than the first schedule that ends as wanted. In
--- the last two cases, no schedule with few changes ends as wanted
+-- the cause of a fault of the whole search. There are three causes of `HistoryFull`, one for each step
+-- of the search. Either there is no room for a call with few changes. Or there is none for a call
+-- before all schedules that end as wanted. Or there is none for a call with fewer changes than the
+-- first schedule that ends as wanted. In the last two cases, no schedule with few changes ends as
+-- wanted
 abbrev pub IsFindCause : Setting → List Wanted → FindFault → Type 0
 IsFindCause g wanted HistoryFull =
     FillsNear g wanted few_changes
@@ -71,7 +72,7 @@ IsFindCause g wanted HistoryFull =
 IsFindCause g wanted OutOfMemory = Unit {0}
 IsFindCause g wanted Stopped = Unit {0}
 
--- no schedule fills the history if the result is `Absent`
+-- if the result is `Absent`, no schedule fills the history
 abbrev pub SparesHistory : Setting → Found → Type 0
 SparesHistory g (Nearest schedule) = Unit {0}
 SparesHistory g Absent = FillsHistory g → ⊥

@@ -1,4 +1,4 @@
--- The stack of a walk: what the walk knows of each place on its path.
+-- The stack of a walk: one level for each place on its path.
 use Rattle.std.specs.Prelude.{◌≡◌, ℕ, ◌+◌, ◌-◌, ◌*◌, ◌^◌, ◌<◌, ◌≤◌, ◌⊎◌, Bool, true, false, List, [], ◌∷◌, ◌++◌, Some, length, reverse}
 use Rattle.hp_units.specs.declared.events.Event.{Event}
 use Rattle.hp_units.specs.declared.replies.Record.{Record}
@@ -16,17 +16,17 @@ use Rattle.hp_explore.specs.declared.walk.Turned.{Turned}
 use Rattle.hp_explore.specs.declared.walk.Turned.TheVariants.{On, Over, Full}
 use Rattle.hp_explore.specs.declared.walk.Walk.{Walk}
 
--- everything before the level's next processor is walked, and the level records whether a processor so
--- far had a call
+-- all schedules before the level's next processor are walked. The level records whether a processor
+-- before that one had a call to make
 pub record AreTurns (g : Setting) (part : PartValue) (news : List Record) (ends : List Ending)
     (frame : Level) : Type 0 where
   pub walked : IsPartWalkedBefore g part (schedule_of news ++ frame.next ∷ []) ends
   pub over : IsOverBelow g news frame.next frame.is_over
   pub within : frame.next ≤ length g.scripts
 
--- the levels below the top of the stack, latest first. At each, the processor before its next one made
--- a call, and the history had room for it. The trail did not get shorter from one level to the level
--- above it; above the first of these levels it was `most` long
+-- the levels below the top of the stack, latest first. At each, the processor before the next one made
+-- a call, and the history had room for it. The trail did not get shorter from a level to the one above
+-- it; at the level above the first of these it had `most` shares
 abbrev pub AreBelow : Setting → PartValue → TallyValue → (most : ℕ) → List Record → List Level → Type 0
 AreBelow g part tally most news [] = news ≡ []
 AreBelow g part tally most news (frame ∷ frames) =
@@ -36,7 +36,7 @@ AreBelow g part tally most news (frame ∷ frames) =
     × (is_full_after g before ≡ false) × IsFrame g part before tally frame
     × AreBelow g part tally frame.start before frames × (frame.start ≤ most)
 
--- the levels of a walk, latest first; with none left, everything is walked
+-- all levels of a walk, latest first. Without any, everything is walked
 abbrev pub AreWalked : Setting → PartValue → TallyValue → List Record → List Level → Type 0
 AreWalked g part tally news [] = IsPartWalkedThrough g part [] tally.ends
 AreWalked g part tally news (frame ∷ frames) =
@@ -54,34 +54,37 @@ pub record IsWalking (w : Walk) (frames : List Level) : Type 0 where
   pub few : w.processors < 2 ^ 32
   pub short : length w.path.news ≤ w.path.setting.layout.history
 
+-- the levels of the walk, latest first
 abbrev pub frames_of : Walk → List Level
 frames_of w = reverse w.frames.items
 
--- how much of a walk is left: a number with one digit per place, in which a later place counts less
+-- a number with one digit per level, in which a later level counts less
 abbrev pub digits : (processors : ℕ) → List Level → ℕ
 digits n [] = 0
 digits n (frame ∷ frames) = digits n frames * (n + 2) + (n + 1 - frame.next)
 
+-- the measure of the work left to a walk with these levels, which each step makes smaller
 abbrev pub left_of : (processors most : ℕ) → List Level → ℕ
 left_of n most frames = digits n frames * (n + 2) ^ (most + 1 - length frames)
 
+-- the measure of the work left to this walk
 abbrev pub left : Walk → List Level → ℕ
 left w frames = left_of w.processors w.path.setting.layout.history frames
 
--- how much of a walk is left when it has reached a place that has no level yet; `frames` are the levels
--- below
+-- the measure of the work left when the walk has reached a place that has no level yet; `frames` are
+-- the levels below
 abbrev pub left_before : Walk → List Level → ℕ
 left_before w frames =
     (digits w.processors frames + 1)
     * (w.processors + 2) ^ (w.path.setting.layout.history + 1 - length frames)
 
--- the walk keeps its scripts, its part and its limit
+-- the walk keeps its setting, its part and its limit
 abbrev pub IsSameWalk : Walk → Walk → Type 0
 IsSameWalk old new =
     (new.path.setting ≡ old.path.setting) × (new.tally.limit ≡ old.tally.limit) × (new.part ≡ old.part)
 
--- the walk begins, or has just reached a place by a call: all before the place is walked. `frames` are
--- the levels below, latest first
+-- the walk begins, or has just reached a place by a call. Everything before the place is walked;
+-- `frames` are the levels below, latest first
 pub record IsComing (w : Walk) (frames : List Level) : Type 0 where
   pub walked : IsPartWalkedBefore w.path.setting w.part (schedule_of w.path.news) w.tally.ends
   pub on : IsOn (length w.path.setting.scripts) w.part (schedule_of w.path.news)
@@ -92,23 +95,24 @@ pub record IsComing (w : Walk) (frames : List Level) : Type 0 where
   pub few : w.processors < 2 ^ 32
   pub short : length w.path.news ≤ w.path.setting.layout.history
 
--- if the walk has stopped, its watch has ended it
+-- a walk that has stopped was ended by its watch
 abbrev pub IsEndedBy : (ended : Type 0) → Walk → Type 0
 IsEndedBy ended w = w.reach.is_stopped ≡ true → ended
 
--- there is another schedule to count, but the limit is reached, or the walk has stopped
+-- there is another schedule to count, but either the limit is reached or the walk has stopped
 pub record IsHalted (w : Walk) : Type 0 where
   pub first : AreFirstInPart w.path.setting w.part (counted w.tally.ends) w.tally.ends
   pub cause : (counted w.tally.ends ≡ w.tally.limit) ⊎ (w.reach.is_stopped ≡ true)
 
--- the result of a step: less is left; all is walked; or there is another schedule, which is not counted
+-- the result of a step: either less work is left, or all is walked, or the walk halts before another
+-- schedule
 abbrev pub IsTurnedTo : (old new : Walk) → Turned → Type 0
 IsTurnedTo old new On =
     IsWalking new (frames_of new) × (left new (frames_of new) < left old (frames_of old))
 IsTurnedTo old new Over = IsPartWalkedThrough new.path.setting new.part [] new.tally.ends
 IsTurnedTo old new Full = IsHalted new
 
--- the result of the whole walk
+-- the result of the whole walk: either all is walked, or the walk halted before another schedule
 abbrev pub IsDone : Walk → (is_whole : Bool) → Type 0
 IsDone w true = IsPartWalkedThrough w.path.setting w.part [] w.tally.ends
 IsDone w false = IsHalted w

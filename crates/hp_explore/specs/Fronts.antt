@@ -6,28 +6,29 @@ use Rattle.hp_states.specs.Walks.{IsPartWalkedBefore, IsWalkedBefore}
 use Rattle.hp_explore.specs.declared.exploring.Exploration.{Exploration}
 use Rattle.hp_schedules.specs.declared.tally.Ending.{Ending}
 
--- how many schedules the ends count
+-- the number of schedules that the ends count
 abbrev pub counted : List Ending → ℕ
 counted ends = sum_by (λ e. e.count) ends
 
--- the ends are those of all schedules before some further one, and count this many
+-- the ends are the outcomes of all schedules before a further one, and count `many` schedules
 pub record AreFirst (g : Setting) (many : ℕ) (ends : List Ending) : Type 0 where
   pub place : List ℕ
   pub next : IsComplete g place
   pub walked : IsWalkedBefore g place ends
   pub full : counted ends ≡ many
 
--- the same for a part: the ends are those of its schedules before a further one of them
+-- the ends are the outcomes of the part's schedules before a further schedule of the part, and count
+-- `many`
 pub record AreFirstInPart (g : Setting) (part : PartValue) (many : ℕ) (ends : List Ending) : Type 0 where
   pub place : List ℕ
   pub next : IsCompleteInPart g part place
   pub walked : IsPartWalkedBefore g part place ends
   pub full : counted ends ≡ many
 
--- P holds of the ends if all schedules were counted
+-- the property P holds of the ends, if all schedules were counted
 abbrev pub IfWhole : Exploration → (List Ending → Type 0) → Type 0
 IfWhole x P = x.is_whole ≡ true → P x.ends.items
 
--- P holds of the ends if only the first schedules were counted
+-- the property P holds of the ends, if only the first schedules were counted
 abbrev pub IfFirst : Exploration → (List Ending → Type 0) → Type 0
 IfFirst x P = x.is_whole ≡ false → P x.ends.items

@@ -1,4 +1,4 @@
--- A walk's place among the schedules, and how its calls are taken back.
+-- The path of a walk: its calls so far, and how they are taken back.
 use Rattle.std.specs.Prelude.{◌≡◌, ℕ, ◌<◌, Bool, true, false, List, [], ◌∷◌, ◌++◌, Option, Some, None, length, reverse, slice_set}
 use Rattle.hp_units.specs.History.{value_of}
 use Rattle.hp_units.specs.Memory.{Memory}
@@ -14,7 +14,7 @@ use Rattle.hp_explore.specs.declared.ways.Turn.{Turn}
 use Rattle.hp_explore.specs.declared.ways.Way.{Way}
 use Rattle.hp_explore.specs.declared.ways.Way.TheVariants.{Mark, Kept}
 
--- the setting, which is the scripts and where they begin, and the new records so far
+-- the setting of the scripts and the new records so far
 pub record PathValue : Type 0 where
   pub setting : Setting
   pub news : List Record
@@ -23,15 +23,15 @@ pub record PathValue : Type 0 where
 abbrev pub state_at : PathValue → Memory
 state_at p = value_of p.setting.layout p.setting.base (p.setting.start ++ p.news)
 
--- the processor made its next call, for whose record the history had room; or it had no call to
--- make, and nothing changed
+-- either the processor made its next call, for which the history had room, or it had no call to make
+-- and nothing changed
 abbrev pub IsForth : PathValue → (cpu : ℕ) → (went : Bool) → PathValue → Type 0
 IsForth p cpu true q =
     (event : Event) × (next_call p.setting cpu p.news ≡ Some event) × (is_full_after p.setting p.news ≡ false)
     × (q ≡ record { setting = p.setting; news = p.news ++ record_of_call p.setting p.news cpu event ∷ [] })
 IsForth p cpu false q = (next_call p.setting cpu p.news ≡ None) × (q ≡ p)
 
--- the latest call, of this processor, was taken back; or there was none
+-- either the latest call, which this processor made, was taken back, or there was no call
 abbrev pub IsBack : PathValue → Option ℕ → PathValue → Type 0
 IsBack p None q = (p.news ≡ []) × (q ≡ p)
 IsBack p (Some cpu) q =
@@ -41,9 +41,9 @@ IsBack p (Some cpu) q =
 abbrev pub IsOver : PathValue → Type 0
 IsOver p = (cpu : ℕ) → next_call p.setting cpu p.news ≡ None
 
--- ---- what a path keeps
+-- ---- the calls that a path can take back
 
--- `way` leads from the new steps, past this record, back to the old steps
+-- `way` leads from the new steps, whose last record is `r`, back to the old steps
 abbrev pub IsWayOver : Way → StepsValue → Record → StepsValue → Type 0
 IsWayOver (Mark mark) old r new = IsLater old r mark new
 IsWayOver (Kept steps) old r new = (steps.value ≡ old) × (new.records ≡ old.records ++ r ∷ [])
@@ -56,7 +56,7 @@ pub record IsTurned (g : Setting) (old : StepsValue) (cpu : ℕ) (event : Event)
   pub records : new.records ≡ old.records ++ record_of_call g old.records cpu event ∷ []
   pub over : IsWayOver way old (record_of_call g old.records cpu event) new
 
--- the calls lead back to the beginning of the scripts, latest first: each undoes its record, and
+-- the calls lead back to the beginning of the scripts, latest first. Each undoes its record and
 -- restores its processor's cursor
 abbrev pub IsWayBack : Setting → StepsValue → List Cursor → List Turn → Type 0
 IsWayBack g here cursors [] = here.records ≡ []
@@ -66,14 +66,14 @@ IsWayBack g here cursors (turn ∷ turns) =
     × AreCursors g old.records (slice_set cursors r.cpu turn.from)
     × IsWayBack g old (slice_set cursors r.cpu turn.from) turns
 
--- a path is at the place to which its schedule leads, its cursors are the positions in the scripts, and
--- its calls lead back
+-- the path is at the place that its records lead to, its cursors are the positions in the scripts, and
+-- its calls lead back to the beginning
 pub record IsPath (g : Setting) (here : StepsValue) (cursors : List Cursor) (turns : List Turn) : Type 0 where
   pub at : IsAt g here
   pub cursors_at : AreCursors g here.records cursors
   pub back : IsWayBack g here cursors (reverse turns)
 
--- the processor's call was made and can be undone; or it had no call to make, and nothing changed
+-- either the processor's call was made and can be undone, or it had no call to make and nothing changed
 abbrev pub IsAdvanced : Setting → StepsValue → List Cursor → List Turn → (cpu : ℕ) → (went : Bool)
     → StepsValue → List Cursor → List Turn → Type 0
 IsAdvanced g old cursors turns cpu true new moved later =
@@ -83,7 +83,7 @@ IsAdvanced g old cursors turns cpu true new moved later =
 IsAdvanced g old cursors turns cpu false new moved later =
     (next_call g cpu old.records ≡ None) × (new ≡ old) × (moved ≡ cursors) × (later ≡ turns)
 
--- the latest call, of this processor, was taken back; or there was none
+-- either the latest call, which this processor made, was taken back, or there was no call
 abbrev pub IsTakenBack : Setting → StepsValue → Option ℕ → StepsValue → List Cursor → List Turn → Type 0
 IsTakenBack g old None new cursors turns = (old.records ≡ []) × (new ≡ old) × IsPath g new cursors turns
 IsTakenBack g old (Some cpu) new cursors turns =

@@ -1,4 +1,4 @@
--- Which schedules end as wanted, and which of them is the nearest.
+-- The schedules that end as wanted, and the nearest of them.
 use Rattle.std.specs.Prelude.{ℕ, ◌<◌, ◌≤◌, List, Option, Some, None}
 use Rattle.hp_explore.specs.Faults.{FillsAlong, FillsHistory}
 use Rattle.hp_schedules.specs.Orders.{IsBefore}
@@ -10,40 +10,40 @@ use Rattle.hp_explore.specs.declared.finding.Found.{Found}
 use Rattle.hp_explore.specs.declared.finding.Found.TheVariants.{Nearest, Absent}
 use Rattle.hp_questions.specs.declared.wanted.Wanted.{Wanted}
 
--- a complete schedule of the scripts whose end has all wanted lines
+-- the schedule is complete, and its outcome meets all wanted lines
 abbrev pub Reaches : Setting → List Wanted → List ℕ → Type 0
 Reaches g wanted s = (x : OutcomeValue) × EndsWith g s x × Meets g.layout.cpus g.scripts wanted x
 
--- each schedule that ends as wanted has at least this many changes
+-- each schedule that ends as wanted has at least `least` changes
 abbrev pub NeedsChanges : Setting → List Wanted → (least : ℕ) → Type 0
 NeedsChanges g wanted least = (s : List ℕ) → Reaches g wanted s → least ≤ changes s
 
--- ---- a budget of changes, or none
+-- ---- a budget of changes; None is no budget
 
 -- the schedule has at most as many changes as the budget, if there is one
 abbrev pub IsWithin : (budget : Option ℕ) → List ℕ → Type 0
 IsWithin None s = Unit {0}
 IsWithin (Some budget) s = changes s ≤ budget
 
--- there is a budget, and the schedule has more changes
+-- there is a budget, and the schedule has more changes than it allows
 abbrev pub Exceeds : (budget : Option ℕ) → List ℕ → Type 0
 Exceeds None s = ⊥
 Exceeds (Some budget) s = budget < changes s
 
--- P holds if there is no budget
+-- the property P holds, if there is no budget
 abbrev pub IfUnbounded : (budget : Option ℕ) → Type 0 → Type 0
 IfUnbounded None P = P
 IfUnbounded (Some budget) P = Unit {0}
 
--- each schedule that ends as wanted and is before the place has more changes than the budget; without a
--- budget, there is no such schedule
+-- each schedule that ends as wanted and comes before the place exceeds the budget. Without a budget,
+-- there is no such schedule
 abbrev pub IsPassed : Setting → List Wanted → (budget : Option ℕ) → (place : List ℕ) → Type 0
 IsPassed g wanted budget place =
     (s : List ℕ) → Reaches g wanted s → IsBefore s place → Exceeds budget s
 
 -- ---- the nearest schedule
 
--- the schedule ends as wanted; none with fewer changes does, and none before it with as many
+-- the schedule ends as wanted. None with fewer changes does, and none before it with equally many
 abbrev pub IsNearest : Setting → List Wanted → List ℕ → Type 0
 IsNearest g wanted s =
     Reaches g wanted s × NeedsChanges g wanted (changes s) × IsPassed g wanted (Some (changes s)) s
@@ -56,20 +56,22 @@ ReachesFirst g wanted s = Reaches g wanted s × ((t : List ℕ) → Reaches g wa
 abbrev pub HasRoomAlong : Setting → List ℕ → Type 0
 HasRoomAlong g s = FillsAlong g s → ⊥
 
--- the search's result is right
+-- the result of the search is right: either the nearest schedule that ends as wanted, or that there is
+-- none
 abbrev pub IsFound : Setting → List Wanted → Found → Type 0
 IsFound g wanted (Nearest schedule) = IsNearest g wanted schedule.items
 IsFound g wanted Absent = (s : List ℕ) → Reaches g wanted s → ⊥
 
--- the nearest schedule that ends as wanted, with fewer than `below` changes; the history has room
--- for all its calls. None: every schedule that ends as wanted has at least `below` changes
+-- either the nearest schedule that ends as wanted, with fewer than `below` changes and room in the
+-- history for all its calls. Or None, if every schedule that ends as wanted has at least `below`
+-- changes
 abbrev pub IsNearestBelow : Setting → List Wanted → (below : ℕ) → Option (List ℕ) → Type 0
 IsNearestBelow g wanted below None = NeedsChanges g wanted below
 IsNearestBelow g wanted below (Some s) = IsNearest g wanted s × (changes s < below) × HasRoomAlong g s
 
--- the first schedule that ends as wanted within the budget; the history has room for all its calls.
--- None: every schedule that ends as wanted exceeds the budget. If there is no budget, None means that
--- no schedule ends as wanted, and that the history has room for each call
+-- either the first schedule within the budget that ends as wanted, with room in the history for all
+-- its calls. Or None, if every schedule that ends as wanted exceeds the budget. Without a budget,
+-- None means that no schedule ends as wanted, and that the history has room for each call
 abbrev pub IsFirstWithin : Setting → List Wanted → (budget : Option ℕ) → Option (List ℕ) → Type 0
 IsFirstWithin g wanted budget None =
     ((s : List ℕ) → Reaches g wanted s → Exceeds budget s) × IfUnbounded budget (FillsHistory g → ⊥)

@@ -1,4 +1,4 @@
--- How far a search has come.
+-- The progress of a search.
 use Rattle.std.specs.Prelude.{◌≡◌, ℕ, zero, suc, ◌+◌, ◌-◌, ◌*◌, ◌<◌, ◌≤◌, true, List, [], ◌∷◌, ◌++◌, None, Some, length}
 use Rattle.hp_units.specs.declared.replies.Record.{Record}
 use Rattle.hp_schedules.specs.Alike.{AreMergeable}
@@ -14,45 +14,46 @@ use Rattle.hp_explore.specs.declared.searching.Turn.{Turn}
 use Rattle.hp_explore.specs.declared.searching.Turn.TheVariants.{On, New, Found, Over}
 use Rattle.hp_explore.specs.declared.visited.Visited.{Visited}
 
--- ---- how many steps are left
+-- ---- the number of steps left
 
--- the most steps that a search takes below one continuation of a place, if this many calls may still be
--- made, each by one of the processors
+-- the largest number of steps that a search takes below one continuation of a place, if `calls` calls
+-- may still be made, each by one of the processors
 abbrev pub turns_below : (processors calls : ℕ) → ℕ
 turns_below processors zero = 0
 turns_below processors (suc calls) = processors * (turns_below processors calls + 2) + 1
 
--- the most steps that are left at a place, from its continuation by the next processor on
+-- the largest number of steps left at a place, from its continuation by the processor `next` on
 abbrev pub turns_left : (processors calls : ℕ) → (place : List ℕ) → (next : ℕ) → ℕ
 turns_left processors calls [] next = (processors - next) * (turns_below processors calls + 2) + 1
 turns_left processors calls (cpu ∷ place) next =
     (processors - (cpu + 1)) * (turns_below processors calls + 2) + 1
     + turns_left processors (calls - 1) place next
 
--- how many calls the history has room for
+-- the number of calls that the history has room for
 abbrev pub room_of : Setting → ℕ
 room_of g = g.layout.history - length g.start
 
 -- ---- a search
 
--- the state of a search: the place, its schedule, the processor whose call is tried next, and the
--- places that it has visited
+-- the state of a search: its path, the schedule of that path, the processor whose call is tried next,
+-- and the places that it has visited
 pub record SearchValue : Type 0 where
   pub path : PathValue
   pub schedule : List ℕ
   pub next : ℕ
   pub visited : Visited
 
+-- the state of a search, made of its parts
 abbrev pub search_at : (path : PathValue) → (schedule : List ℕ) → (next : ℕ) → Visited → SearchValue
 search_at path schedule next visited =
     record { path = path; schedule = schedule; next = next; visited = visited }
 
--- each place before this one on the path is admitted
+-- each place on the path before this one is admitted
 abbrev pub AreAdmitted : AimValue → (place : List ℕ) → Type 0
 AreAdmitted aim place =
     (start : List ℕ) (cpu : ℕ) → Extends place (start ++ cpu ∷ []) → aim.admits start
 
--- the search passed all that is before its next call; its place and each place before it on the path
+-- the search has passed everything before its next call. Its place and each place before it on the path
 -- are admitted
 pub record IsSearching (aim : AimValue) (v : SearchValue) : Type 0 where
   pub schedule : v.schedule ≡ schedule_of v.path.news
@@ -66,7 +67,7 @@ pub record IsSearching (aim : AimValue) (v : SearchValue) : Type 0 where
   pub visited : AreVisited v.path.setting aim v.schedule v.visited
   pub way : AreFollowed v.path.setting v.path.news v.visited
 
--- the most steps that are left to the search
+-- the largest number of steps left to the search
 abbrev pub turns_of : SearchValue → ℕ
 turns_of v = turns_left (length v.path.setting.scripts) (room_of v.path.setting) v.schedule v.next
 
@@ -78,8 +79,8 @@ pub record IsBegun (g : Setting) (v : SearchValue) : Type 0 where
   pub mergeable : visited.is_on ≡ true → AreMergeable g.scripts
   pub way : AreFollowed g [] visited
 
--- the search has just come to its place, by a call that may be tried. It passed all that is before the
--- place, and visited the places before it on the path
+-- the search has just come to its place, by a call that may be tried. It has passed everything before
+-- the place, and visited the places before it on the path
 pub record IsArriving (aim : AimValue) (v : SearchValue) : Type 0 where
   pub schedule : v.schedule ≡ schedule_of v.path.news
   pub on_way : AreAdmitted aim v.schedule
@@ -97,20 +98,23 @@ pub record IsCloser (aim : AimValue) (v w : SearchValue) : Type 0 where
   pub same : w.path.setting ≡ v.path.setting
   pub fewer : turns_of w < turns_of v
 
--- the result of one step
+-- the result of one step: either the search went on, or it found the first sought schedule, or it ended
+-- without one
 abbrev pub IsTurned : AimValue → SearchValue → SearchValue → Turn → Type 0
 IsTurned aim v w On = IsCloser aim v w
 IsTurned aim v w New = IsCloser aim v w
 IsTurned aim v w Found = IsFirstSought v.path.setting aim (Some w.schedule)
 IsTurned aim v w Over = IsFirstSought v.path.setting aim None
 
--- the search has gone on from the place that it came to. It has no more steps left than from the
+-- the search has gone on from the place that it came to. It has at most as many steps left as from the
 -- place's first continuation on
 pub record IsNear (aim : AimValue) (v w : SearchValue) : Type 0 where
   pub searching : IsSearching aim w
   pub same : w.path.setting ≡ v.path.setting
   pub few : turns_of w ≤ turns_left (length v.path.setting.scripts) (room_of v.path.setting) v.schedule 0
 
+-- the result after coming to a place: either the search went on, or it ended without a sought
+-- schedule
 abbrev pub HasArrived : AimValue → SearchValue → SearchValue → Turn → Type 0
 HasArrived aim v w On = IsNear aim v w
 HasArrived aim v w New = IsNear aim v w
@@ -119,8 +123,7 @@ HasArrived aim v w Over = IsFirstSought v.path.setting aim None
 
 -- ---- taking calls back
 
--- the latest call was taken back, and the processor after the one that made it is tried; or there
--- was no call
+-- the latest call was taken back, and the next call to try is by the processor after its own
 pub record IsTakenBack (v w : SearchValue) : Type 0 where
   pub path : PathValue
   pub cpu : ℕ
@@ -132,6 +135,7 @@ pub record IsTakenBack (v w : SearchValue) : Type 0 where
   pub way : (g : Setting) (news : List Record) (r : Record) → AreFollowed g (news ++ r ∷ []) v.visited
       → AreFollowed g news visited
 
+-- the result of taking a call back: Over if there was no call
 abbrev pub IsUp : SearchValue → SearchValue → Turn → Type 0
 IsUp v w On = IsTakenBack v w
 IsUp v w New = ⊥

@@ -6,11 +6,11 @@ use Rattle.hp_explore.specs.Faults.{FillsPart}
 use Rattle.hp_schedules.specs.Schedules.{Setting}
 use Rattle.hp_schedules.specs.declared.tally.Ending.{Ending}
 
--- the part at `index` of `of` parts, which the first `calls` calls decide
+-- the part at `index` of `of` parts; the first `calls` calls decide a schedule's part
 abbrev pub part : (of calls index : ℕ) → PartValue
 part of calls index = record { index = index; of = of; calls = calls }
 
--- the lists have the ends of all parts, from index 0 on
+-- the lists have the ends of all parts, from the part at index 0 on
 abbrev pub AreParts : Setting → (calls : ℕ) → List (List Ending) → Type 0
 AreParts g calls lists =
     (k : ℕ) (ends : List Ending) → slice_get lists k ≡ Some ends
@@ -22,6 +22,6 @@ AreApart ends =
     (i j : ℕ) (e f : Ending) → slice_get ends i ≡ Some e → slice_get ends j ≡ Some f → e.outcome ≡ f.outcome
     → i ≡ j
 
--- the history has room for each call of each part
+-- the history has room for each call in the searches of all parts
 abbrev pub HaveRoom : Setting → (of calls : ℕ) → Type 0
 HaveRoom g of calls = (k : ℕ) → k < of → FillsPart g (part of calls k) → ⊥

@@ -1,4 +1,4 @@
--- How far the walk over all schedules has come.
+-- The progress of the walk over all schedules.
 use Rattle.std.specs.Prelude.{◌≡◌, ℕ, ◌+◌, ◌<◌, ◌≤◌, Bool, true, false, List, [], ◌∷◌, ◌++◌, Option, Some, None, length, drop}
 use Rattle.hp_units.specs.History.{Effect, Looks, Undoes, Cancels, Acts}
 use Rattle.hp_units.specs.declared.events.Event.{Event}
@@ -18,16 +18,16 @@ news_since start m = drop (length start.history) m.history
 abbrev pub news_in : Setting → MachineValue → List Record
 news_in g m = drop (length g.start) m.history
 
--- the schedule of these records
+-- the schedule of the machine's records since the scripts began
 abbrev pub place_of : Setting → MachineValue → List ℕ
 place_of g m = schedule_of (news_in g m)
 
--- where a schedule leads; None if it cannot be played
+-- the steps that a schedule leads to; None if it cannot be played
 abbrev pub LeadsTo : Setting → List ℕ → Option StepsValue → Type 0
 LeadsTo g schedule None = plays g schedule ≡ None
 LeadsTo g schedule (Some p) = IsAt g p × (schedule_of p.records ≡ schedule)
 
--- the machine is where a schedule of the scripts leads
+-- the machine is in the state that the schedule of its new records leads to
 pub record IsReached (g : Setting) (m : MachineValue) : Type 0 where
   pub layout : m.layout ≡ g.layout
   pub base : m.base ≡ g.base
@@ -44,7 +44,7 @@ pub record IsFurther (g : Setting) (m : MachineValue) (cpu : ℕ) (n : MachineVa
   pub longer : length n.history ≡ length m.history + 1
   pub room : length m.history < m.layout.history
 
--- the processor made its next call; or it had no call to make, and nothing changed
+-- either the processor made its next call, or it had no call to make and nothing changed
 abbrev pub IsMade : Setting → MachineValue → (cpu : ℕ) → (made : Bool) → MachineValue → Type 0
 IsMade g m cpu true n = IsFurther g m cpu n
 IsMade g m cpu false n = (next_call g cpu (news_in g m) ≡ None) × (n ≡ m)
@@ -53,30 +53,31 @@ IsMade g m cpu false n = (next_call g cpu (news_in g m) ≡ None) × (n ≡ m)
 abbrev pub FillsAt : Setting → MachineValue → (cpu : ℕ) → Type 0
 FillsAt g m cpu = (h : HasNoRoom g (place_of g m)) × (h.cpu ≡ cpu)
 
--- the serial of the next record after the new ones, for which the history has room
+-- the next record after the new ones has this serial, and the history has room for it
 abbrev pub IsNextSerial : (start : MachineValue) → List Record → (serial : ℕ) → Type 0
 IsNextSerial start news serial =
     (serial ≡ start.before + length (start.history ++ news) + 1)
     × (length (start.history ++ news) < start.layout.history)
 
--- the event is an undo above a serial that no step has yet, by a processor of the layout
+-- the event undoes the steps after a serial that no step has yet, and its processor is one of the
+-- layout's
 abbrev pub IsGone : (start : MachineValue) → (cpu serial : ℕ) → Event → Type 0
 IsGone start cpu serial event =
     (kept : ℕ) × (event ≡ UndoAfter kept) × (serial ≤ kept) × (cpu < start.layout.cpus)
 
--- the same state after one more record, with no deltas to undo
+-- the same state with one more record, and without deltas to undo
 abbrev pub with_record : StepsValue → Record → StepsValue
 with_record p latest =
     record { layout = p.layout; state = p.state; deltas = []; records = p.records ++ latest ∷ [] }
 
--- an event that may go back to an earlier state
+-- the event may lead back to an earlier state
 abbrev pub may_go_back : Effect → Bool
 may_go_back Looks = false
 may_go_back (Undoes serial) = true
 may_go_back (Cancels op) = true
 may_go_back Acts = false
 
--- where a schedule leads on a machine; None if it cannot be played
+-- the machine that a schedule leads to; None if the schedule cannot be played
 abbrev pub IsPlayed : Setting → List ℕ → Option MachineValue → Type 0
 IsPlayed g schedule None = plays g schedule ≡ None
 IsPlayed g schedule (Some n) = IsReached g n × (place_of g n ≡ schedule)

@@ -1,4 +1,4 @@
--- An answer as an object of JSON.
+-- An answer as a JSON object.
 use Rattle.std.specs.Prelude.{◌≡◌, ℕ, List, [], ◌∷◌, ◌++◌, codes}
 use Rattle.std.specs.Fmt.{decimal}
 use Rattle.json.specs.Lex.{tokens}
@@ -12,22 +12,22 @@ use Rattle.hp_live.specs.Answers.{AnswerValue}
 use Rattle.hp_live.specs.declared.answers.Did.{Did}
 use Rattle.hp_live.specs.declared.answers.Did.TheVariants as did
 
--- these tokens were appended
+-- the tokens `ts` were appended
 pub record Adds (old new : Written) (ts : List Token) : Type 0 where
   pub before : new.before ≡ old.before
   pub tokens : new.tokens ≡ old.tokens ++ ts
 
--- ---- what a line did
+-- ---- the effect of a line
 
--- a key and its text
+-- a key with a text
 abbrev pub pair : (name text : List ℕ) → List Token
 pair name text = key name ∷ string text ∷ []
 
--- the key for the serial of a call
+-- the key `serial` with the serial of a call
 abbrev pub serial_keys : (serial : ℕ) → List Token
 serial_keys serial = key (codes "serial") ∷ number (decimal serial) ∷ []
 
--- the key for a reply
+-- the key `answer` with a reply
 abbrev pub reply_keys : Reply → List Token
 reply_keys reply = pair (codes "answer") (reply_text reply)
 
@@ -35,7 +35,7 @@ reply_keys reply = pair (codes "answer") (reply_text reply)
 abbrev pub fault_keys : (hint : List ℕ) → List Token
 fault_keys hint = pair (codes "fault") (codes "no line") ++ pair (codes "hint") hint
 
--- a call of a plan: its serial, the call, and the reply
+-- the object of a plan's call: its serial, its words and its reply
 abbrev pub call_object : Receipt → (call : List ℕ) → List Token
 call_object r call =
     begin_object ∷ (serial_keys r.serial ++ (pair (codes "call") call ++ (reply_keys r.reply
@@ -49,8 +49,9 @@ TellsCalls (r ∷ rs) ts =
     × (ts ≡ call_object r call ++ rest)
     × TellsCalls rs rest
 
--- the keys for what a line did: the serial and the reply of an event, the calls and the end of a plan,
--- or the number of records of a seal; or for a text that is not a line
+-- the keys for a line's effect: the serial and the reply of an event, the calls and the end of a
+-- plan, or the number of records of a seal. A text that is not a line has a fault and a hint, and a
+-- file has no keys. Any other effect has an answer in words
 abbrev pub TellsDid : Did → List Receipt → List Token → Type 0
 TellsDid did.NoLine calls ts = (hint : List ℕ) × (ts ≡ fault_keys hint)
 TellsDid (did.Event serial reply) calls ts = ts ≡ serial_keys serial ++ reply_keys reply
@@ -64,24 +65,25 @@ TellsDid (did.Sealed count) calls ts = ts ≡ key (codes "sealed") ∷ number (d
 
 -- ---- an object
 
--- the keys that each object has: the line's number, and its text
+-- the beginning of each object: the line's number and the answer's text
 abbrev pub head_of : ℕ → (text : List ℕ) → List Token
 head_of line text =
     begin_object ∷ key (codes "line") ∷ number (decimal line) ∷ key (codes "text") ∷ string text ∷ []
 
--- an object with these keys, and others after them
+-- an object: the line's number and the answer's text, and then the further keys `more`
 abbrev pub object_of : ℕ → (text : List ℕ) → List Token → List Token
 object_of line text more = head_of line text ++ (more ++ end_object ∷ [])
 
--- the keys for what a line did were appended
+-- the keys for a line's effect were appended
 abbrev pub AddsDid : Written → AnswerValue → Written → Type 0
 AddsDid old a new = (ts : List Token) × TellsDid a.did a.calls ts × Adds old new ts
 
+-- the object of an answer was appended
 abbrev pub AddsObject : Written → ℕ → AnswerValue → Written → Type 0
 AddsObject old line a new =
     (more : List Token) × TellsDid a.did a.calls more × Adds old new (object_of line a.text more)
 
--- an object and a newline were appended; a reader finds the object's tokens in it
+-- the object of an answer and a newline were appended; a reader finds the same tokens in it
 abbrev pub WritesObject : (old : List ℕ) → ℕ → AnswerValue → (new : List ℕ) → Type 0
 WritesObject old line a new =
     (more : List Token) × TellsDid a.did a.calls more

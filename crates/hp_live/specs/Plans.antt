@@ -1,4 +1,4 @@
--- A port that stores the receipts of its calls: what calls do to it.
+-- The effect of calls on a port that stores their receipts.
 use Rattle.std.specs.Prelude.{◌≡◌, ℕ, Bool, false, List, [], ◌++◌}
 use Rattle.std.proofs.Common.{ap, sym, ◌∙◌, append-nil, append_assoc}
 use Rattle.hp_units.specs.declared.plans.Item.{Item}
@@ -7,12 +7,12 @@ use Rattle.hp_units.specs.declared.replies.Receipt.{Receipt}
 use Rattle.hp_machine.specs.Machine.{MachineValue}
 use Rattle.hp_machine.specs.MachinePorts.{IsPlanRun}
 
--- the receipts were appended, unless one was lost
+-- the receipts `gained` were appended, unless one was lost
 abbrev pub Keeps : (old : List Receipt) → (was_lost : Bool) → List Receipt → (new : List Receipt)
     → (is_lost : Bool) → Type 0
 Keeps old was_lost gained new is_lost = is_lost ≡ false → (was_lost ≡ false) × (new ≡ old ++ gained)
 
--- a plan was run to this end, and the receipts of its calls were appended
+-- the plan was run to this end, and the receipts of its calls were appended
 abbrev pub IsRunWith : MachineValue → (cpu turns : ℕ) → List Item → (old : List Receipt) → (end : OpEnd)
     → (kept : List Receipt) → (new : MachineValue) → Type 0
 IsRunWith m cpu turns plan old end kept new =

@@ -1,4 +1,4 @@
--- A session, the answer to a text, and what a sequence of answers amounts to.
+-- A session, the answer to a text, and the effect of a sequence of answers.
 use Rattle.std.specs.Prelude.{◌≡◌, ℕ, ◌-◌, ◌^◌, List, [], ◌∷◌, ◌++◌, length, Option, Some, None}
 use Rattle.hp_units.specs.LayoutParts.{LayoutParts}
 use Rattle.hp_machine.specs.Machine.{MachineValue, booted}
@@ -16,8 +16,8 @@ use Rattle.hp_live.specs.declared.answers.Did.{Did}
 use Rattle.hp_live.specs.declared.session.Lack.{Lack}
 use Rattle.hp_live.specs.declared.session.Lack.TheVariants as lack
 
--- the owners' names, all lines so far with plain numbers, what names of results are bound to, and the
--- machine after the lines
+-- the owners' names, all lines so far with plain numbers, the bindings of names, and the machine after
+-- the lines
 pub record SessionValue : Type 0 where
   pub names : List (List ℕ)
   pub lines : List Line
@@ -37,7 +37,7 @@ with_line s t number machine = record {
   machine = machine;
 }
 
--- a line was run, its text is what `hotplug serial` writes for it, and it is kept
+-- a line was run and is kept, and its text is the one that `hotplug serial` writes for it
 pub record RunsLine (s : SessionValue) (t : Typed) (text : List ℕ) (new : SessionValue) : Type 0 where
   pub did : Did
   pub done :
@@ -48,7 +48,7 @@ pub record RunsLine (s : SessionValue) (t : Typed) (text : List ℕ) (new : Sess
   pub bound :
       IsKnown s.bound t.naming (length s.lines) (number_asked (asked_by t.numbered.line.work) did) new.bound
 
--- a scenario's session after its lines, which were run from boot on with plain numbers
+-- the session after a scenario's lines, which were run from boot on with plain numbers
 pub record IsResumed (s : NamedValue) (new : SessionValue) : Type 0 where
   pub plain : NamedValue
   pub resolved : Resolves (2 ^ 64 - 1) s plain
@@ -60,7 +60,8 @@ pub record IsResumed (s : NamedValue) (new : SessionValue) : Type 0 where
 
 -- ---- one text
 
--- the answer to what may be a line; a text that is not a line gets an empty answer, and changes nothing
+-- the answer to a text, whose line is given if it is one. A text that is not a line gets an empty
+-- answer, and changes nothing
 abbrev pub AnswersRead : SessionValue → Option Typed → AnswerValue → (new : SessionValue) → Type 0
 AnswersRead s None a new = (a ≡ untold) × (new ≡ s)
 AnswersRead s (Some t) a new =
@@ -71,20 +72,20 @@ AnswersRead s (Some t) a new =
 abbrev pub AnswersText : SessionValue → (text : List ℕ) → AnswerValue → (new : SessionValue) → Type 0
 AnswersText s text a new = AnswersRead s (typed_in s.names s.bound text) a new
 
--- the session after memory ran out: the same as before if the line could not be kept; if its answer
--- could not be made, the text is a line, which was run and is kept
+-- the session after memory ran out. It is the session before if the line could not be kept. If the
+-- answer could not be made, the text is a line, which was run and is kept
 abbrev pub IsLostTyped : Lack → SessionValue → Option Typed → (new : SessionValue) → Type 0
 IsLostTyped lack.Line s typed new = new ≡ s
 IsLostTyped lack.Answer s typed new =
     (t : Typed) × (written : List ℕ) × (typed ≡ Some t) × RunsLine s t written new
 
--- the same for a text
+-- the session after memory ran out in the answer to this text
 abbrev pub IsLost : Lack → SessionValue → (text : List ℕ) → (new : SessionValue) → Type 0
 IsLost given s text new = IsLostTyped given s (typed_in s.names s.bound text) new
 
 -- ---- one text after another
 
--- texts were answered one after another, and what was written for them
+-- the texts were answered one after another; `written` are the answers' texts, joined
 unfoldable pub AnswersAll : SessionValue → (texts : List (List ℕ)) → (written : List ℕ) → (new : SessionValue)
     → Type 0
 AnswersAll s [] written new = (written ≡ []) × (new ≡ s)
@@ -92,12 +93,12 @@ AnswersAll s (text ∷ texts) written new =
     (a : AnswerValue) × (next : SessionValue) × (rest : List ℕ) × AnswersText s text a next
     × (written ≡ a.text ++ rest) × AnswersAll next texts rest new
 
--- adds the text with plain numbers, if it is a line
+-- the texts `more`, with the text `plain` in front of them if it is a line
 abbrev pub took : Option Typed → (plain : List ℕ) → (more : List (List ℕ)) → List (List ℕ)
 took None plain more = more
 took (Some t) plain more = plain ∷ more
 
--- those of the texts that are lines, with plain numbers
+-- the texts that are lines, with plain numbers
 unfoldable pub taken : (s : SessionValue) → (texts : List (List ℕ)) → (written : List ℕ)
     → (new : SessionValue) → AnswersAll s texts written new → List (List ℕ)
 unfolding AnswersAll
@@ -105,6 +106,6 @@ taken s [] written new all = []
 taken s (text ∷ texts) written new all =
     took (typed_in s.names s.bound text) (plain_in s.bound text).text (taken all.1 texts all.2 new all.5)
 
--- a session's names and lines, as a scenario's `calls` are read
+-- a session's names and lines, in the form of a scenario's `calls`
 abbrev pub script_of : SessionValue → Script
 script_of s = record { names = s.names; lines = s.lines }

@@ -1,4 +1,4 @@
--- The reply to a line of a talk, in objects of JSON.
+-- The reply to a line of a talk, in JSON objects.
 use Rattle.std.specs.Prelude.{◌≡◌, ◌<◌, ◌+◌, ◌⊎◌, ℕ, Bool, true, false, List, [], ◌∷◌, ◌++◌, codes, cond, flat_map, length, Option, Some, None}
 use Rattle.std.specs.List.{AllByRecursion}
 use Rattle.std.specs.Str.{bytes_eq, IsUtf8}
@@ -23,7 +23,7 @@ use Rattle.hp_live.specs.declared.answers.Did.TheVariants as did
 use Rattle.hp_live.specs.declared.live_words.LiveWord.{LiveWord}
 use Rattle.hp_live.specs.declared.live_words.LiveWord.TheVariants as word
 
--- which word a text is
+-- the kind of a text: either empty, or a command word, or a text that may be a line
 abbrev pub word_of : (text : List ℕ) → LiveWord
 word_of text =
     cond (bytes_eq text (codes "")) word.Nothing
@@ -31,31 +31,33 @@ word_of text =
     (cond (bytes_eq text (codes "state")) word.State
     (cond (bytes_eq text (codes "scenario")) word.Scenario word.Line)))
 
--- a line that is not UTF-8, or too long
+-- the line is not UTF-8, or it is too long
 abbrev pub IsUnread : (line : List ℕ) → Type 0
 IsUnread line = (line_limit < length line) ⊎ (¬ IsUtf8 line)
 
 -- ---- objects
 
--- tokens as a line
+-- the tokens printed as a line
 abbrev pub line_of : List Token → List ℕ
 line_of tokens = print tokens ++ 10 ∷ []
 
--- an object with the text for a word
+-- the object of a command word, with its text
 abbrev pub word_object : (name text : List ℕ) → List ℕ
 word_object name text = line_of (begin_object ∷ key name ∷ string text ∷ end_object ∷ [])
 
--- the object for a text that is not a line
+-- the tokens of the object for a text that is not a line
 abbrev pub fault_tokens : (line : ℕ) → (hint : List ℕ) → List Token
 fault_tokens line hint = object_of line [] (fault_keys hint)
 
+-- the object for a text that is not a line
 abbrev pub fault_object : (line : ℕ) → (hint : List ℕ) → List ℕ
 fault_object line hint = line_of (fault_tokens line hint)
 
+-- the object if memory ran out
 abbrev pub lost_object : List ℕ
 lost_object = codes "{\"fault\":\"OutOfMemory\",\"hint\":\"out of memory: see state\"}\n"
 
--- the number of the line that was answered; after a text that is not a line, the number of the next
+-- the number of the line that was answered. For a text that is not a line, it is the number of the next
 -- line
 abbrev pub number_of : Did → (lines : List Line) → ℕ
 number_of did.NoLine lines = length lines + 1
@@ -70,12 +72,12 @@ number_of (did.Sealed count) lines = length lines
 abbrev pub object_end : List ℕ
 object_end = codes "}\n"
 
--- the reply is the object that begins with `front`, with these further keys
+-- the reply is the object that begins with `front`, with the further keys `keys`
 abbrev pub HasKeys : (front keys reply : List ℕ) → Type 0
 HasKeys front keys reply = reply ≡ front ++ (codes "," ++ (keys ++ codes "\n"))
 
--- the reply reports a change: it has the keys of the change's own object, or no further keys if nothing
--- changed
+-- the reply reports a change: it has either the keys of the change's own object, or no further keys if
+-- nothing changed
 abbrev pub TellsIn : (front : List ℕ) → ChangeValue → (reply : List ℕ) → Type 0
 TellsIn front change reply =
     ((change ≡ no_change) × (reply ≡ front ++ object_end))
@@ -88,22 +90,24 @@ pub record StatesValue : Type 0 where
   pub is_shown : Bool
   pub last : Option Pictured
 
+-- the machine's state, as a picture for an object
 abbrev pub picture : MachineValue → Pictured
 picture m = record { layout = m.layout; memory = m.state }
 
--- what an object shows of the state, given the last state that was shown and the state now
+-- the state that an object shows, given the last state that was shown and the state now
 abbrev pub ShowsIf : (is_shown : Bool) → (last : Option Pictured) → (now : Pictured)
     → (shown : Option Pictured) → (front reply : List ℕ) → Type 0
 ShowsIf false last now shown front reply = (shown ≡ None) × (reply ≡ front ++ object_end)
 ShowsIf true last now shown front reply =
     (shown ≡ Some now) × (change : ChangeValue) × IsChange last now change × TellsIn front change reply
 
--- the states after an object: the state that it shows, if any, is now the last one shown
+-- the states after an object: a state that it shows is now the last one shown
 abbrev pub kept_states : StatesValue → (shown : Option Pictured) → StatesValue
 kept_states states None = states
 kept_states states (Some image) = record { is_shown = states.is_shown; last = Some image }
 
--- an answer's object: if states are shown, with how the machine's state differs from the last one
+-- the object of an answer. If states are shown, it has the change of the machine's state since the last
+-- one shown
 pub record ShowsObject (number : ℕ) (a : AnswerValue) (states : StatesValue) (machine : MachineValue)
     (reply : List ℕ) (new : StatesValue) : Type 0 where
   pub front : List ℕ
@@ -119,14 +123,15 @@ pub record ObjectsValue : Type 0 where
   pub session : SessionValue
   pub states : StatesValue
 
--- a line that is not UTF-8, or too long, changes nothing
+-- the line is not UTF-8 or too long, and nothing changes
 pub record IsRefused (s : ObjectsValue) (line reply : List ℕ) (new : ObjectsValue) : Type 0 where
   pub cause : IsUnread line
   pub hint : List ℕ
   pub is : reply ≡ fault_object (length s.session.lines + 1) hint
   pub same : new ≡ s
 
--- a word changes nothing; what may be a line is answered
+-- the reply to a text of this kind. An empty text gets an empty reply. Neither it nor a command
+-- word changes anything; any other text is answered
 abbrev pub RepliesWord : LiveWord → ObjectsValue → (text reply : List ℕ) → (new : ObjectsValue) → Type 0
 RepliesWord word.Nothing s text reply new = (reply ≡ []) × (new ≡ s)
 RepliesWord word.Help s text reply new =
@@ -141,11 +146,11 @@ RepliesWord word.Line s text reply new =
     (a : AnswerValue) × AnswersText s.session text a new.session
     × ShowsObject (number_of a.did new.session.lines) a s.states new.session.machine reply new.states
 
--- the reply to a text, which is a word or may be a line
+-- the reply to a text, by its kind
 abbrev pub RepliesText : ObjectsValue → (text reply : List ℕ) → (new : ObjectsValue) → Type 0
 RepliesText s text reply new = RepliesWord (word_of text) s text reply new
 
--- a line was run and is kept
+-- the text is a line, which was run and is kept
 abbrev pub IsRun : SessionValue → (text : List ℕ) → (new : SessionValue) → Type 0
 IsRun s text new =
     (t : Typed) × (written : List ℕ) × (typed_in s.names s.bound text ≡ Some t) × RunsLine s t written new
@@ -154,10 +159,11 @@ IsRun s text new =
 abbrev pub IsLostLine : SessionValue → (text : List ℕ) → (new : SessionValue) → Type 0
 IsLostLine s text new = (new ≡ s) ⊎ IsRun s text new
 
--- the same, and no state was shown
+-- memory ran out in the reply to a text, as IsLostLine states, and no state was shown
 abbrev pub IsLostText : ObjectsValue → (text : List ℕ) → (new : ObjectsValue) → Type 0
 IsLostText s text new = IsLostLine s.session text new.session × (new.states ≡ s.states)
 
+-- the reply to a line: either the line was refused, or its text got a reply, or memory ran out
 abbrev pub RepliesObject : ObjectsValue → (line reply : List ℕ) → (new : ObjectsValue) → Type 0
 RepliesObject s line reply new =
     IsRefused s line reply new
@@ -165,21 +171,21 @@ RepliesObject s line reply new =
 
 -- ---- the texts in replies
 
--- an answer's object, or the same with more keys after its own
+-- the object of an answer, either with its own keys only or with more keys after these
 abbrev pub IsObjectOf : ℕ → AnswerValue → (reply : List ℕ) → Type 0
 IsObjectOf number a reply =
     (front : List ℕ) × WritesObject [] number a (front ++ object_end)
     × ((reply ≡ front ++ object_end) ⊎ ((keys : List ℕ) × HasKeys front keys reply))
 
--- a reply, and the text of `hotplug serial` that it shows: the answer's text; none, if no line was run;
--- any text at all, if the reply was lost
+-- a reply, and the text of `hotplug serial` in it. This is the answer's text, or empty if no line
+-- was run. If the reply was lost, it may be any text
 abbrev pub HasText : List ℕ × List ℕ → Type 0
 HasText pair =
     ((number : ℕ) × (a : AnswerValue) × (pair.1 ≡ a.text) × IsObjectOf number a pair.0)
     ⊎ ((pair.1 ≡ []) ⊎ (pair.0 ≡ lost_object))
 
--- the replies of a talk after a scenario have texts in them. Joined, these are what `hotplug serial`
--- writes for the lines so far
+-- the replies of a talk after a scenario have texts in them. Joined after the text `before`, these make
+-- the text that `hotplug serial` writes for the lines so far
 pub record TellsLines (s : ScenarioValue) (before text : List ℕ) (new : SessionValue) : Type 0 where
   pub told : List (List ℕ × List ℕ)
   pub replies : text ≡ flat_map (λ pair. pair.0) told

@@ -20,6 +20,6 @@ abbrev pub block_with : (head cells ordered : List ℕ) → List FreeBlock → L
 block_with head cells ordered free kernel kinds =
     record { head = head; cells = cells; ordered = ordered; free = free; kernel = kernel; kinds = kinds }
 
--- whether both are drawn by the same text
+-- both blocks are drawn by the same text
 abbrev pub is_same : BlockValue → BlockValue → Bool
 is_same a b = (bytes_eq a.head b.head && bytes_eq a.cells b.cells) && bytes_eq a.ordered b.ordered

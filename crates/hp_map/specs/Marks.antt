@@ -1,4 +1,4 @@
--- What each step of a walk over a state does to the places of frames.
+-- The effect of each step of a walk over a state on the places of frames.
 use Rattle.std.specs.Prelude.{ℕ, zero, suc, ◌≡◌, ◌+◌, ◌*◌, ◌^◌, ◌==◌, List, Option, Some, None, option_map, slice_get, if◌then◌else◌}
 use Rattle.hp_units.specs.Arithmetic.{block_of, pageblock_of, pageblock_size}
 use Rattle.hp_units.specs.FreeAreas.{is_on}
@@ -66,17 +66,21 @@ abbrev pub free_in : Option Kind → Place
 free_in None = Free
 free_in (Some kind) = if kind.isolated then Isolated else Free
 
--- the same, by the state of its memory block and the kind of its pageblock
+-- the place of a frame that is not in use, by the state of its memory block and the kind of its
+-- pageblock
 abbrev pub unused_at : State → Option Kind → Place
 unused_at AbsentState kind = Absent
 unused_at OfflineState kind = Offline
 unused_at OnlineState kind = free_in kind
 unused_at GoingState kind = free_in kind
 
+-- the place of a frame that is not in use, by the row of its memory block; a block without a row is
+-- offline
 abbrev pub unused_in : Option Row → Option Kind → Place
 unused_in None kind = Offline
 unused_in (Some row) kind = unused_at row.state kind
 
+-- the place of this frame, if it is not in use
 abbrev pub unused_place : LayoutParts → Memory → (frame : ℕ) → Place
 unused_place l s frame =
     unused_in (slice_get s.blocks.rows (block_of l frame))

@@ -8,15 +8,15 @@ use Rattle.hp_map.specs.Cells.{cells_text}
 use Rattle.hp_map.specs.Places.{ArePlacesOf}
 use Rattle.hp_map.specs.declared.places.Place.{Place}
 
--- the picture of a memory block: its cells show the place of each frame; it has the block's free
--- blocks, and the kernel's blocks
+-- the picture of a memory block: its cells show the place of each frame, and it has the free blocks and
+-- the kernel's blocks that start in the block
 pub record IsBlockPicture (l : LayoutParts) (s : Memory) (places : List Place) (block : ℕ)
     (picture : BlockValue) : Type 0 where
   pub cells : picture.cells ≡ cells_text l places block
   pub free : picture.free ≡ free_of l s.free.areas block
   pub kernel : picture.kernel ≡ kernel_of l s block
 
--- a picture of each memory block, by rising number
+-- a picture of each of `count` memory blocks, by rising number
 pub record ArePictures (l : LayoutParts) (s : Memory) (places : List Place) (count : ℕ)
     (blocks : List BlockValue) : Type 0 where
   pub all : length blocks ≡ count

@@ -1,4 +1,4 @@
--- Where a frame is.
+-- The place of a frame in the memory.
 use Rattle.std.specs.Prelude.{ℕ, ◌≡◌, ◌+◌, ◌%◌, true, false, List, length, Some, slice_get, IfSome}
 use Rattle.hp_units.specs.Arithmetic.{block_of, frame_count, pageblock_of}
 use Rattle.hp_units.specs.FreeAreas.{is_on}
@@ -11,9 +11,9 @@ use Rattle.hp_units.specs.Rows.{is_absent, is_offline}
 use Rattle.hp_map.specs.declared.places.Place.{Place}
 use Rattle.hp_map.specs.declared.places.Place.TheVariants.{Absent, Offline, Free, Isolated, Kernel, Cached, Page}
 
--- the frame is in that place: its memory block is absent or offline; it is in one free block, whose
--- pageblock is isolated or not; a kernel's block has it; it is on a list of the processor; it holds
--- a page of the owner
+-- the frame is in this place. Either its memory block is absent or offline, or it is in one free
+-- block, whose pageblock is isolated or not. Or a kernel's block has it, or it is on a list of the
+-- processor, or it holds a page of the owner
 abbrev pub IsPlaceOf : LayoutParts → Memory → (frame : ℕ) → Place → Type 0
 IsPlaceOf l s frame Absent = is_absent (row_of s.blocks (block_of l frame)) ≡ true
 IsPlaceOf l s frame Offline = is_offline (row_of s.blocks (block_of l frame)) ≡ true
@@ -26,13 +26,14 @@ IsPlaceOf l s frame Kernel =
 IsPlaceOf l s frame (Cached cpu) = (pool : Pool) × (is_on frame (cached_list s.free cpu pool) ≡ true)
 IsPlaceOf l s frame (Page owner) = (page : ℕ) × (frame_at s.pages owner page ≡ Some frame)
 
--- the place of each frame of the layout, by its number
+-- the place of each frame of the layout, by the frame's number
 pub record ArePlacesOf (l : LayoutParts) (s : Memory) (places : List Place) : Type 0 where
   pub count : length places ≡ frame_count l
   pub each : (frame : ℕ) → IfSome (slice_get places frame) (IsPlaceOf l s frame)
 
--- the sign of a place: a space, `-`, `.`, `:`, `K`, the last digit of a processor's number, and a
--- letter from `a` to `z` for an owner; after 26 owners the letters begin again
+-- the sign of a place: a space for absent, `-` for offline, `.` for free, `:` for isolated, and `K`
+-- for the kernel's. A processor has the last digit of its number, and an owner has a letter from
+-- `a` to `z`. After 26 owners the letters begin again
 abbrev pub place_sign : Place → ℕ
 place_sign Absent = 32
 place_sign Offline = 45

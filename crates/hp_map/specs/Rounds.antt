@@ -9,16 +9,17 @@ use Rattle.hp_map.specs.Rows.{RowValue, row_with}
 
 -- ---- the calls of a plan
 
--- a round begins with a migration
+-- the row is a migration, which begins a round
 abbrev pub begins_round : RowValue → Bool
 begins_round row = starts_with nat_eq row.asked (codes "     migrate ")
 
--- after its first row, a round has drains and a commit
+-- the row is a drain or a commit, which continues a round
 abbrev pub continues_round : RowValue → Bool
 continues_round row =
     starts_with nat_eq row.asked (codes "     drainfor ")
     || starts_with nat_eq row.asked (codes "     commit ")
 
+-- the rows begin a round
 abbrev pub is_round : List RowValue → Bool
 is_round [] = false
 is_round (first ∷ rest) = begins_round first
@@ -27,14 +28,14 @@ is_round (first ∷ rest) = begins_round first
 abbrev pub goes_on : List RowValue → RowValue → Bool
 goes_on rows row = is_round rows && continues_round row
 
--- the rows are a round, or a single row of another kind
+-- the rows are either a round or a single row of another kind
 abbrev pub is_whole : List RowValue → Bool
 is_whole [] = false
 is_whole (first ∷ rest) = list_all (λ row. goes_on (first ∷ []) row) rest
 
 -- ---- a round that repeats another
 
--- the texts before and after the first colon
+-- the texts before and after the first colon; None without a colon
 unfoldable pub halves_of : List ℕ → Option (List ℕ × List ℕ)
 halves_of answer =
     if nat_lt (position_or_len (λ b. b == 58) answer) (length answer) then Some
@@ -45,18 +46,21 @@ halves_of answer =
 abbrev pub serial_of : List ℕ → Option ℕ
 serial_of answer = option_and_then (λ halves. number_of 64 halves.0) (halves_of answer)
 
--- an answer whose serial is n higher
+-- the serial raised by n, then a colon and `words`; the unchanged answer, if there is no serial
 abbrev pub counted : (n : ℕ) → (answer words : List ℕ) → (serial : Option ℕ) → List ℕ
 counted n answer words None = answer
 counted n answer words (Some serial) = decimal (serial + n) ++ codes ":" ++ words
 
+-- the answer with its serial raised by n, from the texts before and after its first colon
 abbrev pub counted_in : (n : ℕ) → (answer : List ℕ) → Option (List ℕ × List ℕ) → List ℕ
 counted_in n answer None = answer
 counted_in n answer (Some halves) = counted n answer halves.1 (number_of 64 halves.0)
 
+-- the answer with its serial raised by n
 abbrev pub counted_on : (n : ℕ) → (answer : List ℕ) → List ℕ
 counted_on n answer = counted_in n answer (halves_of answer)
 
+-- the memory blocks of a row; none without a row
 abbrev pub blocks_in : Option RowValue → List BlockValue
 blocks_in None = []
 blocks_in (Some row) = row.blocks
@@ -65,7 +69,7 @@ blocks_in (Some row) = row.blocks
 abbrev pub memory_after : List RowValue → List BlockValue
 memory_after rows = blocks_in (slice_get rows (length rows - 1))
 
--- the row of the same call, n serials later: it got the same reply and left the memory as it was
+-- the row of a repeated call, n serials later: it has the same reply and leaves the memory as it was
 abbrev pub next_row : (n : ℕ) → (memory : List BlockValue) → RowValue → RowValue
 next_row n memory row = row_with row.asked (counted_on n row.answer) None memory
 
@@ -75,18 +79,22 @@ next_round n rows = map (next_row (n * length rows) (memory_after rows)) rows
 
 -- ---- rows in which equal rounds are joined
 
--- a round, and how many rounds right after it repeat it; or a single row of another kind, with `more` 0
+-- either a round, with the number of rounds right after it that repeat it, or a single row of another
+-- kind, with 0 as `more`
 pub record RoundsValue : Type 0 where
   pub rows : List RowValue
   pub more : ℕ
 
+-- an entry that nothing repeats so far
 abbrev pub once : List RowValue → RoundsValue
 once rows = record { rows = rows; more = 0 }
 
+-- the rows of the first `more` repetitions of a round
 abbrev pub more_rows : List RowValue → (more : ℕ) → List RowValue
 more_rows rows zero = []
 more_rows rows (suc n) = more_rows rows n ++ next_round (suc n) rows
 
+-- all rows of an entry, with its repetitions
 abbrev pub all_rows : RoundsValue → List RowValue
 all_rows r = r.rows ++ more_rows r.rows r.more
 
@@ -99,6 +107,7 @@ pub record IsEntry (r : RoundsValue) : Type 0 where
   pub whole : is_whole r.rows ≡ true
   pub round : is_round r.rows ≡ false → r.more ≡ 0
 
+-- the first of the next rows continues the round that `rows` begin
 abbrev pub goes_on_with : List RowValue → List RowValue → Bool
 goes_on_with rows [] = false
 goes_on_with rows (next ∷ rest) = goes_on rows next
@@ -108,6 +117,7 @@ pub record IsApart (r next : RoundsValue) : Type 0 where
   pub ended : goes_on_with r.rows next.rows ≡ false
   pub other : IsOneMore r next.rows → ⊥
 
+-- the entry is apart from the entry right after it, if there is one
 abbrev pub IsBefore : RoundsValue → List RoundsValue → Type 0
 IsBefore r [] = ⊤
 IsBefore r (next ∷ rest) = IsApart r next
@@ -124,15 +134,17 @@ pub record IsJoinOf (rows : List RowValue) (entries : List RoundsValue) : Type 0
 
 -- ---- joining row by row
 
--- the last entry so far, and the rows after it, to which more may come
+-- the last entry so far, and the rows after it: either a round that may go on, or one other row
 pub record JoinerValue : Type 0 where
   pub last : Option RoundsValue
   pub rest : List RowValue
 
+-- the joiner before the first row
 abbrev pub nothing_read : JoinerValue
 nothing_read = record { last = None; rest = [] }
 
--- the rows read so far are those of the finished entries `done`, those of the entry `last`, and `left`
+-- the rows read so far are the rows of the finished entries `done`, the rows of the entry `last`, and
+-- the rows `left`
 abbrev pub HasRead : (done : List RoundsValue) → (last : Option RoundsValue) → (left rows : List RowValue)
     → Type 0
 HasRead done last [] rows = (done ≡ []) × (last ≡ None) × (rows ≡ [])
@@ -142,6 +154,7 @@ HasRead done (Some last) (row ∷ left) rows =
     (is_whole (row ∷ left) ≡ true) × (goes_on last.rows row ≡ false) × AreJoined (done ++ last ∷ [])
     × (rows ≡ flat_map all_rows (done ++ last ∷ []) ++ row ∷ left)
 
+-- the joiner has read these rows; `done` are the finished entries
 abbrev pub Reads : (done : List RoundsValue) → JoinerValue → (rows : List RowValue) → Type 0
 Reads done j rows = HasRead done j.last j.rest rows
 
@@ -156,7 +169,7 @@ abbrev pub Ends : JoinerValue → (ends : List RoundsValue) → Type 0
 Ends j ends =
     (done : List RoundsValue) (rows : List RowValue) → Reads done j rows → IsJoinOf rows (done ++ ends)
 
--- the rows are joined to the last entry if they repeat it; otherwise they make a new entry
+-- either the rows repeat the last entry and are joined to it, or they make a new entry
 abbrev pub JoinsTo : (last : Option RoundsValue) → (rows : List RowValue) → (gone : Option RoundsValue)
     → (now : RoundsValue) → Type 0
 JoinsTo None rows gone now = (gone ≡ None) × (now ≡ once rows)
@@ -166,16 +179,18 @@ JoinsTo (Some last) rows gone now =
 
 -- ---- a line about the rounds that are not shown
 
+-- the serial of the first of these rows; 0 without one
 abbrev pub first_serial : List RowValue → ℕ
 first_serial [] = 0
 first_serial (first ∷ rest) = unwrap_or (serial_of first.answer) 0
 
+-- the words after the number of further rounds
 abbrev pub rounds_word : (more : ℕ) → List ℕ
 rounds_word more =
     if more == 1 then codes " more round like this, serials "
     else codes " more rounds like this, serials "
 
--- how many more rounds there are, and the serials of their calls
+-- the text about the further rounds: their number, and the serials of their calls
 abbrev pub more_text : RoundsValue → List ℕ
 more_text r =
     codes "(" ++ decimal r.more ++ rounds_word r.more

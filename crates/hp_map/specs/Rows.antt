@@ -3,7 +3,7 @@ use Rattle.std.specs.Prelude.{ℕ, List, Option}
 use Rattle.hp_map.specs.BlockPictures.{BlockValue}
 use Rattle.hp_map.specs.declared.row_picture.Move.{Move}
 
--- what was asked, the answer, the page that moved, and the memory blocks after it
+-- the request of a row, its answer, the page that moved, and the memory blocks after it
 pub record RowValue : Type 0 where
   pub asked : List ℕ
   pub answer : List ℕ

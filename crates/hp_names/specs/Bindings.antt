@@ -1,4 +1,4 @@
--- What names are bound to.
+-- The results that names are bound to.
 use Rattle.std.specs.Prelude.{ℕ, List, ◌∷◌, ◌++◌, map, slice_get, unwrap_or, Option, Some, None}
 use Rattle.std.specs.Map.{lookup}
 use Rattle.std.specs.Str.{bytes_eq}
@@ -6,11 +6,12 @@ use Rattle.indexmap.specs.IndexMap.{insert_entry}
 use Rattle.hp_names.specs.declared.bindings.Naming.{Naming}
 use Rattle.hp_names.specs.declared.results.NamedResult.{NamedResult}
 
--- what names are bound to. A key is a processor's word, a space and a name; its value is the latest
--- result of the processor with this name
+-- the bindings of names to results. A key is a processor's word, a space and a name; its value is the
+-- latest result of this processor with this name
 abbrev pub Bound : Type 0
 Bound = List (List ℕ × NamedResult)
 
+-- the key of a processor's word and a name
 abbrev pub key_of : (cpu name : List ℕ) → List ℕ
 key_of cpu name = cpu ++ 32 ∷ name
 
@@ -18,19 +19,22 @@ key_of cpu name = cpu ++ 32 ∷ name
 abbrev pub result_at : Bound → (cpu name : List ℕ) → Option NamedResult
 result_at bound cpu name = lookup (bytes_eq (key_of cpu name)) bound
 
--- binds a name to the result of line `line`; an earlier result of the processor loses the name
+-- the bindings after a name is bound to the result of line `line`; an earlier result of the processor
+-- loses the name
 abbrev pub bound_to : Bound → Naming → (line number : ℕ) → Bound
 bound_to bound naming line number =
     insert_entry bytes_eq bound naming.key (record { kind = naming.kind; line = line; number = number })
 
--- fills in the numbers that are known: `numbers` has those of the results of the first lines
+-- a result with its number, if `numbers` has it; `numbers` has the numbers of the first lines' results
 abbrev pub numbered_result : List ℕ → NamedResult → NamedResult
 numbered_result numbers r =
     record { kind = r.kind; line = r.line; number = unwrap_or (slice_get numbers r.line) r.number }
 
+-- a binding with the number of its result, if `numbers` has it
 abbrev pub numbered_entry : List ℕ → List ℕ × NamedResult → List ℕ × NamedResult
 numbered_entry numbers entry = (entry.0, numbered_result numbers entry.1)
 
+-- the bindings with the numbers of their results, as far as `numbers` has them
 abbrev pub numbered : List ℕ → Bound → Bound
 numbered numbers bound = map (numbered_entry numbers) bound
 

@@ -1,4 +1,4 @@
--- The scenario in a text with names, and the line whose result each line works on.
+-- The scenario in a text with names, and the line whose result each of its lines works on.
 use Rattle.std.specs.Prelude.{ℕ, ◌+◌, List, [], ◌∷◌, ◌++◌, length, Option, None, Result, Ok, option_map, replicate}
 use Rattle.serde_json.specs.Data.{Data}
 use Rattle.hp_units.specs.LayoutParts.{layout_fault}
@@ -14,25 +14,26 @@ use Rattle.hp_names.specs.Bindings.{Bound, bound_after}
 use Rattle.hp_names.specs.Plain.{plain_in}
 use Rattle.hp_names.specs.declared.plain.PlainLine.{PlainLine}
 
--- a scenario with names. `sources` has for each line the index of the line whose result it works on;
--- such a line has the number 0 in place of the result's. `bound` is what names are bound to after the
--- last line
+-- a scenario with names. For each line, `sources` has the index of the line whose result it works on;
+-- such a line has 0 in place of that result's number. `bound` are the bindings of names after the last
+-- line
 pub record NamedValue : Type 0 where
   pub scenario : ScenarioValue
   pub sources : List (Option ℕ)
   pub bound : Bound
 
--- a scenario in which no line works on a result by its name
+-- a scenario in which no line names a result
 abbrev pub plainly : ScenarioValue → NamedValue
 plainly s = record { scenario = s; sources = replicate (length s.lines) None; bound = [] }
 
--- the owners' names, the lines, their sources, and the names of results so far
+-- the owners' names, the lines, their sources, and the bindings of names so far
 pub record ReadingValue : Type 0 where
   pub names : List (List ℕ)
   pub lines : List Line
   pub sources : List (Option ℕ)
   pub bound : Bound
 
+-- the reading before the first line
 abbrev pub nothing : ReadingValue
 nothing = record { names = []; lines = []; sources = []; bound = [] }
 
@@ -45,6 +46,7 @@ with_line r plain n = record {
   bound = bound_after r.bound plain.naming (length r.lines) 0;
 }
 
+-- the reading after one more line, if its text without names is a line
 abbrev pub with_plain : ReadingValue → PlainLine → Option ReadingValue
 with_plain r plain = option_map (with_line r plain) (line_in r.names plain.text)
 
@@ -52,13 +54,13 @@ with_plain r plain = option_map (with_line r plain) (line_in r.names plain.text)
 abbrev pub with_text : ReadingValue → List ℕ → Option ReadingValue
 with_text r text = with_plain r (plain_in r.bound text)
 
--- the lines in the texts, of which the first has number `at`, after the lines so far
+-- the reading after these texts, of which the first is line `at`, or the first fault
 unfoldable pub lines_from : ℕ → ReadingValue → List (List ℕ) → Result ReadingValue ScenarioFault
 lines_from at r [] = Ok r
 lines_from at r (text ∷ texts) =
     or_fault (BadLine at) (with_text r text) >>= λ next. lines_from (at + 1) next texts
 
--- the scenario of a form, or the first fault: the layout's, then the lines'
+-- the scenario of a form, or its first fault: the layout is checked before the lines
 unfoldable pub named_with : Form → Result NamedValue ScenarioFault
 named_with form = do
   layout ← layout_or form.parts (layout_fault form.parts)

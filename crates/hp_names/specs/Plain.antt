@@ -1,5 +1,5 @@
--- A line's text without names: `as NAME` is taken off, and `$NAME` is replaced by the number that it
--- stands for. A text whose names are not understood is left unchanged, and is not a line.
+-- A line's text without names: `as NAME` is taken off, and `$NAME` is replaced by its result's number.
+-- A text whose names are not understood is left unchanged, and is not a line.
 use Rattle.std.specs.Prelude.{ℕ, List, [], ◌∷◌, Option, Some, None, if◌then◌else◌, option_and_then}
 use Rattle.std.specs.Fmt.{decimal}
 use Rattle.hp_scenario.specs.Words.{words_of}
@@ -12,13 +12,13 @@ use Rattle.hp_names.specs.declared.results.NameUse.{NameUse}
 use Rattle.hp_names.specs.declared.results.NameUse.TheVariants.{Gives, Takes}
 use Rattle.hp_names.specs.declared.results.ResultKind.{ResultKind}
 
--- a text that stays as it is
+-- a text that is left unchanged
 abbrev pub unchanged : List ℕ → PlainLine
 unchanged text = record { text = text; source = None; naming = None }
 
 -- ---- `begin` and `kalloc`
 
--- the text of a line whose result may have a name; ` as NAME` is taken off, if the text ends in it
+-- the text of a line whose result may have a name, without ` as NAME` at its end
 abbrev pub naming_line : (text : List ℕ) → (words : List (List ℕ)) → (cpu : List ℕ) → ResultKind
     → Option (List ℕ) → PlainLine
 naming_line text words cpu kind None = unchanged text
@@ -30,16 +30,17 @@ naming_line text words cpu kind (Some name) = record {
 
 -- ---- `drainfor`, `migrate`, `commit`, `cancel` and `kfree`
 
--- the result, if it is of this kind
+-- the result, if it has this kind
 abbrev pub of_kind : ResultKind → NamedResult → Option NamedResult
 of_kind kind r = if same_kind r.kind kind then Some r else None
 
--- the result that the word `$NAME` names: the processor's latest with that name, if it is of this kind
+-- the result that the word `$NAME` names: the processor's latest result with that name, if it has this
+-- kind
 abbrev pub result_named : Bound → (cpu : List ℕ) → ResultKind → (word : List ℕ) → Option NamedResult
 result_named bound cpu kind word =
     option_and_then (of_kind kind) (option_and_then (result_at bound cpu) (after_dollar word))
 
--- a text with a result's number in the place of the word after the verb
+-- the text with a result's number in place of the word after the verb; unchanged without a result
 abbrev pub numbered_line : (text cpu verb : List ℕ) → (rest : List (List ℕ)) → Option NamedResult → PlainLine
 numbered_line text cpu verb rest None = unchanged text
 numbered_line text cpu verb rest (Some r) = record {
@@ -48,6 +49,7 @@ numbered_line text cpu verb rest (Some r) = record {
   naming = None;
 }
 
+-- the text of a line that works on a result, with the result's number in place of its name
 abbrev pub working_line : Bound → (text cpu verb : List ℕ) → ResultKind → (args : List (List ℕ)) → PlainLine
 working_line bound text cpu verb kind [] = unchanged text
 working_line bound text cpu verb kind (word ∷ rest) =
@@ -55,6 +57,7 @@ working_line bound text cpu verb kind (word ∷ rest) =
 
 -- ---- any line
 
+-- the text without names of a line whose verb uses names in this way
 abbrev pub line_by_use : Bound → (text cpu verb : List ℕ) → (args : List (List ℕ)) → Option NameUse
     → PlainLine
 line_by_use bound text cpu verb args None = unchanged text
@@ -62,13 +65,13 @@ line_by_use bound text cpu verb args (Some (Gives kind)) =
     naming_line text (cpu ∷ verb ∷ args) cpu kind (name_at_end args)
 line_by_use bound text cpu verb args (Some (Takes kind)) = working_line bound text cpu verb kind args
 
--- the line in a text of these words, given what is bound before it
+-- the line in a text of these words, after these bindings
 unfoldable pub plain_of : Bound → (text : List ℕ) → (words : List (List ℕ)) → PlainLine
 plain_of bound text [] = unchanged text
 plain_of bound text (cpu ∷ []) = unchanged text
 plain_of bound text (cpu ∷ verb ∷ args) =
     line_by_use bound text cpu verb args (use_of_verb verb)
 
--- the line in a text
+-- the line in a text, after these bindings
 abbrev pub plain_in : Bound → List ℕ → PlainLine
 plain_in bound text = plain_of bound text (words_of text)

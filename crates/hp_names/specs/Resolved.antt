@@ -1,4 +1,4 @@
--- Replaces named results by their numbers, which are known once the first lines have run in order.
+-- Named results are replaced by their numbers, which are known once the first lines have run in order.
 use Rattle.std.specs.Prelude.{◌≡◌, ◌⊎◌, ℕ, List, [], ◌∷◌, ◌++◌, take, drop, Bool, false, Option, Some, None, map, min, nat_lt, slice_get}
 use Rattle.std.specs.List.{list_any}
 use Rattle.hp_units.specs.declared.events.Event.{Event}
@@ -15,11 +15,11 @@ use Rattle.hp_names.specs.Runs.{RunsLine}
 
 -- ---- one line
 
--- the frame with this number; a number that is too large becomes `no_frame`
+-- the frame with this number; `no_frame` for a number that is too large
 abbrev pub frame_of : ℕ → ℕ
 frame_of n = min n no_frame
 
--- the event, with `n` as the number of the operation that it works on or of the frame that it frees
+-- the event with `n` as the number of the operation that it works on, or of the frame that it frees
 abbrev pub event_with : ℕ → Event → Event
 event_with n (KernelFree frame) = KernelFree (frame_of n)
 event_with n (DrainFor op cpu) = DrainFor n cpu
@@ -28,29 +28,31 @@ event_with n (Commit op) = Commit n
 event_with n (Cancel op) = Cancel n
 event_with n e = e
 
+-- the work with `n` as the number in its event
 abbrev pub work_with : ℕ → Work → Work
 work_with n (work.Event e) = work.Event (event_with n e)
 work_with n w = w
 
--- the line, with this number if there is one
+-- the line with this number in its event, if there is a number
 abbrev pub line_with : Option ℕ → Line → Line
 line_with None line = line
 line_with (Some n) line = record line { work = work_with n line.work }
 
--- the number of a source, if `numbers` has it
+-- the number of a source's result, if `numbers` has it
 abbrev pub number_at : List ℕ → Option ℕ → Option ℕ
 number_at numbers None = None
 number_at numbers (Some place) = slice_get numbers place
 
--- the line with the number of its source, if `numbers` has it
+-- the line with the number of its source's result, if `numbers` has it
 abbrev pub line_after : List ℕ → Option ℕ → Line → Line
 line_after numbers source line = line_with (number_at numbers source) line
 
--- a source whose number is known is taken away
+-- the source, unless its result's number is known
 abbrev pub left_if : Option ℕ → Option ℕ → Option ℕ
 left_if None source = source
 left_if (Some n) source = None
 
+-- the source, unless `numbers` has its result's number
 abbrev pub source_after : List ℕ → Option ℕ → Option ℕ
 source_after numbers source = left_if (number_at numbers source) source
 
@@ -61,18 +63,19 @@ abbrev pub first_source : List (Option ℕ) → Option ℕ
 first_source [] = None
 first_source (source ∷ sources) = source
 
--- lines, each with the number of its source, if `numbers` has it
+-- the lines, each with the number of its source's result, if `numbers` has it
 abbrev pub lines_after : List ℕ → List (Option ℕ) → List Line → List Line
 lines_after numbers sources [] = []
 lines_after numbers sources (line ∷ lines) =
     line_after numbers (first_source sources) line ∷ lines_after numbers (drop 1 sources) lines
 
+-- the sources, with None in place of each whose result's number is in `numbers`
 abbrev pub sources_after : List ℕ → List (Option ℕ) → List (Option ℕ)
 sources_after numbers sources = map (source_after numbers) sources
 
--- the lines were run in order, each with the number of its source, if the source was run before it.
--- `ran` are the lines as they were run; `before` and `after` are the numbers of all results before and
--- after
+-- the lines were run in order, each with the number of its source's result, if the source ran
+-- before it. `ran` are the lines as they were run. `before` and `after` are the numbers of all
+-- results so far, before and after these lines
 abbrev pub RunsFront : MachineValue → (before : List ℕ) → List (Option ℕ) → (lines ran : List Line)
     → (new : MachineValue) → (after : List ℕ) → Type 0
 RunsFront m before sources [] ran new after = (ran ≡ []) × (new ≡ m) × (after ≡ before)
@@ -88,8 +91,8 @@ is_below count None = false
 is_below count (Some place) = nat_lt place count
 
 -- the first `count` lines were run in order on a machine just booted. A line whose source is one of
--- them has the source's number, and no source any more. A name that is bound to one of them has its
--- number
+-- them has the number of the source's result, and no source any more. A name that is bound to one
+-- of these results has its number
 pub record PutsNumbers (l : LayoutParts) (count : ℕ) (lines : List Line) (sources : List (Option ℕ))
     (bound : Bound) (new_lines : List Line) (new_sources : List (Option ℕ)) (new_bound : Bound)
     : Type 0 where
@@ -101,7 +104,7 @@ pub record PutsNumbers (l : LayoutParts) (count : ℕ) (lines : List Line) (sour
   pub sources_are : new_sources ≡ sources_after numbers sources
   pub bound_is : new_bound ≡ numbered numbers bound
 
--- the same for a scenario; its layout and its owners' names stay
+-- a scenario whose first `count` lines were run in this way; its layout and its owners' names stay
 pub record IsResolved (count : ℕ) (old new : NamedValue) : Type 0 where
   pub layout : new.scenario.layout ≡ old.scenario.layout
   pub names : new.scenario.names ≡ old.scenario.names
@@ -109,8 +112,8 @@ pub record IsResolved (count : ℕ) (old new : NamedValue) : Type 0 where
       PutsNumbers old.scenario.layout count old.scenario.lines old.sources old.bound new.scenario.lines
       new.sources new.bound
 
--- the scenario with numbers put in. Nothing is run if no result has a name, and none of the first
--- `count` lines is a source
+-- the scenario with numbers in place of its names. Nothing is run if no result has a name and none of
+-- the first `count` lines is a source
 abbrev pub Resolves : (count : ℕ) → (old new : NamedValue) → Type 0
 Resolves count old new =
     ((old.bound ≡ []) × (list_any (is_below count) old.sources ≡ false) × (new ≡ old))

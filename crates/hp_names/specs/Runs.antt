@@ -1,4 +1,4 @@
--- What a line does to the machine, and the number of its result.
+-- The effect of a line on the machine, and the number of its result.
 use Rattle.std.specs.Prelude.{◌≡◌, ◌⊎◌, ℕ, Bool, true, false, List}
 use Rattle.hp_units.specs.declared.events.Event.{Event}
 use Rattle.hp_units.specs.declared.plans.Item.{Item}
@@ -13,19 +13,20 @@ use Rattle.hp_scenario.specs.Asked as asks
 use Rattle.hp_scenario.specs.declared.lines.Line.{Line}
 use Rattle.hp_names.specs.Results.{missing_number, result_number}
 
--- one call with an event, and the number of its result; if the history is full, the machine stays as it
--- is
+-- one call was made with an event, and its result has this number. If the history is full, the machine
+-- stays as it is
 abbrev pub RunsEvent : MachineValue → (cpu : ℕ) → Event → (new : MachineValue) → (number : ℕ) → Type 0
 RunsEvent m cpu event new number =
     ((is_full m ≡ true) × (new ≡ m) × (number ≡ missing_number event))
     ⊎ ((r : Receipt) × (is_full m ≡ false) × IsCalled m cpu event r new
     × (number ≡ result_number event r.serial r.reply))
 
--- a plan was left because memory ran out
+-- the call failed because memory ran out
 abbrev pub is_memory_fault : CallFault → Bool
 is_memory_fault OutOfMemory = true
 is_memory_fault fault = false
 
+-- the plan was left because memory ran out
 abbrev pub is_out_of_memory : OpEnd → Bool
 is_out_of_memory (Left op fault) = is_memory_fault fault
 is_out_of_memory end = false
@@ -44,5 +45,6 @@ RunsAsked m cpu (asks.not_taken fault) new number = (new ≡ m) × (number ≡ 0
 RunsAsked m cpu (asks.cat path) new number = (new ≡ m) × (number ≡ 0)
 RunsAsked m cpu asks.seal new number = (new ≡ sealed m) × (number ≡ 0)
 
+-- a line was run, and its result has this number
 abbrev pub RunsLine : MachineValue → Line → (new : MachineValue) → (number : ℕ) → Type 0
 RunsLine m line new number = RunsAsked m line.cpu (asks.asked_by line.work) new number

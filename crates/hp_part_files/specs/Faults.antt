@@ -1,4 +1,4 @@
--- Why parts cannot be added up: each fault comes only from its cause.
+-- The faults in adding up parts: each fault comes only from its cause.
 use Rattle.std.specs.Prelude.{◌≡◌, ◌⊎◌, ℕ, ◌+◌, ◌<◌, ◌≤◌, ◌^◌, List, length, take}
 use Rattle.hp_schedules.specs.declared.tally.Ending.{Ending}
 use Rattle.hp_schedules.specs.Outcomes.{OutcomeValue}
@@ -31,6 +31,7 @@ use Rattle.std.specs.Global.{Vec}
 
 -- ---- a line
 
+-- the fault of the sum for a fault of one line
 abbrev pub fault_of_line : LineFault → (line : ℕ) → PartFault
 fault_of_line NotPart line = part.NotPart line
 fault_of_line OtherSearch line = part.OtherSearch line
@@ -40,17 +41,17 @@ fault_of_line Stopped line = part.Stopped line
 fault_of_line (OtherCount number) line = part.OtherCount number
 fault_of_line (Lab fault) line = part.Lab fault
 
--- `text` is the head of part `number` of the search, and names `ends` ends
+-- `text` is the head of part `number` of the search, with `ends` as its number of ends
 abbrev pub IsOwnHead : SearchValue → (text : List ℕ) → (number ends : ℕ) → Type 0
 IsOwnHead s text number ends = IsNumber s number × (text ≡ head_line s number ends)
 
--- `text` is a head, but not that of a part of the search
+-- `text` is a head, but of no part of the search
 abbrev pub IsOtherHead : SearchValue → (text : List ℕ) → Type 0
 IsOtherHead s text =
     (number : ℕ) × (ends : ℕ) × IsLine text (Head number ends) × (IsOwnHead s text number ends → ⊥)
 
--- `text` is the head of a part of the search, but the part before it does not have as many ends as that
--- part's own head names
+-- `text` is the head of a part of the search, but the part before it has another number of ends than
+-- its own head gives
 abbrev pub IsAfterOther : SearchValue → GatheringValue → (text : List ℕ) → (before : ℕ) → Type 0
 IsAfterOther s v text before =
     IsLastOther v before × (number : ℕ) × (ends : ℕ) × IsOwnHead s text number ends
@@ -62,7 +63,7 @@ pub record IsOfNoPart (g : Setting) (s : SearchValue) (v : GatheringValue) (text
   pub line : IsLine text (End count schedule)
   pub none : (x : OutcomeValue) → EndsInPart g (part_in s v.last.number) schedule.items x → ⊥
 
--- `text` is the line of an end, but the search writes that line differently
+-- `text` is the line of an end, but the search writes this line differently
 pub record IsChanged (names : List (List ℕ)) (g : Setting) (s : SearchValue) (v : GatheringValue)
     (text : List ℕ) : Type 0 where
   pub end : Ending
@@ -70,29 +71,29 @@ pub record IsChanged (names : List (List ℕ)) (g : Setting) (s : SearchValue) (
   pub own : EndsInPart g (part_in s v.last.number) end.first.items end.outcome
   pub other : text ≡ end_line names g (length v.last.ends + 1) end → ⊥
 
--- why playing a schedule fails: the history has no room for one of the schedule's own calls
+-- the cause of a fault in playing a schedule: the history has no room for one of its calls
 abbrev pub IsCauseAlong : (schedule : List ℕ) → Setting → ExploreFault → Type 0
 IsCauseAlong schedule g explore.HistoryFull = FillsAlong g schedule
 IsCauseAlong schedule g explore.OutOfMemory = Unit {0}
 
--- why playing the schedule of an end's line fails
+-- the cause of a fault in playing the schedule of an end's line
 abbrev pub IsCauseIn : (text : List ℕ) → Setting → ExploreFault → Type 0
 IsCauseIn text g explore.HistoryFull =
     (count : ℕ) × (schedule : Vec ℕ) × IsLine text (End count schedule) × FillsAlong g schedule.items
 IsCauseIn text g explore.OutOfMemory = Unit {0}
 
--- a schedule could not be played
+-- the fault is that the schedule could not be played
 abbrev pub IsUnplayed : Setting → (schedule : List ℕ) → LineFault → Type 0
 IsUnplayed g schedule fault = (why : LabFault) × (fault ≡ Lab why) × IsUntold (IsCauseAlong schedule) g why
 
--- why an end cannot be added to a part
+-- the cause of each fault in adding an end to a part
 abbrev pub IsUnpushed : (names : List (List ℕ)) → Setting → GatheringValue → (text : List ℕ) → Ending
     → LineFault → Type 0
 IsUnpushed names g v text end Changed = text ≡ end_line names g (length v.last.ends + 1) end → ⊥
 IsUnpushed names g v text end (Lab fault) = fault ≡ OutOfMemory
 IsUnpushed names g v text end fault = ⊥
 
--- why a line is refused after the lines before it
+-- the cause of each fault of a line after the lines before it
 abbrev pub IsLineFault : (names : List (List ℕ)) → Setting → SearchValue → GatheringValue → (text : List ℕ)
     → LineFault → Type 0
 IsLineFault names g s v text NotPart = IsLine text Other
@@ -105,16 +106,17 @@ IsLineFault names g s v text (Lab fault) = IsUntold (IsCauseIn text) g fault
 
 -- ---- the parts
 
+-- the fault of the sum for a fault in the order of the parts
 abbrev pub fault_of_order : OrderFault → PartFault
 fault_of_order (order.Missing number) = part.Missing number
 fault_of_order (order.Twice number) = part.Twice number
 fault_of_order order.OutOfMemory = part.Lab OutOfMemory
 
--- a part is missing, or comes twice
+-- either a part is missing or comes twice, or memory ran out
 abbrev pub IsMisplaced : List PartEndsValue → (of : ℕ) → PartFault → Type 0
 IsMisplaced parts of fault = (why : OrderFault) × (fault ≡ fault_of_order why) × IsOrderFault parts of why
 
--- ---- the whole
+-- ---- the whole sum
 
 -- a line after the first head is refused, and each line before it is accepted
 abbrev pub IsUnread : (input : List ℕ) → (names : List (List ℕ)) → Setting → SearchValue → PartFault → Type 0
@@ -131,20 +133,21 @@ IsUnended input names g s fault =
     × (fault ≡ part.NotPart (line_number input place)) × HasNoNewline input place
     × IsGathering names g s (take place input) v
 
--- the last part does not have as many ends as its head names
+-- the last part has another number of ends than its head gives
 abbrev pub IsLastCut : (input : List ℕ) → (names : List (List ℕ)) → Setting → SearchValue → PartFault
     → Type 0
 IsLastCut input names g s fault =
     (number : ℕ) × (v : GatheringValue) × (fault ≡ part.OtherCount number) × IsGathering names g s input v
     × IsLastOther v number
 
--- the counts of all parts add up to 2^64 or more; or memory ran out
+-- either the counts of all parts add up to 2^64 or more, or memory ran out
 abbrev pub IsTooMany : List (List Ending) → PartFault → Type 0
 IsTooMany lists part.TooMany = 2 ^ 64 ≤ counted_by lists
 IsTooMany lists (part.Lab fault) = fault ≡ OutOfMemory
 IsTooMany lists fault = ⊥
 
--- a part is missing or comes twice, or there are too many interleavings
+-- the input consists of parts, but one is missing or comes twice, or their counts cannot be added
+-- up; or memory ran out
 pub record IsUnsummed (input : List ℕ) (names : List (List ℕ)) (g : Setting) (s : SearchValue)
     (fault : PartFault) : Type 0 where
   pub parts : List PartEndsValue
@@ -152,7 +155,8 @@ pub record IsUnsummed (input : List ℕ) (names : List (List ℕ)) (g : Setting)
   pub cause : IsMisplaced parts s.of fault
       ⊎ ((lists : List (List Ending)) × AreAll parts s.of lists × IsTooMany lists fault)
 
--- why the parts of a prepared scenario cannot be added up; the first head has been read
+-- the cause of each fault in adding up the parts of a prepared scenario, once the first head has been
+-- read
 abbrev pub IsUntoldSum : (input : List ℕ) → (names : List (List ℕ)) → Setting → SearchValue → PartFault
     → Type 0
 IsUntoldSum input names g s fault =
@@ -161,29 +165,29 @@ IsUntoldSum input names g s fault =
     ⊎ (IsUnended input names g s fault
     ⊎ (IsLastCut input names g s fault ⊎ IsUnsummed input names g s fault)))
 
--- the fault if the scenario that the head of part `number` names cannot be explored
+-- the fault if the scenario in the head of part `number` cannot be explored
 abbrev pub fault_of_head : (number : ℕ) → LabFault → PartFault
 fault_of_head number OutOfMemory = part.Lab OutOfMemory
 fault_of_head number why = part.Head number why
 
--- the scenario that the head names cannot be prepared, or the parts cannot be added up
+-- either the scenario in the head cannot be prepared, or the parts cannot be added up
 abbrev pub IsUnsummedIn : (input : List ℕ) → HeadValue → PartFault → Type 0
 IsUnsummedIn input h fault =
     ((why : LabFault) × (fault ≡ fault_of_head h.number why)
     × IsUnprepared h.search.scenario h.search.setup why)
     ⊎ HoldsIn (λ names before g. IsUntoldSum input names g h.search fault) h.search.scenario h.search.setup
 
--- the text begins with a head
+-- the text begins with this head
 abbrev pub BeginsWith : (input : List ℕ) → HeadValue → Type 0
 BeginsWith input h = (text : List ℕ) × IsLineAt input 0 text × IsHead text h
 
--- the text has no line, or its first line is not a head
+-- either the text has no newline, or its first line is not a head
 abbrev pub BeginsWithNone : (input : List ℕ) → Type 0
 BeginsWithNone input =
     HasNoNewline input 0
     ⊎ ((text : List ℕ) × IsLineAt input 0 text × ((h : HeadValue) → IsHead text h → ⊥))
 
--- the cause of each fault
+-- the cause of each fault of the sum
 abbrev pub IsSumFault : (input : List ℕ) → PartFault → Type 0
 IsSumFault input fault =
     (((fault ≡ part.NotPart 1) × BeginsWithNone input) ⊎ (fault ≡ part.Lab OutOfMemory))

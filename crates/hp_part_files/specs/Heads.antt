@@ -1,4 +1,4 @@
--- The head of a part: how it is written as JSON, and how it is read from serde_json's values.
+-- The head of a part, as it is written in JSON, and as it is read from serde_json's values.
 use Rattle.std.specs.Prelude.{◌≡◌, ℕ, ◌≤◌, List, ◌++◌, codes, Option, Some, None, nat_le, ◌&&◌, Bool, if◌then◌else◌, option_and_then}
 use Rattle.std.specs.Fmt.{decimal}
 use Rattle.serde_json.specs.Data.{Data}
@@ -10,8 +10,8 @@ use Rattle.hp_scenario.specs.Scenario.{json_of}
 use Rattle.hp_schedules.specs.PartNumbers.{part_by}
 use Rattle.hp_part_files.specs.Reading.{narrow, text_at}
 
--- the search of a part: the number of parts, how many first calls decide a part, how many lines are
--- the setup, and the scenario's text
+-- the search of a part: the number of parts, the number of first calls that decide a part, the number
+-- of lines in the setup, and the scenario's text
 pub record SearchValue : Type 0 where
   pub of : ℕ
   pub calls : ℕ
@@ -26,7 +26,7 @@ IsNumber s number = (1 ≤ number) × (number ≤ s.of)
 abbrev pub part_in : SearchValue → (number : ℕ) → PartValue
 part_in s number = part_by (record { number = number; of = s.of }) s.calls
 
--- ---- a head, as it is written
+-- ---- heads, as they are written
 
 abbrev pub head_part : (number : ℕ) → List ℕ
 head_part number = codes "{\"part\": " ++ decimal number
@@ -54,7 +54,7 @@ abbrev pub head_line : SearchValue → (number ends : ℕ) → List ℕ
 head_line s number ends =
     head_numbers s number ++ head_counts s.setup ends ++ escaped_text Kept s.scenario ++ codes "\"}"
 
--- ---- a head, as it is read
+-- ---- heads, as they are read
 
 -- the contents of a head
 pub record HeadValue : Type 0 where
@@ -62,7 +62,7 @@ pub record HeadValue : Type 0 where
   pub ends : ℕ
   pub search : SearchValue
 
--- there is a part `number` of `of` parts; there are at most 1,000,000 parts
+-- a search of `of` parts has a part with this number; it has at most 1,000,000 parts
 abbrev pub is_number : (number of : ℕ) → Bool
 is_number number of = nat_le 1 number && (nat_le number of && nat_le of 1000000)
 
@@ -89,7 +89,7 @@ head_from d = do
   scenario ← text_at (codes "scenario") d
   head_with number of calls setup ends scenario
 
--- the text is a head: its JSON has one, and the search writes that head byte for byte like this
+-- the text is a head: its JSON has one, and the search writes this head byte for byte like the text
 abbrev pub IsHead : (text : List ℕ) → HeadValue → Type 0
 IsHead text h =
     (option_and_then head_from (json_of text) ≡ Some h) × (text ≡ head_line h.search h.number h.ends)

@@ -1,4 +1,4 @@
--- The parts in the order of their numbers, and what is wrong if a part is missing or comes twice.
+-- The parts in the order of their numbers, and the first part that is missing or comes twice.
 use Rattle.std.specs.Prelude.{◌≡◌, ℕ, ◌+◌, ◌-◌, ◌≤◌, ◌<◌, List, length, map, slice_index_or}
 use Rattle.std.specs.Global.{Vec}
 use Rattle.std.specs.List.{All}
@@ -25,11 +25,12 @@ abbrev pub ArePlacedBelow : (below : ℕ) → List PartEndsValue → Type 0
 ArePlacedBelow below parts =
     (k : ℕ) (d : PartEndsValue) → k < below → (slice_index_or parts k d).number ≡ k + 1
 
--- each part comes once: in this order, the parts have the numbers 1 to `of`
+-- each part comes once: the parts in this order have the numbers 1 to `of`
 pub record AreInPlace (of : ℕ) (ordered : List PartEndsValue) : Type 0 where
   pub count : length ordered ≡ of
   pub numbers : ArePlacedBelow of ordered
 
+-- each part comes once, and the lists have the ends of the parts in the order of their numbers
 pub record AreAll (parts : List PartEndsValue) (of : ℕ) (lists : List (List Ending)) : Type 0 where
   pub ordered : List PartEndsValue
   pub moved : IsPermutation parts ordered
@@ -38,7 +39,7 @@ pub record AreAll (parts : List PartEndsValue) (of : ℕ) (lists : List (List En
 
 -- ---- a part that is missing or comes twice
 
--- `number` is the first that is missing: each lower number comes once, and all other parts have higher
+-- `number` is the lowest missing number: each lower number comes once, and all other parts have higher
 -- numbers
 pub record IsMissing (parts : List PartEndsValue) (of number : ℕ) : Type 0 where
   pub some : 1 ≤ number
@@ -47,8 +48,8 @@ pub record IsMissing (parts : List PartEndsValue) (of number : ℕ) : Type 0 whe
   pub beyond : (k : ℕ) (d : PartEndsValue) → number ≤ k + 1 → k < length parts
       → number < (slice_index_or parts k d).number
 
--- `number` is the first that comes twice: each lower number comes once, and all other parts have this
--- number or a higher one
+-- `number` is the lowest number that comes twice: each lower number comes once, and all other parts
+-- have this number or a higher one
 pub record IsTwice (parts : List PartEndsValue) (number : ℕ) : Type 0 where
   pub some : 1 ≤ number
   pub before : ArePlacedBelow number parts
@@ -57,12 +58,14 @@ pub record IsTwice (parts : List PartEndsValue) (number : ℕ) : Type 0 where
   pub beyond : (k : ℕ) (d : PartEndsValue) → number ≤ k → k < length parts
       → number ≤ (slice_index_or parts k d).number
 
+-- a part is missing from the sorted list or comes twice in it, as the fault reports
 abbrev pub IsMisplaced : List PartEndsValue → (of : ℕ) → OrderFault → Type 0
 IsMisplaced parts of (Missing number) = IsMissing parts of number
 IsMisplaced parts of (Twice number) = IsTwice parts number
 IsMisplaced parts of OutOfMemory = ⊥
 
--- the same for parts that are not sorted
+-- a part is missing from the list or comes twice in it, as the fault reports, or memory ran out;
+-- the list need not be sorted
 abbrev pub IsOrderFault : List PartEndsValue → (of : ℕ) → OrderFault → Type 0
 IsOrderFault parts of OutOfMemory = Unit {0}
 IsOrderFault parts of fault =

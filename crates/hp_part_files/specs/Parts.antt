@@ -1,4 +1,4 @@
--- What the search of one part promises.
+-- The promises of the search of one part.
 use Rattle.std.specs.Prelude.{◌≡◌, ◌⊎◌, ℕ, ◌-◌, ◌*◌, ◌<◌, ◌≤◌, ◌^◌, Bool, List, Option, Some, None, length, sum_by}
 use Rattle.std.specs.Option.{is_none}
 use Rattle.hp_explore.specs.declared.exploring.Exploration.{Exploration}
@@ -21,9 +21,10 @@ use Rattle.hp_schedules.specs.PartNumbers.{NumberValue, part_by}
 use Rattle.hp_part_files.specs.Heads.{SearchValue}
 use Rattle.hp_part_files.specs.Texts.{part_text}
 
--- None: the ends are those of all complete schedules of the part, these are at most `limit`, and none
--- fills the history. Otherwise the ends are those of the part's first schedules, and there are more;
--- either they count `limit` schedules, or the watch has ended the search
+-- None: the ends count all complete schedules of the part, and there are at most `limit` of these.
+-- No schedule in the part's search fills the history. Otherwise the ends count the part's first
+-- schedules, and there are more: either `limit` schedules are counted, or the watch has ended the
+-- search. `known` is the number of all complete schedules, as far as it is known before any call
 abbrev pub ArePartEnds : Setting → PartValue → (limit : ℕ) → (ended : Type 0) → List Ending → Option HowMany
     → Type 0
 ArePartEnds g part limit ended ends None =
@@ -33,8 +34,8 @@ ArePartEnds g part limit ended ends (Some known) =
     AreFirstInPart g part (counted ends) ends × HasMoreThan (IsCompleteInPart g part) (counted ends)
     × ((counted ends ≡ limit) ⊎ ended) × IsKnown g.scripts (2 ^ 64 - 1) known
 
--- how many first calls decide a part (hp_explore): the fewest with at least 64 schedules per part, if
--- no script ends before them
+-- the number of first calls that decide a part (hp_explore): the smallest that gives at least 64
+-- beginnings per part, if no script ends earlier. It is 0 for fewer than two parts or processors
 pub record IsCallsFor (processors parts calls : ℕ) : Type 0 where
   pub one : parts < 2 → calls ≡ 0
   pub alone : processors < 2 → calls ≡ 0
@@ -59,24 +60,24 @@ pub record IsPartOn (n : NumberValue) (setup : ℕ) (scenario : List ℕ) (limit
   pub told : text ≡ part_text names g (search_of n calls setup scenario) n.number ends more
   pub is_found : found ≡ is_none more
 
--- the text of a part's exploration
+-- the text reports the exploration of a part
 abbrev pub IsToldPart : (names : List (List ℕ)) → Setting → SearchValue → (number : ℕ) → Exploration
     → (text : List ℕ) → (found : Bool) → Type 0
 IsToldPart names g s number x text found =
     (more : Option HowMany) × IsMore g.scripts x.is_whole more
     × (text ≡ part_text names g s number x.ends.items more) × (found ≡ is_none more)
 
--- within the limit, a schedule of the part fills the history
+-- a schedule of the part fills the history within the limit
 abbrev pub FillsPartOf : NumberValue → (limit : ℕ) → Setting → Type 0
 FillsPartOf n limit g =
     (calls : ℕ) × IsCallsFor (length g.scripts) n.of calls × FillsPartWithin g (part_by n calls) limit
 
--- why the search of a part fails
+-- the cause of a fault of a part's search
 abbrev pub IsPartCause : NumberValue → (limit : ℕ) → Setting → ExploreFault → Type 0
 IsPartCause n limit g explore.HistoryFull = FillsPartOf n limit g
 IsPartCause n limit g explore.OutOfMemory = Unit {0}
 
--- the text is that of a part of the scenario
+-- the input is a scenario, and the text reports the search of a part of its schedules
 abbrev pub IsPartOf : NumberValue → (input : List ℕ) → (setup limit : ℕ) → (ended : Type 0)
     → (text : List ℕ) → (found : Bool) → Type 0
 IsPartOf n input setup limit ended text found =

@@ -1,4 +1,4 @@
--- The processors of an end's first schedule, as the end's line names them.
+-- The processors of an end's first schedule, as the end's line has them.
 use Rattle.std.specs.Prelude.{ℕ, true, List, ◌++◌, codes}
 use Rattle.std.specs.Fmt.{decimal}
 use Rattle.hp_text.specs.Separated.{separated}

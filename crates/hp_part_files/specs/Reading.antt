@@ -1,4 +1,4 @@
--- How the lines of parts are read from serde_json's values.
+-- Reading the lines of parts from serde_json's values.
 use Rattle.std.specs.Prelude.{◌≡◌, ◌⊎◌, ℕ, ◌^◌, List, codes, Option, Some, None, nat_lt, if◌then◌else◌, option_and_then}
 use Rattle.serde_json.specs.Data.{Data}
 use Rattle.serde_json.specs.Find.{get, as_number, as_u64, as_str, as_array}
@@ -15,7 +15,7 @@ text_at key d = option_and_then as_str (get key d)
 abbrev pub narrow : ℕ → Option ℕ
 narrow n = if nat_lt n (2 ^ 32) then Some n else None
 
--- the processor whose number the value is
+-- the processor that the value names
 abbrev pub processor_of : Data → Option ℕ
 processor_of d = option_and_then narrow (option_and_then as_u64 (as_number d))
 
@@ -23,7 +23,8 @@ processor_of d = option_and_then narrow (option_and_then as_u64 (as_number d))
 unfoldable pub schedule_in : Data → Option (List ℕ)
 schedule_in d = option_and_then (each_in processor_of) (option_and_then as_array (get (codes "processors") d))
 
--- a line that is neither a head nor an end: the part stopped at its limit, or something else
+-- a line that is neither a head nor an end: either the part stopped at its limit, or the line is
+-- something else
 abbrev pub IsRest : Data → PartLine → Type 0
 IsRest d Stop = (n : ℕ) × (number_at (codes "first") d ≡ Some n)
 IsRest d Other = number_at (codes "first") d ≡ None
@@ -35,13 +36,13 @@ IsNoEnd d =
     (number_at (codes "part") d ≡ None)
     × ((number_at (codes "interleavings") d ≡ None) ⊎ (schedule_in d ≡ None))
 
--- the value has the number of a part, but not how many ends it has
+-- the value has the number of a part, but no number of ends
 abbrev pub IsNoHead : Data → Type 0
 IsNoHead d =
     ((n : ℕ) × (number_at (codes "part") d ≡ Some n)) × (number_at (codes "ends") d ≡ None)
 
--- what a line is: a head with its number and how many ends it names; an end with its count and its
--- schedule; or that the part stopped at its limit
+-- the kind of a line: either a head with its number and its number of ends, or an end with its
+-- count and its schedule. Otherwise the part stopped at its limit, or the line is something else
 abbrev pub IsLineOf : Data → PartLine → Type 0
 IsLineOf d (Head number ends) =
     (number_at (codes "part") d ≡ Some number) × (number_at (codes "ends") d ≡ Some ends)
@@ -51,11 +52,12 @@ IsLineOf d (End count schedule) =
 IsLineOf d Stop = IsNoEnd d × IsRest d Stop
 IsLineOf d Other = IsNoHead d ⊎ (IsNoEnd d × IsRest d Other)
 
--- what the bytes of a line are; if they are not JSON, `Other`
+-- the kind of a line with this JSON value; `Other` without one
 abbrev pub IsLineIn : Option Data → PartLine → Type 0
 IsLineIn None Other = Unit {0}
 IsLineIn None line = ⊥
 IsLineIn (Some d) line = IsLineOf d line
 
+-- the kind of a line with this text
 abbrev pub IsLine : (text : List ℕ) → PartLine → Type 0
 IsLine text line = IsLineIn (json_of text) line

@@ -1,4 +1,4 @@
--- What the sum of parts promises.
+-- The promises of the sum of parts.
 use Rattle.std.specs.Prelude.{◌≡◌, ℕ, ◌<◌, Bool, List, None, length, sum_by}
 use Rattle.hp_schedules.specs.declared.tally.Ending.{Ending}
 use Rattle.hp_schedules.specs.Ends.{AreEnds, AreInOrder}
@@ -15,9 +15,9 @@ use Rattle.hp_part_files.specs.Heads.{HeadValue, SearchValue}
 use Rattle.hp_part_files.specs.Faults.{BeginsWith}
 use Rattle.hp_part_files.specs.Gathered.{IsGathered}
 
--- the ends are sorted, no two have the same outcome, and the counts are those of the lists added up. If
--- the lists are those of all parts of a search, the ends are those of the whole, in the order of their
--- first schedules (see Adding)
+-- the ends are the sum of the lists, sorted, and no two have the same outcome. If the lists have the
+-- ends of all parts of a search, the sum has the ends of the whole search, in the order of their first
+-- schedules (see Adding)
 pub record IsSum (lists : List (List Ending)) (ends : List Ending) : Type 0 where
   pub are : (g : Setting) (calls : ℕ) → 0 < length lists → AreParts g calls lists → AreEnds g ends
   pub ordered : (g : Setting) (calls : ℕ) → 0 < length lists → AreParts g calls lists → AreInOrder ends
@@ -25,9 +25,9 @@ pub record IsSum (lists : List (List Ending)) (ends : List Ending) : Type 0 wher
   pub apart : AreApart ends
   pub total : sum_by (λ e. e.count) ends ≡ counted_by lists
 
--- the input is, byte for byte, what the search writes for its parts, and each part comes once. Each end
--- has the outcome of its own schedule, which is a complete schedule of its part. The text has the
--- merged ends
+-- the input is, byte for byte, the text that the search writes for its parts, and each part comes once.
+-- Each end has the outcome of its own schedule, which is a complete schedule of its part. The text
+-- reports the sum of the ends
 pub record IsSumOn (form : EndsForm) (input : List ℕ) (s : SearchValue) (text : List ℕ) (found : Bool)
     (names : List (List ℕ)) (before : List Line) (g : Setting) : Type 0 where
   pub parts : List PartEndsValue
@@ -38,7 +38,7 @@ pub record IsSumOn (form : EndsForm) (input : List ℕ) (s : SearchValue) (text 
   pub sum : IsSum lists ends
   pub told : AreEndsTold form names before g ends None text found
 
--- the same for the scenario that the first head names
+-- the text reports the sum for the scenario in the first head
 abbrev pub IsSumOf : EndsForm → (input text : List ℕ) → (found : Bool) → Type 0
 IsSumOf form input text found =
     (h : HeadValue) × BeginsWith input h

@@ -23,7 +23,7 @@ end_lines names g number (e ∷ ends) =
 
 -- ---- a part
 
--- a part's head, which names `named` ends, and the ends so far
+-- a part's head, with `named` as its number of ends, and its ends so far
 abbrev pub begun_lines : (names : List (List ℕ)) → Setting → SearchValue → (number named : ℕ) → List Ending
     → List ℕ
 begun_lines names g s number named ends = head_line s number named ++ newline ++ end_lines names g 1 ends
@@ -32,7 +32,7 @@ begun_lines names g s number named ends = head_line s number named ++ newline ++
 abbrev pub part_lines : (names : List (List ℕ)) → Setting → SearchValue → (number : ℕ) → List Ending → List ℕ
 part_lines names g s number ends = begun_lines names g s number (length ends) ends
 
--- a part, and how many interleavings were counted if not all were
+-- a part and, if not all interleavings were counted, the number that were
 abbrev pub part_text : (names : List (List ℕ)) → Setting → SearchValue → (number : ℕ) → List Ending
     → Option HowMany → List ℕ
 part_text names g s number ends more =

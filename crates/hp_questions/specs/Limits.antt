@@ -15,7 +15,7 @@ use Rattle.hp_questions.specs.declared.wanted.Pattern.TheVariants.{Exactly, AnyO
 use Rattle.hp_questions.specs.declared.wanted.Wanted.{Wanted}
 use Rattle.hp_questions.specs.declared.wanted.Wanted.TheVariants.{Has, Lacks}
 
--- the refusal, or the reply, names a frame or a memory block outside the layout
+-- the refusal names a frame or a memory block outside the layout
 abbrev pub IsRefusalPast : LayoutParts → Refusal → Type 0
 IsRefusalPast l (Twice block) = l.blocks ≤ block
 IsRefusalPast l (Busy block) = l.blocks ≤ block
@@ -26,6 +26,7 @@ IsRefusalPast l (Unmovable frame) = frame_count l ≤ frame
 IsRefusalPast l (NotFree frame) = frame_count l ≤ frame
 IsRefusalPast l refusal = ⊥
 
+-- the reply names a frame or a memory block outside the layout
 abbrev pub IsReplyPast : LayoutParts → Reply → Type 0
 IsReplyPast l (Frame frame) = frame_count l ≤ frame
 IsReplyPast l (Moved from to) = (frame_count l ≤ from) ⊎ (frame_count l ≤ to)
@@ -37,17 +38,18 @@ abbrev pub IsPatternPast : LayoutParts → Pattern → Type 0
 IsPatternPast l (Exactly reply) = IsReplyPast l reply
 IsPatternPast l (AnyOf refusal) = ⊥
 
--- the layout has no such processor, or the pattern names something outside the layout
+-- either the layout has no such processor, or the pattern names something outside the layout
 abbrev pub IsAnswerPast : LayoutParts → (cpu : ℕ) → Pattern → Type 0
 IsAnswerPast l cpu reply = (l.cpus ≤ cpu) ⊎ IsPatternPast l reply
 
--- a pattern for the end of a plan names something outside the layout
+-- the pattern for the end of a plan names something outside the layout
 abbrev pub IsEndPast : LayoutParts → EndPattern → Type 0
 IsEndPast l (RefusedAs refusal) = IsPatternPast l refusal
 IsEndPast l (CancelledAs (Some refusal) restored) = IsPatternPast l refusal
 IsEndPast l end = ⊥
 
--- the same for the end of a plan of this processor, or of any; or the layout has no such processor
+-- the pattern for the end of a plan names something outside the layout, or the layout has no such
+-- processor, if one is named
 abbrev pub IsPlanPast : LayoutParts → (cpu : Option ℕ) → EndPattern → Type 0
 IsPlanPast l None end = IsEndPast l end
 IsPlanPast l (Some cpu) end = (l.cpus ≤ cpu) ⊎ IsEndPast l end
@@ -60,7 +62,7 @@ IsLinePast l (AnswerAt cpu earlier reply) = IsAnswerPast l cpu reply
 IsLinePast l (Plan cpu end) = IsPlanPast l cpu end
 IsLinePast l (Block block row) = l.blocks ≤ block
 
--- the line that an end is to have or to lack names something outside the layout
+-- the wanted line, which an end is to have or to lack, names something outside the layout
 abbrev pub IsPast : LayoutParts → Wanted → Type 0
 IsPast l (Has line) = IsLinePast l line
 IsPast l (Lacks line) = IsLinePast l line
@@ -69,7 +71,8 @@ IsPast l (Lacks line) = IsLinePast l line
 abbrev pub AreWithin : LayoutParts → List Wanted → Type 0
 AreWithin l wanted = (k : ℕ) (line : Wanted) → slice_get wanted k ≡ Some line → IsPast l line → ⊥
 
--- the line with this number, counted from 1, is the first that names something outside the layout
+-- the wanted line with this number, counted from 1, is the first that names something outside the
+-- layout
 pub record IsFirstPast (l : LayoutParts) (wanted : List Wanted) (number : ℕ) : Type 0 where
   pub place : ℕ
   pub line : Wanted

@@ -1,4 +1,5 @@
--- Which wanted lines are met so far, as numbers, and when no end can meet all of them any more.
+-- The wanted lines that the records have so far, as numbers, and when no later end can meet all of
+-- them.
 use Rattle.std.specs.Prelude.{◌≡◌, ◌⊎◌, ◌↔◌, ℕ, ◌+◌, ◌<◌, Bool, true, false, List, ◌++◌, Some, length, slice_get}
 use Rattle.std.specs.List.{list_all}
 use Rattle.hp_units.specs.LayoutParts.{LayoutParts}
@@ -31,7 +32,7 @@ leaves_plans line = true
 abbrev pub asks_no_plans : List Wanted → Bool
 asks_no_plans wanted = list_all (λ one. leaves_plans (line_of one)) wanted
 
--- a reply so far meets the line, so that every later end has the line
+-- a reply so far matches the line, so that every later end has the line
 abbrev pub HasReplySoFar : (processors : ℕ) → List Record → EndLine → Type 0
 HasReplySoFar processors news (Plan cpu end) = ⊥
 HasReplySoFar processors news (Block block row) = ⊥
@@ -39,14 +40,15 @@ HasReplySoFar processors news (Answer cpu reply) = HasAnswer reply (replies_belo
 HasReplySoFar processors news (AnswerAt cpu earlier reply) =
     HasAnswerAt reply (replies_below processors news) cpu earlier
 
--- a reply so far meets the line, or a finished plan ended as the line wants
+-- either a reply so far matches the line, or a finished plan ended as the line wants
 abbrev pub HasLineSoFar : (cpus : ℕ) → (scripts : List (List Step)) → (processors : ℕ) → List Record → EndLine
     → Type 0
 HasLineSoFar cpus scripts processors news (Plan cpu end) =
     HasPlanEnd end (all_plan_ends cpus scripts (replies_below processors news)) cpu
 HasLineSoFar cpus scripts processors news line = HasReplySoFar processors news line
 
--- `met` has a number for each of the first `lines` wanted lines: 1 if the line is met so far, else 0
+-- `met` has one number for each of the first `lines` wanted lines: 1 if the records have the line
+-- so far, else 0. This is also so for a line that an end is to lack
 abbrev pub AreMet : (cpus : ℕ) → (scripts : List (List Step)) → List Wanted → (processors : ℕ) → List Record
     → (lines : ℕ) → List ℕ → Type 0
 AreMet cpus scripts wanted processors news lines met =
@@ -55,8 +57,8 @@ AreMet cpus scripts wanted processors news lines met =
     → (n : ℕ) × (slice_get met k ≡ Some n)
     × ((n ≡ 1) ↔ HasLineSoFar cpus scripts processors news (line_of one)) × ((n ≡ 0) ⊎ (n ≡ 1)))
 
--- the marks: for each processor its number of replies, and for each wanted line 1 if the line is met so
--- far, else 0
+-- the marks of a place: each processor's number of replies, and then, for each wanted line, 1 if
+-- the records have the line so far, else 0. This is also so for a line that an end is to lack
 pub record AreMarks (cpus : ℕ) (scripts : List (List Step)) (wanted : List Wanted) (processors : ℕ)
     (news : List Record) (marks : List ℕ) : Type 0 where
   pub many : length marks ≡ processors + length wanted
@@ -65,7 +67,7 @@ pub record AreMarks (cpus : ℕ) (scripts : List (List Step)) (wanted : List Wan
       → (n : ℕ) × (slice_get marks (processors + k) ≡ Some n)
       × ((n ≡ 1) ↔ HasLineSoFar cpus scripts processors news (line_of one)) × ((n ≡ 0) ⊎ (n ≡ 1))
 
--- after `first` and after `second`, the records `more` make the same plans end in the same way
+-- the records `more` make the same plans end in the same way after `first` and after `second`
 abbrev pub PlansGoOn : (cpus : ℕ) → (scripts : List (List Step)) → (processors : ℕ)
     → (first second more : List Record) → Type 0
 PlansGoOn cpus scripts processors first second more =
@@ -75,7 +77,7 @@ PlansGoOn cpus scripts processors first second more =
     × (plan_ends_of cpus scripts (replies_below processors (second ++ more)) cpu
     ≡ plan_ends_of cpus scripts (replies_below processors second) cpu ++ later)
 
--- the line wants a reply at a place, and the reply there does not match
+-- the line wants a processor's reply with a certain number, and that reply does not match
 abbrev pub IsMissed : List Record → EndLine → Type 0
 IsMissed news (Answer cpu reply) = ⊥
 IsMissed news (AnswerAt cpu earlier reply) =
@@ -83,12 +85,12 @@ IsMissed news (AnswerAt cpu earlier reply) =
 IsMissed news (Plan cpu end) = ⊥
 IsMissed news (Block block row) = ⊥
 
--- the records show that no end after them can meet this
+-- the records show that no later end can meet the wanted line
 abbrev pub IsRuledOut : (processors : ℕ) → List Record → Wanted → Type 0
 IsRuledOut processors news (Has line) = IsMissed news line
 IsRuledOut processors news (Lacks line) = HasReplySoFar processors news line
 
--- no end after these records meets all that is wanted
+-- no end after these records meets all wanted lines
 abbrev pub IsLost : (cpus : ℕ) → (scripts : List (List Step)) → List Wanted → (processors : ℕ) → List Record
     → Type 0
 IsLost cpus scripts wanted processors news =

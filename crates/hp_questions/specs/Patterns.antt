@@ -18,12 +18,12 @@ kind_of (NotFree frame) = NotFree 0
 kind_of (NotAbsent block) = NotAbsent 0
 kind_of refusal = refusal
 
--- the reply is a refusal for the same reason
+-- the reply is a refusal of the same kind
 abbrev pub IsKindOf : Refusal → Reply → Type 0
 IsKindOf wanted (Refused refusal) = kind_of refusal ≡ kind_of wanted
 IsKindOf wanted reply = ⊥
 
--- the reply matches
+-- the reply matches the pattern
 abbrev pub IsAsWanted : Pattern → Reply → Type 0
 IsAsWanted (Exactly wanted) reply = reply ≡ wanted
 IsAsWanted (AnyOf wanted) reply = IsKindOf wanted reply

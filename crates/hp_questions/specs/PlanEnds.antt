@@ -1,4 +1,4 @@
--- How the plans of a script ended, computed from the replies to its processor alone.
+-- The ends of a script's plans, computed from the replies to its processor alone.
 use Rattle.std.specs.Prelude.{ℕ, List, [], ◌∷◌, ◌++◌, Option, Some, None, fold, length, map, slice_index_or}
 use Rattle.std.specs.List.{range_with_len}
 use Rattle.std.specs.Option.{option_and_then, option_map_or, option_to_list}
@@ -12,14 +12,14 @@ use Rattle.hp_schedules.specs.declared.line_answers.LineAnswer.{LineAnswer}
 use Rattle.hp_schedules.specs.declared.line_answers.LineAnswer.TheVariants.{Plan as Carried}
 use Rattle.hp_schedules.specs.declared.scripts.Step.{Step}
 
--- the receipts after one more reply, which is to the script's next call; unchanged if the script is
--- over
+-- the receipts after one more reply, which is the reply to the script's next call; a finished script
+-- has no next call, and its receipts stay
 abbrev pub with_reply : (cpus : ℕ) → List Step → List Receipt → Reply → List Receipt
 with_reply cpus lines receipts reply =
     option_map_or (λ event. receipts ++ record { serial = 0; event = event; reply = reply } ∷ [])
     (next_of cpus lines receipts) receipts
 
--- the receipts of a script's calls that got these replies, with 0 for each serial
+-- the receipts of a script's calls, given the replies to them, with 0 for each serial
 abbrev pub receipts_by : (cpus : ℕ) → List Step → List Reply → List Receipt
 receipts_by cpus lines replies = fold (with_reply cpus lines) [] replies
 
@@ -28,11 +28,11 @@ abbrev pub end_answered : Option LineAnswer → Option OpEnd
 end_answered (Some (Carried end)) = Some end
 end_answered answer = None
 
--- the end of the plan that a call finished, if it finished one
+-- the end of the plan that a call finished; None if it finished none
 abbrev pub end_finished : Option FinishedLine → Option OpEnd
 end_finished f = option_and_then (λ line. end_answered line.answer) f
 
--- the ends of plans among answers, in their order
+-- the ends of plans among the answers, in their order
 abbrev pub ends_answered : List (Option LineAnswer) → List OpEnd
 ends_answered [] = []
 ends_answered (answer ∷ answers) = option_to_list (end_answered answer) ++ ends_answered answers
@@ -41,11 +41,11 @@ ends_answered (answer ∷ answers) = option_to_list (end_answered answer) ++ end
 unfoldable pub plan_ends : (cpus : ℕ) → List Step → List Reply → List OpEnd
 plan_ends cpus lines replies = ends_answered (answers_in cpus lines (receipts_by cpus lines replies))
 
--- the ends of the plans of this processor's script, by the replies to each processor
+-- the ends of the plans of this processor's script, from the replies to each processor
 abbrev pub plan_ends_of : (cpus : ℕ) → List (List Step) → List (List Reply) → (cpu : ℕ) → List OpEnd
 plan_ends_of cpus scripts all cpu =
     plan_ends cpus (slice_index_or scripts cpu []) (slice_index_or all cpu [])
 
--- the same for each script, from processor 0 on
+-- the ends of the plans of each script, from processor 0 on
 abbrev pub all_plan_ends : (cpus : ℕ) → List (List Step) → List (List Reply) → List (List OpEnd)
 all_plan_ends cpus scripts all = map (plan_ends_of cpus scripts all) (range_with_len 0 (length scripts))

@@ -22,7 +22,7 @@ use Rattle.hp_questions.specs.declared.wanted.Pattern.TheVariants.{Exactly, AnyO
 use Rattle.hp_questions.specs.declared.wanted.Wanted.{Wanted}
 use Rattle.hp_questions.specs.declared.wanted.Wanted.TheVariants.{Has, Lacks}
 
--- the parts between colons
+-- the parts of a text between its colons
 abbrev pub parts_of : List ℕ → List (List ℕ)
 parts_of text = slice_split (λ b. b == 58) text
 
@@ -40,7 +40,7 @@ numbered_refusal name number =
     else (if bytes_eq name (codes "NotAbsent") then Some (NotAbsent number)
     else None))))))
 
--- the refusal with this name, with 0 for its frame or block
+-- the refusal with this name; 0 is the number of its frame or block
 unfoldable pub named_refusal : (name : List ℕ) → Option Refusal
 named_refusal name =
     if bytes_eq name (codes "NoOwner") then Some NoOwner
@@ -61,7 +61,7 @@ named_refusal name =
     else (if bytes_eq name (codes "BadAddress") then Some BadAddress
     else numbered_refusal name 0)))))))))))))))
 
--- a name alone matches every refusal of its kind
+-- the pattern for a refusal. A name alone matches every refusal of its kind
 unfoldable pub refusal_of : List (List ℕ) → Option Pattern
 refusal_of (name ∷ []) = option_map (λ r. AnyOf r) (named_refusal name)
 refusal_of (name ∷ number ∷ []) = do
@@ -72,11 +72,12 @@ refusal_of _ = None
 
 -- ---- replies
 
--- a reply without arguments
+-- the pattern for a reply without arguments
 unfoldable pub bare_reply : Reply → List (List ℕ) → Option Pattern
 bare_reply reply [] = Some (Exactly reply)
 bare_reply reply _ = None
 
+-- the pattern for `moved` and its two frames
 unfoldable pub moved_reply : List (List ℕ) → Option Pattern
 moved_reply (from ∷ to ∷ []) = do
   f ← number_of 32 from
@@ -84,13 +85,13 @@ moved_reply (from ∷ to ∷ []) = do
   Some (Exactly (Moved f t))
 moved_reply _ = None
 
--- the argument of `opened` must be 0: an end does not show the operation's number
+-- the pattern for `opened`. Its argument must be 0, because an end does not show the operation's number
 unfoldable pub opened_reply : List (List ℕ) → Option Pattern
 opened_reply args = do
   op ← only_number 64 args
   if op == 0 then Some (Exactly (Opened 0)) else None
 
--- a reply from its first word and the other words
+-- the pattern for a reply, from its first word and the other words
 unfoldable pub reply_of : List ℕ → List (List ℕ) → Option Pattern
 reply_of word args =
     if bytes_eq word (codes "done") then bare_reply Done args
@@ -106,23 +107,24 @@ reply_of word args =
 
 -- ---- ends of plans
 
--- an end without arguments
+-- the pattern for an end without arguments
 unfoldable pub bare_end : EndPattern → List (List ℕ) → Option EndPattern
 bare_end end [] = Some end
 bare_end end _ = None
 
--- the last refusal by its name alone; a dash if there is none
+-- the pattern for a last refusal, given by its name alone; a dash if there is none
 unfoldable pub cause_of : (why : List ℕ) → Option (Option Pattern)
 cause_of why =
     if bytes_eq why (codes "-") then Some None else option_map (λ r. Some r) (refusal_of (why ∷ []))
 
--- what the Cancel did
+-- the pattern for a cancelled plan, with the effect of its Cancel: `restored` or `released`
 unfoldable pub cancelled_as : Option Pattern → (what : List ℕ) → Option EndPattern
 cancelled_as why what =
     if bytes_eq what (codes "restored") then Some (CancelledAs why true)
     else (if bytes_eq what (codes "released") then Some (CancelledAs why false) else None)
 
--- a plan that was cancelled, for any reason; or with the last refusal, and what the Cancel did
+-- the pattern for a cancelled plan: either without arguments, or with the last refusal and the effect
+-- of the Cancel
 unfoldable pub cancelled_end : List (List ℕ) → Option EndPattern
 cancelled_end [] = Some Cancelled
 cancelled_end (why ∷ what ∷ []) = do
@@ -133,8 +135,8 @@ cancelled_end (name ∷ number ∷ what ∷ []) = do
   cancelled_as (Some refusal) what
 cancelled_end _ = None
 
--- the end of a plan from its first word and the other words. There is none for a plan that was left: a
--- full history ends the search
+-- the pattern for the end of a plan, from its first word and the other words. There is none for a plan
+-- that was left, because a full history ends the search
 unfoldable pub end_of : List ℕ → List (List ℕ) → Option EndPattern
 end_of word args =
     if bytes_eq word (codes "done") then bare_end DoneSo args
@@ -143,7 +145,7 @@ end_of word args =
     else (if bytes_eq word (codes "cancelled") then cancelled_end args
     else None)))
 
--- the end after the space that follows a colon
+-- the pattern for an end, from the words after a colon and a space
 unfoldable pub end_after_space : List (List ℕ) → Option EndPattern
 end_after_space ([] ∷ word ∷ args) = end_of word args
 end_after_space _ = None
@@ -164,6 +166,7 @@ unfoldable pub zone_row : State → List (List ℕ) → Option Row
 zone_row state (word ∷ []) = option_map (λ z. row_with state (Some z)) (zone_of word)
 zone_row state _ = None
 
+-- a block's row, from its state and the other words
 unfoldable pub row_of : List ℕ → List (List ℕ) → Option Row
 row_of word args =
     if bytes_eq word (codes "offline") then bare_row Offline args
@@ -172,6 +175,7 @@ row_of word args =
     else (if bytes_eq word (codes "going") then zone_row Going args
     else None)))
 
+-- the wanted line for a memory block, from the words after `block`
 unfoldable pub block_of : List (List ℕ) → Option EndLine
 block_of (number ∷ word ∷ args) = do
   b ← number_of 32 number
@@ -181,53 +185,55 @@ block_of _ = None
 
 -- ---- lines
 
--- a reply to any processor
+-- the wanted line for a reply to any processor
 unfoldable pub any_of : List ℕ → List (List ℕ) → Option EndLine
 any_of word args = option_map (λ reply. Answer None reply) (reply_of word args)
 
--- a reply to any processor, or a memory block
+-- the wanted line for either a reply to any processor or a memory block
 unfoldable pub line_by : List ℕ → List (List ℕ) → Option EndLine
 line_by word args = if bytes_eq word (codes "block") then block_of args else any_of word args
 
+-- the wanted line in words without a colon
 unfoldable pub line_of : List (List ℕ) → Option EndLine
 line_of [] = None
 line_of (word ∷ args) = line_by word args
 
--- the reply after the space that follows a colon
+-- the pattern for a reply, from the words after a colon and a space
 unfoldable pub reply_after_space : List (List ℕ) → Option Pattern
 reply_after_space ([] ∷ word ∷ args) = reply_of word args
 reply_after_space _ = None
 
--- the reply with this number, counted from 1
+-- the wanted line for a processor's reply with this number, counted from 1
 unfoldable pub numbered_answer : (cpu number : List ℕ) → Pattern → Option EndLine
 numbered_answer cpu number reply = do
   c ← number_of 32 cpu
   n ← number_of 64 number
   if n == 0 then None else Some (AnswerAt c (n - 1) reply)
 
--- the words `cpu CPU answer NUMBER`
+-- the wanted line for a reply, after the words `cpu CPU answer NUMBER`
 unfoldable pub named_answer : (first cpu second number : List ℕ) → Pattern → Option EndLine
 named_answer first cpu second number reply =
     if bytes_eq first (codes "cpu")
     then (if bytes_eq second (codes "answer") then numbered_answer cpu number reply else None)
     else None
 
--- the words before a colon: a processor, or one of its answers
+-- the wanted line for a reply. The words before its colon give either a processor or one of its replies
 unfoldable pub answer_by : List (List ℕ) → Pattern → Option EndLine
 answer_by (cpu ∷ []) reply = option_map (λ c. Answer (Some c) reply) (number_of 32 cpu)
 answer_by (first ∷ cpu ∷ second ∷ number ∷ []) reply = named_answer first cpu second number reply
 answer_by _ reply = None
 
+-- the wanted line for a reply, from the words before its colon and after it
 unfoldable pub answer_of : (who words : List (List ℕ)) → Option EndLine
 answer_of who words = do
   reply ← reply_after_space words
   answer_by who reply
 
--- the end of a plan of this processor, or of any
+-- the wanted line for the end of a plan of this processor, or of any processor
 unfoldable pub plan_line : (cpu : Option ℕ) → (words : List (List ℕ)) → Option EndLine
 plan_line cpu words = option_map (λ end. Plan cpu end) (end_after_space words)
 
--- the processor, `plan` and its end, between colons
+-- the wanted line in three parts between colons: a processor, `plan`, and the plan's end
 unfoldable pub own_plan : (who mark end : List ℕ) → Option EndLine
 own_plan who mark end =
     if bytes_eq mark (codes " plan") then (do
@@ -235,23 +241,24 @@ own_plan who mark end =
       plan_line (Some cpu) (words_of end))
     else None
 
--- a line with one colon: `plan` and the end of one, or a processor and a reply to it
+-- the wanted line with one colon: either `plan` and a plan's end, or a processor and a reply to it
 unfoldable pub colon_line : (who rest : List ℕ) → Option EndLine
 colon_line who rest =
     if bytes_eq who (codes "plan") then plan_line None (words_of rest)
     else answer_of (words_of who) (words_of rest)
 
--- a line from the parts between its colons
+-- the wanted line in the parts between its colons
 unfoldable pub line_in : List (List ℕ) → Option EndLine
 line_in (line ∷ []) = line_of (words_of line)
 line_in (who ∷ rest ∷ []) = colon_line who rest
 line_in (who ∷ mark ∷ end ∷ []) = own_plan who mark end
 line_in _ = None
 
+-- the wanted line in a text
 unfoldable pub end_line : List ℕ → Option EndLine
 end_line text = line_in (parts_of text)
 
--- a line that an end is to have, or after `not ` to lack
+-- the line that an end is to have or, after `not `, to lack
 unfoldable pub wanted_line : List ℕ → Option Wanted
 wanted_line text =
     if starts_with nat_eq text (codes "not ") then option_map (λ l. Lacks l) (end_line (drop 4 text))

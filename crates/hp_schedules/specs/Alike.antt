@@ -24,8 +24,7 @@ leaves_steps (Undoes serial) = false
 leaves_steps (Cancels op) = true
 leaves_steps Acts = true
 
--- no line of the scripts undoes steps by their serials, or works on an operation by the number of its
--- Begin. Then schedules that lead to the same place may be merged
+-- the line neither undoes steps by their serials nor works on an operation by the number of its Begin
 abbrev pub is_mergeable_line : Step → Bool
 is_mergeable_line (Ask event) = leaves_steps (effect_of event)
 is_mergeable_line (Own (Latest work)) = true
@@ -33,21 +32,23 @@ is_mergeable_line (Own (Nth nth work)) = false
 is_mergeable_line (Own (Free nth)) = true
 is_mergeable_line (Carry plan turns) = true
 
+-- all lines of a script are mergeable
 abbrev pub is_mergeable : List Step → Bool
 is_mergeable lines = list_all is_mergeable_line lines
 
+-- all lines of all scripts are mergeable: schedules that lead to the same place may be merged
 abbrev pub AreMergeable : List (List Step) → Type 0
 AreMergeable scripts = list_all is_mergeable scripts ≡ true
 
--- a receipt without its serial, and the list of these for one processor
+-- the receipt with 0 for its serial
 abbrev pub unnumbered : Receipt → Receipt
 unnumbered r = record { serial = 0; event = r.event; reply = r.reply }
 
+-- a processor's receipts without their serials
 abbrev pub exchanges : (cpu : ℕ) → List Record → List Receipt
 exchanges cpu news = map unnumbered (receipts_of cpu news)
 
--- no later Cancel can drop any of these steps: whether an operation is sole depends
--- on later steps only
+-- no later Cancel can drop any of these steps: whether an operation is sole depends only on later steps
 abbrev pub IsClosed : List Record → Type 0
 IsClosed steps =
     (op : ℕ) (tail : List Record)
@@ -61,8 +62,8 @@ pub record AreJoined (l : LayoutParts) (base : Memory) (first second : List Reco
   pub second_open : AreOpen l base second openings
   pub state : run l base first ≡ run l base second
 
--- equally many records; each processor made the same requests, got the same replies, and began its
--- last operation with the same number; and the nets join
+-- h and k have equally many records, their nets join, and each processor made the same requests, got
+-- the same replies and began its last operation with the same number
 pub record AreAlike (g : Setting) (h k : List Record) : Type 0 where
   pub calls : length h ≡ length k
   pub exchanged : (cpu : ℕ) → cpu < length g.scripts → exchanges cpu h ≡ exchanges cpu k
@@ -70,8 +71,9 @@ pub record AreAlike (g : Setting) (h k : List Record) : Type 0 where
       → own_operation (receipts_of cpu h) ≡ own_operation (receipts_of cpu k)
   pub nets : AreJoined g.layout g.base (net_of (g.start ++ h)) (net_of (g.start ++ k))
 
--- whether no Cancel can drop the steps so far, after one more event: a Begin, a Cancel or an UndoAfter
--- makes it false; a Read, a DrainFor or a Migrate leaves it as it was; any other event makes it true
+-- whether no later Cancel can drop the steps so far, including this event; `was` is the answer
+-- before the event. A Begin, a Cancel or an UndoAfter makes it false, a Read, a DrainFor or a
+-- Migrate leaves it as it was, and any other event makes it true
 abbrev pub closed_by : (was : Bool) → Event → Bool
 closed_by was (Read owner page index) = was
 closed_by was (DrainFor op cpu) = was
@@ -81,8 +83,10 @@ closed_by was (Cancel op) = false
 closed_by was (UndoAfter serial) = false
 closed_by was event = true
 
+-- `closed_by` for a record: a refused event changes nothing
 abbrev pub closed_after : (was : Bool) → Record → Bool
 closed_after was r = if is_refused r.reply then was else closed_by was r.event
 
+-- whether the events show that no later Cancel can drop any of the records
 abbrev pub is_closed : List Record → Bool
 is_closed history = fold closed_after true history

@@ -13,7 +13,7 @@ use Rattle.hp_schedules.specs.Outcomes.{OutcomeValue}
 unfoldable pub mixed : (digest number : ℕ) → ℕ
 mixed digest number = rotate_left w64 (bit_xor digest number * 11400714819323198485 % 2 ^ 64) 29
 
--- hash inputs for a refusal, for a reply, and for a block's row
+-- a hash input for a refusal
 abbrev pub refusal_number : Refusal → ℕ
 refusal_number NoOwner = 1
 refusal_number NoPage = 2
@@ -39,6 +39,7 @@ refusal_number (Unmovable frame) = mixed 21 frame
 refusal_number (NotFree frame) = mixed 22 frame
 refusal_number (NotAbsent block) = mixed 23 block
 
+-- a hash input for a reply
 abbrev pub reply_number : Reply → ℕ
 reply_number Done = 1
 reply_number Restored = 2
@@ -50,22 +51,26 @@ reply_number (Opened op) = mixed 7 op
 reply_number (Undone count) = mixed 8 count
 reply_number (Refused refusal) = mixed 9 (refusal_number refusal)
 
+-- a hash input for a block's row
 abbrev pub row_number : Row → ℕ
 row_number row = 4 * zone_number row.zone + state_number row.state
 
--- the hash after one more reply, one more row, or one more processor's replies
+-- the hash after mixing in a reply
 abbrev pub mixed_reply : (digest : ℕ) → Reply → ℕ
 mixed_reply digest reply = mixed digest (reply_number reply)
 
+-- the hash after mixing in a block's row
 abbrev pub mixed_row : (digest : ℕ) → Row → ℕ
 mixed_row digest row = mixed digest (row_number row)
 
+-- the hash after mixing in one processor's replies
 abbrev pub mixed_replies : (digest : ℕ) → List Reply → ℕ
 mixed_replies digest replies = mixed digest (fold mixed_reply 0 replies)
 
--- the hash of all processors' replies, and of how a schedule ends
+-- the hash of all processors' replies
 abbrev pub replies_digest : List (List Reply) → ℕ
 replies_digest replies = fold mixed_replies 0 replies
 
+-- the hash of an outcome
 unfoldable pub digest_of : OutcomeValue → ℕ
 digest_of x = fold mixed_row (replies_digest x.replies) x.blocks

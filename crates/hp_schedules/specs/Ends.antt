@@ -5,9 +5,9 @@ use Rattle.hp_schedules.specs.Orders.{HasCount, IsBefore, IsFirst}
 use Rattle.hp_schedules.specs.Outcomes.{OutcomeValue}
 use Rattle.hp_schedules.specs.Schedules.{EndsWith, Setting}
 
--- E s x states that the schedule s is in a set and has the outcome x. The ends count this set: there is
--- one end for each of its outcomes, with the number of schedules that end in this way and the first of
--- these. The counts add up to the number of schedules in the set
+-- E s x states that the schedule s is in a set and has the outcome x. The list has one end per outcome
+-- in the set, with the number of schedules that have this outcome and the first of them. The counts add
+-- up to the number of schedules in the set
 pub record AreCounted (E : List ℕ → OutcomeValue → Type 0) (ends : List Ending) : Type 0 where
   pub counts : (k : ℕ) (e : Ending) → slice_get ends k ≡ Some e → HasCount (λ s. E s e.outcome) e.count
   pub firsts : (k : ℕ) (e : Ending) → slice_get ends k ≡ Some e → IsFirst (λ s. E s e.outcome) e.first.items
@@ -17,7 +17,7 @@ pub record AreCounted (E : List ℕ → OutcomeValue → Type 0) (ends : List En
       → e.outcome ≡ f.outcome → i ≡ j
   pub total : HasCount (λ s. (x : OutcomeValue) × E s x) (sum_by (λ e. e.count) ends)
 
--- the ends are those of all complete schedules
+-- the ends count all complete schedules
 abbrev pub AreEnds : Setting → List Ending → Type 0
 AreEnds g ends = AreCounted (EndsWith g) ends
 

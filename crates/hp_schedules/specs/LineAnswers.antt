@@ -13,18 +13,18 @@ use Rattle.hp_schedules.specs.declared.line_answers.LineAnswer.TheVariants.{Repl
 use Rattle.hp_schedules.specs.declared.scripts.Step.{Step}
 use Rattle.hp_schedules.specs.declared.scripts.Step.TheVariants.{Carry}
 
--- the answer to a line that is finished with these receipts of its own: how its plan ended, or the
--- reply to its call; None after replies that no machine gives
+-- the answer to a line that is finished with its receipts `own`: either how its plan ended or the reply
+-- to its call; None after replies that no machine gives
 abbrev pub answer_of : Step → List Receipt → Option LineAnswer
 answer_of (Carry plan turns) own = option_map Carried (end_of own)
 answer_of line own = option_map (λ r. Replied r.reply) (slice_get own 0)
 
--- the receipts without `rest`, which is their end
+-- the receipts before `rest`, which is their end
 abbrev pub without : (receipts rest : List Receipt) → List Receipt
 without receipts rest = take (length receipts - length rest) receipts
 
--- the answers to the finished ones of these lines, in order; the receipts are those since the first
--- line began. Whether a line is finished does not depend on the numbers that it works on
+-- the answers to the finished lines, in order; the receipts are a processor's since the first of these
+-- lines began. Whether a line is finished does not depend on the numbers of its operations and frames
 abbrev pub answers_in : (cpus : ℕ) → List Step → List Receipt → List (Option LineAnswer)
 answers_in cpus [] receipts = []
 answers_in cpus (line ∷ lines) receipts =
@@ -37,7 +37,7 @@ answers_at g cpu news =
     option_map_or (λ lines. answers_in g.layout.cpus lines (receipts_of cpu news)) (slice_get g.scripts cpu)
     []
 
--- the line that one more call finished, if any, and its answer
+-- one more call finished either no line or the next one, whose answer is added
 abbrev pub IsAnswered : (old : List (Option LineAnswer)) → Option FinishedLine
     → (new : List (Option LineAnswer)) → Type 0
 IsAnswered old None new = new ≡ old

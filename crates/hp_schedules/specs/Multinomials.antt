@@ -5,29 +5,31 @@ use Rattle.std.specs.Prelude.{◌≡◌, ℕ, zero, suc, ◌*◌, ◌<◌, ◌==
 abbrev pub turns_of : (cpu : ℕ) → List ℕ → ℕ
 turns_of cpu schedule = count_by (λ c. c == cpu) schedule
 
--- a factorial, and the product of several
+-- the factorial of a number
 abbrev pub factorial : ℕ → ℕ
 factorial zero = 1
 factorial (suc n) = suc n * factorial n
 
+-- the product of the factorials of several numbers
 abbrev pub factorials : List ℕ → ℕ
 factorials [] = 1
 factorials (n ∷ ns) = factorial n * factorials ns
 
+-- the sum of several numbers
 abbrev pub sum : List ℕ → ℕ
 sum ns = sum_by (λ n. n) ns
 
--- the number is the multinomial coefficient of the others (Knuth 1, 1.2.6)
+-- `m` is the multinomial coefficient of the numbers `ns` (Knuth 1, 1.2.6)
 abbrev pub IsMultinomial : List ℕ → ℕ → Type 0
 IsMultinomial ns m = m * factorials ns ≡ factorial (sum ns)
 
--- the number is the coefficient with one more length, if `count` is that of the others and `total` is
--- their sum
+-- `m` is the multinomial coefficient of some numbers and one more, `length`, if the coefficient of the
+-- numbers is `count` and their sum is `total`
 abbrev pub IsMultinomialWith : (count total length m : ℕ) → Type 0
 IsMultinomialWith count total length m =
     (ns : List ℕ) → sum ns ≡ total → IsMultinomial ns count → IsMultinomial (ns ++ length ∷ []) m
 
--- that coefficient is above the limit
+-- the multinomial coefficient with `length` is above the limit
 abbrev pub ExceedsWith : (count total length limit : ℕ) → Type 0
 ExceedsWith count total length limit =
     (ns : List ℕ) (m : ℕ) → sum ns ≡ total → IsMultinomial ns count → IsMultinomial (ns ++ length ∷ []) m

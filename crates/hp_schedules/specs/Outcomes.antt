@@ -13,7 +13,8 @@ pub record OutcomeValue : Type 0 where
   pub replies : List (List Reply)
   pub blocks : List Row
 
--- a reply with 0 for the number of an opened operation, which only counts the calls before
+-- a reply with 0 for the number of an opened operation, because this number only counts the calls
+-- before it
 abbrev pub told : Reply → Reply
 told (Opened op) = Opened 0
 told reply = reply
@@ -22,20 +23,20 @@ told reply = reply
 abbrev pub replies_to : (cpu : ℕ) → List Record → List Reply
 replies_to cpu news = map (λ r. told r.reply) (filter (λ r. r.cpu == cpu) news)
 
--- the same for each processor below a number
+-- the replies to each processor below `processors`, with 0 for the numbers of opened operations
 abbrev pub replies_below : (processors : ℕ) → List Record → List (List Reply)
 replies_below processors news = map (λ cpu. replies_to cpu news) (range_with_len 0 processors)
 
--- a block's row without its claim
+-- a block's row without its claim; a block without a row is offline
 abbrev pub ended_row : Option Row → Row
 ended_row (Some row) = record row { claim = None }
 ended_row None = offline_row
 
--- the rows of the blocks below a number
+-- the rows of the blocks below `blocks`, without their claims
 abbrev pub ended_rows_below : (blocks : ℕ) → Memory → List Row
 ended_rows_below blocks s = map (λ block. ended_row (slice_get s.blocks.rows block)) (range_with_len 0 blocks)
 
--- the outcome of these records and rows, for this many processors
+-- the outcome with the replies of these records, for this many processors, and these rows
 abbrev pub outcome_with : (processors : ℕ) → List Record → List Row → OutcomeValue
 outcome_with processors news rows = record { replies = replies_below processors news; blocks = rows }
 

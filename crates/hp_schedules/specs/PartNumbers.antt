@@ -7,6 +7,6 @@ pub record NumberValue : Type 0 where
   pub number : ℕ
   pub of : ℕ
 
--- the part itself, if the first `calls` calls decide
+-- the part that the number names, if the first `calls` calls of a schedule decide its part
 abbrev pub part_by : NumberValue → (calls : ℕ) → PartValue
 part_by n calls = record { index = n.number - 1; of = n.of; calls = calls }

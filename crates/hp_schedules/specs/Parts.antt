@@ -10,8 +10,8 @@ pub record PartValue : Type 0 where
   pub of : ℕ
   pub calls : ℕ
 
--- the index of the part that first calls belong to: their processors are the digits of a number,
--- the highest first, taken modulo the number of parts
+-- the index of the part that a schedule's first calls belong to. Their processors are the digits of
+-- a number, the highest first, and the index is its remainder modulo the number of parts
 abbrev pub part_number : (processors of : ℕ) → List ℕ → ℕ
 part_number processors of first = fold (λ n cpu. (n * processors + cpu) % of) 0 first
 
@@ -19,20 +19,22 @@ part_number processors of first = fold (λ n cpu. (n * processors + cpu) % of) 0
 abbrev pub IsOfPart : (processors : ℕ) → PartValue → List ℕ → Type 0
 IsOfPart processors part s = part_number processors part.of (take part.calls s) ≡ part.index
 
--- the schedule is of the part and complete, with this outcome
+-- the schedule belongs to the part and is complete, with this outcome
 abbrev pub EndsInPart : Setting → PartValue → List ℕ → OutcomeValue → Type 0
 EndsInPart g part s x = EndsWith g s x × IsOfPart (length g.scripts) part s
 
+-- the schedule belongs to the part and is complete
 abbrev pub IsCompleteInPart : Setting → PartValue → List ℕ → Type 0
 IsCompleteInPart g part s = (x : OutcomeValue) × EndsInPart g part s x
 
--- the part's search comes to the place of this schedule
+-- the search of the part comes to the place of this schedule: either too few calls lead to it to decide
+-- the part, or it belongs to the part
 abbrev pub ComesTo : (processors : ℕ) → PartValue → List ℕ → Type 0
 ComesTo processors part s = (length s < part.calls) ⊎ IsOfPart processors part s
 
 -- ---- the places of a part's search
 
--- a place reached by a call, with more calls than decide the part, belongs to the part
+-- the place belongs to the part, if more calls lead to it than decide the part
 abbrev pub IsOn : (processors : ℕ) → PartValue → List ℕ → Type 0
 IsOn processors part place = part.calls < length place → IsOfPart processors part place
 

@@ -10,8 +10,8 @@ use Rattle.hp_schedules.specs.declared.scripts.Step.{Step}
 use Rattle.hp_schedules.specs.Outcomes.{OutcomeValue, outcome}
 use Rattle.hp_schedules.specs.Scripts.{next_of}
 
--- where the scripts begin: the layout, the base state with the number of records before it, and the
--- records since; and each processor's script, from processor 0 on
+-- the scripts, from processor 0 on, and where they begin: the layout, the base state with the number of
+-- records before it, and the records since then
 pub record Setting : Type 0 where
   pub layout : LayoutParts
   pub base : Memory
@@ -24,7 +24,8 @@ unfoldable pub next_call : Setting → (cpu : ℕ) → List Record → Option Ev
 next_call g cpu news =
     option_and_then (λ lines. next_of g.layout.cpus lines (receipts_of cpu news)) (slice_get g.scripts cpu)
 
--- the record of a processor's event after the new records: the next serial, and the defined reply
+-- the record of a processor's event after the new records, with the next serial and the reply that the
+-- model gives
 unfoldable pub record_of_call : Setting → List Record → (cpu : ℕ) → Event → Record
 record_of_call g news cpu event = record {
   serial = g.before + length (g.start ++ news) + 1;
@@ -33,7 +34,7 @@ record_of_call g news cpu event = record {
   reply = reply_of g.layout g.base g.before (g.start ++ news) cpu event;
 }
 
--- the processor makes its script's next call; None if it has none
+-- the records after the processor has made its script's next call; None if it has no call to make
 abbrev pub play_one : Setting → Option (List Record) → (cpu : ℕ) → Option (List Record)
 play_one g None cpu = None
 play_one g (Some news) cpu =
@@ -43,16 +44,16 @@ play_one g (Some news) cpu =
 unfoldable pub plays : Setting → List ℕ → Option (List Record)
 plays g schedule = fold (play_one g) (Some []) schedule
 
--- the schedule of new records
+-- the schedule that the new records follow
 abbrev pub schedule_of : List Record → List ℕ
 schedule_of news = map (λ r. r.cpu) news
 
--- how it ends after the new records: the processors' replies, and the blocks' rows
+-- the outcome after the new records: the processors' replies and the blocks' rows
 unfoldable pub outcome_after : Setting → List Record → OutcomeValue
 outcome_after g news = outcome (length g.scripts) news g.layout (value_of g.layout g.base (g.start ++ news))
 
--- the schedule is complete, with this outcome: each processor has a call to make when it is its
--- turn, and at the end all scripts are finished
+-- the schedule is complete, with this outcome: each processor has a call to make at each of its turns,
+-- and all scripts are finished at the end
 pub record EndsWith (g : Setting) (schedule : List ℕ) (x : OutcomeValue) : Type 0 where
   pub news : List Record
   pub played : plays g schedule ≡ Some news

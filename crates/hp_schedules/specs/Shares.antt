@@ -1,22 +1,22 @@
--- Shares: how many schedules continue from a place, for each end that it leads to.
+-- Shares: the number of schedules that continue from a place, for each end that they lead to.
 use Rattle.std.specs.Prelude.{◌≡◌, ℕ, ◌+◌, ◌<◌, ◌≤◌, List, Some, cond, length, nat_eq, slice_get, slice_index_or, slice_set, sum, sum_by}
 use Rattle.hp_schedules.specs.Notes.{TallyValue}
 use Rattle.hp_schedules.specs.declared.trail.Share.{Share}
 use Rattle.hp_schedules.specs.declared.tally.Ending.{Ending}
 
--- how many of one share's schedules go to this end
+-- the number of schedules that a share has for this end
 abbrev pub count_for : (end : ℕ) → Share → ℕ
 count_for end s = cond (nat_eq s.end end) s.count 0
 
--- how many of all shares' schedules go to this end
+-- the number of schedules that all shares together have for this end
 abbrev pub amount_of : List Share → (end : ℕ) → ℕ
 amount_of shares end = sum_by (count_for end) shares
 
--- each share is that of one of the `many` ends
+-- each share belongs to one of the first `many` ends
 abbrev pub AreAtEnds : (many : ℕ) → List Share → Type 0
 AreAtEnds many shares = (i : ℕ) (s : Share) → slice_get shares i ≡ Some s → s.end < many
 
--- each end's count grows by its share
+-- each end's count grows by the amount of its shares
 pub record AddsShares (old : List Ending) (shares : List Share) (new : List Ending) : Type 0 where
   pub as_many : length new ≡ length old
   pub more : (k : ℕ) (e f : Ending) → slice_get old k ≡ Some e → slice_get new k ≡ Some f
@@ -30,7 +30,7 @@ pub record AddsCounts (old : List Ending) (counts : List ℕ) (new : List Ending
       → (f.outcome ≡ e.outcome) × (f.first.items ≡ e.first.items)
       × (f.count ≡ e.count + slice_index_or counts k 0)
 
--- the shares of an end add up to what its count has grown by since the earlier counts
+-- the shares of each end add up to the growth of its count since `earlier`
 pub record AreSince (earlier : List ℕ) (ends : List Ending) (shares : List Share) : Type 0 where
   pub at_ends : AreAtEnds (length ends) shares
   pub each : (k : ℕ) (e : Ending) → slice_get ends k ≡ Some e
@@ -46,9 +46,10 @@ pub record AddsAt (old : List Ending) (at count : ℕ) (new : List Ending) : Typ
   pub first : more.first.items ≡ entry.first.items
   pub new_is : new ≡ slice_set old at more
 
--- this many more schedules may be counted
+-- all these schedules may still be counted
 abbrev pub HasRoomFor : TallyValue → List ℕ → Type 0
 HasRoomFor t counts = sum_by (λ e. e.count) t.ends + sum counts ≤ t.limit
 
+-- the schedules of all these shares may still be counted
 abbrev pub HasRoomForShares : TallyValue → List Share → Type 0
 HasRoomForShares t shares = sum_by (λ e. e.count) t.ends + sum_by (λ s. s.count) shares ≤ t.limit

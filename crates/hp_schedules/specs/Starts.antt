@@ -2,7 +2,7 @@
 use Rattle.std.specs.Prelude.{◌≡◌, ℕ, List, [], ◌∷◌, ◌++◌, length}
 use Rattle.std.proofs.Common.{refl, ap, arith, ◌∙◌}
 
--- their first parts are equal, and so are their second parts
+-- the first parts of the lists are equal, and so are the second parts
 pub same_starts : (a b c d : List ℕ) → length a ≡ length c → a ++ b ≡ c ++ d → (a ≡ c) × (b ≡ d)
 same_starts [] b [] d long is = (refl, is)
 same_starts [] b (y ∷ c) d long is = absurd (omega (arith, long))

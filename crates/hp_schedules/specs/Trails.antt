@@ -1,4 +1,4 @@
--- The trail of what was added to the ends, and the counts that it gives.
+-- The trail of the shares added to the ends, and the counts that it gives.
 use Rattle.std.specs.Prelude.{◌≡◌, ℕ, ◌+◌, ◌≤◌, List, Some, drop, length, slice_get, sum_by, take}
 use Rattle.hp_schedules.specs.Notes.{TallyValue}
 use Rattle.hp_schedules.specs.Shares.{AreAtEnds, AreSince}
@@ -6,28 +6,30 @@ use Rattle.hp_schedules.specs.declared.trail.Share.{Share}
 
 -- ---- sums in place of shares
 
--- two shares of one end give as much as their sum does
+-- the function `f` of shares is additive: two shares of one end give as much as one share with their
+-- sum
 abbrev pub AddsUp : (Share → ℕ) → Type 0
 AddsUp f = (end a b : ℕ)
     → f (record { end = end; count = a + b })
     ≡ f (record { end = end; count = a }) + f (record { end = end; count = b })
 
--- the shares from index `start` on are replaced by others that give as much
+-- the shares from index `start` on are replaced by others with the same sums
 pub record IsGathered (start : ℕ) (old new : List Share) : Type 0 where
   pub before : take start new ≡ take start old
   pub longer : start ≤ length new
   pub same : (f : Share → ℕ) → AddsUp f → sum_by f (drop start new) ≡ sum_by f (drop start old)
   pub at_ends : (many : ℕ) → AreAtEnds many old → AreAtEnds many new
 
--- the share at this index is one of the end
+-- the share at this index belongs to the end
 abbrev pub IsShareOf : List Share → (end : ℕ) → (place : ℕ) → Type 0
 IsShareOf shares end place = (s : Share) × (slice_get shares place ≡ Some s) × (s.end ≡ end)
 
--- what the shares before index `end` and those from index `at` on give together
+-- the sum of `f` over the shares before index `end` and the shares from index `at` on
 abbrev pub left_over : (Share → ℕ) → (end at : ℕ) → List Share → ℕ
 left_over f end at shares = sum_by f (take end shares) + sum_by f (drop at shares)
 
--- the share at index `at` is added to the sums, which now end before index `later`
+-- the shares from index `start` to before index `end` are the sums so far; the share at index `at`
+-- is added to them, and they now end before index `later`
 pub record IsSummedUp (start end at : ℕ) (old : List Share) (later : ℕ) (new : List Share) : Type 0 where
   pub long : length new ≡ length old
   pub before : take start new ≡ take start old
@@ -38,11 +40,11 @@ pub record IsSummedUp (start end at : ℕ) (old : List Share) (later : ℕ) (new
 
 -- ---- the counts
 
--- the ends had these counts when the trail was `start` long
+-- the ends had these counts when the trail had `start` shares
 abbrev pub WereCounted : TallyValue → (start : ℕ) → (earlier : List ℕ) → Type 0
 WereCounted t start earlier = AreSince earlier t.ends (drop start t.trail)
 
--- the trail still gives the counts of the time when it was `start` long, or shorter
+-- the trail still gives all counts of the times when it had at most `start` shares
 pub record KeepsBefore (start : ℕ) (old new : TallyValue) : Type 0 where
   pub longer : start ≤ length new.trail
   pub told : (s : ℕ) (earlier : List ℕ) → s ≤ start → length earlier ≤ length old.ends

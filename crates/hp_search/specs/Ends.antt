@@ -23,21 +23,21 @@ pub record IsNumbered (ends : List Ending) (number : ℕ) (e : Ending) : Type 0 
 abbrev pub HasNoEnd : List Ending → (number : ℕ) → Type 0
 HasNoEnd ends number = (number ≡ 0) ⊎ (length ends < number)
 
--- what is known of the number of interleavings; `None` if all were counted
+-- either all interleavings were counted (`None`), or `known` describes their number
 abbrev pub IsMore : List (List Step) → (is_whole : Bool) → Option HowMany → Type 0
 IsMore scripts is_whole None = is_whole ≡ true
 IsMore scripts is_whole (Some known) = (is_whole ≡ false) × IsKnown scripts (2 ^ 64 - 1) known
 
--- the text is the scenario of end `number`, after the lines of the setup; or there is no such end,
--- and no text
+-- the text is the scenario of end `number`: the setup's lines, then the calls of its first
+-- schedule. If `found` is false, there is no such end, and the text is empty
 abbrev pub IsEndTold : (names : List (List ℕ)) → (before : List Line) → Setting → List Ending
     → (number : ℕ) → (text : List ℕ) → (found : Bool) → Type 0
 IsEndTold names before g ends number text true =
     (e : Ending) × IsNumbered ends number e × (text ≡ replay_text names before g e.first.items)
 IsEndTold names before g ends number text false = HasNoEnd ends number × (text ≡ [])
 
--- the text of ends in a form. `found` is true if all interleavings were counted, or if there is an end
--- with the number that was asked for
+-- the text of the ends in a form. For a scenario, `found` is true if there is an end with the
+-- number that the form names. For any other form, it is true if all interleavings were counted
 abbrev pub AreEndsTold : EndsForm → (names : List (List ℕ)) → (before : List Line) → Setting → List Ending
     → Option HowMany → (text : List ℕ) → (found : Bool) → Type 0
 AreEndsTold Words names before g ends more text found =

@@ -1,4 +1,4 @@
--- What an exploration promises.
+-- The promises of an exploration.
 use Rattle.std.specs.Prelude.{◌≡◌, ◌⊎◌, ℕ, ◌-◌, ◌^◌, ◌≤◌, Bool, List, Option, Some, None, option_map, sum_by}
 use Rattle.hp_schedules.specs.declared.multinomials.HowMany.{HowMany}
 use Rattle.hp_schedules.specs.declared.tally.Ending.{Ending}
@@ -17,11 +17,12 @@ use Rattle.hp_search.specs.Groups.{AreShown, grouping_of}
 use Rattle.hp_search.specs.declared.groups.GroupBy.{GroupBy}
 use Rattle.hp_search.specs.Holding.{HoldsIn}
 
--- ---- for scripts on a machine
+-- ---- scripts on a machine
 
--- None: the ends are those of all complete schedules, these are at most `limit`, and none fills the
--- history. Otherwise the ends are those of the first schedules, and there are more; either they count
--- `limit` schedules, or the watch has ended the search
+-- None: the ends count all complete schedules, there are at most `limit` of these, and no schedule
+-- fills the history. Otherwise the ends count the first schedules, there are more, and `known`
+-- describes the number of all. Then either `limit` schedules are counted, or the watch has ended
+-- the search
 abbrev pub AreExplored : Setting → (limit : ℕ) → (ended : Type 0) → List Ending → Option HowMany → Type 0
 AreExplored g limit ended ends None =
     AreEnds g ends × (HasMoreThan (IsComplete g) limit → ⊥) × (FillsHistory g → ⊥)
@@ -29,8 +30,8 @@ AreExplored g limit ended ends (Some known) =
     AreFirst g (counted ends) ends × HasMoreThan (IsComplete g) (counted ends)
     × ((counted ends ≡ limit) ⊎ ended) × IsKnown g.scripts (2 ^ 64 - 1) known
 
--- the text has the ends of at most `limit` schedules, in the order of their first schedules, or
--- their groups
+-- the text has either the ends of at most `limit` schedules, in the order of their first schedules, or
+-- the groups of these ends
 pub record IsExploredOn (form : EndsForm) (by : Option GroupBy) (names : List (List ℕ)) (before : List Line)
     (g : Setting) (limit : ℕ) (ended : Type 0) (text : List ℕ) (found : Bool) : Type 0 where
   pub ends : List Ending
@@ -42,15 +43,15 @@ pub record IsExploredOn (form : EndsForm) (by : Option GroupBy) (names : List (L
   pub grouped : AreShown (option_map (grouping_of g) by) ends shown
   pub told : AreEndsTold form names before g shown more text found
 
--- ---- for a scenario
+-- ---- a scenario
 
--- the text is that of an exploration of the scenario's scripts
+-- the text reports an exploration of the scenario's scripts
 abbrev pub IsExplorationOf : EndsForm → Option GroupBy → (input : List ℕ) → (setup limit : ℕ)
     → (ended : Type 0) → (text : List ℕ) → (found : Bool) → Type 0
 IsExplorationOf form by input setup limit ended text found =
     HoldsIn (λ names before g. IsExploredOn form by names before g limit ended text found) input setup
 
--- the cause of each fault; for `HistoryFull`, a call that the search makes within its limit
+-- the cause of each fault. For `HistoryFull`, it is a call that the search makes within its limit
 abbrev pub IsFaultWithin : (input : List ℕ) → (setup limit : ℕ) → LabFault → Type 0
 IsFaultWithin input setup limit fault =
     IsFaultWith (λ g. IsCauseWithin g limit) input setup fault

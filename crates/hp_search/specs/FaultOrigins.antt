@@ -1,4 +1,4 @@
--- The conversions from the faults of the crates below, and which faults concern the input.
+-- Conversions from the faults of the crates below, and the faults that concern the input.
 use Rattle.std.specs.Prelude.{Bool, true, false}
 use Rattle.hp_scenario.specs.declared.fault.ScenarioFault.{ScenarioFault}
 use Rattle.hp_scenario.specs.declared.fault.ScenarioFault.TheVariants as scenario
@@ -11,8 +11,8 @@ use Rattle.hp_search.specs.declared.lab_fault.LabFault.TheVariants.{NotJson, Bad
 use Rattle.hp_search.specs.declared.program_fault.LabProgramFault.{LabProgramFault}
 use Rattle.hp_search.specs.declared.program_fault.LabProgramFault.TheVariants.{Lab, NotOpened, ReadFailed, Scenario, TooLong}
 
--- the fault of a scenario that cannot be read. `NotForRun` never comes from reading, only from making
--- workers' scripts
+-- the laboratory's fault for a scenario that cannot be read. `NotForRun` never comes from reading, only
+-- from making workers' scripts
 abbrev pub fault_from : ScenarioFault → LabFault
 fault_from scenario.NotJson = NotJson
 fault_from scenario.BadShape = BadShape
@@ -21,27 +21,27 @@ fault_from (scenario.BadLine line) = BadLine line
 fault_from (scenario.NotForRun line) = BadLine line
 fault_from scenario.OutOfMemory = OutOfMemory
 
--- the fault of a search that cannot start
+-- the laboratory's fault for a search that cannot start
 abbrev pub start_fault_from : StartFault → LabFault
 start_fault_from (start.NotForScript line why) = NotForScript line why
 start_fault_from start.OutOfMemory = OutOfMemory
 
--- the fault of an input that cannot be read
+-- the program's fault for an input that cannot be read
 abbrev pub read_fault_from : ReadFault → LabProgramFault
 read_fault_from reading.ReadFailed = ReadFailed
 read_fault_from reading.TooLong = TooLong
 read_fault_from reading.OutOfMemory = Lab OutOfMemory
 
--- ---- which faults concern the input
+-- ---- the faults that concern the input
 
--- the input could not be read
+-- the fault is that the input could not be read
 abbrev pub is_of_input : LabProgramFault → Bool
 is_of_input NotOpened = true
 is_of_input ReadFailed = true
 is_of_input TooLong = true
 is_of_input fault = false
 
--- an exploration failed because the input is not a scenario
+-- the fault of an exploration is that the input is not a scenario
 abbrev pub is_of_text : LabFault → Bool
 is_of_text NotJson = true
 is_of_text BadShape = true
@@ -49,7 +49,7 @@ is_of_text (Layout fault) = true
 is_of_text (BadLine line) = true
 is_of_text fault = false
 
--- any command failed because the input is not a scenario
+-- the fault of a command is that the input is not a scenario
 abbrev pub is_of_scenario : LabProgramFault → Bool
 is_of_scenario (Scenario scenario.OutOfMemory) = false
 is_of_scenario (Scenario fault) = true

@@ -14,7 +14,7 @@ use Rattle.hp_search.specs.declared.program_fault.LabProgramFault.TheVariants as
 use Rattle.hp_search.specs.declared.said.Said.{Said}
 use Rattle.hp_search.specs.declared.said.Said.TheVariants.{Nothing, Number, Part, Past, Lab, Layout as OfLayout}
 
--- why an exploration or a search failed
+-- the text of a fault of an exploration or a search
 abbrev pub fault_text : LabFault → List ℕ
 fault_text NotJson = codes "not JSON"
 fault_text BadShape = codes "wrong shape"
@@ -39,7 +39,7 @@ said_text (Past asked lines) = decimal asked ++ codes " is past the last line, "
 said_text (Lab fault) = fault_text fault
 said_text (Part part fault) = codes "part " ++ decimal part ++ codes ": its scenario: " ++ fault_text fault
 
--- why parts cannot be added up
+-- the text of a fault in adding up parts
 abbrev pub part_fault_text : PartFault → List ℕ
 part_fault_text (parts.NotPart line) = codes "line " ++ decimal line ++ codes " is none of a part"
 part_fault_text (parts.OtherSearch line) =
@@ -59,7 +59,7 @@ part_fault_text (parts.Head part fault) =
     codes "part " ++ decimal part ++ codes ": its scenario: " ++ fault_text fault
 part_fault_text (parts.Lab fault) = fault_text fault
 
--- why a text is not a scenario
+-- the text of a fault in reading a scenario
 abbrev pub scenario_fault_text : ScenarioFault → List ℕ
 scenario_fault_text scenario.NotJson = codes "not JSON"
 scenario_fault_text scenario.BadShape = codes "wrong shape"
@@ -68,7 +68,7 @@ scenario_fault_text (scenario.BadLine line) = codes "line " ++ decimal line ++ c
 scenario_fault_text (scenario.NotForRun line) = codes "line " ++ decimal line ++ codes " not for run"
 scenario_fault_text scenario.OutOfMemory = codes "out of memory"
 
--- why the program failed
+-- the text of a fault of the program
 abbrev pub program_fault_text : LabProgramFault → List ℕ
 program_fault_text program.NotOpened = codes "file not opened"
 program_fault_text program.ReadFailed = codes "reading failed"

@@ -1,4 +1,4 @@
--- When each fault comes, and what the fault of a call becomes.
+-- The cause of each fault, and the laboratory's fault for a fault of a call.
 use Rattle.std.specs.Prelude.{◌≡◌, ℕ, List, Option, Some, Err, slice_get}
 use Rattle.hp_schedules.specs.Interleavings.{IsRoomNeeded}
 use Rattle.hp_schedules.specs.Schedules.{Setting}
@@ -14,20 +14,20 @@ use Rattle.hp_search.specs.declared.lab_fault.LabFault.{LabFault}
 use Rattle.hp_search.specs.declared.lab_fault.LabFault.TheVariants.{NotJson, BadShape, Layout, BadLine, NotForScript, PastLayout, HistoryFull, OutOfMemory}
 use Rattle.hp_search.specs.Holding.{HoldsAfter, InScenario}
 
--- ---- for scripts on a machine
+-- ---- scripts on a machine
 
 -- the history has no room for a call of the first schedule of one of these ends
 abbrev pub FillsAlongSome : Setting → List Ending → Type 0
 FillsAlongSome g ends =
     (place : ℕ) × (e : Ending) × (slice_get ends place ≡ Some e) × FillsAlong g e.first.items
 
--- the history is full, for a cause that `C` states, and needs room for `needed` records; None if that
+-- the history is full, for a cause that `C` states, and needs room for `needed` records; None if this
 -- number is not known
 abbrev pub IsFull : (C : Setting → ExploreFault → Type 0) → (needed : Option ℕ) → Setting → Type 0
 IsFull C needed g = C g explore.HistoryFull × IsRoomNeeded g needed
 
--- the laboratory's fault for a full history: the room that is needed, or out of memory if computing it
--- failed
+-- the laboratory's fault for a full history: either the room that is needed, or out of memory if
+-- computing it failed
 abbrev pub IsFullTold : Setting → LabFault → Type 0
 IsFullTold g (HistoryFull needed) = IsRoomNeeded g needed
 IsFullTold g OutOfMemory = Unit {0}
@@ -38,20 +38,21 @@ abbrev pub IsToldAs : Setting → ExploreFault → LabFault → Type 0
 IsToldAs g explore.HistoryFull fault = IsFullTold g fault
 IsToldAs g explore.OutOfMemory fault = fault ≡ OutOfMemory
 
--- why a call failed, as the laboratory reports it; out of memory may come in place of any other
+-- the laboratory's fault for a call that failed for a cause that `C` states; out of memory may come in
+-- its place
 abbrev pub IsUntold : (C : Setting → ExploreFault → Type 0) → Setting → LabFault → Type 0
 IsUntold C g (HistoryFull needed) = IsFull C needed g
 IsUntold C g OutOfMemory = Unit {0}
 IsUntold C g fault = ⊥
 
--- ---- for a scenario
+-- ---- a scenario
 
--- the bytes are not a scenario, and this is the reason
+-- the bytes are not a scenario, for the reason that the fault names
 abbrev pub IsUnread : (input : List ℕ) → LabFault → Type 0
 IsUnread input fault = (why : ScenarioFault) × (named_in input ≡ Err why) × (fault ≡ fault_from why)
 
--- when each fault comes, if `C` states why a call fails; `PastLayout` comes only from a search for an
--- end
+-- the cause of each fault, if `C` states the causes of a call's fault. `PastLayout` comes only from a
+-- search for an end
 abbrev pub IsFaultWith : (C : Setting → ExploreFault → Type 0) → (input : List ℕ) → (setup : ℕ) → LabFault
     → Type 0
 IsFaultWith C input setup NotJson = IsUnread input NotJson
@@ -65,6 +66,6 @@ IsFaultWith C input setup (HistoryFull needed) =
     InScenario input setup (HoldsAfter (IsFull C needed) setup)
 IsFaultWith C input setup OutOfMemory = Unit {0}
 
--- the faults of an exploration
+-- the cause of each fault of an exploration
 abbrev pub IsFaultOf : (input : List ℕ) → (setup : ℕ) → LabFault → Type 0
 IsFaultOf input setup fault = IsFaultWith IsCause input setup fault

@@ -1,4 +1,4 @@
--- What a search for an end promises, and when each fault comes.
+-- The promises of a search for an end, and the cause of each fault.
 use Rattle.std.specs.Prelude.{◌≡◌, ℕ, List}
 use Rattle.hp_schedules.specs.Schedules.{Setting}
 use Rattle.hp_explore.specs.declared.exploring.ExploreFault.{ExploreFault}
@@ -19,18 +19,19 @@ use Rattle.hp_search.specs.Faults.{IsFaultWith}
 use Rattle.hp_search.specs.Holding.{HoldsAfter, HoldsIn, InScenario}
 use Rattle.hp_search.specs.FoundTexts.{absent_told, found_text, unknown_told}
 
--- ---- for scripts on a machine
+-- ---- scripts on a machine
 
--- the text is that of a schedule that was found; or it reports that none ends as wanted
+-- the text reports either the schedule that was found, or that no schedule ends as wanted
 abbrev pub IsFoundTold : ScheduleForm → (names : List (List ℕ)) → (before : List Line) → Setting → Sought
     → (text : List ℕ) → FindResult → Type 0
 IsFoundTold form names before g (sought.Nearest schedule) text result =
     (text ≡ found_text form names before g schedule.items) × (result ≡ Found)
 IsFoundTold form names before g sought.Absent text result = (text ≡ absent_told form) × (result ≡ Absent)
 
--- the text has the first schedule with the fewest changes of processor whose end has each wanted line.
--- Or it reports that there is none, and then the history has room for all calls; or that this is not
--- known. No wanted line names anything past the layout
+-- the text reports the first schedule with the fewest changes of processor that ends as wanted, or
+-- that there is none, or that this is not known. The history has room for all calls of the schedule
+-- or, if there is none, for all calls of all schedules. No wanted line names anything past the
+-- layout
 abbrev pub IsFoundOn : ScheduleForm → (names : List (List ℕ)) → (before : List Line) → Setting
     → List Wanted → (text : List ℕ) → FindResult → Type 0
 IsFoundOn form names before g wanted text Found =
@@ -42,9 +43,9 @@ IsFoundOn form names before g wanted text Absent =
 IsFoundOn form names before g wanted text Unknown =
     AreWithin g.layout wanted × (text ≡ unknown_told form)
 
--- ---- for a scenario
+-- ---- a scenario
 
--- the text is that of a search in the scenario's scripts
+-- the text reports a search in the scenario's scripts
 abbrev pub IsFindingOf : ScheduleForm → (input : List ℕ) → (setup : ℕ) → List Wanted → (text : List ℕ)
     → FindResult → Type 0
 IsFindingOf form input setup wanted text result =
@@ -54,11 +55,11 @@ IsFindingOf form input setup wanted text result =
 abbrev pub IsPastLayout : List Wanted → (number : ℕ) → Setting → Type 0
 IsPastLayout wanted number g = IsFirstPast g.layout wanted number
 
--- why a call fails in a search
+-- the cause of a call's fault in a search
 abbrev pub IsSearchCause : List Wanted → Setting → ExploreFault → Type 0
 IsSearchCause wanted g fault = AreWithin g.layout wanted × IsFindCause g wanted (find_fault_from fault)
 
--- when each fault comes; `HistoryFull` comes only from a call that the search makes
+-- the cause of each fault of a search. `HistoryFull` comes only from a call that the search makes
 abbrev pub IsFindFaultOf : (input : List ℕ) → (setup : ℕ) → List Wanted → LabFault → Type 0
 IsFindFaultOf input setup wanted (PastLayout number) =
     InScenario input setup (HoldsAfter (IsPastLayout wanted number) setup)

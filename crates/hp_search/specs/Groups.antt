@@ -26,13 +26,14 @@ pub record GroupingValue : Type 0 where
 abbrev pub grouping_of : Setting → GroupBy → GroupingValue
 grouping_of g by = record { by = by; cpus = g.layout.cpus; scripts = g.scripts }
 
--- two outcomes agree in the part that makes a group
+-- two outcomes agree in the part by which ends are grouped
 abbrev pub AgreeIn : GroupBy → (cpus : ℕ) → (scripts : List (List Step)) → OutcomeValue → OutcomeValue
     → Type 0
 AgreeIn Blocks cpus scripts x y = x.blocks ≡ y.blocks
 AgreeIn Answers cpus scripts x y = x.replies ≡ y.replies
 AgreeIn Plans cpus scripts x y = all_plan_ends cpus scripts x.replies ≡ all_plan_ends cpus scripts y.replies
 
+-- two outcomes agree in the part that the grouping names
 abbrev pub Agree : GroupingValue → OutcomeValue → OutcomeValue → Type 0
 Agree by x y = AgreeIn by.by by.cpus by.scripts x y
 
@@ -50,7 +51,7 @@ pub record IsFirstOf (by : GroupingValue) (x : OutcomeValue) (ends : List Ending
   pub agrees : Agree by e.outcome x
   pub earliest : (k : ℕ) (d : Ending) → slice_get ends k ≡ Some d → Agree by d.outcome x → place ≤ k
 
--- `g` is a group of ends. Its outcome and its first schedule are those of the first end that agrees
+-- `g` is a group of ends. Its outcome and its first schedule come from the first end that agrees
 -- with it, and it counts the schedules of all ends that do
 pub record IsGroup (by : GroupingValue) (ends : List Ending) (g : Ending) : Type 0 where
   pub leader : Ending
@@ -59,8 +60,8 @@ pub record IsGroup (by : GroupingValue) (ends : List Ending) (g : Ending) : Type
   pub first : g.first.items ≡ leader.first.items
   pub count : AddUp by g.outcome ends g.count
 
--- the groups of ends. Each end is of one group and no other, and the groups count as many schedules as
--- the ends. They are in the order of their first schedules if the ends are
+-- the groups of the ends. Each end belongs to exactly one group, and the groups count as many schedules
+-- as the ends. If the ends are in the order of their first schedules, so are the groups
 pub record AreGroups (by : GroupingValue) (ends groups : List Ending) : Type 0 where
   pub each : (j : ℕ) (g : Ending) → slice_get groups j ≡ Some g → IsGroup by ends g
   pub every : (k : ℕ) (e : Ending) → slice_get ends k ≡ Some e
@@ -70,27 +71,28 @@ pub record AreGroups (by : GroupingValue) (ends groups : List Ending) : Type 0 w
   pub total : sum_by (λ e. e.count) groups ≡ sum_by (λ e. e.count) ends
   pub ordered : AreInOrder ends → AreInOrder groups
 
--- the ends that are shown: these, or their groups
+-- the ends that are shown: either these ends or their groups
 abbrev pub AreShown : Option GroupingValue → (ends shown : List Ending) → Type 0
 AreShown None ends shown = shown ≡ ends
 AreShown (Some by) ends shown = AreGroups by ends shown
 
--- ---- one end after another
+-- ---- adding one end after another
 
+-- a grouping, and the groups so far
 pub record GroupsValue : Type 0 where
   pub by : GroupingValue
   pub ends : List Ending
 
--- the group at index `place` is that of an outcome
+-- the group at index `place` agrees with the outcome
 abbrev pub HasGroupAt : GroupingValue → List Ending → OutcomeValue → (place : ℕ) → Type 0
 HasGroupAt by groups x place =
     (g : Ending) × (slice_get groups place ≡ Some g) × Agree by g.outcome x
 
--- no group is that of an outcome
+-- no group agrees with the outcome
 abbrev pub HasNoGroup : GroupingValue → List Ending → OutcomeValue → Type 0
 HasNoGroup by groups x = (j : ℕ) (g : Ending) → slice_get groups j ≡ Some g → Agree by g.outcome x → ⊥
 
--- an end joins its group, which counts its schedules too
+-- the end joins its group, which now counts its schedules too
 pub record Joins (by : GroupingValue) (old : List Ending) (e : Ending) (new : List Ending) : Type 0 where
   pub place : ℕ
   pub has : HasGroupAt by old e.outcome place
@@ -105,17 +107,19 @@ pub record Begins (by : GroupingValue) (old : List Ending) (e : Ending) (new : L
   pub first : group.first.items ≡ e.first.items
   pub new_is : new ≡ old ++ group ∷ []
 
+-- either the end joins its group, or it begins one
 abbrev pub AddsEnd : GroupingValue → List Ending → Ending → List Ending → Type 0
 AddsEnd by old e new = Joins by old e new ⊎ Begins by old e new
 
 -- ---- hashes
 
--- the hash of the part of an outcome
+-- the hash of the part of an outcome by which ends are grouped
 abbrev pub digest_in : GroupBy → (cpus : ℕ) → (scripts : List (List Step)) → OutcomeValue → ℕ
 digest_in Blocks cpus scripts x = fold mixed 0 (separated (codes ", ") block_string true x.blocks)
 digest_in Answers cpus scripts x = fold mixed 0 (separated (codes ", ") answer_list true x.replies)
 digest_in Plans cpus scripts x = plans_digest (all_plan_ends cpus scripts x.replies)
 
+-- the hash of the part of an outcome that the grouping names
 abbrev pub part_digest : GroupingValue → OutcomeValue → ℕ
 part_digest by x = digest_in by.by by.cpus by.scripts x
 

@@ -9,16 +9,16 @@ use Rattle.hp_names.specs.Resolved.{Resolves}
 use Rattle.hp_scenario.specs.declared.lines.Line.{Line}
 use Rattle.hp_starts.specs.Starts.{HasStart}
 
--- the lines after the first `setup` may be in scripts, and `P` holds of these scripts and of the
--- machine after the setup, which is run in order from boot
+-- the lines after the first `setup` may be in scripts. `P` holds of these scripts, and of the machine
+-- after the first `setup` lines, which are run in order from boot
 pub record HoldsAfter (P : Setting → Type 0) (setup : ℕ) (s : NamedValue) : Type 0 where
   pub start : MachineValue
   pub scripts : List (List Step)
   pub begun : HasStart s.scenario s.sources setup start scripts
   pub holds : P (setting start scripts)
 
--- the bytes are a scenario, and `P` holds of it with the numbers of the results of its first `count`
--- lines, run in order
+-- the bytes are a scenario, and `P` holds of it with numbers in place of the names of results; the
+-- first `count` lines, run in order, give these numbers
 pub record InScenario (input : List ℕ) (count : ℕ) (P : NamedValue → Type 0) : Type 0 where
   pub named : NamedValue
   pub read : named_in input ≡ Ok named
@@ -26,8 +26,8 @@ pub record InScenario (input : List ℕ) (count : ℕ) (P : NamedValue → Type 
   pub resolved : Resolves count named plain
   pub holds : P plain
 
--- the bytes are a scenario, its lines after the first `setup` may be in scripts, and `P` holds
--- after the setup, with the scenario's names and the setup's lines
+-- the bytes are a scenario whose lines after the setup may be in scripts. `P` holds of its names,
+-- of the setup's lines, and of the setting in which the scripts begin
 abbrev pub HoldsIn : (P : (names : List (List ℕ)) → (before : List Line) → Setting → Type 0)
     → (input : List ℕ) → (setup : ℕ) → Type 0
 HoldsIn P input setup =

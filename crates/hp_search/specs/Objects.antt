@@ -26,13 +26,13 @@ answer_list replies = codes "[" ++ separated (codes ", ") reply_string true repl
 abbrev pub block_string : Row → List ℕ
 block_string row = codes "\"" ++ state_words row.state row.zone ++ codes "\""
 
--- the calls of a schedule, if it can be played
+-- the calls of a schedule; nothing if it cannot be played
 abbrev pub played_list : (names : List (List ℕ)) → (calls : Option (List Record)) → List ℕ
 played_list names None = []
 played_list names (Some calls) = calls_text (codes ", ") names calls
 
--- an end without its closing bracket: number, count, replies from processor 0, states from block 0,
--- and the calls of its first interleaving
+-- an end without its closing bracket: its number, its count, the replies from processor 0 on, the
+-- states from block 0 on, and the calls of its first interleaving
 abbrev pub keys_text : (names : List (List ℕ)) → (number : ℕ) → Ending → (calls : Option (List Record))
     → List ℕ
 keys_text names number e calls =
@@ -41,26 +41,28 @@ keys_text names number e calls =
     ++ codes "], \"blocks\": [" ++ separated (codes ", ") block_string true e.outcome.blocks
     ++ codes "], \"first\": [" ++ played_list names calls ++ codes "]"
 
--- ---- how many there are
+-- ---- the number of interleavings
 
--- how many interleavings there are; `null` if that is not known
+-- the number of interleavings; `null` if it is not known
 abbrev pub known_number : HowMany → List ℕ
 known_number (Exactly count) = decimal count
 known_number MoreThanLimit = codes "null"
 known_number Unknown = codes "null"
 
--- how many were counted, and how many there are; nothing if all were counted
+-- an object with the number of interleavings that were counted, and the number of all
 abbrev pub first_object : (counted : ℕ) → HowMany → List ℕ
 first_object counted known =
     codes "{\"first\": " ++ decimal counted ++ codes ", \"interleavings\": " ++ known_number known
     ++ codes "}\n"
 
+-- the object with both numbers of interleavings; nothing if all were counted
 abbrev pub more_object : (counted : ℕ) → Option HowMany → List ℕ
 more_object counted None = []
 more_object counted (Some known) = first_object counted known
 
--- ---- a search: the schedule that was found
+-- ---- a schedule that was found
 
+-- the object of a schedule that was found
 abbrev pub found_object : (names : List (List ℕ)) → (changes : ℕ) → (calls : Option (List Record)) → List ℕ
 found_object names changes calls =
     codes "{\"found\": true, \"changes\": " ++ decimal changes ++ codes ", \"first\": ["

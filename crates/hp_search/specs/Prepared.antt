@@ -14,7 +14,7 @@ use Rattle.hp_search.specs.Faults.{IsFaultWith}
 use Rattle.hp_search.specs.declared.lab_fault.LabFault.{LabFault}
 use Rattle.hp_search.specs.declared.prepared.Prepared.{Prepared}
 
--- the machine and scripts of a search
+-- the setting of the search: the machine and the scripts
 abbrev pub setting_of : Prepared → Setting
 setting_of p = setting p.start.machine p.start.scripts.items
 
@@ -26,7 +26,8 @@ names_of p = p.scenario.names.keys
 abbrev pub before_of : Prepared → List Line
 before_of p = take p.setup p.scenario.lines
 
--- `p` is the scenario in the bytes, after `setup` lines of setup, with the numbers of their results
+-- `p` is the scenario in the bytes, made ready for a search after `setup` lines. Numbers replace
+-- the names of the results of these lines
 pub record IsPrepared (input : List ℕ) (setup : ℕ) (p : Prepared) : Type 0 where
   pub number : p.setup ≡ setup
   pub named : NamedValue
@@ -36,17 +37,17 @@ pub record IsPrepared (input : List ℕ) (setup : ℕ) (p : Prepared) : Type 0 w
   pub scenario : plain.scenario ≡ scenario_seen p.scenario
   pub begun : HasStart plain.scenario plain.sources setup p.start.machine p.start.scripts.items
 
--- why a scenario could not be prepared: the bytes are not a scenario, a line after the setup may not be
--- in a script, or memory ran out
+-- the cause of each fault in preparing a scenario. Either the bytes are not a scenario, or a line
+-- after the setup may not be in a script, or memory ran out
 abbrev pub IsUnprepared : (input : List ℕ) → (setup : ℕ) → LabFault → Type 0
 IsUnprepared input setup fault = IsFaultWith (λ g f. ⊥) input setup fault
 
--- the calls after the setup, of the machine to which a schedule led; `None` if the schedule cannot be
--- played
+-- the calls after the setup, from the history of the machine that a schedule led to; None if the
+-- schedule cannot be played
 abbrev pub calls_in : Setting → Option MachineValue → Option (List Record)
 calls_in g played = option_map (λ m. drop (length g.start) m.history) played
 
--- this machine has at least the setup's records
+-- the machine, if there is one, has at least the setup's records
 abbrev pub GoesOn : Setting → Option MachineValue → Type 0
 GoesOn g None = Unit {0}
 GoesOn g (Some m) = length g.start ≤ length m.history

@@ -1,4 +1,4 @@
--- The text of ends: each with the calls of its first schedule.
+-- The text of ends, each with the calls of its first schedule.
 use Rattle.std.specs.Prelude.{ℕ, ◌+◌, List, [], ◌++◌, codes, Option, Some, None, length, slice_get, sum_by}
 use Rattle.hp_text.specs.State.{texts_below}
 use Rattle.hp_schedules.specs.declared.multinomials.HowMany.{HowMany}
@@ -11,51 +11,51 @@ use Rattle.hp_search.specs.Words.{counts_text, end_text}
 
 -- ---- ends as words
 
--- end `number`, with the calls of its first interleaving
+-- the text of end `number`, with the calls of its first interleaving; empty if there is no such end
 abbrev pub numbered_text : (names : List (List ℕ)) → Setting → (number : ℕ) → Option Ending → List ℕ
 numbered_text names g number None = []
 numbered_text names g number (Some e) = end_text names g.layout number e (plays g e.first.items)
 
--- the end at index `place`; ends are counted from 1
+-- the text of the end at index `place`; ends are counted from 1
 abbrev pub end_at_text : (names : List (List ℕ)) → Setting → List Ending → (place : ℕ) → List ℕ
 end_at_text names g ends place = numbered_text names g (place + 1) (slice_get ends place)
 
--- the counts, then the ends in order
+-- the numbers of interleavings and ends, then the ends in order
 abbrev pub exploration_text : (names : List (List ℕ)) → Setting → List Ending → Option HowMany → List ℕ
 exploration_text names g ends more =
     counts_text ends more ++ texts_below (end_at_text names g ends) (length ends)
 
 -- ---- ends as objects
 
--- an end without its object's closing bracket
+-- an end's object without its closing bracket
 abbrev pub end_keys : (names : List (List ℕ)) → Setting → (number : ℕ) → Ending → List ℕ
 end_keys names g number e = keys_text names number e (plays g e.first.items)
 
--- an end with its object's closing bracket
+-- an end's object
 abbrev pub end_object : (names : List (List ℕ)) → Setting → (number : ℕ) → Ending → List ℕ
 end_object names g number e = end_keys names g number e ++ codes "}\n"
 
--- end `number`, if there is one
+-- the object of end `number`; empty if there is no such end
 abbrev pub numbered_object : (names : List (List ℕ)) → Setting → (number : ℕ) → Option Ending → List ℕ
 numbered_object names g number None = []
 numbered_object names g number (Some e) = end_object names g number e
 
--- the end at index `place`; ends are counted from 1
+-- the object of the end at index `place`; ends are counted from 1
 abbrev pub object_at : (names : List (List ℕ)) → Setting → List Ending → (place : ℕ) → List ℕ
 object_at names g ends place = numbered_object names g (place + 1) (slice_get ends place)
 
--- all ends in order
+-- the objects of all ends, in order
 abbrev pub objects_text : (names : List (List ℕ)) → Setting → List Ending → List ℕ
 objects_text names g ends = texts_below (object_at names g ends) (length ends)
 
--- all ends, and how many interleavings there are if not all were counted
+-- the objects of all ends, then the number of interleavings if not all were counted
 abbrev pub all_objects_text : (names : List (List ℕ)) → Setting → List Ending → Option HowMany → List ℕ
 all_objects_text names g ends more =
     objects_text names g ends ++ more_object (sum_by (λ e. e.count) ends) more
 
 -- ---- a schedule
 
--- a schedule as a scenario: the lines of the setup, then its calls
+-- the text of a schedule as a scenario: the setup's lines, then its calls
 abbrev pub replay_text : (names : List (List ℕ)) → (before : List Line) → Setting → (schedule : List ℕ)
     → List ℕ
 replay_text names before g schedule = replayed_text names before g.layout (plays g schedule)

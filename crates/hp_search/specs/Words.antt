@@ -15,22 +15,23 @@ use Rattle.hp_text.specs.Entries.{calls_text}
 
 -- ---- the outcome
 
--- a processor's number and its replies
+-- the text of a processor's number and its replies
 abbrev pub answers_text : (cpu : ℕ) → Option (List Reply) → List ℕ
 answers_text cpu None = []
 answers_text cpu (Some replies) = codes "cpu " ++ decimal cpu ++ newline ++ flat_map bare_reply_line replies
 
+-- the text of all processors' replies, from processor 0 on
 abbrev pub processors_text : (cpus : ℕ) → List (List Reply) → List ℕ
 processors_text cpus replies = texts_below (λ cpu. answers_text cpu (slice_get replies cpu)) cpus
 
--- the states of the memory blocks
+-- the text of the memory blocks' states
 abbrev pub blocks_text : (blocks : ℕ) → List Row → List ℕ
 blocks_text blocks rows = texts_below (λ block. block_line block (slice_get rows block)) blocks
 
 -- ---- the calls
 
--- the calls of a schedule, if it can be played: strings of `calls`, one per line, with commas
--- between
+-- the calls of a schedule as strings of a scenario's `calls`, one per line, with commas between them;
+-- nothing if the schedule cannot be played
 abbrev pub played_text : (names : List (List ℕ)) → (calls : Option (List Record)) → List ℕ
 played_text names None = []
 played_text names (Some []) = []
@@ -46,26 +47,26 @@ end_text names l number e calls =
     ++ processors_text l.cpus e.outcome.replies ++ blocks_text l.blocks e.outcome.blocks ++ codes "first:\n"
     ++ played_text names calls
 
--- ---- how many interleavings and ends there are
+-- ---- the numbers of interleavings and ends
 
--- how many interleavings there are, if not all were counted
+-- the number of interleavings, if not all were counted
 abbrev pub many_text : (counted : ℕ) → HowMany → List ℕ
 many_text counted (Exactly count) = decimal count ++ codes " interleavings"
 many_text counted MoreThanLimit = codes "more than " ++ decimal counted ++ codes " interleavings"
 many_text counted Unknown = codes "more than " ++ decimal counted ++ codes " interleavings"
 
--- the number of interleavings; if not all were counted, also the number that was
+-- the number of interleavings and, if not all were counted, the number that were
 abbrev pub total_text : (counted : ℕ) → Option HowMany → List ℕ
 total_text counted None = codes "interleavings: " ++ decimal counted
 total_text counted (Some known) =
     many_text counted known ++ codes "; these are the first " ++ decimal counted
 
--- how many interleavings and ends there are
+-- the numbers of interleavings and ends
 abbrev pub counts_text : List Ending → Option HowMany → List ℕ
 counts_text ends more =
     total_text (sum_by (λ e. e.count) ends) more ++ codes "\nends: " ++ decimal (length ends) ++ newline
 
--- ---- a search
+-- ---- a schedule that was found
 
 -- a schedule that was found: its number of processor changes, and its calls
 abbrev pub nearest_text : (names : List (List ℕ)) → (changes : ℕ) → (calls : Option (List Record)) → List ℕ

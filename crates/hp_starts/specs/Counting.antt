@@ -14,20 +14,21 @@ use Rattle.hp_starts.specs.declared.begins.Begin.{Begin}
 abbrev pub AreScripts : (cpus setup : ℕ) → List Line → Type 0
 AreScripts cpus setup lines = AreFit cpus (drop setup lines) (length (drop setup lines))
 
--- the number of interleavings of these lines is `known`, whatever operations were begun before them, and
--- whichever lines work on the results of others
+-- the number of interleavings of these lines is `known`, whatever operations were begun before them,
+-- and whatever results they work on
 abbrev pub AreKnownAs : (cpus : ℕ) → List Line → (limit : ℕ) → HowMany → Type 0
 AreKnownAs cpus lines limit known =
     (begins : List Begin) (sources : List (Option ℕ))
     → IsKnown (scripts_of cpus begins lines sources) limit known
 
--- the same for the lines after the first `setup`; `None` if one of them may not be in a script
+-- the number of interleavings of the lines after the first `setup`; `None` if one of these may not be
+-- in a script
 abbrev pub IsKnownAfter : (cpus setup : ℕ) → List Line → (limit : ℕ) → Option HowMany → Type 0
 IsKnownAfter cpus setup lines limit None = AreScripts cpus setup lines → ⊥
 IsKnownAfter cpus setup lines limit (Some known) =
     AreScripts cpus setup lines × AreKnownAs cpus (drop setup lines) limit known
 
--- the line that reports the number; empty if there is none
+-- the line that reports the number, or that it is not known; empty for None
 abbrev pub told_text : (limit : ℕ) → Option HowMany → List ℕ
 told_text limit None = []
 told_text limit (Some (Exactly count)) = codes "interleavings: " ++ decimal count ++ newline
@@ -35,6 +36,7 @@ told_text limit (Some MoreThanLimit) = codes "interleavings: more than " ++ deci
 told_text limit (Some Unknown) =
     codes "interleavings: not known: the calls of a plan are counted only by explore\n"
 
+-- the text reports the number of interleavings of the lines after the first `setup`
 abbrev pub IsCountTold : (cpus setup : ℕ) → List Line → (limit : ℕ) → (text : List ℕ) → Type 0
 IsCountTold cpus setup lines limit text =
     (known : Option HowMany) × IsKnownAfter cpus setup lines limit known × (text ≡ told_text limit known)

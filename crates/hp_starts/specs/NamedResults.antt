@@ -1,4 +1,4 @@
--- The call of a line with a name: it works on the result of the call that the named line made.
+-- The call of a line with a name: it works on the result of the named line's call.
 use Rattle.std.specs.Prelude.{◌≡◌, ℕ, List, [], ◌∷◌, ◌++◌, Option, Some, false, slice_get, take}
 use Rattle.hp_units.specs.declared.events.Event.{Event}
 use Rattle.hp_units.specs.declared.events.Event.TheVariants.{KernelFree, DrainFor, Migrate, Commit, Cancel}
@@ -11,18 +11,18 @@ use Rattle.hp_starts.specs.Begins.{last_begun}
 use Rattle.hp_starts.specs.Scripts.{steps_in}
 use Rattle.hp_starts.specs.declared.begins.Begin.{Begin}
 
--- the steps that the lines before `place` add to a processor's script
+-- the steps of a processor's script that come from the lines before index `place`
 abbrev pub steps_before : List Begin → List Line → (sources : List (Option ℕ)) → (cpu place : ℕ) → List Step
 steps_before begins lines sources cpu place =
     steps_in cpu (last_begun cpu begins) false lines sources 0 (take place lines)
 
--- the receipts are those of the processor's calls for the lines before `place`
+-- the receipts are exactly those that the processor's lines before index `place` got
 abbrev pub AreOfLinesBefore : (cpus : ℕ) → List Begin → List Line → (sources : List (Option ℕ))
     → (cpu place : ℕ) → List Receipt → Type 0
 AreOfLinesBefore cpus begins lines sources cpu place receipts =
     after_lines cpus nothing_known (steps_before begins lines sources cpu place) receipts ≡ Some []
 
--- the call that the processor made for its line at `source`, which is an event
+-- `call` is the call of the processor's line at index `source`, whose work is an event
 pub record IsCallOf (cpus : ℕ) (begins : List Begin) (lines : List Line) (sources : List (Option ℕ))
     (cpu source : ℕ) (receipts : List Receipt) (call : Receipt) : Type 0 where
   pub line : Line
@@ -34,7 +34,7 @@ pub record IsCallOf (cpus : ℕ) (begins : List Begin) (lines : List Line) (sour
   pub whole : receipts ≡ before ++ call ∷ later
   pub over : AreOfLinesBefore cpus begins lines sources cpu source before
 
--- an event with the result of a call in the place of its number: the operation that the call began, or
+-- the event with a call's result in place of its number: either the operation that the call began, or
 -- the frame that it took
 abbrev pub event_on : Receipt → Event → Event
 event_on call (DrainFor op cpu) = DrainFor call.serial cpu

@@ -1,5 +1,5 @@
--- The results of earlier lines: what a line of a script does with the operation that an earlier line of
--- the same script began, or with the frame that such a line got.
+-- The results of earlier lines. A line of a script may work on the operation that an earlier line
+-- of this script began, or free the frame that such a line got.
 use Rattle.std.specs.Prelude.{ℕ, ◌+◌, ◌-◌, ◌==◌, nat_lt, ◌&&◌, Bool, true, false, if◌then◌else◌, List, Option, Some, None, drop, take, map, option_and_then, slice_get}
 use Rattle.std.specs.List.{count_by}
 use Rattle.std.specs.Option.{option_flatten, option_map}
@@ -17,7 +17,7 @@ use Rattle.hp_starts.specs.Begins.{line_begins}
 
 -- ---- events
 
--- the work that an event does on an operation, whichever it is; `None` if it does none
+-- the work that an event does on an operation, without the operation; `None` if it does none
 abbrev pub work_in : Event → Option StepWork
 work_in (event.DrainFor op cpu) = Some (DrainFor cpu)
 work_in (event.Migrate op) = Some Migrate
@@ -25,44 +25,46 @@ work_in (event.Commit op) = Some Commit
 work_in (event.Cancel op) = Some Cancel
 work_in e = None
 
--- an event gives a kernel block back
+-- the event gives a kernel block back
 abbrev pub is_free : Event → Bool
 is_free (event.KernelFree frame) = true
 is_free e = false
 
 -- ---- lines with a result
 
--- a line's work is a Begin; a plan, which begins its operation itself, is not one
+-- the line's work is a Begin, and not a plan, which begins its own operation
 abbrev pub asked_opens : asks.Meaning → Bool
 asked_opens (asks.event e) = is_opening (mark_of e)
 asked_opens m = false
 
--- a line's work asks for a block
+-- the line's work asks for a kernel block
 abbrev pub asked_allocs : asks.Meaning → Bool
 asked_allocs (asks.event e) = takes_frame e
 asked_allocs m = false
 
--- a line is the processor's, and its work is a Begin
+-- the line is one of the processor's lines, and its work is a Begin
 abbrev pub line_opens : (cpu : ℕ) → Line → Bool
 line_opens cpu line = (line.cpu == cpu) && asked_opens (asks.asked_by line.work)
 
--- a line is the processor's, and its work asks for a block
+-- the line is one of the processor's lines, and its work asks for a kernel block
 abbrev pub line_allocs : (cpu : ℕ) → Line → Bool
 line_allocs cpu line = (line.cpu == cpu) && asked_allocs (asks.asked_by line.work)
 
 -- ---- work on a result
 
--- work on the operation that the line at `place` began. It is the processor's latest one if no line
--- since then begins another, by a Begin or a plan. Otherwise its number is how many the script began
--- before it
+-- the work on the operation that the line at index `place` began; `earlier` has the lines before
+-- the line that does the work. The operation is the processor's latest if none of these after
+-- `place` begins another, by a Begin or a plan. Otherwise its number is the number of operations
+-- that the script began before it
 abbrev pub on_begun : (cpu : ℕ) → (earlier : List Line) → (place : ℕ) → StepWork → OwnWork
 on_begun cpu earlier place w =
     if count_by (line_begins cpu) (drop (place + 1) earlier) == 0 then Latest w
     else Nth (count_by (line_begins cpu) (take place earlier)) w
 
--- what a line's event does with the result of the line at `place`, which is `line`: work on the operation
--- that it began, or a free of the frame that it got. The frame's number is how many blocks the script
--- asked for before it. `None` if that line has no such result, and for a line that is no event
+-- the work of a line's event on the result of the line at index `place`, which is `line`. It is
+-- either work on the operation that `line` began, or a free of the frame that `line` got. The
+-- frame's number is the number of blocks that the script asked for before it. `None` if there is no
+-- such result, or if the work is not an event
 abbrev pub asked_on : (cpu : ℕ) → (earlier : List Line) → (place : ℕ) → Line → asks.Meaning → Option OwnWork
 asked_on cpu earlier place line (asks.event e) =
     if line_opens cpu line then option_map (on_begun cpu earlier place) (work_in e)
@@ -71,8 +73,8 @@ asked_on cpu earlier place line (asks.event e) =
     then Some (Free (count_by (line_allocs cpu) (take place earlier))) else None)
 asked_on cpu earlier place line m = None
 
--- the work of the line at `place` on the result of its source. `None` if it has no source, or if the
--- source is not an earlier line of this processor that has such a result
+-- the work of the line at index `place` on the result of its source. `None` if it has no source, or if
+-- the source is not an earlier line of this processor with such a result
 abbrev pub named_at : (cpu : ℕ) → List Line → (sources : List (Option ℕ)) → (place : ℕ) → asks.Meaning
     → Option OwnWork
 named_at cpu lines sources place m =
@@ -82,7 +84,7 @@ named_at cpu lines sources place m =
 
 -- ---- sources
 
--- a source as a place among the lines after the setup; `None` if it is in the setup
+-- the index of a source among the lines after the setup; `None` if it is in the setup
 abbrev pub source_after : (setup source : ℕ) → Option ℕ
 source_after setup source = if nat_lt source setup then None else Some (source - setup)
 

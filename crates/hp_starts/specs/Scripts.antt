@@ -18,7 +18,7 @@ use Rattle.hp_starts.specs.Results.{named_at}
 use Rattle.hp_starts.specs.declared.begins.Begin.{Begin}
 
 -- the work of an event on operation 0, which in a script is the operation that its processor began
--- last; `None` for any other operation
+-- last; `None` if the event works on no operation or another
 abbrev pub own_work : Event → Option own.StepWork
 own_work (event.DrainFor op cpu) = if op == 0 then Some (DrainFor cpu) else None
 own_work (event.Migrate op) = if op == 0 then Some Migrate else None
@@ -27,14 +27,15 @@ own_work (event.Cancel op) = if op == 0 then Some Cancel else None
 own_work e = None
 
 -- an event as a step of a script. If it works on the result of an earlier line, `named` is this work.
--- Work on operation 0 is on the operation that the processor began last: `op`, unless its script has
--- begun one
+-- Work on operation 0 is work on the operation that the processor began last, which is `op` unless its
+-- script has begun one
 abbrev pub event_step : (op : ℕ) → (begun : Bool) → (named : Option OwnWork) → Event → step.Step
 event_step op begun (Some w) e = Own w
 event_step op begun None e =
     option_map_or (λ w. if begun then Own (Latest w) else Ask (step_work_of op w)) (own_work e) (Ask e)
 
--- a line's work as a step; `None` for `cat`, a seal, and a text that a control file does not take
+-- a line's work as a step; `None` for `cat`, for a seal, and for a text that a control file does not
+-- take
 abbrev pub explored : (op : ℕ) → (begun : Bool) → (named : Option OwnWork) → asks.Meaning → Option step.Step
 explored op begun named (asks.event e) = Some (event_step op begun named e)
 explored op begun named (asks.plan items turns) = Some (Carry items turns)
@@ -42,19 +43,20 @@ explored op begun named (asks.not_taken fault) = None
 explored op begun named (asks.cat path) = None
 explored op begun named asks.seal = None
 
--- a line as a step of a processor's script, if it is the processor's line
+-- a line as a step of a processor's script; `None` if it is not one of the processor's lines
 abbrev pub step_for : (cpu : ℕ) → (op : ℕ) → (begun : Bool) → (named : Option OwnWork) → Line
     → Option step.Step
 step_for cpu op begun named line =
     if line.cpu == cpu then explored op begun named (asks.asked_by line.work) else None
 
--- the steps that a line adds to a processor's script: one or none
+-- the steps that a line adds to a processor's script: either one or none
 abbrev pub steps_of : Option step.Step → List step.Step
 steps_of None = []
 steps_of (Some s) = s ∷ []
 
--- the steps that `left`, which is `lines` from `place` on, adds to a processor's script. `sources` has,
--- for each line that works on the result of an earlier one, the index of that line
+-- the steps that the lines `left`, which are `lines` from index `place` on, add to a processor's
+-- script. For each line that works on the result of an earlier line, `sources` has the index of that
+-- line
 abbrev pub steps_in : (cpu : ℕ) → (op : ℕ) → (begun : Bool) → (lines : List Line)
     → (sources : List (Option ℕ)) → (place : ℕ) → (left : List Line) → List step.Step
 steps_in cpu op begun lines sources place [] = []
@@ -62,11 +64,11 @@ steps_in cpu op begun lines sources place (line ∷ left) =
     steps_of (step_for cpu op begun (named_at cpu lines sources place (asks.asked_by line.work)) line)
     ++ steps_in cpu op (begun || line_begins cpu line) lines sources (place + 1) left
 
--- a processor's script, after these Begins
+-- a processor's script; `begins` are the Begins before it
 abbrev pub script_of : List Begin → List Line → (sources : List (Option ℕ)) → (cpu : ℕ) → List step.Step
 script_of begins lines sources cpu = steps_in cpu (last_begun cpu begins) false lines sources 0 lines
 
--- the script of each processor, from processor 0
+-- the scripts of all processors, from processor 0 on
 abbrev pub scripts_of : (cpus : ℕ) → List Begin → List Line → (sources : List (Option ℕ))
     → List (List step.Step)
 scripts_of cpus begins lines sources = map (script_of begins lines sources) (range_with_len 0 cpus)

@@ -1,4 +1,4 @@
--- The machine after lines that are run in order.
+-- The machine after some lines, run in order.
 use Rattle.std.specs.Prelude.{◌≡◌, ℕ, if◌then◌else◌, List, [], ◌∷◌, ◌++◌}
 use Rattle.hp_machine.specs.Machine.{MachineValue}
 use Rattle.hp_names.specs.Runs.{RunsLine}
@@ -8,11 +8,11 @@ use Rattle.hp_scenario.specs.declared.lines.Work.{Work}
 use Rattle.hp_starts.specs.Begins.{begins_in}
 use Rattle.hp_starts.specs.declared.begins.Begin.{Begin}
 
--- the Begins that a line hands out: those of the history, if it is a seal
+-- the Begins that a line seals: all Begins of the history if the line is a seal, else none
 abbrev pub begins_sealed : MachineValue → Work → List Begin
 begins_sealed m w = if asks.is_seal w then begins_in m.history else []
 
--- lines were run in order; `before` and `after` are the Begins sealed so far
+-- the lines were run in order; `before` and `after` are the Begins sealed so far
 abbrev pub RunsLines : MachineValue → (before : List Begin) → List Line → (new : MachineValue)
     → (after : List Begin) → Type 0
 RunsLines m before [] new after = (new ≡ m) × (after ≡ before)

@@ -15,28 +15,30 @@ use Rattle.hp_starts.specs.declared.begins.Begin.{Begin}
 use Rattle.hp_starts.specs.declared.start_fault.StartFault.{StartFault}
 use Rattle.hp_starts.specs.declared.start_fault.StartFault.TheVariants.{NotForScript, OutOfMemory}
 
--- the machine after `before`, run in order from boot, and the scripts of `after`. `sources` has, for
--- each line of `after` that works on the result of another, the index of that line in `after`
+-- the machine after the lines `before`, run in order from boot, and the scripts of the lines `after`.
+-- For each line of `after` that works on the result of another, `sources` has the index of that line in
+-- `after`
 pub record IsStart (l : LayoutParts) (before after : List Line) (sources : List (Option ℕ))
     (start : MachineValue) (scripts : List (List Step)) : Type 0 where
   pub sealed : List Begin
   pub run : RunsLines (booted l) [] before start sealed
   pub are : scripts ≡ scripts_of l.cpus (sealed ++ begins_in start.history) after sources
 
--- a line after the setup may not be in a script, and it is the first
+-- line number `place` is the first after the setup that may not be in a script
 abbrev pub IsUnfitAfter : (setup place : ℕ) → Unfit → ScenarioValue → Type 0
 IsUnfitAfter setup place why s =
     IsFirstUnfit s.layout.cpus (length (take setup s.lines)) (drop setup s.lines) place why
 
--- the start of a search after `setup` lines; the later lines may all be in scripts. `sources` has, for
--- each line of the scenario, the index of the line whose result it works on
+-- the start of a search after `setup` lines; the later lines may all be in scripts. For each line
+-- of the scenario, `sources` has the index of the line whose result it works on, if there is one
 pub record HasStart (s : ScenarioValue) (sources : List (Option ℕ)) (setup : ℕ) (start : MachineValue)
     (scripts : List (List Step)) : Type 0 where
   pub fit : AreFit s.layout.cpus (drop setup s.lines) (length (drop setup s.lines))
   pub begun : IsStart s.layout (take setup s.lines) (drop setup s.lines) (sources_after setup sources)
       start scripts
 
--- the first of the later lines that may not be in a script; or memory ran out
+-- either a later line may not be in a script, and the fault gives the first such line, or memory ran
+-- out
 abbrev pub HasNoStart : ScenarioValue → (setup : ℕ) → StartFault → Type 0
 HasNoStart s setup (NotForScript place why) = IsUnfitAfter setup place why s
 HasNoStart s setup OutOfMemory = Unit {0}

@@ -7,13 +7,13 @@ use Rattle.hp_starts.specs.Begins.{line_begins}
 use Rattle.hp_starts.specs.Scripts.{own_work}
 use Rattle.hp_starts.specs.declared.unbegun.Unbegun.{Unbegun}
 
--- a line's work is on operation 0
+-- the line works on operation 0
 abbrev pub asked_names_last : asks.Meaning → Bool
 asked_names_last (asks.event e) = is_some (own_work e)
 asked_names_last m = false
 
--- the number, from 1, of the first line after the setup in which a processor works on operation 0
--- before it begins an operation; `before` lines precede `lines`
+-- the number, from 1, of the first line after the setup in which the processor works on operation 0
+-- before it begins an operation; `before` is the number of lines before `lines`
 abbrev pub unbegun_at : (cpu setup before : ℕ) → List Line → Option ℕ
 unbegun_at cpu setup before [] = None
 unbegun_at cpu setup before (line ∷ lines) =
@@ -23,7 +23,8 @@ unbegun_at cpu setup before (line ∷ lines) =
     then Some (before + 1)
     else unbegun_at cpu setup (before + 1) lines)
 
--- these lines with their processors, for all processors below `cpus`
+-- for each processor below `cpus`, the first line after the setup in which it works on operation 0
+-- before it begins an operation, if there is one
 abbrev pub unbegun_lines : (cpus setup : ℕ) → List Line → List Unbegun
 unbegun_lines zero setup lines = []
 unbegun_lines (suc cpus) setup lines =

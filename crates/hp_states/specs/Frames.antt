@@ -1,4 +1,4 @@
--- What a walk knows about a place, and what it stores when it leaves it.
+-- The data that a walk has at a place, and the counts that it stores when it leaves the place.
 use Rattle.std.specs.Prelude.{◌≡◌, ℕ, ◌≤◌, true, List, Some, length, map}
 use Rattle.hp_units.specs.declared.replies.Record.{Record}
 use Rattle.hp_memory.specs.Memory.{MemoryValue}
@@ -23,8 +23,8 @@ use Rattle.hp_schedules.specs.declared.tally.Ending.{Ending}
 abbrev pub counts_of : List Ending → List ℕ
 counts_of ends = map (λ e. e.count) ends
 
--- the ends at the time when the walk reached the place and the tally's trail was `start` long: they
--- count the part's schedules before the place
+-- the walk had certain ends when it reached the place and the trail had `start` shares: they count the
+-- part's schedules before the place
 pub record IsPlaceReached (g : Setting) (part : PartValue) (news : List Record) (tally : TallyValue)
     (start : ℕ) : Type 0 where
   pub old : List Ending
@@ -39,13 +39,13 @@ pub record IsFrame (g : Setting) (part : PartValue) (news : List Record) (tally 
   pub within : frame.start ≤ length tally.trail
   pub reached : IsPlaceReached g part news tally frame.start
 
--- the ends grow, and the trail still gives the counts of the time when it was `start` long, or shorter
+-- the ends grow, and the trail still gives all counts of the times when it had at most `start` shares
 pub record GoOn (start : ℕ) (old new : TallyValue) : Type 0 where
   pub grown : Grow old.ends new.ends
   pub told : KeepsBefore start old new
 
--- all schedules from the place belong to one part and are walked; the shares are what was counted
--- since the walk reached it
+-- all schedules from the place belong to one part and are walked; the shares have the counts since the
+-- walk reached the place
 pub record IsPlaceWalked (g : Setting) (news : List Record) (ends : List Ending)
     (shares : List Share) : Type 0 where
   pub part : PartValue
@@ -56,18 +56,19 @@ pub record IsPlaceWalked (g : Setting) (news : List Record) (ends : List Ending)
   pub grown : Grow old ends
   pub through : IsPartWalkedThrough g part (schedule_of news) ends
 
--- a level with all processors still to be tried
+-- a level at which all processors are still to be tried
 abbrev pub IsFresh : TallyValue → Level → Type 0
 IsFresh tally frame = frame ≡ record { next = 0; is_over = true; start = length tally.trail }
 
--- either each end's count grew by its share, or there is no room for all counts and the place must be
--- walked
+-- either each end's count grew by its shares and the trail still gives the earlier counts, or the
+-- tally is unchanged and the place has a fresh level
 abbrev pub IsAdded : (old : TallyValue) → (shares : List Share) → (new : TallyValue) → Entry → Type 0
 IsAdded old shares new Counted =
     AddsShares old.ends shares new.ends × KeepsBefore (length old.trail) old new
 IsAdded old shares new (Open frame) = (new ≡ old) × IsFresh old frame
 
--- how a place was treated in a part's search: its schedules are counted, or it has a fresh level
+-- the treatment of a place in a part's search: either its schedules are counted, or it has a fresh
+-- level
 abbrev pub IsEntered : Setting → List Record → PartValue → (old new : TallyValue) → Entry → Type 0
 IsEntered g news part old new Counted =
     IsPartWalkedThrough g part (schedule_of news) new.ends × GoOn (length old.trail) old new
@@ -75,16 +76,17 @@ IsEntered g news part old new (Open frame) =
     (new ≡ old) × (frame ≡ record { next = 0; is_over = true; start = length old.trail })
     × IsFrame g part news new frame
 
--- the same for each part to which all schedules from the place belong, and that is walked up to the
--- place
+-- this treatment for each part to which all schedules from the place belong, and which is walked up to
+-- the place
 abbrev pub IsEnteredWithin : Setting → List Record → (old new : TallyValue) → Entry → Type 0
 IsEnteredWithin g news old new entry =
     (part : PartValue) → AllOfPart (length g.scripts) part (schedule_of news)
     → IsPartWalkedBefore g part (schedule_of news) old.ends → IsEntered g news part old new entry
 
--- ---- what is known when a walk reaches a place, and when it leaves it
+-- ---- a walk that reaches a place or leaves it
 
--- the stored places are right, and so are the numbers of the place where the walk is
+-- a schedule leads to this place with this memory and these positions. The stored places are right,
+-- and the memo's numbers belong to this place
 pub record IsStood (g : Setting) (news : List Record) (memory : MemoryValue) (cursors : List Cursor)
     (ends : List Ending) (memo : MemoValue) : Type 0 where
   pub place : IsPlace g news memory cursors
@@ -108,7 +110,7 @@ pub record IsLeaving (g : Setting) (part : PartValue) (news : List Record) (curs
   pub memo_is : IsMemo g tally.ends memo
   pub way : IsOnWay g news memo
 
--- the search leaves a place that may be stored, with what was counted since its arrival there
+-- the search leaves a place that may be stored; the shares have the counts since its arrival there
 pub record IsKeeping (g : Setting) (news : List Record) (cursors : List Cursor) (ends : List Ending)
     (shares : List Share) (memo : MemoValue) : Type 0 where
   pub played : plays g (schedule_of news) ≡ Some news

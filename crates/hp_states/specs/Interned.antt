@@ -1,11 +1,12 @@
 -- Interned lists, each made by an entry from an earlier list.
 use Rattle.std.specs.Prelude.{◌≡◌, ℕ, ◌≤◌, List, [], ◌∷◌, ◌++◌, Some, fold, slice_get, slice_index_or}
 
--- list 0 is empty; each entry adds one list, made from the list with the number `below`
+-- the lists with one more, which the entry makes from the list with the number `below`
 abbrev pub with_entry : {E X : Type 0} → (below : E → ℕ) → (put : E → List X → List X)
     → List (List X) → E → List (List X)
 with_entry below put lists e = lists ++ put e (slice_index_or lists (below e) []) ∷ []
 
+-- the lists that the entries make, one after another; list 0 is empty
 abbrev pub lists_from : {E X : Type 0} → (below : E → ℕ) → (put : E → List X → List X) → List E
     → List (List X)
 lists_from below put entries = fold (with_entry below put) ([] ∷ []) entries

@@ -1,7 +1,7 @@
 -- A number as bytes.
 use Rattle.std.specs.Prelude.{ℕ, zero, suc, ◌/◌, ◌%◌, ◌^◌, List, [], ◌∷◌, Option, None, Some, ◌+◌, nat_lt, if◌then◌else◌}
 
--- the `more` lowest bytes of a number, the lowest first, and then what is left of it
+-- the `more` lowest bytes of a number, the lowest first, and then the rest of the number
 abbrev pub low_bytes : (more : ℕ) → ℕ → List ℕ
 low_bytes zero n = n ∷ []
 low_bytes (suc more) n = n % 256 ∷ low_bytes more (n / 256)

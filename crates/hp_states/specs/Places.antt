@@ -1,4 +1,4 @@
--- The places of a walk: where schedules lead.
+-- The places of a walk, to which schedules lead.
 use Rattle.std.specs.Prelude.{◌≡◌, List, [], ◌++◌, Some}
 use Rattle.hp_units.specs.History.{value_of}
 use Rattle.hp_units.specs.declared.replies.Record.{Record}
@@ -8,11 +8,12 @@ use Rattle.hp_schedules.specs.Cursors.{AreCursors}
 use Rattle.hp_schedules.specs.Schedules.{Setting, plays, schedule_of}
 use Rattle.hp_schedules.specs.declared.cursors.Cursor.{Cursor}
 
--- the memory at the place after the new records; and the steps there, with no deltas to undo
+-- the memory at the place after the new records
 abbrev pub memory_at : Setting → List Record → MemoryValue
 memory_at g news =
     record { layout = g.layout; state = value_of g.layout g.base (g.start ++ news) }
 
+-- the steps at the place after the new records, without deltas to undo
 abbrev pub standing : Setting → List Record → StepsValue
 standing g news = record {
   layout = g.layout;

@@ -4,7 +4,7 @@ use Rattle.hp_units.specs.declared.events.Event.{Event}
 use Rattle.hp_units.specs.declared.replies.Record.{Record}
 use Rattle.hp_schedules.specs.Schedules.{Setting, next_call, plays}
 
--- after the new records, the history has no room for another, or no serial is left
+-- after the new records, either the history has no room for another record, or no serial is left
 abbrev pub is_full_after : Setting → List Record → Bool
 is_full_after g news =
     nat_le g.layout.history (length (g.start ++ news))

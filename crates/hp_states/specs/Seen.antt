@@ -1,4 +1,4 @@
--- Walked places, and how many schedules continue from each.
+-- Walked places, and the number of schedules that continue from each.
 use Rattle.std.specs.Prelude.{◌≡◌, ℕ, ◌≤◌, Bool, true, List, [], ◌∷◌, ◌++◌, Some, length, slice_get, slice_index_or}
 use Rattle.hp_units.specs.declared.replies.Record.{Record}
 use Rattle.hp_schedules.specs.Alike.{AreMergeable}
@@ -12,8 +12,8 @@ use Rattle.hp_schedules.specs.declared.trail.Share.{Share}
 use Rattle.hp_schedules.specs.declared.tally.Ending.{Ending}
 use Rattle.hp_schedules.specs.Shares.{AreAtEnds, amount_of}
 
--- a place: the new records that lead there, and how many complete schedules continue from it to
--- each end, by the end's index; an index past the list means 0
+-- a place, given by the records that lead there. `counts` has, at each end's index, the number of
+-- complete schedules that continue from the place to this end. An index past the list means 0
 pub record SeenValue : Type 0 where
   pub news : List Record
   pub counts : List ℕ
@@ -31,7 +31,7 @@ pub record IsSeen (g : Setting) (ends : List Ending) (seen : SeenValue) : Type 0
   pub every : (s : List ℕ) (x : OutcomeValue) → GoesOn g (schedule_of seen.news) x s
       → (k : ℕ) × (e : Ending) × (slice_get ends k ≡ Some e) × (e.outcome ≡ x)
 
--- ends stay at their index and count no less; new ones have other outcomes
+-- the ends keep their indexes and their outcomes, and no count gets lower; new ends have other outcomes
 pub record Grow (old new : List Ending) : Type 0 where
   pub longer : length old ≤ length new
   pub kept : (k : ℕ) (e f : Ending) → slice_get old k ≡ Some e → slice_get new k ≡ Some f
@@ -40,8 +40,8 @@ pub record Grow (old new : List Ending) : Type 0 where
 
 -- ---- the places that are kept
 
--- whether places are kept; their keys and their rows; the key written last; and the numbers of the
--- place where the walk is
+-- the places that a walk keeps, if it keeps any, by their keys and rows; the key written last; and the
+-- numbers of the walk's own place
 pub record MemoValue : Type 0 where
   pub is_on : Bool
   pub keys : List (List ℕ)
@@ -49,8 +49,8 @@ pub record MemoValue : Type 0 where
   pub key : List ℕ
   pub standing : StandingValue
 
--- the key of a place, and its shares among these ends; the history has room for all
--- that continues from it
+-- `key` and `shares` belong to a place, whose shares are right for these ends. The history has room for
+-- all calls from the place on
 pub record IsRow (g : Setting) (ends : List Ending) (s : StandingValue) (key : List ℕ)
     (shares : List Share) : Type 0 where
   pub seen : SeenValue
@@ -66,14 +66,14 @@ abbrev pub IsRowAmong : (keys : List (List ℕ)) → (rows : List (List Share)) 
 IsRowAmong keys rows key shares =
     (i : ℕ) × (slice_get rows i ≡ Some shares) × (slice_get keys i ≡ Some key)
 
--- the kept places are right for these ends; and if any are to be kept, the scripts are mergeable
+-- the kept places are right for these ends. If places are to be kept, the scripts are mergeable
 pub record IsMemo (g : Setting) (ends : List Ending) (memo : MemoValue) : Type 0 where
   pub all : (i : ℕ) (key : List ℕ) (shares : List Share) → slice_get memo.keys i ≡ Some key
       → slice_get memo.rows i ≡ Some shares → IsRow g ends memo.standing key shares
   pub many : length memo.keys ≡ length memo.rows
   pub mergeable : memo.is_on ≡ true → AreMergeable g.scripts
 
--- the same places are kept
+-- both memos keep the same places
 abbrev pub AreSamePlaces : MemoValue → MemoValue → Type 0
 AreSamePlaces old new = (new.is_on ≡ old.is_on) × (new.keys ≡ old.keys) × (new.rows ≡ old.rows)
 
@@ -82,6 +82,6 @@ abbrev pub IsKeptMore : List Share → (old new : MemoValue) → Type 0
 IsKeptMore shares old new =
     new ≡ record old { keys = old.keys ++ old.key ∷ []; rows = old.rows ++ shares ∷ [] }
 
--- if places are kept, the numbers are those of the place after the new records
+-- if places are kept, the numbers belong to the place after the new records
 abbrev pub IsOnWay : Setting → List Record → MemoValue → Type 0
 IsOnWay g news memo = memo.is_on ≡ true → IsStanding g news memo.standing

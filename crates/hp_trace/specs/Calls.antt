@@ -26,6 +26,7 @@ use Rattle.hp_trace.specs.Rows.{Row, drawing, noted, words}
 
 -- ---- a text below a row
 
+-- the text of a remark below a row
 abbrev pub remark_text : Remark → List ℕ
 remark_text Full = unrecorded_line HistoryFull
 remark_text (Untaken fault) = write_fault_line fault
@@ -38,12 +39,12 @@ remark_text (Sealed count) = sealed_line count
 abbrev pub answer_text : Receipt → List ℕ
 answer_text r = decimal r.serial ++ codes ": " ++ reply_text r.reply
 
--- the page that a call moved, if it moved one
+-- the page that a call moved; None if it moved none
 abbrev pub moved_of : Reply → Option Move
 moved_of (Moved from to) = Some (record { from = from; to = to })
 moved_of _ = None
 
--- an event was called; or the history is full, and a text below the row reports that
+-- either the event was called, or the history is full and a text below the row reports this
 abbrev pub MakesEvent : MachineValue → (cpu : ℕ) → Event → (asked : List ℕ) → (rows : List Row)
     → (after : MachineValue) → Type 0
 MakesEvent m cpu event asked rows after =
@@ -53,11 +54,12 @@ MakesEvent m cpu event asked rows after =
 
 -- ---- a plan
 
--- an event of a plan's driver, in place of a line. It accesses no page, so it needs no owners' names
+-- the text for a call of a plan's driver, which has no line of its own. The call accesses no page, so
+-- the text needs no owners' names
 abbrev pub step_text : Event → List ℕ
 step_text event = codes "     " ++ event_text [] event
 
--- calls of a processor, one after another, gave these receipts
+-- the processor's calls, one after another, gave these receipts
 abbrev pub MakesSteps : (cpu : ℕ) → MachineValue → List Receipt → (rows : List Row) → (after : MachineValue)
     → Type 0
 MakesSteps cpu m [] rows after = (after ≡ m) × (rows ≡ [])
@@ -66,13 +68,13 @@ MakesSteps cpu m (r ∷ rs) rows after =
     × (rows ≡ drawing (step_text r.event) (answer_text r) (moved_of r.reply) next ∷ rest)
     × MakesSteps cpu next rs rest after
 
--- a plan's driver stops early only at a full history
+-- a plan's driver stops early only if the history is full
 abbrev pub IsStop : Option CallFault → MachineValue → Type 0
 IsStop None m = ⊤
 IsStop (Some HistoryFull) m = is_full m ≡ true
 IsStop (Some OutOfMemory) m = ⊥
 
--- a plan's driver ran, and ended like this
+-- the plan's driver ran, and the plan ended with `end`
 pub record IsDriven (m : MachineValue) (cpu turns : ℕ) (plan : List Item) (end : OpEnd) (rows : List Row)
     (after : MachineValue) : Type 0 where
   pub receipts : List Receipt
@@ -81,7 +83,7 @@ pub record IsDriven (m : MachineValue) (cpu turns : ℕ) (plan : List Item) (end
   pub stop : IsStop fault after
   pub run : IsDriverRun m.layout.cpus turns plan receipts fault end
 
--- a row of the memory before the plan, the rows of its calls, and its end
+-- a plan makes a row of the memory before it, the rows of its calls, and a text with its end
 pub record MakesPlan (m : MachineValue) (cpu turns : ℕ) (plan : List Item) (asked : List ℕ) (rows : List Row)
     (after : MachineValue) : Type 0 where
   pub steps : List Row
@@ -91,22 +93,21 @@ pub record MakesPlan (m : MachineValue) (cpu turns : ℕ) (plan : List Item) (as
 
 -- ---- control files
 
--- the text of a control file, or why there is none
+-- the rows for a control file: either with its text, or with the fault of reading it
 abbrev pub file_rows : MachineValue → Result (List ℕ) ControlFault → (asked : List ℕ) → List Row
 file_rows m (Ok text) asked = noted m asked text
 file_rows m (Err fault) asked = noted m asked (read_fault_line fault)
 
 -- ---- a seal
 
--- the records were handed out, and a text below the row reports how many
+-- the records were handed out, and a text below the row reports their number
 abbrev pub MakesSeal : MachineValue → (asked : List ℕ) → (rows : List Row) → (after : MachineValue) → Type 0
 MakesSeal m asked rows after =
     (after ≡ sealed m) × (rows ≡ noted after asked (sealed_line (length m.history)))
 
--- ---- what a line asks for
+-- ---- the work that a line asks for
 
--- what a line asks for was done; if a control file does not take the word, a text below the row reports
--- that
+-- the line's work was done. If a control file does not take its word, a text below the row reports that
 abbrev pub MakesWork : MachineValue → (cpu : ℕ) → asks.Meaning → (asked : List ℕ) → (rows : List Row)
     → (after : MachineValue) → Type 0
 MakesWork m cpu (asks.event e) asked rows after = MakesEvent m cpu e asked rows after

@@ -9,12 +9,13 @@ use Rattle.hp_trace.specs.Traces.{IsStart, IsTraceOf, MakesLines, TracesLine}
 use Rattle.hp_trace.specs.declared.rows.Form.TheVariants.{Written}
 use Rattle.hp_trace.specs.declared.view.View.{View}
 
+-- a machine, the view of its lines, and the rows so far
 pub record LiveValue : Type 0 where
   pub machine : MachineValue
   pub view : View
   pub rows : RowsValue
 
--- the scenario's lines were run from boot on; then comes the row of the memory
+-- the scenario's lines were run from boot on, and then the row of the memory was written
 pub record IsBegun (v : View) (s : ScenarioValue) (t : LiveValue) : Type 0 where
   pub same : t.view ≡ v
   pub lists : List (List Row)
@@ -26,7 +27,7 @@ pub record LivesOn (names : List (List ℕ)) (number : ℕ) (line : Line) (old n
   pub same : new.view ≡ old.view
   pub traced : TracesLine old.view names number old.machine line old.rows new.rows new.machine
 
--- the same trace with an empty text
+-- the trace with an empty text
 abbrev pub without_text : LiveValue → LiveValue
 without_text t = record {
   machine = t.machine;
@@ -43,26 +44,26 @@ without_text t = record {
 
 -- ---- lines that come one after another
 
--- lines that were read from texts, each with the names of the lines before it; `last` are the names
--- after all of them
+-- the lines were read from texts, each given the owners' names of the lines before it; `last` are
+-- the names after the last line
 abbrev pub AreRead : (names : List (List ℕ)) → List Numbered → (last : List (List ℕ)) → Type 0
 AreRead names [] last = last ≡ names
 AreRead names (n ∷ read) last = (text : List ℕ) × (line_in names text ≡ Some n) × AreRead n.names read last
 
--- lines were run one after another; the first has this number. The text was emptied before each.
--- `shown` is the text after each, one after another
+-- the lines were run one after another, from line number `number` on, and the text was emptied before
+-- each. `shown` are the texts after each line, joined
 abbrev pub LivesThrough : (number : ℕ) → List Numbered → (shown : List ℕ) → (old new : LiveValue) → Type 0
 LivesThrough number [] shown old new = (shown ≡ []) × (new ≡ old)
 LivesThrough number (n ∷ read) shown old new =
     (next : LiveValue) × (later : List ℕ) × LivesOn n.names number n.line (without_text old) next
     × (shown ≡ next.rows.text ++ later) × LivesThrough (number + 1) read later next new
 
--- a scenario with more lines after its own; `last` are the names after these lines
+-- the scenario with more lines after its own; `last` are the owners' names after these lines
 abbrev pub with_lines : ScenarioValue → List Numbered → (last : List (List ℕ)) → ScenarioValue
 with_lines s read last =
     record { layout = s.layout; names = last; lines = s.lines ++ map (λ n. n.line) read }
 
--- the first row, and after it the rows shown for the lines that follow a scenario, are a trace: that of
+-- the first row, and the rows shown for the lines after a scenario, are a trace. It is the trace of
 -- the scenario with these lines at its end, from the first of them on
 abbrev pub ShowTheTrace : Type 0
 ShowTheTrace =

@@ -1,4 +1,4 @@
--- The log of a scenario: that of the histories that its run makes, from boot on. A seal ends a history.
+-- The log of a scenario's run from boot on, over all its histories. A seal ends a history.
 use Rattle.std.specs.Prelude.{ℕ, ◌≡◌, ◌==◌, List, [], ◌∷◌, ◌++◌, if◌then◌else◌}
 use Rattle.hp_units.specs.Arithmetic.{block_size}
 use Rattle.hp_units.specs.Boot.{boot_memory}
@@ -12,7 +12,7 @@ use Rattle.hp_scenario.specs.declared.lines.Line.{Line}
 use Rattle.hp_trace.specs.Calls.{MakesWork}
 use Rattle.hp_trace.specs.Rows.{AreDrawn, Row, RowsValue, drawing, words}
 
--- the rows that lines make, without the texts of the lines
+-- the rows that the lines make, without the texts of the lines
 abbrev pub RunsLines : MachineValue → List Line → (rows : List Row) → (after : MachineValue) → Type 0
 RunsLines m [] rows after = (after ≡ m) × (rows ≡ [])
 RunsLines m (line ∷ lines) rows after =
@@ -21,15 +21,15 @@ RunsLines m (line ∷ lines) rows after =
     × (rows ≡ now ++ later)
     × RunsLines next lines later after
 
--- the histories of a machine and of the rows after it, one list per history. A history has ended, by a
--- seal, if and only if the number of sealed records has changed
+-- the histories of a machine and of the rows after it, one list of records per history. A seal has
+-- ended a history if and only if the number of sealed records has changed
 abbrev pub histories : MachineValue → List Row → List (List Record)
 histories m [] = m.history ∷ []
 histories m (words text ∷ rows) = histories m rows
 histories m (drawing asked answer moved n ∷ rows) =
     if n.before == m.before then histories n rows else m.history ∷ histories n rows
 
--- the events are the log of the histories that the scenario's run makes
+-- the events are the log of all histories that the scenario's run makes
 pub record IsLogOfScenario (s : ScenarioValue) (block_frames : ℕ) (events : List LogEvent) : Type 0 where
   pub rows : List Row
   pub machine : MachineValue

@@ -1,4 +1,4 @@
--- What a port that draws its calls does to the rows and to the machine.
+-- The effect of a port that draws its calls, on the rows and on the machine.
 use Rattle.std.specs.Prelude.{ℕ, ◌≡◌, Bool, true, false, List, [], ◌∷◌, ◌++◌, Some, refl}
 use Rattle.std.proofs.Common.{ap, subst, sym}
 use Rattle.hp_units.specs.declared.replies.CallFault.{CallFault}
@@ -8,17 +8,18 @@ use Rattle.hp_machine.specs.Machine.{MachineValue}
 use Rattle.hp_trace.specs.Calls.{IsStop, MakesSteps}
 use Rattle.hp_trace.specs.Rows.{Adds, Row, RowsValue, drawn_joined}
 
+-- the fault is that memory ran out
 abbrev pub is_memory : CallFault → Bool
 is_memory HistoryFull = false
 is_memory OutOfMemory = true
 
--- the rows of calls were drawn, unless one was out of memory
+-- the rows of the calls were drawn, unless memory ran out
 abbrev pub IsTraced : (cpu : ℕ) → (old : RowsValue) → (was_lost : Bool) → MachineValue → List Receipt
     → (new : RowsValue) → (is_lost : Bool) → (after : MachineValue) → Type 0
 IsTraced cpu old was_lost m receipts new is_lost after =
     is_lost ≡ false → (was_lost ≡ false) × Adds old new (λ rows. MakesSteps cpu m receipts rows after)
 
--- a call left a fault: the history is full, unless one was out of memory
+-- the call left this fault because the history is full, unless memory ran out
 abbrev pub LeavesOff : MachineValue → (was_lost : Bool) → CallFault → (is_lost : Bool) → Type 0
 LeavesOff m was_lost fault is_lost = is_lost ≡ false → (was_lost ≡ false) × IsStop (Some fault) m
 
@@ -27,7 +28,7 @@ pub traced_nothing : (cpu : ℕ) (rows : RowsValue) (lost : Bool) (m : MachineVa
     → IsTraced cpu rows lost m [] rows lost m
 traced_nothing cpu rows lost m = λ none. (none, record { rows = []; drawn = refl; is = (refl, refl) })
 
--- calls and further calls are calls one after another
+-- calls and the calls after them are one sequence of calls
 steps_joined : (cpu : ℕ) (xs ys : List Receipt) (m n after : MachineValue) (rows others : List Row)
     → MakesSteps cpu m xs rows n → MakesSteps cpu n ys others after
     → MakesSteps cpu m (xs ++ ys) (rows ++ others) after

@@ -1,4 +1,4 @@
--- The rows of a trace: what was asked, what was answered, and the memory after it.
+-- The rows of a trace: each has a request, its answer, and the memory after it.
 use Rattle.std.specs.Prelude.{ℕ, ◌≡◌, List, [], ◌∷◌, ◌++◌, map, Option, None, Some}
 use Rattle.std.proofs.Common.{subst}
 use Rattle.std.specs.Str.Lines.{lines}
@@ -17,8 +17,8 @@ use Rattle.hp_trace_json.specs.Traces.{TraceValue, no_trace}
 use Rattle.hp_trace.specs.declared.rows.Form.{Form}
 use Rattle.hp_trace.specs.declared.rows.Form.TheVariants.{Joined, Kept, Logged, Told, Unseen, Written}
 
--- the rows so far: their form; the text, the kept rows, the log, and the rows as JSON; and the rows in
--- which equal rounds are joined
+-- the form of the rows, and the rows so far: as text, as values that are kept, as a log, as JSON, and
+-- in the joiner of equal rounds
 pub record RowsValue : Type 0 where
   pub form : Form
   pub text : List ℕ
@@ -27,6 +27,7 @@ pub record RowsValue : Type 0 where
   pub json : TraceValue
   pub joiner : JoinerValue
 
+-- no rows yet, in this form
 abbrev pub no_rows : Form → RowsValue
 no_rows form = record {
   form = form;
@@ -37,11 +38,11 @@ no_rows form = record {
   joiner = nothing_read;
 }
 
--- lines as rows without memory blocks
+-- one row for each line of text, without memory blocks
 abbrev pub line_rows : (texts : List (List ℕ)) → List RowValue
 line_rows texts = map (λ text. row_with text [] None []) texts
 
--- one more line of JSON, for a text; it has no state
+-- one more line of JSON was added for a text; it shows no state
 pub record IsTextTold (old new : RowsValue) : Type 0 where
   pub json : TraceValue
   pub line : AddsLine old.json.text json.text
@@ -50,13 +51,14 @@ pub record IsTextTold (old new : RowsValue) : Type 0 where
 
 -- ---- rows that are joined
 
--- these are the rows that were added so far
+-- `rows` are all rows that were added so far. The text and the joiner of `r` have them, with equal
+-- rounds joined
 pub record IsJoinedSoFar (rows : List RowValue) (r : RowsValue) : Type 0 where
   pub done : List RoundsValue
   pub read : Reads done r.joiner rows
   pub shown : AreEntriesShown done [] r.text
 
--- these rows were added
+-- the rows `more` were added, with equal rounds joined
 pub record AreJoinedTo (more : List RowValue) (old new : RowsValue) : Type 0 where
   pub form : new.form ≡ old.form
   pub all : (rows : List RowValue) → IsJoinedSoFar rows old → IsJoinedSoFar (rows ++ more) new
@@ -72,39 +74,41 @@ SaysAs Kept text old new = new ≡ record old { kept = old.kept ++ line_rows (li
 SaysAs Logged text old new = new ≡ old
 SaysAs Told text old new = IsTextTold old new
 
+-- a text of lines was added, in the form of the rows
 abbrev pub Says : (text : List ℕ) → (old new : RowsValue) → Type 0
 Says text old new = SaysAs old.form text old new
 
 -- ---- a row
 
--- one more row in the text; `kept` has what is needed to write the next row
+-- one more row was added to the text. `kept` may change
 pub record IsWritten (row : RowValue) (old new : RowsValue) : Type 0 where
   pub text : List ℕ
   pub kept : List RowValue
   pub written : IsRowIn row.asked row.answer old.text text
   pub is : new ≡ record old { text = text; kept = kept }
 
--- one more row in the text, or one more line
+-- either one more row or one more line was added to the text
 pub record IsRowShown (row : RowValue) (old new : RowsValue) : Type 0 where
   pub text : List ℕ
   pub kept : List RowValue
   pub shown : IsShownIn row old.text text
   pub is : new ≡ record old { text = text; kept = kept }
 
--- more rows and lines in the text
+-- rows and lines were added to the text
 pub record AreRowsShown (rows : List RowValue) (old new : RowsValue) : Type 0 where
   pub text : List ℕ
   pub kept : List RowValue
   pub shown : AreShown rows old.text text
   pub is : new ≡ record old { text = text; kept = kept }
 
--- more entries in the text
+-- entries were added to the text
 pub record AreMoreShown (entries : List RoundsValue) (old new : RowsValue) : Type 0 where
   pub text : List ℕ
   pub kept : List RowValue
   pub shown : AreEntriesShown entries old.text text
   pub is : new ≡ record old { text = text; kept = kept }
 
+-- one more row was added, in this form
 abbrev pub AddsRow : Form → RowValue → (old new : RowsValue) → Type 0
 AddsRow Unseen row old new = new ≡ old
 AddsRow Written row old new = IsWritten row old new
@@ -113,7 +117,7 @@ AddsRow Kept row old new = new ≡ record old { kept = old.kept ++ row ∷ [] }
 AddsRow Logged row old new = new ≡ old
 AddsRow Told row old new = new ≡ old
 
--- one more row, with the page that moved and a picture of the machine's memory
+-- one more row was added, with the page that moved and a picture of the machine's memory
 pub record IsRow (form : Form) (m : MachineValue) (asked answer : List ℕ) (moved : Option Move)
     (old new : RowsValue) : Type 0 where
   pub blocks : List BlockValue
@@ -126,14 +130,14 @@ pub record IsRowLogged (m : MachineValue) (old new : RowsValue) : Type 0 where
   pub logged : IsLogged m old.log log
   pub is : new ≡ record old { log = log }
 
--- one more line of JSON, for a row; a reader of the rows has then seen the machine's state
+-- one more line of JSON was added for a row; a reader of the rows has then seen the machine's state
 pub record IsRowTold (m : MachineValue) (old new : RowsValue) : Type 0 where
   pub json : TraceValue
   pub line : AddsLine old.json.text json.text
   pub seen : json.seen ≡ Some (state_of m)
   pub is : new ≡ record old { json = json }
 
--- one more row in this form; no row if the form is `Unseen`
+-- one more row was added in this form; `Unseen` adds none
 abbrev pub DrawsIf : Form → MachineValue → (asked answer : List ℕ) → (moved : Option Move)
     → (old new : RowsValue) → Type 0
 DrawsIf Unseen m asked answer moved old new = new ≡ old
@@ -145,16 +149,18 @@ DrawsIf Told m asked answer moved old new = IsRowTold m old new
 
 -- ---- rows one under another
 
--- a row: what was asked and answered, the page that moved, and the machine whose memory is drawn; or a
--- text of lines below a row
+-- either a row, with its request, its answer, the page that moved and the machine whose memory is
+-- drawn, or a text of lines below a row
 pub data Row : Type 0 where
   drawing : (asked answer : List ℕ) → (moved : Option Move) → MachineValue → Row
   words : (text : List ℕ) → Row
 
+-- the row or the text was drawn, in the form of the rows
 abbrev pub IsDrawn : Row → (old new : RowsValue) → Type 0
 IsDrawn (drawing asked answer moved m) old new = DrawsIf old.form m asked answer moved old new
 IsDrawn (words text) old new = Says text old new
 
+-- the rows and texts were drawn, one after another
 abbrev pub AreDrawn : List Row → (old new : RowsValue) → Type 0
 AreDrawn [] old new = new ≡ old
 AreDrawn (row ∷ rows) old new = (mid : RowsValue) × IsDrawn row old mid × AreDrawn rows mid new
@@ -163,13 +169,13 @@ AreDrawn (row ∷ rows) old new = (mid : RowsValue) × IsDrawn row old mid × Ar
 abbrev pub noted : MachineValue → (asked text : List ℕ) → List Row
 noted m asked text = drawing asked [] None m ∷ words text ∷ []
 
--- rows of which P holds were drawn
+-- rows with the property P were drawn
 pub record Adds (old new : RowsValue) (P : List Row → Type 0) : Type 0 where
   pub rows : List Row
   pub drawn : AreDrawn rows old new
   pub is : P rows
 
--- rows that were drawn after other rows are drawn with them
+-- two lists of rows, drawn one after the other, are drawn as one list
 pub drawn_joined : (xs ys : List Row) (old mid new : RowsValue) → AreDrawn xs old mid → AreDrawn ys mid new
     → AreDrawn (xs ++ ys) old new
 drawn_joined [] ys old mid new first second = subst (λ (r : RowsValue). AreDrawn ys r new) first second

@@ -17,7 +17,7 @@ use Rattle.hp_trace.specs.declared.rows.Form.{Form}
 use Rattle.hp_trace.specs.declared.rows.Form.TheVariants.{Kept, Told, Written}
 use Rattle.hp_trace.specs.declared.view.View.{View}
 
--- a line's number and the line
+-- the text of a line with its number
 abbrev pub numbered_text : (names : List (List ℕ)) → (number : ℕ) → Line → List ℕ
 numbered_text names number line =
     styled_decimal (format_spec 32 3 0 4 (2 ^ 64 - 1)) number ++ codes " " ++ shown_line Escaped names line
@@ -32,7 +32,7 @@ MakesLines names number m (line ∷ lines) lists after =
     × (lists ≡ rows ∷ rest)
     × MakesLines names (number + 1) next lines rest after
 
--- the rows of a line, if it is shown
+-- the rows of a line, if it is shown, or else none
 abbrev pub rows_if : (is_shown : Bool) → List Row → List Row
 rows_if is_shown rows = if is_shown then rows else []
 
@@ -41,14 +41,16 @@ abbrev pub shown_rows : View → (number : ℕ) → (lists : List (List Row)) �
 shown_rows v number [] = []
 shown_rows v number (rows ∷ rest) = rows_if (shows v number) rows ++ shown_rows v (number + 1) rest
 
--- the row of the memory at boot, or before the first line that may be shown
+-- the text of the first row, which shows the memory either at boot or before the first line that may be
+-- shown
 abbrev pub start_text : View → List ℕ
 start_text v = if nat_le v.from 1 then codes "   0 boot" else codes "     before line " ++ decimal v.from
 
+-- the first row was drawn, in this form
 abbrev pub IsStart : (form : Form) → View → MachineValue → (rows : RowsValue) → Type 0
 IsStart form v m rows = DrawsIf form m (start_text v) [] None (no_rows form) rows
 
--- how many of n lines come before the first that may be shown
+-- the number of lines, among the first n, that come before the first line that may be shown
 abbrev pub skipped : View → (n : ℕ) → ℕ
 skipped v n = if nat_lt (v.from - 1) n then v.from - 1 else n
 
@@ -59,15 +61,15 @@ pub record TracesLine (v : View) (names : List (List ℕ)) (number : ℕ) (m : M
   pub made : MakesWork m line.cpu (asked_by line.work) (numbered_text names number line) rows after
   pub drawn : AreDrawn (rows_if (shows v number) rows) old new
 
--- lines were run, after `before` earlier ones, and the rows of those that are shown were drawn
+-- lines were run after `before` earlier lines, and the rows of the lines that are shown were drawn
 pub record TracesLines (v : View) (names : List (List ℕ)) (before : ℕ) (m : MachineValue) (lines : List Line)
     (old new : RowsValue) (after : MachineValue) : Type 0 where
   pub lists : List (List Row)
   pub made : MakesLines names (before + 1) m lines lists after
   pub drawn : AreDrawn (shown_rows v (before + 1) lists) old new
 
--- the lines before the first that may be shown were run from boot on; then comes the row of the memory,
--- and below it the other lines, in a form
+-- the lines before the first that may be shown were run from boot on. Then the row of the memory was
+-- drawn in this form, and below it the rows of the other lines
 pub record IsScenarioTraced (form : Form) (v : View) (s : ScenarioValue) (rows : RowsValue) : Type 0 where
   pub unseen : List (List Row)
   pub first : MachineValue
@@ -86,7 +88,7 @@ pub record IsTraceOf (v : View) (s : ScenarioValue) (text : List ℕ) : Type 0 w
   pub traced : IsScenarioTraced Written v s rows
   pub written : text ≡ rows.text
 
--- these are the rows of a scenario's trace, as values
+-- `list` are the rows of a scenario's trace, as values
 pub record AreRowsOf (v : View) (s : ScenarioValue) (list : List RowValue) : Type 0 where
   pub rows : RowsValue
   pub traced : IsScenarioTraced Kept v s rows

@@ -2,7 +2,7 @@
 use Rattle.std.specs.Prelude.{ℕ, ◌≡◌, ◌≢◌, ◌<◌, ◌≤◌, List, [], ◌∷◌, ◌++◌}
 use Rattle.std.specs.List.{AllByRecursion}
 
--- a character that ASCII can show, but `<`
+-- a printable character of ASCII other than `<`
 abbrev pub IsPlain : ℕ → Type 0
 IsPlain byte = (32 ≤ byte) × (byte < 127) × (byte ≢ 60)
 

@@ -1,4 +1,4 @@
--- A change alone, as an object of JSON.
+-- A change alone, as a JSON object.
 use Rattle.std.specs.Prelude.{ℕ, ◌≡◌, ◌≢◌, ◌⊎◌, ◌==◌, ◌&&◌, not, Bool, List, [], ◌∷◌, ◌++◌, None, codes, is_some, length}
 use Rattle.json.specs.Lex.{tokens}
 use Rattle.json.specs.Print.{print}
@@ -39,13 +39,14 @@ is_all_kept c =
     && (length c.cpu_lists == 0) && (length c.kernel == 0) && (length c.pages == 0)
     && (length c.words == 0) && not (is_some c.auto)
 
--- the tokens for a change: none if nothing changed, otherwise an object at the key `change`
+-- the tokens for a change: either none, if nothing changed, or an object at the key `change`
 abbrev pub TellsChange : ChangeValue → (ts : List Token) → Type 0
 TellsChange c ts =
     ((c ≡ no_change) × (ts ≡ []))
     ⊎ ((more : List Token) × (c ≢ no_change)
     × (ts ≡ key (codes "change") ∷ begin_object ∷ (more ++ end_object ∷ [])))
 
+-- the tokens for a change were appended
 abbrev pub PutsChange : (old : Written) → ChangeValue → (new : Written) → Type 0
 PutsChange old c new = (ts : List Token) × Puts old new ts × TellsChange c ts
 

@@ -12,7 +12,7 @@ use Rattle.hp_units.specs.Pages.{frame_at, words_at}
 use Rattle.hp_plain.specs.Image.{Pictured}
 use Rattle.hp_machine.specs.Machine.{MachineValue}
 
--- the state of a machine
+-- the state of a machine, as a trace shows it
 abbrev pub state_of : MachineValue → Pictured
 state_of m = record { layout = m.layout; memory = m.state }
 
@@ -21,29 +21,33 @@ abbrev pub row_in : Option Pictured → (block : ℕ) → Option Row
 row_in None block = None
 row_in (Some p) block = slice_get p.memory.blocks.rows block
 
--- whether a pageblock is unmovable
+-- the mobility is `Unmovable`
 abbrev pub is_unmovable_of : Mobility → Bool
 is_unmovable_of Unmovable = true
 is_unmovable_of Movable = false
 
+-- the kind of a pageblock, if there is one, is unmovable
 abbrev pub is_unmovable : Option Kind → Bool
 is_unmovable None = false
 is_unmovable (Some kind) = is_unmovable_of kind.mobility
 
+-- the pageblock is unmovable in this state
 abbrev pub unmovable_in : Option Pictured → (pageblock : ℕ) → Bool
 unmovable_in None pageblock = false
 unmovable_in (Some p) pageblock = is_unmovable (slice_get p.memory.free.areas.kinds pageblock)
 
--- a free list, front first, by its number: 5 times the order and the class's number
+-- the free list with this number, front first; its number is 5 times the order plus the class's number
 abbrev pub free_list_at : Option Pictured → (number : ℕ) → List ℕ
 free_list_at None number = []
 free_list_at (Some p) number = slice_index_or p.memory.free.areas.lists number []
 
--- a processor's list, front first, by its number: 3 times the processor and the pool's number
+-- the processor's list with this number, front first; its number is 3 times the processor plus the
+-- pool's number
 abbrev pub cpu_list_at : Option Pictured → (number : ℕ) → List ℕ
 cpu_list_at None number = []
 cpu_list_at (Some p) number = slice_index_or p.memory.free.cached number []
 
+-- the pool with this number
 abbrev pub pool_numbered : ℕ → Pool
 pool_numbered zero = Nu
 pool_numbered (suc zero) = Nm
@@ -59,15 +63,16 @@ abbrev pub page_in : Option Pictured → (owner page : ℕ) → Option ℕ
 page_in None owner page = None
 page_in (Some p) owner page = frame_at p.memory.pages owner page
 
--- the words of a page, and one of them; words of a page that is not mapped are 0
+-- the words of a page; none if the page is not mapped
 abbrev pub words_in : Option Pictured → (owner page : ℕ) → List ℕ
 words_in None owner page = []
 words_in (Some p) owner page = unwrap_or (words_at p.memory.pages owner page) []
 
+-- one of a page's words; 0 if the page is not mapped
 abbrev pub word_of : List ℕ → (index : ℕ) → ℕ
 word_of words index = slice_index words index
 
--- what a memory block that is added becomes
+-- the policy for added memory blocks
 abbrev pub auto_in : Option Pictured → Option Auto
 auto_in None = None
 auto_in (Some p) = Some p.memory.blocks.auto

@@ -1,16 +1,17 @@
--- What entries report of a part of a state, which has a value for each key. A key whose value changed
--- has one entry, which leads from the value before to the value now; every other key has none.
+-- The entries that report a part of a state, which has a value for each key. A key whose value changed
+-- has one entry, from its value before to its value now; every other key has none.
 use Rattle.std.specs.Prelude.{ℕ, ◌≡◌, ◌≢◌, ◌⊎◌, ◌<◌, ◌≤◌, Bool, List, [], ◌∷◌, ◌++◌}
 use Rattle.std.specs.List.{filter}
 
--- what is reported of one key, whose entries `is` selects, for its values before and now
+-- the entries of one key, which `is` selects: none if its value did not change, or else one, of
+-- which `Sets` holds
 abbrev pub Tells : {T V : Type 0} → (is : T → Bool) → (Sets : V → V → T → Type 0) → (was now : V) → List T
     → Type 0
 Tells is Sets was now told =
     ((was ≡ now) × (filter is told ≡ []))
     ⊎ ((x : _) × (was ≢ now) × (filter is told ≡ x ∷ []) × Sets was now x)
 
--- nothing is reported of a key
+-- no entry is about the key
 abbrev pub IsSilent : {T : Type 0} → (is : T → Bool) → List T → Type 0
 IsSilent is told = filter is told ≡ []
 
